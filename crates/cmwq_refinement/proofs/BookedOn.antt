@@ -18,7 +18,7 @@ timers_stand_on_queues s past q legal = same_bools (booked_in_rows (timers_of s 
     row_stands h =
         let k = in_any (is_timer_on q) (timers_of s past) h in
         let i = in_map (timer_row past) (range_with_len 0 s.items) k.0 k.1 in
-        of_row past q i.0 (booking past i.0) refl (ap (is_timer_on q) i.1 ∙ k.2)
+        of_row past q i.0 (booking past i.0) refl (ap (is_timer_on q) i.2 ∙ k.2)
 
     stands_in_row : list_any (is_booked_on q) (standing past) ≡ true → booked_in_rows (timers_of s past) q ≡ true
     stands_in_row h =

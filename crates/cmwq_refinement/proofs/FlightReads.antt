@@ -4,8 +4,7 @@ use Rattle.cmwq_inflight.specs.Flights.{flight_has_run}
 use Rattle.cmwq_refinement.specs.ByNumber.{number_of_queueing}
 use Rattle.cmwq_refinement.specs.Flights.{queueing_started, flight_of, flights_of, starting, IsFlightOf}
 use Rattle.cmwq_lemmas.proofs.Members.{all_in, found, filter_in}
-use Rattle.cmwq_lemmas.proofs.Filters.{count_by-same}
-use Rattle.cmwq_lemmas.proofs.Passing.{once_there}
+use Rattle.cmwq_refinement.proofs.Numbers.{counted_by_number}
 use Rattle.cmwq_refinement.proofs.PlacesFit.{open_there}
 use Rattle.cmwq_refinement.proofs.ItemNumbers.{run_then_unstarted}
 use Rattle.cmwq_refinement.proofs.FlightKinds.{worker_runs}
@@ -68,23 +67,7 @@ rows_count s past (i ∷ is) legal =
     let waits = sum_by-cons (λ f. cond (has_unstarted f) 1 0) (flight_of past i) (map (flight_of past) is) in
     omega (arith, runs, waits, sum_by-cons (λ j. count_by (is_of j) (still_open past)) i is, item_count s past i legal, rows_count s past is legal)
 
-sum_none : (is : List ℕ) → sum_by (λ i. 0) is ≡ 0
-sum_none [] = refl
-sum_none (i ∷ is) = omega (arith, sum_by-cons (λ (j : ℕ). 0) i is, sum_none is)
-
-sum_both : (f g h : ℕ → ℕ) (is : List ℕ) → ((i : ℕ) → h i ≡ f i + g i) → sum_by h is ≡ sum_by f is + sum_by g is
-sum_both f g h [] each = refl
-sum_both f g h (i ∷ is) each = omega (arith, sum_by-cons f i is, sum_by-cons g i is, sum_by-cons h i is, sum_both f g h is each, each i)
-
--- each queueing of an item that there is counts once
-all_counted : (n : ℕ) (xs : List Queueing) → AllByRecursion (λ x. x.item.0 < n) xs → sum_by (λ i. count_by (is_of i) xs) (range_with_len 0 n) ≡ length xs
-all_counted n [] there = sum_none (range_with_len 0 n)
-all_counted n (x ∷ xs) there =
-    let split = sum_both (λ i. cond (x.item.0 == i) 1 0) (λ i. count_by (is_of i) xs) (λ i. count_by (is_of i) (x ∷ xs)) (range_with_len 0 n) (λ i. sum_by-cons (λ y. cond (is_of i y) 1 0) x xs) in
-    let turned = count_by-same (λ i. x.item.0 == i) (λ i. i == x.item.0) (range_with_len 0 n) (All_each (λ i. (x.item.0 == i) ≡ (i == x.item.0)) (range_with_len 0 n) (λ i. grind (arith, nat_tests))) in
-    omega (arith, split, turned, once_there x.item.0 0 n (omega arith) (omega (arith, there.0)), all_counted n xs there.1)
-
 pub open_are_in_flight : (s : Layout) (past : List Entry) → IsLegal s past → open_count (flights_of s past) ≡ length (still_open past)
 open_are_in_flight s past legal =
     rows_count s past (range_with_len 0 s.items) legal
-    ∙ all_counted s.items (still_open past) (all_in (λ x. x.item.0 < s.items) (still_open past) (λ x here. (open_there s past x legal here).item))
+    ∙ counted_by_number (λ (x : Queueing). x.item.0) s.items (still_open past) (all_in (λ x. x.item.0 < s.items) (still_open past) (λ x here. (open_there s past x legal here).item))

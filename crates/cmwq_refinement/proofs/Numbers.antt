@@ -1,8 +1,9 @@
 -- Lists of what has a number, and of the numbers; with what of lists the other files share.
-use Rattle.cmwq_refinement.specs.Common.{◌≡◌, ◌==◌, ◌<◌, ◌≤◌, ◌+◌, ℕ, zero, suc, Bool, true, false, cond, not, ◌&&◌, List, [], ◌∷◌, ◌++◌, length, map, filter, find, count_by, replicate, Some, nat_lt, refl, ap, ◌∙◌, subst, arith, inl, inr, ⊎_elim, option_map, AllByRecursion, list_any, range_with_len, ne_eqb, nat_tests, length-range_with_len, slice_get, without, All_map, count_by-cons}
-use Rattle.cmwq_lemmas.proofs.Members.{In, of_in, all_in, in_filter, in_right}
-use Rattle.cmwq_lemmas.proofs.Passing.{all_split}
-use Rattle.cmwq_lemmas.proofs.Rising.{RisesBy, rises_unique}
+use Rattle.cmwq_refinement.specs.Common.{◌≡◌, ◌==◌, ◌<◌, ◌≤◌, ◌+◌, ℕ, zero, suc, Bool, true, false, cond, not, ◌&&◌, List, [], ◌∷◌, ◌++◌, length, map, filter, find, count_by, replicate, Some, nat_lt, refl, ap, ◌∙◌, subst, arith, inl, inr, ⊎_elim, option_map, AllByRecursion, list_any, range_with_len, ne_eqb, nat_tests, length-range_with_len, slice_get, without, All_map, count_by-cons, Option, None, option_to_list, append-nil, sum_by, sum_by-cons, All_append, All_each}
+use Rattle.cmwq_lemmas.proofs.Members.{In, of_in, all_in, in_filter, in_option, in_right}
+use Rattle.cmwq_lemmas.proofs.Filters.{count_by-same}
+use Rattle.cmwq_lemmas.proofs.Passing.{all_split, once_there}
+use Rattle.cmwq_lemmas.proofs.Rising.{RisesBy, rises_snoc, rises_unique}
 
 abbrev pub itself : ℕ → ℕ
 itself n = n
@@ -43,6 +44,27 @@ module _ {X : Type 0} (number : X → ℕ) where
   first_number p [] = refl
   first_number p (x ∷ xs) = grind (arith, first_number p xs)
 
+  -- one more, whose number is above all
+  pub rises_more : (n : ℕ) (xs : List X) (o : Option X) → RisesBy number xs → AllByRecursion (λ x. number x < n) xs → ((x : X) → o ≡ Some x → number x ≡ n) → RisesBy number (xs ++ option_to_list o)
+  rises_more n xs None h below k = rw append-nil h
+  rises_more n xs (Some x) h below k = rises_snoc number xs x h (rw (k x refl) below)
+
+  -- where each is of a number below n, they are counted number by number
+  pub counted_by_number : (n : ℕ) (xs : List X) → AllByRecursion (λ x. number x < n) xs → sum_by (λ i. count_by (λ x. number x == i) xs) (range_with_len 0 n) ≡ length xs
+  counted_by_number n [] there = sum_none (range_with_len 0 n)
+    where
+      sum_none : (is : List ℕ) → sum_by (λ (i : ℕ). 0) is ≡ 0
+      sum_none [] = refl
+      sum_none (i ∷ is) = omega (arith, sum_by-cons (λ (j : ℕ). 0) i is, sum_none is)
+  counted_by_number n (x ∷ xs) there =
+      let split = sum_both (λ i. cond (number x == i) 1 0) (λ i. count_by (λ y. number y == i) xs) (λ i. count_by (λ y. number y == i) (x ∷ xs)) (range_with_len 0 n) (λ i. count_by-cons (λ y. number y == i) x xs) in
+      let turned = count_by-same (λ i. number x == i) (λ i. i == number x) (range_with_len 0 n) (All_each (λ i. (number x == i) ≡ (i == number x)) (range_with_len 0 n) (λ i. grind (arith, nat_tests))) in
+      omega (arith, split, turned, once_there (number x) 0 n (omega arith) (omega (arith, there.0)), counted_by_number n xs there.1)
+    where
+      sum_both : (f g h : ℕ → ℕ) (is : List ℕ) → ((i : ℕ) → h i ≡ f i + g i) → sum_by h is ≡ sum_by f is + sum_by g is
+      sum_both f g h [] each = refl
+      sum_both f g h (i ∷ is) each = omega (arith, sum_by-cons f i is, sum_by-cons g i is, sum_by-cons h i is, sum_both f g h is each, each i)
+
 -- what rises in two parts: what is in the first isn't in the second
 pub rises_apart : (xs ys : List ℕ) (n : ℕ) → RisesBy itself (xs ++ ys) → In n xs → AllByRecursion (λ m. n < m) ys
 rises_apart [] ys n h i = absurd i
@@ -71,6 +93,13 @@ all_before (x ∷ xs) ys n h i = grind (arith, nat_tests, count_by-cons (is_less
 -- ---- what passes a test, and what is mapped
 
 module _ {X : Type 0} where
+  pub all_more : (P : X → Type 0) (xs : List X) (o : Option X) → AllByRecursion P xs → ((x : X) → o ≡ Some x → P x) → AllByRecursion P (xs ++ option_to_list o)
+  all_more P xs o h k = All_append P xs (option_to_list o) h (all_in P (option_to_list o) (λ x i. k x (in_option o x i)))
+
+  pub none_pass : (p : X → Bool) (xs : List X) → list_any p xs ≡ false → AllByRecursion (λ x. p x ≡ false) xs
+  none_pass p [] h = tt
+  none_pass p (x ∷ xs) h = grind (arith, none_pass p xs)
+
   pub any_in : (p : X → Bool) (xs : List X) (x : X) → In x xs → p x ≡ true → list_any p xs ≡ true
   any_in p [] x here is = absurd here
   any_in p (y ∷ ys) x here is = grind (arith, any_in p ys x)
@@ -79,7 +108,7 @@ module _ {X : Type 0} where
   in_any p [] h = cc
   in_any p (y ∷ ys) h = grind (arith, in_any p ys)
 
-  pub in_map : {Y : Type 0} (f : X → Y) (xs : List X) (y : Y) → In y (map f xs) → (x : X) × (f x ≡ y)
+  pub in_map : {Y : Type 0} (f : X → Y) (xs : List X) (y : Y) → In y (map f xs) → (x : X) × In x xs × (f x ≡ y)
   in_map f [] y h = absurd h
   in_map f (x ∷ xs) y h = grind (arith, in_map f xs y)
 

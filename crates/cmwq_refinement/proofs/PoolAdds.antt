@@ -8,6 +8,7 @@ use Rattle.cmwq_refinement.specs.ByNumber.{number_of_queueing}
 use Rattle.cmwq_refinement.specs.Pools.{task_for, pool_of, made_active, pool_before_activation, MayAllBeAdded}
 use Rattle.cmwq_lemmas.proofs.Members.{In, of_in, all_in, in_right}
 use Rattle.cmwq_refinement.proofs.ItemNumbers.{one_of}
+use Rattle.cmwq_refinement.proofs.Numbers.{in_any, in_map}
 use Rattle.cmwq_refinement.proofs.PlacesFit.{open_there}
 use Rattle.cmwq_refinement.proofs.PoolReads.{IsOnList, worklist_has}
 use Rattle.cmwq_refinement.proofs.PoolSteps.{first_listed, first_items}
@@ -34,8 +35,7 @@ apart_may_be_added s (x ∷ xs) l there apart = (
 not_sooner : (s : Layout) (past : List Entry) (x y : Queueing) → IsSooner s past x y → x ≡ y → ⊥
 not_sooner s past x y h same =
     let at : h.x_since ≡ h.y_since = same_Some h.x_since h.y_since (sym h.x_is ∙ ap (λ z. since s past z) same ∙ h.y_is) in
-    let number : x.number ≡ y.number = ap number_of_queueing same in
-    ⊎_elim (λ less. absurd (omega arith)) (λ k. let less = k.1 in absurd (omega arith)) h.order
+    grind (arith, h.order, ap number_of_queueing same)
 
 unlike : (s : Layout) (past : List Entry) (p : PoolId) (x y : Queueing) → IsLegal s past → IsSooner s past x y → IsOnList s past p x → IsOnList s past p y → is_task_of y.item.0 (task_for s x) ≡ false
 unlike s past p x y legal sooner hx hy = false_from_ne_true (x.item.0 == y.item.0) (λ h. not_sooner s past x y sooner (one_of s past x y legal hx.stands hy.stands (eqb-true x.item.0 y.item.0 h) hx.not_started hy.not_started))
@@ -64,18 +64,15 @@ active_may_be_added s past e p legal =
 
 -- ---- an item is listed in one pool
 
-record IsListing (s : Layout) (past : List Entry) (p : PoolId) (i : ℕ) : Type 0 where
-  queueing : Queueing
-  on : IsOnList s past p queueing
-  of_item : queueing.item.0 ≡ i
-
-listing : (s : Layout) (past : List Entry) (p : PoolId) (i : ℕ) (xs : List Queueing) → AllByRecursion (IsOnList s past p) xs → list_any (is_task_of i) (map (task_for s) xs) ≡ true → IsListing s past p i
-listing s past p i [] on h = cc
-listing s past p i (x ∷ xs) on h = ⊎_elim (λ here. record { queueing = x; on = on.0; of_item = eqb-true x.item.0 i here }) (λ later. listing s past p i xs on.1 later) (or_cases (is_task_of i (task_for s x)) (list_any (is_task_of i) (map (task_for s) xs)) h)
+listing : (s : Layout) (past : List Entry) (p : PoolId) (i : ℕ) → lists_item i (pool_of s past p) ≡ true → (x : Queueing) × IsOnList s past p x × (x.item.0 ≡ i)
+listing s past p i h =
+    let t = in_any (is_task_of i) (map (task_for s) (worklist s past p)) h in
+    let x = in_map (task_for s) (worklist s past p) t.0 t.1 in
+    (x.0, of_in (IsOnList s past p) (worklist s past p) x.0 (worklist_has s past p) x.1, eqb-true x.0.item.0 i (ap (is_task_of i) x.2 ∙ t.2))
 
 pub items_are_listed_once : (s : Layout) (past : List Entry) (p q : PoolId) (i : ℕ) → IsLegal s past → lists_item i (pool_of s past p) ≡ true → lists_item i (pool_of s past q) ≡ true → p ≡ q
 items_are_listed_once s past p q i legal hp hq =
-    let x = listing s past p i (worklist s past p) (worklist_has s past p) hp in
-    let y = listing s past q i (worklist s past q) (worklist_has s past q) hq in
-    let one = one_of s past x.queueing y.queueing legal x.on.stands y.on.stands (x.of_item ∙ sym y.of_item) x.on.not_started y.on.not_started in
-    sym x.on.pool ∙ (ap (λ (z : Queueing). pool_at s z.place) one ∙ y.on.pool)
+    let x = listing s past p i hp in
+    let y = listing s past q i hq in
+    let one = one_of s past x.0 y.0 legal x.1.stands y.1.stands (x.2 ∙ sym y.2) x.1.not_started y.1.not_started in
+    sym x.1.pool ∙ (ap (λ (z : Queueing). pool_at s z.place) one ∙ y.1.pool)

@@ -58,7 +58,7 @@ run_is_slot s past p x start legal on is =
 
 listed_runs : (s : Layout) (past : List Entry) (p : PoolId) (x : Queueing) → IsLegal s past → IsOnList s past p x → slots_run_item (pool_of s past p).slots x.item.0 ≡ item_runs past x.item.0
 listed_runs s past p x legal on = same_bools (slots_run_item (pool_of s past p).slots x.item.0) (item_runs past x.item.0)
-    (λ h. let k = in_any (slot_runs x.item.0) (pool_of s past p).slots h in let i = in_map (slot_of s past p) (indices s) k.0 k.1 in slot_runs_it s past p x.item.0 i.0 legal (ap (slot_runs x.item.0) i.1 ∙ k.2))
+    (λ h. let k = in_any (slot_runs x.item.0) (pool_of s past p).slots h in let i = in_map (slot_of s past p) (indices s) k.0 k.1 in slot_runs_it s past p x.item.0 i.0 legal (ap (slot_runs x.item.0) i.2 ∙ k.2))
     (λ h. of_run (item_run past x.item.0) refl h)
   where
     of_run : (o : Option Start) → item_run past x.item.0 ≡ o → is_some o ≡ true → slots_run_item (pool_of s past p).slots x.item.0 ≡ true

@@ -46,18 +46,12 @@ count_map : (p : Slot → Bool) (q : ℕ → Bool) (f : ℕ → Slot) (xs : List
 count_map p q f [] h = refl
 count_map p q f (x ∷ xs) h = grind (arith, count_by-cons p (f x) (map f xs), count_by-cons q x xs, h x, count_map p q f xs h)
 
-holding_slot : (s : Layout) (past : List Entry) (p : PoolId) (x : ℕ) → IsLegal s past → slot_holds (slot_of s past p x) ≡ is_holding s past p x
-holding_slot s past p x legal = ap₂ (λ a b. a && not (is_asleep past (worker_at p x)) && not b) (some_run s past (worker_at p x) legal) (intensive_run s past (worker_at p x) legal)
-
 pub idle_slot : (s : Layout) (past : List Entry) (p : PoolId) (x : ℕ) → IsLegal s past → slot_is_idle (slot_of s past p x) ≡ is_idle past p x
 idle_slot s past p x legal = ap (λ a. is_enlisted past (worker_at p x) && not a) (some_run s past (worker_at p x) legal)
 
-occupied_slot : (s : Layout) (past : List Entry) (p : PoolId) (x : ℕ) → IsLegal s past → slot_is_occupied (slot_of s past p x) ≡ is_occupied past p x
-occupied_slot s past p x legal = ap (λ a. is_enlisted past (worker_at p x) && a) (some_run s past (worker_at p x) legal)
-
 pub runnables_are_runnable : (s : Layout) (past : List Entry) (p : PoolId) → IsLegal s past → slots_runnable (pool_of s past p).slots ≡ runnable s past p
 unfolding runnable
-runnables_are_runnable s past p legal = count_map slot_holds (is_holding s past p) (slot_of s past p) (indices s) (λ x. holding_slot s past p x legal)
+runnables_are_runnable s past p legal = count_map slot_holds (is_holding s past p) (slot_of s past p) (indices s) (λ x. rw (some_run s past (worker_at p x) legal, intensive_run s past (worker_at p x) legal) refl)
 
 -- ---- slots by their index
 
@@ -72,7 +66,7 @@ slots_for_workers s past p = length-map-range_with_len (slot_of s past p) 0 s.wo
 
 any_agree : (p q : ℕ → Bool) (xs : List ℕ) → AllByRecursion (λ x. p x ≡ q x) xs → list_any p xs ≡ list_any q xs
 any_agree p q [] h = refl
-any_agree p q (x ∷ xs) h = ap₂ (λ a b. a || b) h.0 (any_agree p q xs h.1)
+any_agree p q (x ∷ xs) h = grind (arith, any_agree p q xs)
 
 pub starts_enlist_alike : (s : Layout) (past : List Entry) (w : WorkerId) → IsLegal s past → slots_enlisted_by (pool_of s past w.pool).slots w.index ≡ enlisted_by s past w
 unfolding enlisted_by
@@ -92,7 +86,7 @@ pub idle_retire_alike : (s : Layout) (past : List Entry) (p : PoolId) (x : ℕ) 
 unfolding may_retire
 idle_retire_alike s past p x legal less =
     ap₂ (λ a b. a && b) (ap slot_is_idle (slot_is s past p x less) ∙ idle_slot s past p x legal)
-    (ap₂ has_spare (count_map slot_is_idle (is_idle past p) (slot_of s past p) (indices s) (λ y. idle_slot s past p y legal)) (count_map slot_is_occupied (is_occupied past p) (slot_of s past p) (indices s) (λ y. occupied_slot s past p y legal)))
+    (ap₂ has_spare (count_map slot_is_idle (is_idle past p) (slot_of s past p) (indices s) (λ y. idle_slot s past p y legal)) (count_map slot_is_occupied (is_occupied past p) (slot_of s past p) (indices s) (λ y. rw (some_run s past (worker_at p y) legal) refl)))
 
 pub slots_are_workers : (s : Layout) (past : List Entry) (p : PoolId) (x : ℕ) → IsLegal s past → x < s.workers → IsSlotOf past (worker_at p x) (slot_at (pool_of s past p).slots x)
 slots_are_workers s past p x legal less = subst (IsSlotOf past (worker_at p x)) (sym (slot_is s past p x less)) (record { enlisted = refl; run = number_run s past (worker_at p x) legal; asleep = refl })
