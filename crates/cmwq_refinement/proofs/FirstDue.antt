@@ -115,7 +115,7 @@ soonest_is : (past : List Entry) (bs : List Booking) (b : Booking) → RisesBy n
 soonest_is past bs b rise here none =
     let none_before = list_any_none (is_due_before b) bs (All-from_recursion (λ a. nat_lt a.due b.due ≡ false) bs (All_map _ (λ a. nat_lt a.due b.due ≡ false) bs (λ a h. due_later (timer_for a) (timer_for b) h) none)) in
     find_is number_booked (is_soonest bs) bs b rise here (ap not none_before) (all_in (λ a. is_soonest bs a ≡ true → b.number ≤ a.number) bs (λ a i first. number_later (timer_for a) (timer_for b) (of_in _ bs a none i)
-      (of_in (λ c. nat_lt c.due a.due ≡ false) bs b (none_pass (is_due_before a) bs (not-true (list_any (is_due_before a) bs) first)) here)))
+    (of_in (λ c. nat_lt c.due a.due ≡ false) bs b (none_pass (is_due_before a) bs (not-true (list_any (is_due_before a) bs) first)) here)))
 
 fireable_rises : (past : List Entry) → RisesBy number_booked (fireable past)
 fireable_rises past = rises_filter number_booked (may_fire past) (standing past) (rises_filter number_booked (stands past) (bookings past) (bookings_rise past))

@@ -140,8 +140,8 @@ module _ (s : Layout) (past : List Entry) (e : Entry) (legal : IsLegal s (e ∷ 
   moved_run i = elim (start_kind s past e legal) [
     | none_starts none unstarting ↦ grind (arith, left_run i, items_run_on s past e i legal, starts_no_item e past i (no_start e unstarting))
     | one_starts y one st ↦
-      let start : Start = record { worker = st.worker; number = y.number } in
-      let starts_it : start_in e ≡ Some start = start_of_worker e st.worker y.number st.by_worker st.number in
-      let its = starts_its_item e past start i y.item.0 starts_it (found_known past y.number y st.found).item in
-      grind (arith, nat_tests, left_run i, items_run_on s past e i legal, starts_it, its, st.waits, st.ends_none, queueing_at-older e past y.number y st.found)
+        let start : Start = record { worker = st.worker; number = y.number } in
+        let starts_it : start_in e ≡ Some start = start_of_worker e st.worker y.number st.by_worker st.number in
+        let its = starts_its_item e past start i y.item.0 starts_it (found_known past y.number y st.found).item in
+        grind (arith, nat_tests, left_run i, items_run_on s past e i legal, starts_it, its, st.waits, st.ends_none, queueing_at-older e past y.number y st.found)
   ]

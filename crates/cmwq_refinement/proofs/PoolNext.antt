@@ -39,8 +39,8 @@ slot_runs_it : (s : Layout) (past : List Entry) (p : PoolId) (i x : ℕ) → IsL
 slot_runs_it s past p i x legal h = elim (run_of s past (worker_at p x) legal) [
   | idle none ↦ cc
   | busy y is found pool ↦
-    let its : (y.item.0 == i) ≡ true = cc in
-    ap is_some (runs_are_items s past (worker_at p x) y.number i legal is ((found_known past y.number y found).item ∙ ap Some (eqb-true y.item.0 i its)))
+      let its : (y.item.0 == i) ≡ true = cc in
+      ap is_some (runs_are_items s past (worker_at p x) y.number i legal is ((found_known past y.number y found).item ∙ ap Some (eqb-true y.item.0 i its)))
 ]
 
 -- and the run of an item that is listed is a slot's of that pool
