@@ -1,8 +1,7 @@
 -- Whether some item is booked on a queue.
-use Rattle.cmwq_refinement.specs.Common.{◌≡◌, ℕ, Bool, true, false, ◌||◌, List, [], ◌∷◌, map, length, get_or, Option, Some, None, refl, ap, ◌∙◌, arith, ⊎_elim, inl, inr, option_map, range_with_len, list_any, or_cases, get_or-map-range_with_len, length-map-range_with_len, Entry, Booking, Layout, booking, standing, is_booked_on, IsLegal, is_timer_on}
+use Rattle.cmwq_refinement.specs.Common.{◌≡◌, ℕ, true, List, Option, Some, None, refl, ap, ◌∙◌, arith, option_map, range_with_len, list_any, Entry, Booking, Layout, booking, standing, is_booked_on, IsLegal, is_timer_on}
 use Rattle.cmwq_timer.specs.Rows.{any_timer_on as booked_in_rows}
 use Rattle.cmwq_refinement.specs.Timers.{timer_for, timer_row, timers_of}
-use Rattle.cmwq_lemmas.proofs.Members.{In, in_at}
 use Rattle.cmwq_refinement.proofs.Numbers.{any_in, in_any, in_map, in_mapped, in_range}
 use Rattle.cmwq_refinement.proofs.FirstDue.{in_standing, standing_is, standing_fits}
 use Rattle.cmwq_lemmas.proofs.Truth.{same_bools}

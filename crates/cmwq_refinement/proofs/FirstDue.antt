@@ -1,9 +1,9 @@
 -- The timer that fires first is that of the booking that is due first.
-use Rattle.cmwq_refinement.specs.Common.{◌≡◌, ◌<◌, ◌≤◌, ℕ, suc, Bool, true, false, not, ◌&&◌, ◌||◌, List, [], ◌∷◌, ◌++◌, length, filter, Option, Some, None, option_to_list, nat_lt, nat_le, refl, sym, ap, ap₂, ◌∙◌, subst, arith, append-nil, inl, inr, option_map, if◌then◌else◌, AllByRecursion, list_any, eqb-true, eq-eqb, not-true, cases_lt, or_parts, nat_tests, same_Some, ItemId, Entry, Booking, Layout, is_at, is_of_item, now, settles, booking, booking_of, bookings, number_booked, stands, standing, may_fire, is_due_before, is_soonest, soonest, first_due, IsLegal, Timer, MayFire, NoneMayFire, IsFirstToFire, timer_of, All_map, All_append, is_at-true, and_false, All-from_recursion}
+use Rattle.cmwq_refinement.specs.Common.{◌≡◌, ◌<◌, ◌≤◌, ℕ, suc, true, false, not, ◌&&◌, List, [], ◌∷◌, length, filter, Option, Some, None, option_to_list, nat_lt, nat_le, refl, sym, ap, ◌∙◌, arith, option_map, AllByRecursion, list_any, eqb-true, eq-eqb, not-true, nat_tests, same_Some, ItemId, Entry, Booking, Layout, is_at, is_of_item, now, booking, booking_of, bookings, number_booked, stands, standing, may_fire, is_due_before, is_soonest, soonest, first_due, IsLegal, Timer, MayFire, NoneMayFire, IsFirstToFire, timer_of, All_map, is_at-true, All-from_recursion}
 use Rattle.cmwq_timer.specs.Due.{is_sooner, timer_may_fire}
 use Rattle.cmwq_refinement.specs.Timers.{timer_for, timers_of, HoldsDraining, item_due, MayApplyToTimers}
-use Rattle.cmwq_lemmas.proofs.Members.{In, of_in, all_in, in_left, in_right, option_in, in_option, in_filter, filter_in, none_in, found}
-use Rattle.cmwq_lemmas.proofs.Rising.{RisesBy, rises_filter, rises_snoc, rises_unique, find_is}
+use Rattle.cmwq_lemmas.proofs.Members.{In, of_in, all_in, in_left, in_right, option_in, in_filter, filter_in, none_in, found}
+use Rattle.cmwq_lemmas.proofs.Rising.{RisesBy, rises_filter, rises_unique, find_is}
 use Rattle.std.proofs.lemmas.List.Folds.{list_any_none}
 use Rattle.cmwq_refinement.proofs.Numbers.{all_more, none_pass, rises_more}
 use Rattle.cmwq_refinement.proofs.TimerSteps.{booking_books, row_at, row_past}

@@ -1,6 +1,5 @@
 -- What an entry ends is a run or an unstarted queueing of its item, and what it starts is an unstarted one of an item without a run.
 use Rattle.cmwq_refinement.specs.Common.{◌≡◌, ℕ, true, false, List, ◌∷◌, Option, Some, None, refl, sym, ap, ◌∙◌, option_and_then, is_some, WorkerId, Who, Worker, Reply, Entry, Queueing, Start, Layout, item_of, item_at, number_started, number_finished, is_started, run, item_run, item_runs, unstarted_queueing, queueing_at, IsLegal, ending, queueing_run, ended_by, ends_as_told, unstarted_found, unstarted_is, finishes_run, runs_are_items, item_run_started, starts_known, start_is, started_was, runs_are_in_pools, found_known, found_number, arith}
-use Rattle.cmwq_model.specs.declared.reply.Reply.TheVariants as reply
 use Rattle.cmwq_refinement.specs.Flights.{starting}
 
 -- the run of an item is this queueing

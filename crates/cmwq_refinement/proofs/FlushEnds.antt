@@ -1,5 +1,5 @@
 -- A flush whose end is answered done stands in the book and is ready.
-use Rattle.cmwq_refinement.specs.Common.{◌≡◌, ℕ, true, List, ◌∷◌, Option, Some, None, refl, sym, ap, ◌∙◌, subst, Contains, if◌then◌else◌, option_map, option_and_then, option_or, eqb-true, same_Some, Call, Entry, Queueing, Ticket, Layout, item_of, number_finished, number_cancelled, replaces, opens, opening, place_wanted, queued_at, unstarted_queueing, flushes, is_flush_of, ticket_of, unended_tickets, is_done, waits_for, IsLegal, ending, ticket_ended, ticket_asked, ends_which, FlushBook, flush_tickets, arith}
+use Rattle.cmwq_refinement.specs.Common.{◌≡◌, ℕ, true, List, ◌∷◌, Some, None, refl, sym, ◌∙◌, Contains, eqb-true, same_Some, Call, Entry, Ticket, Layout, opening, flushes, is_flush_of, ticket_of, unended_tickets, waits_for, IsLegal, ending, ticket_ended, ends_which, FlushBook, flush_tickets, arith}
 use Rattle.cmwq_model.specs.declared.call.Call.TheVariants as call
 use Rattle.cmwq_model.specs.declared.reply.Reply.TheVariants as reply
 use Rattle.cmwq_theory_steps.proofs.Done.{ends_ticket}

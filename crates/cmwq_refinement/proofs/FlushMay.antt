@@ -1,19 +1,19 @@
 -- The calls that apply an entry of a legal history to a flush book may be made.
-use Rattle.cmwq_refinement.specs.Common.{◌≡◌, ◌<◌, ◌≤◌, ◌+◌, ℕ, Bool, true, false, cond, List, [], ◌∷◌, ◌++◌, length, map, filter, count_by, Option, Some, None, option_to_list, refl, sym, ap, ap₂, ◌∙◌, subst, arith, ◌*◌, Contains, IsTrue, AllByRecursion, length-append, length-map, All-from_recursion, length-filter, count_by-le-length, Entry, Queueing, Ticket, Layout, is_layout, still_open, opening, unended_tickets, is_flush_of, IsLegal, tickets_of_served, FlushBook, flush_tickets, CanOpen, flushes_without_open, if◌then◌else◌, ending, is_kept, ticket_ended, All_map, All_filter, count_by-cons, opening_number, two_for_each_item, unended_go_on, nat_tests}
+use Rattle.cmwq_refinement.specs.Common.{◌≡◌, ◌<◌, ◌≤◌, ◌+◌, ℕ, Bool, true, false, cond, List, [], ◌∷◌, ◌++◌, length, filter, count_by, Option, Some, None, option_to_list, refl, sym, ap, ◌∙◌, subst, arith, ◌*◌, Contains, IsTrue, length-append, length-map, All-from_recursion, length-filter, count_by-le-length, Entry, Queueing, Ticket, Layout, is_layout, still_open, opening, unended_tickets, is_flush_of, IsLegal, tickets_of_served, FlushBook, flush_tickets, ending, is_kept, ticket_ended, count_by-cons, opening_number, two_for_each_item, unended_go_on, nat_tests}
 use Rattle.cmwq_flush.specs.FlushBooks.{book_in, overflow_count}
 use Rattle.cmwq_model.specs.declared.call.Call.TheVariants as call
-use Rattle.std.specs.Prelude.{◌==◌, nat_le}
+use Rattle.std.specs.Prelude.{nat_le}
 use Rattle.std.proofs.Common.{suc}
-use Rattle.cmwq_refinement.specs.Common.{Call, flushes, eqb-true, le-leb, leb-true, lt-leb, sum_by-cons}
+use Rattle.cmwq_refinement.specs.Common.{Call, flushes, sum_by-cons}
 use Rattle.cmwq_refinement.specs.ByNumber.{number_of_queueing, number_of_ticket, ticket_given}
-use Rattle.cmwq_refinement.specs.FlushBooks.{is_on_queue, open_numbers, AreFlushes, flushes_after_end, flushes_after_opening, flushes_after_done, flushes_after_queueings, flush_numbers, MayEndInFlushes, MayOpenInFlushes, MayBeDoneInFlushes, MayBeginInFlushes, MayApplyToFlushes, AreBegun}
+use Rattle.cmwq_refinement.specs.FlushBooks.{is_on_queue, open_numbers, AreFlushes, flushes_after_end, flushes_after_done, flushes_after_queueings, MayEndInFlushes, MayOpenInFlushes, MayBeDoneInFlushes, MayBeginInFlushes, MayApplyToFlushes, AreBegun}
 use Rattle.cmwq_lemmas.proofs.Members.{In, filter_in, in_contained}
 use Rattle.cmwq_lemmas.proofs.Passing.{all_kept}
 use Rattle.cmwq_refinement.proofs.Numbers.{in_mapped}
 use Rattle.cmwq_refinement.proofs.TicketSteps.{unended_below, ticket_step, ticket_in_is}
 use Rattle.cmwq_refinement.proofs.TicketLimits.{unended_few}
 use Rattle.cmwq_refinement.proofs.QueueingSteps.{QueueingStep, queueing_step, ends_one, ends_none}
-use Rattle.cmwq_refinement.proofs.FlushSteps.{StandsAs, flush_numbers_below, applied_on, opened_is, opened_numbers, ended_next, soon_after, stands_done}
+use Rattle.cmwq_refinement.proofs.FlushSteps.{StandsAs, flush_numbers_below, applied_on, opened_is, ended_next, soon_after, stands_done}
 use Rattle.cmwq_refinement.proofs.FlushEnds.{ended_ready, done_flushes_may_end}
 
 -- ---- what is open

@@ -1,5 +1,5 @@
 -- A flush book refines a history, entry by entry.
-use Rattle.cmwq_refinement.specs.Common.{◌≡◌, ◌==◌, ◌<◌, ◌≤◌, ◌+◌, ℕ, suc, Bool, true, false, cond, not, ◌&&◌, List, [], ◌∷◌, ◌++◌, length, map, filter, count_by, Option, Some, None, option_to_list, nat_lt, nat_le, refl, sym, ap, ap₂, ◌∙◌, subst, arith, append-nil, ◌⊎◌, inl, inr, ⊎_elim, is_some, if◌then◌else◌, option_or, same_Some, AllByRecursion, lt-ltb, le-ltb, le-leb, lt-leb, map-append, length-map, filter-append, Entry, Queueing, Ticket, Layout, still_open, opening, queueings, unended_tickets, tickets, is_flush_of, serving_from, is_served_after, is_older_flush, IsLegal, Served, is_other_number, without, tickets_of_served, FlushBook, new_book, flush_tickets, served_of, flushes_with_open, flushes_without_open, flushes_with_wait, flushes_without_wait, IsServing, survives, ending, All_map, All_append, All_filter, count_by-filter, opening_number, open_go_on, is_kept, ticket_ended, unended_go_on, served_stay, nat_tests, and_false}
+use Rattle.cmwq_refinement.specs.Common.{◌≡◌, ◌==◌, ◌<◌, ◌≤◌, ◌+◌, ℕ, suc, Bool, true, false, cond, not, List, [], ◌∷◌, ◌++◌, length, map, filter, count_by, Option, Some, None, option_to_list, nat_lt, nat_le, refl, sym, ap, ◌∙◌, arith, append-nil, ◌⊎◌, inl, inr, ⊎_elim, if◌then◌else◌, AllByRecursion, lt-ltb, le-ltb, le-leb, lt-leb, map-append, length-map, filter-append, Entry, Queueing, Ticket, Layout, still_open, opening, queueings, unended_tickets, tickets, is_flush_of, serving_from, is_served_after, is_older_flush, IsLegal, Served, is_other_number, without, tickets_of_served, FlushBook, new_book, flush_tickets, flushes_with_open, flushes_without_open, flushes_with_wait, flushes_without_wait, IsServing, survives, ending, All_map, count_by-filter, opening_number, open_go_on, is_kept, ticket_ended, unended_go_on, served_stay, and_false}
 use Rattle.cmwq_flush.specs.Served.{ticket_of_served}
 use Rattle.cmwq_refinement.specs.ByNumber.{number_of_queueing, number_of_ticket, ticket_given}
 use Rattle.cmwq_refinement.specs.FlushBooks.{is_on_queue, open_numbers, flush_numbers, IsServedFrom, AreFlushes, flushes_after_end, flushes_after_opening, flushes_after_done, flushes_after_begun, flushes_after_queueings, flushes_after_tickets}

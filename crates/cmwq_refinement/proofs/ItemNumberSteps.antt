@@ -1,5 +1,5 @@
 -- The open numbers of items refine a history, entry by entry.
-use Rattle.cmwq_refinement.specs.Common.{◌≡◌, ◌≢◌, ◌==◌, ◌<◌, ℕ, false, cond, List, [], ◌∷◌, ◌++◌, length, map, filter, set, get_or, replicate, Option, Some, None, option_to_list, refl, sym, ap, ◌∙◌, arith, append-nil, range_with_len, eq-eqb, ne_eqb, map-append, length-range_with_len, length-map-range_with_len, get_or-map-range_with_len, filter-append, Entry, Queueing, Layout, queueings, still_open, opening, is_of, IsLegal, survives, ending, open_go_on, without, numbers_open}
+use Rattle.cmwq_refinement.specs.Common.{◌≡◌, ◌≢◌, ◌==◌, ◌<◌, ℕ, false, cond, List, [], ◌∷◌, ◌++◌, length, map, filter, set, get_or, replicate, Option, Some, None, option_to_list, refl, sym, ap, ◌∙◌, arith, append-nil, range_with_len, eq-eqb, ne_eqb, map-append, length-map-range_with_len, get_or-map-range_with_len, filter-append, Entry, Queueing, Layout, queueings, still_open, opening, is_of, IsLegal, survives, ending, open_go_on, without, numbers_open}
 use Rattle.cmwq_refinement.specs.ByNumber.{number_of_queueing}
 use Rattle.cmwq_refinement.specs.ItemNumbers.{item_numbers, numbers_of, numbers_after_end, numbers_after_opening, numbers_after}
 use Rattle.cmwq_lemmas.proofs.Lists.{filter_all}

@@ -1,5 +1,5 @@
 -- Lists of what has a number, and of the numbers; with what of lists the other files share.
-use Rattle.cmwq_refinement.specs.Common.{◌≡◌, ◌==◌, ◌<◌, ◌≤◌, ◌+◌, ℕ, zero, suc, Bool, true, false, cond, not, ◌&&◌, List, [], ◌∷◌, ◌++◌, length, map, filter, find, count_by, replicate, Some, nat_lt, refl, ap, ◌∙◌, subst, arith, inl, inr, ⊎_elim, option_map, AllByRecursion, list_any, range_with_len, ne_eqb, nat_tests, length-range_with_len, slice_get, without, All_map, count_by-cons, Option, None, option_to_list, append-nil, sum_by, sum_by-cons, All_append, All_each}
+use Rattle.cmwq_refinement.specs.Common.{◌≡◌, ◌==◌, ◌<◌, ◌≤◌, ◌+◌, ℕ, zero, suc, Bool, true, false, cond, not, ◌&&◌, List, [], ◌∷◌, ◌++◌, length, map, filter, find, count_by, replicate, Some, nat_lt, refl, ap, ◌∙◌, subst, arith, ⊎_elim, option_map, AllByRecursion, list_any, range_with_len, ne_eqb, nat_tests, length-range_with_len, slice_get, without, All_map, count_by-cons, Option, None, option_to_list, append-nil, sum_by, sum_by-cons, All_append, All_each}
 use Rattle.cmwq_lemmas.proofs.Members.{In, of_in, all_in, in_filter, in_option, in_right}
 use Rattle.cmwq_lemmas.proofs.Filters.{count_by-same}
 use Rattle.cmwq_lemmas.proofs.Passing.{all_split, once_there}

@@ -1,5 +1,5 @@
 -- What became active may be added to its pool: no two that are listed are of one item, in one pool or in two.
-use Rattle.cmwq_refinement.specs.Common.{◌≡◌, ◌==◌, ◌<◌, false, not, ◌&&◌, List, [], ◌∷◌, ◌++◌, map, filter, refl, sym, ap, ap₂, ◌∙◌, subst, arith, inl, ⊎_elim, AllByRecursion, eqb-true, false_from_ne_true, lt-ltb, same_Some, append_assoc, All-from_recursion, PoolId, Entry, Queueing, Layout, worklist, IsLegal, is_left, worklist_is, worklists_go_on, Task, PoolState, pool_with_task, ℕ, true, list_any, or_cases, pool_at}
+use Rattle.cmwq_refinement.specs.Common.{◌≡◌, ◌==◌, ◌<◌, false, not, ◌&&◌, List, [], ◌∷◌, ◌++◌, map, filter, refl, sym, ap, ap₂, ◌∙◌, subst, arith, inl, AllByRecursion, eqb-true, false_from_ne_true, lt-ltb, same_Some, append_assoc, All-from_recursion, PoolId, Entry, Queueing, Layout, worklist, IsLegal, is_left, worklist_is, worklists_go_on, Task, PoolState, pool_with_task, ℕ, true, pool_at}
 use Rattle.cmwq_pool.specs.Slots.{is_task_of}
 use Rattle.cmwq_pool.specs.Pools.{lists_item}
 use Rattle.std.proofs.lemmas.List.Folds.{list_any_none}

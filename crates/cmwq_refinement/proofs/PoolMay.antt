@@ -1,8 +1,7 @@
 -- What a worker is answered in a legal history may be applied to its pool.
-use Rattle.cmwq_refinement.specs.Common.{◌≡◌, ◌<◌, ℕ, true, false, not, ◌&&◌, List, ◌∷◌, Some, refl, sym, ap, ap₂, ◌∙◌, option_map, is_some, WorkerId, Worker, Reply, Entry, Layout, number_started, number_finished, has_run, is_asleep, runs_awake, runs_asleep, next, is_enlisted, may_retire, runnable, IsLegal, starts_next, finishes_run, cause_of, sleep_reason, wake_reason, retire_reason, slot_at, by_itself, same_starter}
+use Rattle.cmwq_refinement.specs.Common.{◌≡◌, ◌<◌, ℕ, true, List, ◌∷◌, Some, refl, sym, ap, ◌∙◌, WorkerId, Worker, Reply, Entry, Layout, number_started, number_finished, runs_awake, runs_asleep, IsLegal, starts_next, finishes_run, cause_of, sleep_reason, wake_reason, retire_reason, slot_at, by_itself, same_starter}
 use Rattle.cmwq_model.specs.declared.reply.Reply.TheVariants as reply
-use Rattle.cmwq_pool.specs.Slots.{slot_is_idle as is_idle_slot, slot_runs_awake as slot_awake_runs, slot_runs_asleep as slot_asleep_runs}
-use Rattle.cmwq_refinement.specs.ByNumber.{number_of_queueing}
+use Rattle.cmwq_pool.specs.Slots.{slot_runs_awake as slot_awake_runs, slot_runs_asleep as slot_asleep_runs}
 use Rattle.cmwq_refinement.specs.Pools.{pool_of, MayStartInPool, MayReplyInPool}
 use Rattle.cmwq_refinement.proofs.PoolReads.{slot_is, some_run, idle_slot, runnables_are_runnable, idle_retire_alike}
 use Rattle.cmwq_refinement.proofs.PoolNext.{worker_fits, nexts_are_next}

@@ -1,6 +1,5 @@
 -- A pool refines a history, entry by entry.
-use Rattle.cmwq_refinement.specs.Common.{◌≡◌, ◌==◌, ℕ, Bool, true, false, cond, not, ◌&&◌, List, [], ◌∷◌, ◌++◌, map, filter, Option, Some, None, refl, sym, ap, ap₂, ◌∙◌, subst, append-nil, if◌then◌else◌, AllByRecursion, eqb-true, eq-eqb, false_from_ne_true, false≢true, same_Some, map-append, append_assoc, PoolId, WorkerId, Who, Caller, Worker, Reply, Entry, Queueing, Layout, indices, pool_at, is_at, same_pool, is_of_item, number_started, replaces, finishes, is_started, last_start, is_asleep, queueings, still_open, is_live, queueing_at, became_active, worklist, is_enlisted, worker_at, IsLegal, survives, is_ended, ending, is_left, is_in, All_map, All_each, none_found, listed_pool, no_end, IsFound, queueings_found, StartsListed, starts_listed, worklists_go_on, same_pool-true, Task, new_slot, PoolState, new_pool_state, is_other_task, pool_with_task, pool_without_task, next_task, nat_tests, arith, and_false, and_true}
-use Rattle.cmwq_model.specs.declared.reply.Reply.TheVariants as reply
+use Rattle.cmwq_refinement.specs.Common.{◌≡◌, ◌==◌, ℕ, true, false, not, ◌&&◌, List, [], ◌∷◌, ◌++◌, map, filter, Option, Some, None, refl, sym, ap, ap₂, ◌∙◌, subst, append-nil, eq-eqb, map-append, append_assoc, PoolId, WorkerId, Who, Caller, Worker, Reply, Entry, Queueing, Layout, indices, pool_at, is_at, same_pool, number_started, finishes, last_start, is_asleep, queueings, still_open, is_live, queueing_at, became_active, worklist, is_enlisted, worker_at, IsLegal, survives, is_ended, ending, is_left, is_in, All_map, All_each, none_found, listed_pool, no_end, IsFound, queueings_found, starts_listed, worklists_go_on, same_pool-true, new_slot, PoolState, new_pool_state, is_other_task, pool_with_task, pool_without_task, next_task, nat_tests, arith, and_true}
 use Rattle.cmwq_refinement.specs.ByNumber.{number_of_queueing}
 use Rattle.cmwq_refinement.specs.Pools.{task_for, slot_of, pool_of, start_next, pool_after_reply, pool_after_worker, pool_after_cancel, pool_after_activation, pool_before_activation, made_active, pool_after}
 use Rattle.cmwq_lemmas.proofs.Members.{In, in_filter, of_in}
@@ -11,8 +10,7 @@ use Rattle.cmwq_lemmas.proofs.Rising.{rises_unique}
 use Rattle.cmwq_refinement.proofs.QueueingSteps.{QueueingStep, queueing_step, ends_one, ends_none, open_numbers_rise}
 use Rattle.cmwq_refinement.proofs.TimerSteps.{same_rows}
 use Rattle.cmwq_refinement.proofs.PoolReads.{IsOnList, worklist_has}
-use Rattle.cmwq_refinement.proofs.PoolSlots.{StartsTask, starts_task, slots_refine, pool_itself}
-use Rattle.cmwq_theory_steps.proofs.Ended.{number_same}
+use Rattle.cmwq_refinement.proofs.PoolSlots.{starts_task, slots_refine, pool_itself}
 use Rattle.cmwq_theory_steps.proofs.PendingSteps.{not_finished}
 use Rattle.cmwq_pool.proofs.Starting.{same_pool_state}
 

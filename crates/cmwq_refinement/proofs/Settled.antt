@@ -1,8 +1,6 @@
 -- In a legal history what settles is of an item that there is, and what books is for a queue that there is.
-use Rattle.cmwq_refinement.specs.Common.{◌≡◌, ◌<◌, ℕ, Bool, true, false, List, [], ◌∷◌, length, Option, Some, None, option_to_list, refl, sym, ap, ◌∙◌, arith, min, is_some, option_and_then, if◌then◌else◌, option_or, AllByRecursion, and_parts, ltb-true, nat_tests, same_Some, WorkerId, Who, Caller, Worker, Call, Reply, Entry, Booking, Queueing, Ticket, Layout, may_make, has_place, has_numbers, item_called, item_fired, item_of, settles, due_in, booked_by, booking_of, bookings, runs_awake, runs_asleep, run, next, enlisted_by, is_gone, is_crowded, ticket_of, is_frozen, waits_for, answer, wait_answer, destroy_answer, set_max_answer, fired_answer, first_due, end_of_ticket, waiting_for, take_answer, start_of, finish_answer, finished_answer, retire_answer, IsLegal, All_append, and_false, suc}
-use Rattle.cmwq_model.specs.Prelude.{started_answer}
+use Rattle.cmwq_refinement.specs.Common.{◌≡◌, ◌<◌, ℕ, true, false, List, [], ◌∷◌, length, Option, Some, None, refl, arith, is_some, option_and_then, option_or, AllByRecursion, and_parts, ltb-true, nat_tests, Who, Call, Reply, Entry, Booking, Layout, may_make, has_place, has_numbers, item_called, item_fired, item_of, settles, due_in, booked_by, booking_of, bookings, answer, wait_answer, destroy_answer, set_max_answer, fired_answer, first_due, take_answer, finish_answer, retire_answer, IsLegal}
 use Rattle.cmwq_model.specs.declared.call.Call.TheVariants as call
-use Rattle.cmwq_model.specs.declared.reply.Reply.TheVariants as reply
 use Rattle.cmwq_theory_steps.proofs.Inversions.{answer_is}
 use Rattle.cmwq_refinement.proofs.Numbers.{all_more}
 

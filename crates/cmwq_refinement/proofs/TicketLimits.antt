@@ -1,6 +1,5 @@
 -- No more tickets are unended than 64 for each caller.
-use Rattle.cmwq_refinement.specs.Common.{◌≡◌, ◌==◌, ◌<◌, ◌≤◌, ◌+◌, ℕ, Bool, true, false, List, [], ◌∷◌, length, count_by, Option, Some, None, option_to_list, refl, sym, ap, ◌∙◌, subst, arith, ◌*◌, AllByRecursion, and_parts, eqb-true, ltb-true, leb-false, Entry, Ticket, Layout, is_callers, may_make, has_numbers, tickets, unended_tickets, is_unended, ticket_in, is_crowded, IsLegal, passes, ticket_ended, All_map, All_append, All_filter, cause_of, legal_fits, ticket_reason, tickets_go_on, nat_tests}
-use Rattle.cmwq_theory_steps.specs.Histories.{one}
+use Rattle.cmwq_refinement.specs.Common.{◌≡◌, ◌==◌, ◌<◌, ◌≤◌, ℕ, Bool, true, List, [], ◌∷◌, length, count_by, Option, Some, None, refl, sym, ap, ◌∙◌, arith, ◌*◌, AllByRecursion, and_parts, eqb-true, ltb-true, leb-false, Entry, Ticket, Layout, is_callers, may_make, has_numbers, tickets, unended_tickets, is_unended, ticket_in, is_crowded, IsLegal, cause_of, legal_fits, ticket_reason, tickets_go_on}
 use Rattle.cmwq_theory_steps.proofs.OfEachKind.{no_longer}
 use Rattle.cmwq_lemmas.proofs.Passing.{all_kept}
 use Rattle.cmwq_refinement.proofs.Numbers.{all_more}
