@@ -1,7 +1,8 @@
 -- The flights refine a legal history, and the calls that apply an entry to them may be made.
-use Rattle.cmwq_refinement.specs.Common.{◌≡◌, ◌<◌, ℕ, false, List, [], ◌∷◌, length, map, replicate, Option, Some, None, option_to_list, refl, sym, ap, ◌∙◌, arith, range_with_len, same_Some, length-map-range_with_len, get_or-map-range_with_len, Entry, Queueing, Layout, is_started, item_start, queueings, still_open, is_unstarted, unstarted_queueing, opening, IsLegal, opening_number, is_ended, ending, still_unstarted, open_go_on, unstarted_is, opening_inert, Flight, no_flight, flight_at, nat_tests}
+use Rattle.cmwq_refinement.specs.Common.{◌≡◌, ◌<◌, ℕ, false, List, [], ◌∷◌, length, map, replicate, Option, Some, None, option_to_list, refl, sym, ap, ◌∙◌, arith, range_with_len, same_Some, length-map-range_with_len, get_or-map-range_with_len, Entry, Queueing, Layout, is_started, item_start, queueings, still_open, is_unstarted, unstarted_queueing, opening, IsLegal, opening_number, is_ended, ending, still_unstarted, open_go_on, unstarted_is, opening_inert, Flight, no_flight, flight_at, nat_tests, false≢true, is_some, ◌==◌, option_or, with_unstarted, eqb-true}
 use Rattle.cmwq_theory_steps.proofs.Unstarted.{unstarted_goes_on}
 use Rattle.cmwq_refinement.specs.Flights.{flight_of, flights_of, starting, flights_after_end, flights_after_start, flights_after_opening, flights_after_moves, flights_after, MayEndInFlight, MayStartInFlight, MayOpenInFlight, MayApplyToFlights}
+use Rattle.std.proofs.lemmas.Bool.{cond_both}
 use Rattle.cmwq_lemmas.proofs.Members.{In, of_in, in_right, option_in, found}
 use Rattle.cmwq_refinement.proofs.Numbers.{rows_alike}
 use Rattle.cmwq_refinement.proofs.TimerSteps.{same_rows}
@@ -30,7 +31,7 @@ module _ (s : Layout) (past : List Entry) (e : Entry) (legal : IsLegal s (e ∷ 
 
   pub starting_is : (x : Queueing) → starting past e ≡ Some x → Starting past e x
   starting_is x is = elim (start_kind s past e legal) [
-    | none_starts none unstarting ↦ cc
+    | none_starts none unstarting ↦ let bad : None ≡ Some x = sym none ∙ is in cc
     | one_starts y one st ↦ rw (same_Some y x (sym one ∙ is)) at st
   ]
 
@@ -52,7 +53,7 @@ module _ (s : Layout) (past : List Entry) (e : Entry) (legal : IsLegal s (e ∷ 
   -- where an entry opens a queueing, no older one of the item is left unstarted
   none_left : (x u : Queueing) → opening past e ≡ Some x → unstarted_queueing past x.item.0 ≡ Some u → still_unstarted past e (Some u) ≡ Some u → ⊥
   none_left x u opens was still =
-      let goes : unstarted_queueing (e ∷ past) x.item.0 ≡ Some u = cc (unstarted_goes_on s past e x.item.0 legal, was, still) in
+      let goes : unstarted_queueing (e ∷ past) x.item.0 ≡ Some u = rw (unstarted_goes_on s past e x.item.0 legal, was, still) refl in
       let opened_here : In x (still_open (e ∷ past)) = rw (open_go_on s past e legal) (in_right _ _ x (option_in (opening past e) x opens)) in
       let waits = unstarted_is (e ∷ past) x.item.0 u goes in
       let new = of_in (λ y. is_started (e ∷ past) y.number ≡ false) (option_to_list (opening past e)) x (opening_inert s past e (opening past e) legal refl) (option_in (opening past e) x opens) in
@@ -71,12 +72,17 @@ module _ (s : Layout) (past : List Entry) (e : Entry) (legal : IsLegal s (e ∷ 
   same_flight : (f g : Flight) → f.run ≡ g.run → f.unstarted ≡ g.unstarted → f ≡ g
   same_flight f g run waits = λ i. record { run = run i; unstarted = waits i }
 
+  or_none : (o : Option Queueing) → o ≡ option_or o None
+  or_none o = grind arith
+
   pub opened_row : (i : ℕ) (o : Option Queueing) → opening past e ≡ o → row_opened o i (moved s past e legal i) ≡ flight_of (e ∷ past) i
   unfolding row_opened
-  opened_row i None opens = same_flight (row_opened None i (moved s past e legal i)) (flight_of (e ∷ past) i) (moved_run s past e legal i)
-      (grind (arith, moved_unstarted s past e legal i, unstarted_goes_on s past e i legal))
-  opened_row i (Some x) opens = same_flight (row_opened (Some x) i (moved s past e legal i)) (flight_of (e ∷ past) i) (grind (arith, moved_run s past e legal i))
-      (grind (arith, nat_tests, moved_unstarted s past e legal i, unstarted_goes_on s past e i legal, still_none x opens))
+  opened_row i None opens = same_flight (moved s past e legal i) (flight_of (e ∷ past) i) (moved_run s past e legal i) (rw (moved_unstarted s past e legal i, unstarted_goes_on s past e i legal, opens) (or_none _))
+  opened_row i (Some x) opens =
+      let m : Flight = moved s past e legal i in
+      cond_both (x.item.0 == i) (with_unstarted (Some x) m) m (λ f. f ≡ flight_of (e ∷ past) i)
+      (λ same. same_flight (with_unstarted (Some x) m) (flight_of (e ∷ past) i) (moved_run s past e legal i) (rw (unstarted_goes_on s past e i legal, opens, same, ← eqb-true x.item.0 i same, still_none x opens) refl))
+      (λ other. same_flight m (flight_of (e ∷ past) i) (moved_run s past e legal i) (rw (moved_unstarted s past e legal i, unstarted_goes_on s past e i legal, opens, other) (or_none _)))
 
   pub flights_refine : flights_of s (e ∷ past) ≡ flights_after past e (flights_of s past)
   flights_refine =
@@ -91,7 +97,7 @@ module _ (s : Layout) (past : List Entry) (e : Entry) (legal : IsLegal s (e ∷ 
     known = rw (flights_for_items s past) (ending_there x one);
     runs = λ h. rw (row_of s past x.item.0 (ending_there x one), run.is_run, run.found) refl;
   })
-  may_end (unstarted_ends x one unfinished waits) = rw one (record { known = rw (flights_for_items s past) (ending_there x one); runs = λ h. cc })
+  may_end (unstarted_ends x one unfinished waits) = rw one (record { known = rw (flights_for_items s past) (ending_there x one); runs = λ h. absurd (false≢true (sym (ap is_some unfinished) ∙ h)) })
 
   may_start : StartKind past e → MayStartInFlight (starting past e) (flights_after_end e.reply (ending past e) (flights_of s past))
   may_start (none_starts none unstarting) = rw none tt

@@ -15,30 +15,31 @@ module _ (s : Layout) (past : List Entry) (e : Entry) (w : WorkerId) (legal : Is
   there = worker_fits s past e w legal (by_itself e w who)
 
   awake_slot : runs_awake past w ≡ true → slot_awake_runs (slot_at (pool_of s past w.pool).slots w.index) ≡ true
-  awake_slot h = cc (slot_is s past w.pool w.index there, some_run s past w before)
+  awake_slot h = rw (slot_is s past w.pool w.index there, some_run s past w before) h
 
   asleep_slot : runs_asleep past w ≡ true → slot_asleep_runs (slot_at (pool_of s past w.pool).slots w.index) ≡ true
-  asleep_slot h = cc (slot_is s past w.pool w.index there, some_run s past w before)
+  asleep_slot h = rw (slot_is s past w.pool w.index there, some_run s past w before) h
 
   may_start : (n : ℕ) → number_started e.reply ≡ Some n → MayStartInPool (pool_of s past w.pool) w.index
   may_start n h =
       let st = starts_next s past e n legal h in
       let same = same_starter st.worker w (sym st.by_worker ∙ who) in
       record {
-        idle = cc (slot_is s past w.pool w.index there, idle_slot s past w.pool w.index before, same, st.enlisted, st.idle);
-        next = cc (nexts_are_next s past w.pool before, same, st.is_next);
-        free = cc (runnables_are_runnable s past w.pool before, same, st.is_clear);
+        idle = rw (slot_is s past w.pool w.index there, some_run s past w before, (rw same at st.enlisted), (rw same at st.idle)) refl;
+        next = rw (nexts_are_next s past w.pool before, (rw same at st.is_next)) refl;
+        free = rw (runnables_are_runnable s past w.pool before) (rw same at st.is_clear);
       }
 
   may_reply : (r : Reply) → e.reply ≡ r → MayReplyInPool r (pool_of s past w.pool) w.index
   may_reply (reply.Started n) is = may_start n (ap number_started is)
   may_reply (reply.StartedEnlist n y) is = may_start n (ap number_started is)
-  may_reply (reply.Finished n) is = let f = finishes_run s past e n legal (ap number_finished is) in awake_slot (cc (same_starter f.worker w (sym f.by_worker ∙ who), f.awake))
-  may_reply reply.Slept is = let k = sleep_reason s past e.who e.call e.reply (cause_of s past e legal) is in awake_slot (cc (same_starter k.0 w (sym k.1 ∙ who), k.3))
-  may_reply reply.Woke is = let k = wake_reason s past e.who e.call e.reply (cause_of s past e legal) is in asleep_slot (cc (same_starter k.0 w (sym k.1 ∙ who), k.3))
+  may_reply (reply.Finished n) is = let f = finishes_run s past e n legal (ap number_finished is) in awake_slot (rw (same_starter f.worker w (sym f.by_worker ∙ who)) at f.awake)
+  may_reply reply.Slept is = let k = sleep_reason s past e.who e.call e.reply (cause_of s past e legal) is in awake_slot (rw (same_starter k.0 w (sym k.1 ∙ who)) at k.3)
+  may_reply reply.Woke is = let k = wake_reason s past e.who e.call e.reply (cause_of s past e legal) is in asleep_slot (rw (same_starter k.0 w (sym k.1 ∙ who)) at k.3)
   may_reply reply.Retired is =
       let k = retire_reason s past e.who e.call e.reply (cause_of s past e legal) is in
-      cc (idle_retire_alike s past w.pool w.index before there, same_starter k.0 w (sym k.1 ∙ who), k.3, k.4, k.5)
+      let same = same_starter k.0 w (sym k.1 ∙ who) in
+      rw (idle_retire_alike s past w.pool w.index before there, (rw same at k.3), (rw same at k.4), (rw same at k.5)) refl
   may_reply r is = tt
 
 pub replies_apply_to_pools : (s : Layout) (past : List Entry) (e : Entry) (w : WorkerId) → IsLegal s (e ∷ past) → e.who ≡ Worker w → MayReplyInPool e.reply (pool_of s past w.pool) w.index

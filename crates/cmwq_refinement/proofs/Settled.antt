@@ -1,5 +1,5 @@
 -- In a legal history what settles is of an item that there is, and what books is for a queue that there is.
-use Rattle.cmwq_refinement.specs.Common.{◌≡◌, ◌<◌, ℕ, true, false, List, [], ◌∷◌, length, Option, Some, None, refl, arith, is_some, option_and_then, option_or, AllByRecursion, and_parts, ltb-true, nat_tests, Who, Call, Reply, Entry, Booking, Layout, may_make, has_place, has_numbers, item_called, item_fired, item_of, settles, due_in, booked_by, booking_of, bookings, answer, wait_answer, destroy_answer, set_max_answer, fired_answer, first_due, take_answer, finish_answer, retire_answer, IsLegal}
+use Rattle.cmwq_refinement.specs.Common.{◌≡◌, ◌<◌, ℕ, true, false, List, [], ◌∷◌, length, Option, Some, None, refl, arith, is_some, option_and_then, option_or, AllByRecursion, and_parts, ltb-true, nat_tests, Who, Call, Reply, Entry, Booking, Layout, may_make, has_place, has_numbers, item_called, item_fired, item_of, settles, due_in, booked_by, booking_of, bookings, answer, wait_answer, destroy_answer, set_max_answer, fired_answer, first_due, take_answer, finish_answer, retire_answer, IsLegal, Bool, Ticket, WorkerId, finished_answer, Caller, Worker, end_of_ticket, start_of, Queueing, enlisted_by, if◌then◌else◌, false≢true, sym, ◌∙◌}
 use Rattle.cmwq_model.specs.declared.call.Call.TheVariants as call
 use Rattle.cmwq_theory_steps.proofs.Inversions.{answer_is}
 use Rattle.cmwq_refinement.proofs.Numbers.{all_more}
@@ -20,6 +20,21 @@ data ItemCase (s : Layout) (past : List Entry) (c : Call) (r : Reply) : Type 0 w
 place_item : (s : Layout) (i q c : ℕ) → has_place s i q c ≡ true → i < s.items
 place_item s i q c h = grind (arith, nat_tests)
 
+quiet_if : (b : Bool) (q r : Reply) → IsQuiet q → IsQuiet r → IsQuiet (if b then q else r)
+quiet_if true q r h k = h
+quiet_if false q r h k = k
+
+end_quiet : (past : List Entry) (o : Option Ticket) → IsQuiet (end_of_ticket past o)
+end_quiet past o = grind arith
+
+start_quiet : (s : Layout) (past : List Entry) (w : WorkerId) (o : Option Queueing) → IsQuiet (start_of s past w o)
+start_quiet s past w o = grind arith
+
+finished_quiet : (o : Option ℕ) → IsQuiet (finished_answer o)
+finished_quiet o = grind arith
+
+ruleset quiet_rules = (quiet_if, end_quiet, start_quiet, finished_quiet)
+
 item_case : (s : Layout) (past : List Entry) (who : Who) (c : Call) → ItemCase s past c (answer s past who c)
 unfolding answer take_answer finish_answer retire_answer wait_answer destroy_answer set_max_answer
 item_case s past who (call.Queue i q c) = called i.0 refl (place_item s i.0 q.0 c.0)
@@ -30,12 +45,15 @@ item_case s past who call.Fire = fires refl refl
 item_case s past who (call.FlushItem i) = called i.0 refl (ltb-true _ _)
 item_case s past who (call.FlushDelayed i) = called i.0 refl (ltb-true _ _)
 item_case s past who (call.CancelSync i) = called i.0 refl (ltb-true _ _)
-item_case s past who c = none refl (grind arith)
+item_case s past (Caller c) k = none refl (search quiet_rules)
+item_case s past (Worker w) k = none refl (search quiet_rules)
 
 -- ---- what settles is of an item
 
 settled_item : (s : Layout) (past : List Entry) (c : Call) (r : Reply) → ItemCase s past c r → settles r ≡ true → is_some (option_or (item_called c) (item_fired r)) ≡ true
-settled_item s past c r k h = grind (arith, k)
+settled_item s past c r (called i is less) h = rw is refl
+settled_item s past c r (fires is fire) h = grind (arith, is, fire)
+settled_item s past c r (none is quiet) h = absurd (false≢true (sym quiet.unsettled ∙ h))
 
 pub settled_of_an_item : (s : Layout) (past : List Entry) (e : Entry) → IsLegal s (e ∷ past) → settles e.reply ≡ true → is_some (item_of e) ≡ true
 settled_of_an_item s past e legal h =
