@@ -1,7 +1,8 @@
 -- The timer that fires first is that of the booking that is due first.
-use Rattle.cmwq_refinement.specs.Common.{◌≡◌, ◌<◌, ◌≤◌, ℕ, suc, true, false, not, ◌&&◌, List, [], ◌∷◌, length, filter, Option, Some, None, option_to_list, nat_lt, nat_le, refl, sym, ap, ◌∙◌, arith, option_map, AllByRecursion, list_any, eqb-true, eq-eqb, not-true, nat_tests, same_Some, ItemId, Entry, Booking, Layout, is_at, is_of_item, now, booking, booking_of, bookings, number_booked, stands, standing, may_fire, is_due_before, is_soonest, soonest, first_due, IsLegal, Timer, MayFire, NoneMayFire, IsFirstToFire, timer_of, All_map, is_at-true, All-from_recursion}
+use Rattle.cmwq_refinement.specs.Common.{◌≡◌, ◌<◌, ◌≤◌, ℕ, suc, true, false, not, ◌&&◌, List, [], ◌∷◌, length, filter, Option, Some, None, option_to_list, nat_lt, nat_le, refl, sym, ap, ◌∙◌, arith, option_map, AllByRecursion, list_any, eqb-true, eq-eqb, not-true, nat_tests, same_Some, ItemId, Entry, Booking, Layout, is_at, is_of_item, now, booking, booking_of, bookings, number_booked, stands, standing, may_fire, is_due_before, is_soonest, soonest, first_due, IsLegal, Timer, MayFire, NoneMayFire, IsFirstToFire, timer_of, All_map, is_at-true, All-from_recursion, settles}
 use Rattle.cmwq_timer.specs.Due.{is_sooner, timer_may_fire}
 use Rattle.cmwq_refinement.specs.Timers.{timer_for, timers_of, HoldsDraining, item_due, MayApplyToTimers}
+use Rattle.std.proofs.lemmas.Bool.{and_parts, cond_both}
 use Rattle.cmwq_lemmas.proofs.Members.{In, of_in, all_in, in_left, in_right, option_in, in_filter, filter_in, none_in, found}
 use Rattle.cmwq_lemmas.proofs.Rising.{RisesBy, rises_filter, rises_unique, find_is}
 use Rattle.std.proofs.lemmas.List.Folds.{list_any_none}
@@ -24,31 +25,19 @@ bookings_rise (e ∷ past) = rises_more number_booked (length past) (bookings pa
 
 -- ---- an item's booking is one of those that stand
 
-record IsItsBooking (past : List Entry) (i : ℕ) (b : Booking) : Type 0 where
-  item : b.item.0 ≡ i
-  made : In b (bookings past)
-
-more_made : (e : Entry) (past : List Entry) (i : ℕ) (b : Booking) → IsItsBooking past i b → IsItsBooking (e ∷ past) i b
-unfolding bookings
-more_made e past i b h = record { item = h.item; made = in_left (bookings past) (option_to_list (booking_of e (length past))) b h.made }
-
-newly_made : (e : Entry) (past : List Entry) (i : ℕ) (b : Booking) → is_of_item i e ≡ true → booking_of e (length past) ≡ Some b → IsItsBooking (e ∷ past) i b
-unfolding bookings
-newly_made e past i b of_item is =
-    let k = booking_books e (length past) b is in
-    let same : Some b.item.0 ≡ Some i = sym k.item ∙ is_at-true _ i of_item in
-    record { item = same_Some b.item.0 i same; made = in_right (bookings past) (option_to_list (booking_of e (length past))) b (option_in (booking_of e (length past)) b is) }
-
-its_booking : (past : List Entry) (i : ℕ) (b : Booking) → booking past i ≡ Some b → IsItsBooking past i b
-unfolding booking
+its_booking : (past : List Entry) (i : ℕ) (b : Booking) → booking past i ≡ Some b → (b.item.0 ≡ i) × In b (bookings past)
+unfolding booking bookings
 its_booking [] i b h = cc
-its_booking (e ∷ past) i b h = grind (arith, its_booking past i b, more_made e past i b, newly_made e past i b)
+its_booking (e ∷ past) i b h =
+    let new = booking_of e (length past) in
+    cond_both (settles e.reply && is_of_item i e) new (booking past i) (λ o. o ≡ Some b → (b.item.0 ≡ i) × In b (bookings (e ∷ past)))
+    (λ settled is. (same_Some b.item.0 i (sym (booking_books e (length past) b is).item ∙ is_at-true _ i (and_parts (settles e.reply) (is_of_item i e) settled).1), in_right (bookings past) (option_to_list new) b (option_in new b is)))
+    (λ kept is. let k = its_booking past i b is in (k.0, in_left (bookings past) (option_to_list new) b k.1)) h
 
 pub in_standing : (past : List Entry) (i : ℕ) (b : Booking) → booking past i ≡ Some b → In b (standing past)
 in_standing past i b h =
     let k = its_booking past i b h in
-    let is : booking past b.item.0 ≡ Some b = ap (booking past) k.item ∙ h in
-    filter_in (stands past) (bookings past) b k.made (ap (λ o. is_at (option_map number_booked o) b.number) is ∙ eq-eqb b.number b.number refl)
+    filter_in (stands past) (bookings past) b k.1 (ap (λ o. is_at (option_map number_booked o) b.number) (ap (booking past) k.0 ∙ h) ∙ eq-eqb b.number b.number refl)
 
 -- what stands is the booking of its item
 pub standing_is : (past : List Entry) (b : Booking) → In b (standing past) → booking past b.item.0 ≡ Some b
@@ -58,9 +47,7 @@ standing_is past b h =
   where
     with : (o : Option Booking) → booking past b.item.0 ≡ o → In b (bookings past) → is_at (option_map number_booked o) b.number ≡ true → o ≡ Some b
     with None is made h = cc
-    with (Some c) is made h =
-        let number : c.number ≡ b.number = eqb-true c.number b.number h in
-        ap Some (rises_unique number_booked (bookings past) c b (bookings_rise past) (its_booking past b.item.0 c is).made made number)
+    with (Some c) is made h = ap Some (rises_unique number_booked (bookings past) c b (bookings_rise past) (its_booking past b.item.0 c is).1 made (eqb-true c.number b.number h))
 
 -- ---- what may fire
 
@@ -95,7 +82,7 @@ fired_booking s past holds i t legal each less may = with (booking past i) refl 
         let here = in_standing past i b is in
         record {
           booked = b;
-          item = (its_booking past i b is).item;
+          item = (its_booking past i b is).0;
           timer = same;
           fires = filter_in (may_fire past) (standing past) b here (sym (same_test s past holds b each (standing_fits s past b legal here)) ∙ ap (timer_may_fire (now past) holds) same ∙ may.1);
         }

@@ -12,15 +12,12 @@ use Rattle.cmwq_refinement.proofs.FlightRefine.{row_of, starting_is, starting_th
 
 -- ---- the rows
 
-record IsStarted (past : List Entry) (o : Option Start) : Type 0 where
-  number : option_map number_of_queueing (queueing_started past o) ≡ option_map (λ (start : Start). start.number) o
-  some : is_some (queueing_started past o) ≡ is_some o
-
-run_started : (s : Layout) (past : List Entry) (i : ℕ) (o : Option Start) → IsLegal s past → item_run past i ≡ o → IsStarted past o
-run_started s past i None legal is = record { number = refl; some = refl }
+run_started : (s : Layout) (past : List Entry) (i : ℕ) (o : Option Start) → IsLegal s past → item_run past i ≡ o
+    → (option_map number_of_queueing (queueing_started past o) ≡ option_map (λ (start : Start). start.number) o) × (is_some (queueing_started past o) ≡ is_some o)
+run_started s past i None legal is = (refl, refl)
 run_started s past i (Some start) legal is =
     let r = runs_are_queueings s past legal i start is in
-    record { number = ap (option_map number_of_queueing) r.found ∙ ap Some (found_number past start.number r.queueing r.found); some = ap is_some r.found }
+    (ap (option_map number_of_queueing) r.found ∙ ap Some (found_number past start.number r.queueing r.found), ap is_some r.found)
 
 pub flights_are_of_items : (s : Layout) (past : List Entry) (i : ℕ) → IsLegal s past → i < s.items → IsFlightOf past i (flight_at (flights_of s past) i)
 flights_are_of_items s past i legal there =
@@ -28,8 +25,8 @@ flights_are_of_items s past i legal there =
     let k = run_started s past i (item_run past i) legal refl in
     record {
       run = ap (λ (f : Flight). f.run) row;
-      run_number = ap (λ (f : Flight). option_map number_of_queueing f.run) row ∙ k.number;
-      runs = ap (λ (f : Flight). is_some f.run) row ∙ k.some;
+      run_number = ap (λ (f : Flight). option_map number_of_queueing f.run) row ∙ k.0;
+      runs = ap (λ (f : Flight). is_some f.run) row ∙ k.1;
       unstarted = ap (λ (f : Flight). f.unstarted) row;
     }
 
@@ -56,7 +53,7 @@ starts_are_unstarted s past e x legal is =
 -- of one item
 item_count : (s : Layout) (past : List Entry) (i : ℕ) → IsLegal s past
     → cond (is_some (queueing_started past (item_run past i))) 1 0 + cond (is_some (unstarted_queueing past i)) 1 0 ≡ count_by (is_of i) (still_open past)
-item_count s past i legal = grind (arith, (run_started s past i (item_run past i) legal refl).some, ap length (run_then_unstarted s past i legal), length-map (filter (is_of i) (still_open past)) number_of_queueing, length-filter (is_of i) (still_open past))
+item_count s past i legal = grind (arith, (run_started s past i (item_run past i) legal refl).1, ap length (run_then_unstarted s past i legal), length-map (filter (is_of i) (still_open past)) number_of_queueing, length-filter (is_of i) (still_open past))
 
 -- of all
 rows_count : (s : Layout) (past : List Entry) (is : List ℕ) → IsLegal s past

@@ -18,13 +18,9 @@ use Rattle.cmwq_refinement.proofs.FlushEnds.{ended_ready, done_flushes_may_end}
 
 -- ---- what is open
 
-open_stands : (past : List Entry) (q : ℕ) (b : FlushBook) (x : Queueing) → b.opened ≡ open_numbers past q → In x (still_open past) → is_on_queue q x ≡ true → Contains b.opened x.number
-open_stands past q b x opened here on =
-    in_contained b.opened x.number (subst (In x.number) (sym opened) (in_mapped number_of_queueing (filter (is_on_queue q) (still_open past)) x (filter_in (is_on_queue q) (still_open past) x here on)))
-
 may_end : (past : List Entry) (e : Entry) (q : ℕ) (b : FlushBook) → QueueingStep past e → b.opened ≡ open_numbers past q → MayEndInFlushes (ending past e) q b
 may_end past e q b (ends_none is all) opened = rw is tt
-may_end past e q b (ends_one x is here all) opened = rw is (λ on. open_stands past q b x opened here on)
+may_end past e q b (ends_one x is here all) opened = rw is (λ on. in_contained b.opened x.number (rw opened (in_mapped number_of_queueing (filter (is_on_queue q) (still_open past)) x (filter_in (is_on_queue q) (still_open past) x here on))))
 
 few_open : (s : Layout) (past : List Entry) (q : ℕ) → IsLegal s past → length (open_numbers past q) ≤ 2 * s.items
 few_open s past q legal =

@@ -174,14 +174,8 @@ record SameOpen (old b : FlushBook) : Type 0 where
   opened : b.opened ≡ old.opened
   next : b.next ≡ old.next
 
-done_open : (o : Option Ticket) (q : ℕ) (b : FlushBook) → SameOpen b (flushes_after_done o q b)
-done_open o q b = grind arith
-
-begun_open : (o : Option Ticket) (q : ℕ) (b : FlushBook) → SameOpen b (flushes_after_begun o q b)
-begun_open o q b = grind arith
-
-tickets_open : (past : List Entry) (e : Entry) (q : ℕ) (b : FlushBook) → SameOpen b (flushes_after_tickets past e q b)
-tickets_open past e q b = grind (arith, done_open (ticket_ended past e) q b, begun_open (ticket_given past e) q (flushes_after_done (ticket_ended past e) q b))
+tickets_open : (ended begun : Option Ticket) (q : ℕ) (b : FlushBook) → SameOpen b (flushes_after_begun begun q (flushes_after_done ended q b))
+tickets_open ended begun q b = grind arith
 
 -- ---- what stands is served as the history says
 
@@ -209,8 +203,8 @@ served_now e past q b f is older next here (just_now unserved bound) =
     }
 
 pub flushes_refine : (s : Layout) (past : List Entry) (e : Entry) (q : ℕ) (b : FlushBook) → IsLegal s (e ∷ past) → AreFlushes s past q b → AreFlushes s (e ∷ past) q (flushes_after_tickets past e q (flushes_after_queueings past e q b))
-flushes_refine s past e q b legal is = after (flushes_after_tickets past e q (flushes_after_queueings past e q b)) (tickets_open past e q (flushes_after_queueings past e q b))
-    (stands_after s past e q (flushes_after_queueings past e q b) legal (soon_after s past q b (flushes_after_queueings past e q b) is on)) (omega (arith, (tickets_open past e q (flushes_after_queueings past e q b)).next, on.next))
+flushes_refine s past e q b legal is = after (flushes_after_tickets past e q (flushes_after_queueings past e q b)) (tickets_open (ticket_ended past e) (ticket_given past e) q (flushes_after_queueings past e q b))
+    (stands_after s past e q (flushes_after_queueings past e q b) legal (soon_after s past q b (flushes_after_queueings past e q b) is on)) (omega (arith, (tickets_open (ticket_ended past e) (ticket_given past e) q (flushes_after_queueings past e q b)).next, on.next))
   where
     on : OpensOn (length past) b (flushes_after_queueings past e q b)
     on = applied_on past e q b is.older is.next

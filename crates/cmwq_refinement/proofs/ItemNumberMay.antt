@@ -13,15 +13,13 @@ may_end s past e legal (ends_none is all) = rw is tt
 may_end s past e legal (ends_one x is here all) = rw is (in_contained (numbers_open (numbers_of s past) x.item.0) x.number (rw (item_row s past x.item.0 (open_there s past x legal here).item)
     (in_mapped number_of_queueing (filter (is_of x.item.0) (still_open past)) x (filter_in (is_of x.item.0) (still_open past) x here (eq-eqb x.item.0 x.item.0 refl)))))
 
-two_numbers : (s : Layout) (past : List Entry) (i : ℕ) → IsLegal s past → length (item_numbers past i) ≤ 2
-two_numbers s past i legal = omega (arith, length-map (filter (is_of i) (still_open past)) number_of_queueing, length-filter (is_of i) (still_open past), two_of_an_item s past legal i)
-
 may_open : (s : Layout) (past : List Entry) (e : Entry) (o : Option Queueing) → IsLegal s (e ∷ past) → opening past e ≡ o → MayOpenInNumbers o (numbers_after_end (ending past e) (numbers_of s past))
 may_open s past e None legal h = tt
 may_open s past e (Some x) legal h =
     let left : List ℕ = numbers_open (numbers_after_end (ending past e) (numbers_of s past)) x.item.0 in
     let longer = ap length (opened_row s past e x legal h) ∙ length-append left (x.number ∷ []) in
-    (omega (arith, (opened_are_there s past e x legal h).item, ended_rows s past e legal), omega (arith, two_numbers s (e ∷ past) x.item.0 legal, longer))
+    let its = filter (is_of x.item.0) (still_open (e ∷ past)) in
+    (omega (arith, (opened_are_there s past e x legal h).item, ended_rows s past e legal), omega (arith, longer, length-map its number_of_queueing, length-filter (is_of x.item.0) (still_open (e ∷ past)), two_of_an_item s (e ∷ past) legal x.item.0))
 
 pub entries_apply_to_numbers : (s : Layout) (past : List Entry) (e : Entry) → IsLegal s (e ∷ past) → MayApplyToNumbers past e (numbers_of s past)
 unfolding IsLegal

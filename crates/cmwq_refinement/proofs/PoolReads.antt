@@ -23,10 +23,6 @@ run_of s past w legal = which (run past w) refl
         let number = found_number past n r.queueing r.found in
         busy r.queueing (is ∙ ap Some (sym number)) (ap (queueing_at past) number ∙ r.found) r.pool
 
--- it is the task of that queueing
-pub run_task_of : (s : Layout) (past : List Entry) (w : WorkerId) (x : Queueing) → run past w ≡ Some x.number → queueing_at past x.number ≡ Some x → run_task s past w ≡ Some (task_for s x)
-run_task_of s past w x is found = ap (λ o. option_map (task_for s) (option_and_then (queueing_at past) o)) is ∙ ap (option_map (task_for s)) found
-
 pub run_task_none : (s : Layout) (past : List Entry) (w : WorkerId) → run past w ≡ None → run_task s past w ≡ None
 run_task_none s past w is = ap (λ o. option_map (task_for s) (option_and_then (queueing_at past) o)) is
 

@@ -17,8 +17,8 @@ data ItemCase (s : Layout) (past : List Entry) (c : Call) (r : Reply) : Type 0 w
   fires : item_called c ≡ None → r ≡ fired_answer (first_due past) (length past) → ItemCase s past c r
   none : item_called c ≡ None → IsQuiet r → ItemCase s past c r
 
-place_item : (s : Layout) (i q c : ℕ) → has_place s i q c ≡ true → i < s.items
-place_item s i q c h = grind (arith, nat_tests)
+pub place_fits : (s : Layout) (i q c : ℕ) → has_place s i q c ≡ true → (i < s.items) × (q < length s.queues) × (c < s.cpus)
+place_fits s i q c h = grind (arith, nat_tests)
 
 quiet_if : (b : Bool) (q r : Reply) → IsQuiet q → IsQuiet r → IsQuiet (if b then q else r)
 quiet_if true q r h k = h
@@ -37,9 +37,9 @@ ruleset quiet_rules = (quiet_if, end_quiet, start_quiet, finished_quiet)
 
 item_case : (s : Layout) (past : List Entry) (who : Who) (c : Call) → ItemCase s past c (answer s past who c)
 unfolding answer take_answer finish_answer retire_answer wait_answer destroy_answer set_max_answer
-item_case s past who (call.Queue i q c) = called i.0 refl (place_item s i.0 q.0 c.0)
-item_case s past who (call.Delay i q c t) = called i.0 refl (place_item s i.0 q.0 c.0)
-item_case s past who (call.Modify i q c t) = called i.0 refl (place_item s i.0 q.0 c.0)
+item_case s past who (call.Queue i q c) = called i.0 refl (λ h. (place_fits s i.0 q.0 c.0 h).0)
+item_case s past who (call.Delay i q c t) = called i.0 refl (λ h. (place_fits s i.0 q.0 c.0 h).0)
+item_case s past who (call.Modify i q c t) = called i.0 refl (λ h. (place_fits s i.0 q.0 c.0 h).0)
 item_case s past who (call.Cancel i) = called i.0 refl (ltb-true _ _)
 item_case s past who call.Fire = fires refl refl
 item_case s past who (call.FlushItem i) = called i.0 refl (ltb-true _ _)
@@ -70,9 +70,6 @@ pub record Fits (s : Layout) (b : Booking) : Type 0 where
 pub numbers_fit : (s : Layout) (past : List Entry) (e : Entry) → IsLegal s (e ∷ past) → has_numbers s e.call ≡ true
 unfolding IsLegal
 numbers_fit s past e legal = (and_parts (may_make s e.who e.call) (has_numbers s e.call) legal.0).1
-
-pub place_fits : (s : Layout) (i q c : ℕ) → has_place s i q c ≡ true → (i < s.items) × (q < length s.queues) × (c < s.cpus)
-place_fits s i q c h = grind (arith, nat_tests)
 
 booked_fits : (s : Layout) (c : Call) (n due : ℕ) (b : Booking) → has_numbers s c ≡ true → booked_by c n due ≡ Some b → Fits s b
 booked_fits s (call.Delay i q k t) n due b h is = grind (arith, place_fits s i.0 q.0 k.0 h, is)

@@ -66,10 +66,7 @@ may_end s past e legal = by (ticket_step past e)
 
 -- a call that fits a layout has its count
 fits_counted : (s : Layout) (c : Call) → has_numbers s c ≡ true → is_counted s.items (length s.queues) c ≡ true
-fits_counted s (call.CancelSync i) fits = fits
-fits_counted s (call.Drain q) fits = fits
-fits_counted s (call.Destroy q) fits = fits
-fits_counted s c fits = refl
+fits_counted s c fits = grind arith
 
 all_before : (t : Ticket) (ts : List Ticket) → AllByRecursion (λ u. u.number < t.number) ts → list_all (comes_before t) ts ≡ true
 all_before t [] h = refl

@@ -32,11 +32,7 @@ booking_kept past e i h = rw h refl
 
 -- ---- what an entry books
 
-pub record IsBooked (c : Call) (n due : ℕ) (b : Booking) : Type 0 where
-  pub item : item_called c ≡ Some b.item.0
-  pub number : b.number ≡ n
-
-booked_by_call : (c : Call) (n due : ℕ) (b : Booking) → booked_by c n due ≡ Some b → IsBooked c n due b
+booked_by_call : (c : Call) (n due : ℕ) (b : Booking) → booked_by c n due ≡ Some b → (item_called c ≡ Some b.item.0) × (b.number ≡ n)
 booked_by_call (call.Delay i q k t) n due b h = grind (arith, h)
 booked_by_call (call.Modify i q k t) n due b h = grind (arith, h)
 booked_by_call c n due b h = cc
@@ -53,7 +49,7 @@ booking_books e n b h = with_due (due_in e.reply) refl h
     with_due None is found = cc
     with_due (Some due) is found =
         let k = booked_by_call e.call n due b found in
-        record { settled = due_settles e.reply due is; item = ap (λ o. option_or o (item_fired e.reply)) k.item; number = k.number }
+        record { settled = due_settles e.reply due is; item = ap (λ o. option_or o (item_fired e.reply)) k.0; number = k.1 }
 
 is_its_item : (e : Entry) (i : ℕ) → item_of e ≡ Some i → is_of_item i e ≡ true
 is_its_item e i h = ap (λ o. is_at o i) h ∙ eq-eqb i i refl
