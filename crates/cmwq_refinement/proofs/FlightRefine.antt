@@ -22,9 +22,6 @@ unfolding item_start queueings
 no_flights_at_first s = rows_alike (flight_of []) no_flight s.items (λ i. refl)
 
 module _ (s : Layout) (past : List Entry) (e : Entry) (legal : IsLegal s (e ∷ past)) where
-  waits_there : (i : ℕ) (x : Queueing) → unstarted_queueing past i ≡ Some x → x.item.0 < s.items
-  waits_there i x is = (open_there s past x (legal_before s past e legal) (found (is_unstarted past i) (still_open past) x is).0).item
-
   -- what an entry ends, starts and opens is of an item that there is
   ending_there : (x : Queueing) → ending past e ≡ Some x → x.item.0 < s.items
   ending_there x is = (open_there s past x (legal_before s past e legal) (found (is_ended past e) (still_open past) x is).0).item
@@ -36,18 +33,15 @@ module _ (s : Layout) (past : List Entry) (e : Entry) (legal : IsLegal s (e ∷ 
   ]
 
   pub starting_there : (x : Queueing) → starting past e ≡ Some x → x.item.0 < s.items
-  starting_there x is = waits_there x.item.0 x (starting_is x is).waits
+  starting_there x is = (open_there s past x (legal_before s past e legal) (found (is_unstarted past x.item.0) (still_open past) x (starting_is x is).waits).0).item
 
   opening_there : (x : Queueing) → opening past e ≡ Some x → x.item.0 < s.items
   opening_there x is = (opened_are_there s past e x legal is).item
 
   -- the flights after what ends and starts, as rows
-  ended_flights : flights_after_end e.reply (ending past e) (flights_of s past) ≡ map (λ j. row_ended e.reply (ending past e) j (flight_of past j)) (range_with_len 0 s.items)
-  ended_flights = ended_rows (flight_of past) s.items e.reply (ending past e) ending_there
-
   moved_flights : flights_after_moves past e (flights_of s past) ≡ map (moved s past e legal) (range_with_len 0 s.items)
   unfolding moved
-  moved_flights = ap (flights_after_start (starting past e)) ended_flights
+  moved_flights = ap (flights_after_start (starting past e)) (ended_rows (flight_of past) s.items e.reply (ending past e) ending_there)
       ∙ started_rows (λ j. row_ended e.reply (ending past e) j (flight_of past j)) s.items (starting past e) starting_there
 
   -- where an entry opens a queueing, no older one of the item is left unstarted

@@ -2,6 +2,7 @@
 use Rattle.cmwq_refinement.specs.Common.{◌≡◌, ◌==◌, ◌<◌, ◌≤◌, ◌+◌, ℕ, Bool, true, false, List, [], ◌∷◌, ◌++◌, length, filter, Option, Some, None, nat_lt, refl, sym, ap, subst, arith, append-nil, ⊎_elim, is_some, if◌then◌else◌, AllByRecursion, eqb-true, ltb-true, ltb-false, append_assoc, map_push, length-append, filter-append, Entry, serving_from, Served, is_other_number, without, tickets_of_served, has_ticket, is_other_flush, FlushBook, flush_tickets, served_of, flush_from, flushes_with_wait, flushes_without_wait, serve_oldest, served_with_oldest, without_oldest, IsServing, find_none, nat_tests}
 use Rattle.cmwq_flush.specs.Served.{ticket_of_served}
 use Rattle.cmwq_refinement.specs.FlushBooks.{IsServedFrom}
+use Rattle.std.proofs.lemmas.Bool.{cond_both}
 use Rattle.cmwq_lemmas.proofs.Lists.{All_push, filter_shorter}
 use Rattle.cmwq_lemmas.proofs.Members.{In, of_in, found, none_in}
 use Rattle.cmwq_lemmas.proofs.Passing.{all_kept, all_split}
@@ -24,10 +25,9 @@ pub record Stands (past : List Entry) (q : ℕ) (flushes : List ℕ) (b : FlushB
 
 -- ---- a flush begins
 
-begins : (past : List Entry) (q t : ℕ) (flushes : List ℕ) (b : FlushBook) (c : Bool) → nat_lt (length b.served) 15 ≡ c → serving_from past q t ≡ None → Stands past q flushes b
-    → Stands past q (flushes ++ t ∷ []) (if c then record b { served = b.served ++ flush_from t b.next ∷ [] } else record b { overflow = b.overflow ++ t ∷ [] })
-begins past q t flushes b true less unserved is =
-    let few : length b.served < 15 = ltb-true (length b.served) 15 less in
+pub stands_begin : (past : List Entry) (q t : ℕ) (flushes : List ℕ) (b : FlushBook) → serving_from past q t ≡ None → Stands past q flushes b → Stands past q (flushes ++ t ∷ []) (flushes_with_wait b t)
+stands_begin past q t flushes b unserved is = cond_both (nat_lt (length b.served) 15) (record b { served = b.served ++ flush_from t b.next ∷ [] }) (record b { overflow = b.overflow ++ t ∷ [] }) (Stands past q (flushes ++ t ∷ [])) (λ fits.
+    let few : length b.served < 15 = ltb-true (length b.served) 15 fits in
     let empty : b.overflow ≡ [] = none_in b.overflow (λ o i. let full = is.serving (in_some b.overflow o i) in absurd (omega arith)) in
     record {
       flushes_are = cc (empty, is.flushes_are, map_push ticket_of_served b.served (flush_from t b.next), append-nil (tickets_of_served b.served), append-nil (tickets_of_served b.served ++ t ∷ []));
@@ -36,18 +36,15 @@ begins past q t flushes b true less unserved is =
       bounds = All_push (λ f. f.bound ≤ b.next) b.served (flush_from t b.next) is.bounds (omega arith);
       soon = All_push (ServedSoon past q b.next b.opened) b.served (flush_from t b.next) is.soon (just_now unserved refl);
       overflowed = is.overflowed;
-    }
-begins past q t flushes b false more unserved is = record {
-  flushes_are = cc (append_assoc (tickets_of_served b.served) b.overflow (t ∷ []), is.flushes_are);
-  few = is.few;
-  serving = λ some. omega (arith, is.few, ltb-false (length b.served) 15 more);
-  bounds = is.bounds;
-  soon = is.soon;
-  overflowed = All_push (λ u. serving_from past q u ≡ None) b.overflow t is.overflowed unserved;
-}
-
-pub stands_begin : (past : List Entry) (q t : ℕ) (flushes : List ℕ) (b : FlushBook) → serving_from past q t ≡ None → Stands past q flushes b → Stands past q (flushes ++ t ∷ []) (flushes_with_wait b t)
-stands_begin past q t flushes b unserved is = begins past q t flushes b (nat_lt (length b.served) 15) refl unserved is
+    })
+    (λ more. record {
+      flushes_are = cc (append_assoc (tickets_of_served b.served) b.overflow (t ∷ []), is.flushes_are);
+      few = is.few;
+      serving = λ some. omega (arith, is.few, ltb-false (length b.served) 15 more);
+      bounds = is.bounds;
+      soon = is.soon;
+      overflowed = All_push (λ u. serving_from past q u ≡ None) b.overflow t is.overflowed unserved;
+    })
 
 -- ---- a flush ends
 

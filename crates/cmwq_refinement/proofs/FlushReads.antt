@@ -6,7 +6,7 @@ use Rattle.cmwq_refinement.specs.ByNumber.{number_of_queueing, number_of_ticket}
 use Rattle.cmwq_refinement.specs.FlushBooks.{is_on_queue, open_numbers, IsServedFrom, AreFlushes}
 use Rattle.cmwq_lemmas.proofs.Members.{In, of_in, filter_in, in_append, found, contained_in, in_contained}
 use Rattle.cmwq_lemmas.proofs.Rising.{RisesBy, rises_filter}
-use Rattle.cmwq_refinement.proofs.Numbers.{itself, first_number, numbers_rise, in_mapped, find_number}
+use Rattle.cmwq_refinement.proofs.Numbers.{itself, all_unfound, first_number, numbers_rise, in_mapped, find_number}
 use Rattle.cmwq_lemmas.proofs.Filters.{find_same}
 use Rattle.cmwq_refinement.proofs.QueueingSteps.{open_numbers_rise}
 use Rattle.cmwq_refinement.proofs.FlushSteps.{few_are_older, many_are_older}
@@ -25,12 +25,6 @@ empty_waits : (ns : List ℕ) → (ns ≡ []) ↔ (find (λ n. true) ns ≡ None
 empty_waits [] = ((λ h. refl), (λ h. refl))
 empty_waits (n ∷ ns) = ((λ h. cc), (λ h. cc))
 
-bounded_waits : (bound : ℕ) (ns : List ℕ) → (All (λ n. bound ≤ n) ns) ↔ (find (λ n. nat_lt n bound) ns ≡ None)
-bounded_waits bound ns = (
-  (λ all. none_found (λ n. nat_lt n bound) ns (All_map (λ n. bound ≤ n) (λ n. nat_lt n bound ≡ false) ns (λ n le. le-ltb n bound le) (recursion_from_All (λ n. bound ≤ n) ns all))),
-  (λ none. All-from_recursion (λ n. bound ≤ n) ns (All_map (λ n. nat_lt n bound ≡ false) (λ n. bound ≤ n) ns (λ n h. ltb-false n bound h) (find_none (λ n. nat_lt n bound) ns none))),
-)
-
 in_overflow : (b : FlushBook) (t : ℕ) → served_of b t ≡ None → In t (flush_tickets b) → In t b.overflow
 in_overflow b t none here = ⊎_elim (λ i. absurd (not_served b.served (find_none (has_ticket t) b.served none) i)) (λ o. o) (in_append (tickets_of_served b.served) b.overflow t here)
   where
@@ -47,7 +41,8 @@ ready_flushes_wait_for_nothing s past q b t is here = by (served_of b t) refl
         rw (waits_by_number past q b t is.opened, over) (empty_waits b.opened)
     by (Some f) some =
         let k = found (has_ticket t) b.served f some in
-        rw (waits_of_served past q b t f is.opened (eqb-true f.ticket t k.1) (of_in (IsServedFrom past q.0 b.opened) b.served f is.served_from k.0)) (bounded_waits f.bound b.opened)
+        rw (waits_of_served past q b t f is.opened (eqb-true f.ticket t k.1) (of_in (IsServedFrom past q.0 b.opened) b.served f is.served_from k.0)) 
+        (all_unfound (λ n. f.bound ≤ n) (λ n. nat_lt n f.bound) b.opened (λ n le. le-ltb n f.bound le) (λ n h. ltb-false n f.bound h))
 
 -- ---- what stands
 

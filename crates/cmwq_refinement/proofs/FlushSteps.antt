@@ -226,15 +226,4 @@ flushes_refine s past e q b legal is = after (flushes_after_tickets past e q (fl
 
 pub flushes_at_first : (s : Layout) (q : ℕ) → AreFlushes s [] q (new_book s.items)
 unfolding queueings tickets
-flushes_at_first s q = record {
-  items = refl;
-  opened = refl;
-  older = tt;
-  next = omega arith;
-  flushes = refl;
-  few = omega arith;
-  serving = λ some. absurd (omega arith);
-  bounds = tt;
-  served_from = tt;
-  overflowed = tt;
-}
+flushes_at_first s q = grind arith

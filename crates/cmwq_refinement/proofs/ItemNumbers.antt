@@ -90,31 +90,22 @@ its_queueing s past i n legal h = by (item_run past i) refl h
 are_items : (s : Layout) (past : List Entry) (i : ℕ) → IsLegal s past → AreItems past (run_number (item_run past i)) (unstarted_queueing past i) (filter (is_of i) (still_open past))
 are_items s past i legal = record {
   rise = rises_filter number_of_queueing (is_of i) (still_open past) (open_numbers_rise past);
-  started_run = started_run;
-  unstarted_new = unstarted_new;
+  started_run = λ x h started.
+      let k = its x h in
+      let live = in_filter (is_live past) (queueings past) x k.0 in
+      let known = (of_in (IsKnown past) (queueings past) x (queueings_known past) live.0).item ∙ ap Some k.1 in
+      started_runs s past i x.number legal known started (ap (λ j. is_open past j x.number) (sym k.1) ∙ live.1);
+  unstarted_new = λ x h idle. unstarted_one s past i x legal (its x h).0 (its x h).1 idle;
   run_open = λ n h. its_queueing s past i n legal h;
-  new_open = new_open;
+  new_open = λ x h.
+      let k = found (is_unstarted past i) (still_open past) x h in
+      let both = and_parts (x.item.0 == i) (not (is_started past x.number)) k.1 in
+      (filter_in (is_of i) (still_open past) x k.0 both.0, not-true (is_started past x.number) both.1);
   older = λ x y hx hy less. older_started s past x y legal (its x hx).0 (its y hy).0 ((its x hx).1 ∙ sym (its y hy).1) less;
 }
   where
     its : (x : Queueing) → In x (filter (is_of i) (still_open past)) → In x (still_open past) × (x.item.0 ≡ i)
     its x h = let k = in_filter (is_of i) (still_open past) x h in (k.0, eqb-true x.item.0 i k.1)
-
-    started_run : (x : Queueing) → In x (filter (is_of i) (still_open past)) → is_started past x.number ≡ true → run_number (item_run past i) ≡ Some x.number
-    started_run x h started =
-        let k = its x h in
-        let live = in_filter (is_live past) (queueings past) x k.0 in
-        let known : item_at past x.number ≡ Some i = (of_in (IsKnown past) (queueings past) x (queueings_known past) live.0).item ∙ ap Some k.1 in
-        started_runs s past i x.number legal known started (ap (λ j. is_open past j x.number) (sym k.1) ∙ live.1)
-
-    unstarted_new : (x : Queueing) → In x (filter (is_of i) (still_open past)) → is_started past x.number ≡ false → unstarted_queueing past i ≡ Some x
-    unstarted_new x h idle = let k = its x h in unstarted_one s past i x legal k.0 k.1 idle
-
-    new_open : (x : Queueing) → unstarted_queueing past i ≡ Some x → In x (filter (is_of i) (still_open past)) × (is_started past x.number ≡ false)
-    new_open x h =
-        let k = found (is_unstarted past i) (still_open past) x h in
-        let both = and_parts (x.item.0 == i) (not (is_started past x.number)) k.1 in
-        (filter_in (is_of i) (still_open past) x k.0 both.0, not-true (is_started past x.number) both.1)
 
 pub run_then_unstarted : (s : Layout) (past : List Entry) (i : ℕ) → IsLegal s past → item_numbers past i ≡ option_to_list (run_number (item_run past i)) ++ option_to_list (option_map number_of_queueing (unstarted_queueing past i))
 run_then_unstarted s past i legal = two_at_most past (run_number (item_run past i)) (unstarted_queueing past i) (filter (is_of i) (still_open past)) (are_items s past i legal)

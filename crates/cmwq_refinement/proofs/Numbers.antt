@@ -1,5 +1,5 @@
 -- Lists of what has a number, and of the numbers; with what of lists the other files share.
-use Rattle.cmwq_refinement.specs.Common.{◌≡◌, ◌==◌, ◌<◌, ◌≤◌, ◌+◌, ℕ, zero, suc, Bool, true, false, cond, not, ◌&&◌, List, [], ◌∷◌, ◌++◌, length, map, filter, find, count_by, replicate, Some, nat_lt, refl, ap, ◌∙◌, subst, arith, ⊎_elim, option_map, AllByRecursion, list_any, range_with_len, ne_eqb, nat_tests, length-range_with_len, slice_get, without, All_map, count_by-cons, Option, None, option_to_list, append-nil, sum_by, sum_by-cons, All_append, All_each}
+use Rattle.cmwq_refinement.specs.Common.{◌≡◌, ◌==◌, ◌<◌, ◌≤◌, ◌+◌, ℕ, zero, suc, Bool, true, false, cond, not, ◌&&◌, List, [], ◌∷◌, ◌++◌, length, map, filter, find, count_by, replicate, Some, nat_lt, refl, ap, ◌∙◌, subst, arith, ⊎_elim, option_map, AllByRecursion, list_any, range_with_len, ne_eqb, nat_tests, length-range_with_len, slice_get, without, All_map, count_by-cons, Option, None, option_to_list, append-nil, sum_by, sum_by-cons, All_append, All_each, All, none_found, find_none, recursion_from_All, All-from_recursion, ◌↔◌}
 use Rattle.cmwq_lemmas.proofs.Members.{In, of_in, all_in, in_filter, in_option, in_right}
 use Rattle.cmwq_lemmas.proofs.Filters.{count_by-same}
 use Rattle.cmwq_lemmas.proofs.Passing.{all_split, once_there}
@@ -115,6 +115,13 @@ module _ {X : Type 0} where
   pub in_mapped : {Y : Type 0} (f : X → Y) (xs : List X) (x : X) → In x xs → In (f x) (map f xs)
   in_mapped f [] x h = h
   in_mapped f (y ∷ ys) x h = grind (arith, in_mapped f ys x)
+
+  -- none is found where each is so that it doesn't pass
+  pub all_unfound : (P : X → Type 0) (p : X → Bool) (xs : List X) → ((x : X) → P x → p x ≡ false) → ((x : X) → p x ≡ false → P x) → All P xs ↔ (find p xs ≡ None)
+  all_unfound P p xs fails holds = (
+    (λ all. none_found p xs (All_map P (λ x. p x ≡ false) xs fails (recursion_from_All P xs all))),
+    (λ none. All-from_recursion P xs (All_map (λ x. p x ≡ false) P xs holds (find_none p xs none))),
+  )
 
   pub find_mapped : {Y : Type 0} (f : X → Y) (p : Y → Bool) (q : X → Bool) (xs : List X) → AllByRecursion (λ x. p (f x) ≡ q x) xs → find p (map f xs) ≡ option_map f (find q xs)
   find_mapped f p q [] h = refl

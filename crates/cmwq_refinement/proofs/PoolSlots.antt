@@ -60,11 +60,12 @@ enlists_at e w x r who is = rw (who, is, pool_itself w) refl
 others_stay : (s : Layout) (past : List Entry) (e : Entry) (w : WorkerId) (r : Reply) (x : ℕ) → IsLegal s (e ∷ past) → e.who ≡ Worker w → e.reply ≡ r → index_enlisted r ≡ None → x ≢ w.index → slot_of s (e ∷ past) w.pool x ≡ slot_of s past w.pool x
 others_stay s past e w r x legal who is none differs = other_slot s past e w.pool x false legal (not_by e w x who differs) (enlists_at e w x r who is ∙ ap (λ o. is_at o x) none)
 
-own_changes : (s : Layout) (past : List Entry) (e : Entry) (w : WorkerId) (r : Reply) (change : Slot → Slot) → IsLegal s (e ∷ past) → e.who ≡ Worker w → e.reply ≡ r → index_enlisted r ≡ None
-    → slot_of s (e ∷ past) w.pool w.index ≡ change (slot_of s past w.pool w.index) → map (slot_of s (e ∷ past) w.pool) (indices s) ≡ with_slot change w.index (pool_of s past w.pool).slots
-own_changes s past e w r change legal who is none own =
+-- where it changes the run, its sleep or the enlisting of its own worker alone
+own_changes : (s : Layout) (past : List Entry) (e : Entry) (w : WorkerId) (r : Reply) (change : Slot → Slot) (o : Option Task) → IsLegal s (e ∷ past) → e.who ≡ Worker w → e.reply ≡ r → index_enlisted r ≡ None → run_task s (e ∷ past) w ≡ o
+    → own_after s past w r o ≡ change (slot_of s past w.pool w.index) → map (slot_of s (e ∷ past) w.pool) (indices s) ≡ with_slot change w.index (pool_of s past w.pool).slots
+own_changes s past e w r change o legal who is none runs own =
     set_row (slot_of s past w.pool) (slot_of s (e ∷ past) w.pool) s.workers w.index (change (slot_at (pool_of s past w.pool).slots w.index))
-    (own ∙ ap change (sym (slot_is s past w.pool w.index (worker_fits s past e w legal (by_itself e w who)))))
+    (own_slot s past e w r legal who is ∙ ap (own_after s past w r) runs ∙ own ∙ ap change (sym (slot_is s past w.pool w.index (worker_fits s past e w legal (by_itself e w who)))))
     (λ x differs. others_stay s past e w r x legal who is none differs)
 
 -- ---- a start
@@ -101,7 +102,7 @@ start_refines : (s : Layout) (past : List Entry) (e : Entry) (w : WorkerId) (n :
 unfolding own_after
 start_refines s past e w n legal who is =
     let st = starts_task s past e w n legal who (ap number_started is) in
-    rw (st.task, st.enlists ∙ ap index_enlisted is) (own_changes s past e w (reply.Started n) (slot_running (task_for s st.queueing)) legal who is refl (own_slot s past e w (reply.Started n) legal who is ∙ ap (own_after s past w (reply.Started n)) st.runs))
+    rw (st.task, st.enlists ∙ ap index_enlisted is) (own_changes s past e w (reply.Started n) (slot_running (task_for s st.queueing)) (Some (task_for s st.queueing)) legal who is refl st.runs refl)
 
 enlisted_below : (s : Layout) (past : List Entry) (w : WorkerId) (y : ℕ) → enlisted_by s past w ≡ Some y → y < s.workers
 unfolding enlisted_by
@@ -144,31 +145,22 @@ enlist_refines s past e w n y legal who is =
 unchanged : (s : Layout) (past : List Entry) (e : Entry) (w : WorkerId) (r : Reply) → IsLegal s (e ∷ past) → e.who ≡ Worker w → e.reply ≡ r → index_enlisted r ≡ None → is_retired r ≡ false → asleep_after r (is_asleep past w) ≡ is_asleep past w
     → run_after r (run past w) ≡ run past w → map (slot_of s (e ∷ past) w.pool) (indices s) ≡ (pool_of s past w.pool).slots
 unfolding own_after
-unchanged s past e w r legal who is none stays sleeps runs = same_rows (slot_of s past w.pool) (slot_of s (e ∷ past) w.pool) (indices s) (λ x. ⊎_elim (mine x) (others_stay s past e w r x legal who is none) (cases_eq x w.index))
-  where
-    mine : (x : ℕ) → x ≡ w.index → slot_of s (e ∷ past) w.pool x ≡ slot_of s past w.pool x
-    mine x own =
-        ap (slot_of s (e ∷ past) w.pool) own ∙ own_slot s past e w r legal who is
-        ∙ slot_like (own_after s past w r (run_task s (e ∷ past) w)) (slot_of s past w.pool w.index) (ap₂ (λ o b. is_at o w.index || (not b && is_enlisted past w)) none stays) (same_run s past e w legal (own_run s past e w r legal who is ∙ runs)) sleeps
-        ∙ sym (ap (slot_of s past w.pool) own)
-
--- one that changes the run, its sleep or the enlisting of its own worker alone
-own_refines : (s : Layout) (past : List Entry) (e : Entry) (w : WorkerId) (r : Reply) (change : Slot → Slot) (o : Option Task) → IsLegal s (e ∷ past) → e.who ≡ Worker w → e.reply ≡ r → index_enlisted r ≡ None → run_task s (e ∷ past) w ≡ o
-    → own_after s past w r o ≡ change (slot_of s past w.pool w.index) → map (slot_of s (e ∷ past) w.pool) (indices s) ≡ (with_slot_again change (pool_of s past w.pool) w.index).slots
-own_refines s past e w r change o legal who is none runs own = own_changes s past e w r change legal who is none (own_slot s past e w r legal who is ∙ ap (own_after s past w r) runs ∙ own)
+unchanged s past e w r legal who is none stays sleeps runs = same_rows (slot_of s past w.pool) (slot_of s (e ∷ past) w.pool) (indices s) (λ x. ⊎_elim
+    (λ own. rw own (own_slot s past e w r legal who is ∙ slot_like (own_after s past w r (run_task s (e ∷ past) w)) (slot_of s past w.pool w.index) (rw (none, stays) refl) (same_run s past e w legal (own_run s past e w r legal who is ∙ runs)) sleeps))
+    (others_stay s past e w r x legal who is none) (cases_eq x w.index))
 
 reply_refines : (s : Layout) (past : List Entry) (e : Entry) (w : WorkerId) (r : Reply) → IsLegal s (e ∷ past) → e.who ≡ Worker w → e.reply ≡ r → map (slot_of s (e ∷ past) w.pool) (indices s) ≡ (pool_after_reply r w.index (pool_of s past w.pool)).slots
 unfolding own_after
 reply_refines s past e w (reply.Started n) legal who is = start_refines s past e w n legal who is
 reply_refines s past e w (reply.StartedEnlist n y) legal who is = enlist_refines s past e w n y legal who is
 reply_refines s past e w (reply.Finished n) legal who is =
-    own_refines s past e w (reply.Finished n) slot_free None legal who is refl (run_task_none s (e ∷ past) w (own_run s past e w (reply.Finished n) legal who is)) refl
+    own_changes s past e w (reply.Finished n) slot_free None legal who is refl (run_task_none s (e ∷ past) w (own_run s past e w (reply.Finished n) legal who is)) refl
 reply_refines s past e w reply.Slept legal who is =
-    own_refines s past e w reply.Slept slot_asleep (run_task s past w) legal who is refl (same_run s past e w legal (own_run s past e w reply.Slept legal who is)) refl
+    own_changes s past e w reply.Slept slot_asleep (run_task s past w) legal who is refl (same_run s past e w legal (own_run s past e w reply.Slept legal who is)) refl
 reply_refines s past e w reply.Woke legal who is =
-    own_refines s past e w reply.Woke slot_awake (run_task s past w) legal who is refl (same_run s past e w legal (own_run s past e w reply.Woke legal who is)) refl
+    own_changes s past e w reply.Woke slot_awake (run_task s past w) legal who is refl (same_run s past e w legal (own_run s past e w reply.Woke legal who is)) refl
 reply_refines s past e w reply.Retired legal who is =
-    own_refines s past e w reply.Retired slot_retired (run_task s past w) legal who is refl (same_run s past e w legal (own_run s past e w reply.Retired legal who is)) refl
+    own_changes s past e w reply.Retired slot_retired (run_task s past w) legal who is refl (same_run s past e w legal (own_run s past e w reply.Retired legal who is)) refl
 reply_refines s past e w r legal who is = unchanged s past e w r legal who is refl refl refl refl
 
 -- ---- any entry

@@ -63,31 +63,24 @@ any_of_rows p [] = refl
 any_of_rows p (r ∷ rows) = grind (arith, any_of_rows p rows, list_any-append p r (flat_map (λ (x : List Ticket). x) rows))
 
 module _ (n : ℕ) (ts : List Ticket) (there : AllByRecursion (λ t. t.caller.0 < n) ts) where
+  abbrev all_rows : List Ticket
+  all_rows = flat_map (λ (r : List Ticket). r) (rows_of n ts)
+
   pub rows_any : (p : Ticket → Bool) → list_any (list_any p) (rows_of n ts) ≡ list_any p ts
-  rows_any p = any_of_rows p (rows_of n ts) ∙ same_bools (list_any p all) (list_any p ts) forth back
-    where
-      all : List Ticket
-      all = flat_map (λ (r : List Ticket). r) (rows_of n ts)
-
-      forth : list_any p all ≡ true → list_any p ts ≡ true
-      forth h = let k = in_any p all h in any_in p ts k.0 (rows_in ts k.0 (range_with_len 0 n) k.1) k.2
-
-      back : list_any p ts ≡ true → list_any p all ≡ true
-      back h = let k = in_any p ts h in any_in p all k.0 (in_rows n ts k.0 k.1 (of_in (λ t. t.caller.0 < n) ts k.0 there k.1)) k.2
+  rows_any p = any_of_rows p (rows_of n ts) ∙ same_bools (list_any p all_rows) (list_any p ts)
+      (λ h. let k = in_any p all_rows h in any_in p ts k.0 (rows_in ts k.0 (range_with_len 0 n) k.1) k.2)
+      (λ h. let k = in_any p ts h in any_in p all_rows k.0 (in_rows n ts k.0 k.1 (of_in (λ t. t.caller.0 < n) ts k.0 there k.1)) k.2)
 
   -- a ticket is found by its number in the rows as in the list
-  pub rows_find : (m : ℕ) → RisesBy number_of_ticket ts → find (is_numbered m) (flat_map (λ (r : List Ticket). r) (rows_of n ts)) ≡ find (is_numbered m) ts
+  pub rows_find : (m : ℕ) → RisesBy number_of_ticket ts → find (is_numbered m) all_rows ≡ find (is_numbered m) ts
   rows_find m rise = by (find (is_numbered m) ts) refl
     where
-      all : List Ticket
-      all = flat_map (λ (r : List Ticket). r) (rows_of n ts)
-
-      by : (o : Option Ticket) → find (is_numbered m) ts ≡ o → find (is_numbered m) all ≡ o
-      by None is = none_found (is_numbered m) all (all_in (λ t. is_numbered m t ≡ false) all
+      by : (o : Option Ticket) → find (is_numbered m) ts ≡ o → find (is_numbered m) all_rows ≡ o
+      by None is = none_found (is_numbered m) all_rows (all_in (λ t. is_numbered m t ≡ false) all_rows
           (λ t i. of_in (λ u. is_numbered m u ≡ false) ts t (find_none (is_numbered m) ts is) (rows_in ts t (range_with_len 0 n) i)))
       by (Some t) is =
           let k = found (is_numbered m) ts t is in
-          only_found (is_numbered m) all t (in_rows n ts t k.0 (of_in (λ x. x.caller.0 < n) ts t there k.0)) k.1
+          only_found (is_numbered m) all_rows t (in_rows n ts t k.0 (of_in (λ x. x.caller.0 < n) ts t there k.0)) k.1
           (λ y i h. rises_unique number_of_ticket ts y t rise (rows_in ts y (range_with_len 0 n) i) k.0 (eqb-true y.number m h ∙ sym (eqb-true t.number m k.1)))
 
 -- ---- how many there are

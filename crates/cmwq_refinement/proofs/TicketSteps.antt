@@ -1,5 +1,5 @@
 -- The unended tickets by their numbers, and the one that an entry ends.
-use Rattle.cmwq_refinement.specs.Common.{◌≡◌, ◌==◌, ◌<◌, ℕ, true, not, ◌&&◌, List, [], ◌∷◌, length, Option, Some, None, refl, sym, ap, ◌∙◌, AllByRecursion, and_parts, eqb-true, eq-eqb, false_from_ne_true, Who, Caller, Worker, Call, Entry, Ticket, is_by, gives_ticket, ticket_in, tickets, is_end_of, is_done, ends, is_unended, unended_tickets, All_map, is_kept, is_ended_by, ticket_ended, is_done_reply, one_ticket_ends, arith}
+use Rattle.cmwq_refinement.specs.Common.{◌≡◌, ◌==◌, ◌<◌, ℕ, true, not, ◌&&◌, List, [], ◌∷◌, length, Option, Some, None, refl, sym, ap, ◌∙◌, AllByRecursion, and_parts, eqb-true, eq-eqb, false_from_ne_true, Who, Caller, Worker, Call, Entry, Ticket, is_by, gives_ticket, ticket_in, tickets, is_end_of, is_done, ends, is_unended, unended_tickets, All_map, is_kept, is_ended_by, ticket_ended, is_done_reply, one_ticket_ends, arith, Bool, if◌then◌else◌, ticket_for, same_Some}
 use Rattle.cmwq_model.specs.declared.call.Call.TheVariants as call
 use Rattle.cmwq_model.specs.declared.reply.Reply.TheVariants as reply
 use Rattle.cmwq_theory_steps.proofs.Given.{IsGiven, tickets_given, unended_given}
@@ -19,11 +19,11 @@ pub record IsTicketIn (e : Entry) (n : ℕ) (t : Ticket) : Type 0 where
   pub caller : e.who ≡ Caller t.caller
 
 pub ticket_in_is : (e : Entry) (n : ℕ) (t : Ticket) → ticket_in e n ≡ Some t → IsTicketIn e n t
-ticket_in_is e n t h = with e.who refl
+ticket_in_is e n t h = with (gives_ticket e.reply) e.who refl refl h
   where
-    with : (who : Who) → e.who ≡ who → IsTicketIn e n t
-    with (Worker w) is = grind (arith, h)
-    with (Caller c) is = grind (arith, h)
+    with : (b : Bool) (who : Who) → gives_ticket e.reply ≡ b → e.who ≡ who → (if b then ticket_for who e.call n else None) ≡ Some t → IsTicketIn e n t
+    with true (Caller c) gives is k = let same = same_Some _ t k in record { gives = gives; call = rw (← same) refl; number = rw (← same) refl; caller = rw (← same) is }
+    with b who gives is k = cc
 
 tickets_below : (past : List Entry) → AllByRecursion (λ t. t.number < length past) (tickets past)
 tickets_below past = All_map (IsGiven past) (λ t. t.number < length past) (tickets past) (λ t h. h.older) (tickets_given past)
