@@ -7,7 +7,7 @@ use Rattle.cmwq_lemmas.proofs.Lists.{All_push, filter_shorter}
 use Rattle.cmwq_lemmas.proofs.Members.{In, of_in, found, none_in}
 use Rattle.cmwq_lemmas.proofs.Passing.{all_kept, all_split}
 use Rattle.cmwq_lemmas.proofs.Rising.{RisesBy}
-use Rattle.cmwq_refinement.proofs.Numbers.{itself, in_some, numbers_all, in_mapped, without_none, rises_apart, later_differ}
+use Rattle.cmwq_refinement.proofs.Numbers.{itself, in_some, all_mapped, in_mapped, without_none, rises_apart, later_differ}
 
 -- a flush that is served: from a position of the history, or from the entry that is being applied
 pub data ServedSoon (past : List Entry) (q next : ℕ) (opened : List ℕ) (f : Served) : Type 0 where
@@ -107,7 +107,7 @@ served_ends past q t flushes b rise here is = with b.overflow refl
 overflow_ends : (past : List Entry) (q t : ℕ) (flushes : List ℕ) (b : FlushBook) → AllByRecursion (λ f. has_ticket t f ≡ false) b.served → Stands past q flushes b
     → Stands past q (without t flushes) (record b { overflow = without t b.overflow })
 overflow_ends past q t flushes b absent is = record {
-  flushes_are = cc (is.flushes_are, filter-append (is_other_number t) (tickets_of_served b.served) b.overflow, without_none t (tickets_of_served b.served) (numbers_all ticket_of_served (λ m. (m == t) ≡ false) b.served absent));
+  flushes_are = cc (is.flushes_are, filter-append (is_other_number t) (tickets_of_served b.served) b.overflow, without_none t (tickets_of_served b.served) (all_mapped ticket_of_served (λ m. (m == t) ≡ false) b.served absent));
   few = is.few;
   serving = λ some. is.serving (omega (arith, filter_shorter (is_other_number t) b.overflow));
   bounds = is.bounds;

@@ -13,7 +13,7 @@ use Rattle.cmwq_refinement.proofs.Numbers.{in_mapped}
 use Rattle.cmwq_refinement.proofs.TicketSteps.{unended_below, ticket_step, ticket_in_is}
 use Rattle.cmwq_refinement.proofs.TicketLimits.{unended_few}
 use Rattle.cmwq_refinement.proofs.QueueingSteps.{QueueingStep, queueing_step, ends_one, ends_none}
-use Rattle.cmwq_refinement.proofs.FlushSteps.{StandsAs, flush_numbers_below, applied_on, opened_is, ended_next, soon_after, stands_done}
+use Rattle.cmwq_refinement.proofs.FlushSteps.{StandsAs, ended_on, flush_numbers_below, applied_on, opened_is, ended_next, soon_after, stands_done}
 use Rattle.cmwq_refinement.proofs.FlushEnds.{ended_ready, done_flushes_may_end}
 
 -- ---- what is open
@@ -22,20 +22,16 @@ may_end : (past : List Entry) (e : Entry) (q : ℕ) (b : FlushBook) → Queueing
 may_end past e q b (ends_none is all) opened = rw is tt
 may_end past e q b (ends_one x is here all) opened = rw is (λ on. in_contained b.opened x.number (rw opened (in_mapped number_of_queueing (filter (is_on_queue q) (still_open past)) x (filter_in (is_on_queue q) (still_open past) x here on))))
 
-few_open : (s : Layout) (past : List Entry) (q : ℕ) → IsLegal s past → length (open_numbers past q) ≤ 2 * s.items
-few_open s past q legal =
-    omega (arith, two_for_each_item s past legal, length-map (filter (is_on_queue q) (still_open past)) number_of_queueing, length-filter (is_on_queue q) (still_open past), count_by-le-length (is_on_queue q) (still_open past))
-
-ended_items : (o : Option Queueing) (q : ℕ) (b : FlushBook) → (flushes_after_end o q b).items ≡ b.items
-ended_items o q b = grind arith
-
 may_open : (s : Layout) (past : List Entry) (e : Entry) (q : ℕ) (b : FlushBook) (o : Option Queueing) → IsLegal s (e ∷ past) → AreFlushes s past q b → opening past e ≡ o → MayOpenInFlushes o q (flushes_after_end (ending past e) q b)
 may_open s past e q b None legal is h = tt
 may_open s past e q b (Some x) legal is h = λ on.
     let c = flushes_after_end (ending past e) q b in
     let after : open_numbers (e ∷ past) q ≡ c.opened ++ x.number ∷ [] = cc (opened_is s past e q b legal is.opened, h, on) in
     let longer = ap length after ∙ length-append c.opened (x.number ∷ []) in
-    (omega (arith, opening_number past e x h, ended_next (ending past e) q b, is.next), omega (arith, longer, few_open s (e ∷ past) q legal, ended_items (ending past e) q b ∙ is.items))
+    let left = ended_on (ending past e) q (length past) b is.older is.next in
+    let its : List Queueing = still_open (e ∷ past) in
+    let few : length (open_numbers (e ∷ past) q) ≤ 2 * s.items = omega (arith, two_for_each_item s (e ∷ past) legal, length-map (filter (is_on_queue q) its) number_of_queueing, length-filter (is_on_queue q) its, count_by-le-length (is_on_queue q) its) in
+    (omega (arith, opening_number past e x h, ended_next (ending past e) q b, is.next), omega (arith, longer, few, left.items ∙ is.items))
 
 -- ---- what is done
 

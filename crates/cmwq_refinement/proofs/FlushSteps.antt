@@ -8,7 +8,7 @@ use Rattle.cmwq_lemmas.proofs.Members.{In, of_in, all_in, in_left}
 use Rattle.cmwq_lemmas.proofs.Passing.{all_kept}
 use Rattle.cmwq_lemmas.proofs.Rising.{RisesBy, rises_filter}
 use Rattle.cmwq_lemmas.proofs.Lists.{All_push, filter_all}
-use Rattle.cmwq_refinement.proofs.Numbers.{itself, in_some, numbers_rise, numbers_all, in_mapped, numbers_without, numbers_lack, count_numbers, is_less, fewer_before, all_before}
+use Rattle.cmwq_refinement.proofs.Numbers.{itself, in_some, numbers_rise, all_mapped, in_mapped, numbers_without, numbers_lack, count_numbers, is_less, fewer_before, all_before}
 use Rattle.cmwq_refinement.proofs.TicketSteps.{unended_rise, unended_below, TicketStep, ticket_step, ends_one, ends_none, ends_only, ticket_in_is}
 use Rattle.cmwq_refinement.proofs.QueueingSteps.{QueueingStep, queueing_step, open_numbers_rise}
 use Rattle.cmwq_refinement.proofs.QueueingSteps as queueing
@@ -39,7 +39,7 @@ flush_numbers_rise : (past : List Entry) (q : ℕ) → RisesBy itself (flush_num
 flush_numbers_rise past q = numbers_rise number_of_ticket (filter (is_flush_of q) (unended_tickets past)) (rises_filter number_of_ticket (is_flush_of q) (unended_tickets past) (unended_rise past))
 
 pub flush_numbers_below : (n q : ℕ) (ts : List Ticket) → AllByRecursion (λ t. t.number < n) ts → AllByRecursion (λ m. m < n) (flush_numbers q ts)
-flush_numbers_below n q ts h = numbers_all number_of_ticket (λ m. m < n) (filter (is_flush_of q) ts) (all_kept (λ t. t.number < n) (is_flush_of q) ts h)
+flush_numbers_below n q ts h = all_mapped number_of_ticket (λ m. m < n) (filter (is_flush_of q) ts) (all_kept (λ t. t.number < n) (is_flush_of q) ts h)
 
 -- ---- queueings are applied to the book
 
@@ -69,7 +69,7 @@ end_is past e q b (queueing.ends_none is all) opened = rw (is, filter_all (survi
 end_is past e q b (queueing.ends_one x is here all) opened =
     rw (is, numbers_without number_of_queueing (is_on_queue q) (survives past e) x.number (still_open past) all) (grind (arith, numbers_lack number_of_queueing (is_on_queue q) x (still_open past) (open_numbers_rise past) here))
 
-ended_on : (o : Option Queueing) (q n : ℕ) (b : FlushBook) → AllByRecursion (λ m. m < b.next) b.opened → b.next ≤ n → OpensOn n b (flushes_after_end o q b)
+pub ended_on : (o : Option Queueing) (q n : ℕ) (b : FlushBook) → AllByRecursion (λ m. m < b.next) b.opened → b.next ≤ n → OpensOn n b (flushes_after_end o q b)
 ended_on None q n b older next = opens_none n b older next
 ended_on (Some x) q n b older next = cond_both (is_on_queue q x) (flushes_without_open b x.number) b (OpensOn n b) (λ on. record {
   items = refl;

@@ -12,14 +12,14 @@ pub without_none : (n : ℕ) (ns : List ℕ) → AllByRecursion (λ m. (m == n) 
 without_none n [] h = refl
 without_none n (m ∷ ms) h = grind (arith, without_none n ms)
 
-module _ {X : Type 0} (number : X → ℕ) where
-  pub numbers_all : (P : ℕ → Type 0) (xs : List X) → AllByRecursion (λ x. P (number x)) xs → AllByRecursion P (map number xs)
-  numbers_all P [] h = tt
-  numbers_all P (x ∷ xs) h = (h.0, numbers_all P xs h.1)
+pub all_mapped : {X Y : Type 0} (f : X → Y) (P : Y → Type 0) (xs : List X) → AllByRecursion (λ x. P (f x)) xs → AllByRecursion P (map f xs)
+all_mapped f P [] h = tt
+all_mapped f P (x ∷ xs) h = (h.0, all_mapped f P xs h.1)
 
+module _ {X : Type 0} (number : X → ℕ) where
   pub numbers_rise : (xs : List X) → RisesBy number xs → RisesBy itself (map number xs)
   numbers_rise [] h = tt
-  numbers_rise (x ∷ xs) h = (numbers_all (λ n. number x < n) xs h.0, numbers_rise xs h.1)
+  numbers_rise (x ∷ xs) h = (all_mapped number (λ n. number x < n) xs h.0, numbers_rise xs h.1)
 
   -- the numbers of those that pass, where all but the one with number n go on
   pub numbers_without : (p g : X → Bool) (n : ℕ) (xs : List X) → AllByRecursion (λ x. g x ≡ not (number x == n)) xs → map number (filter p (filter g xs)) ≡ without n (map number (filter p xs))
@@ -28,7 +28,7 @@ module _ {X : Type 0} (number : X → ℕ) where
 
   -- one that doesn't pass is not among those that do
   pub numbers_lack : (p : X → Bool) (x : X) (xs : List X) → RisesBy number xs → In x xs → p x ≡ false → without (number x) (map number (filter p xs)) ≡ map number (filter p xs)
-  numbers_lack p x xs rise here fails = without_none (number x) (map number (filter p xs)) (numbers_all (λ m. (m == number x) ≡ false) (filter p xs) (all_in (λ y. (number y == number x) ≡ false) (filter p xs)
+  numbers_lack p x xs rise here fails = without_none (number x) (map number (filter p xs)) (all_mapped number (λ m. (m == number x) ≡ false) (filter p xs) (all_in (λ y. (number y == number x) ≡ false) (filter p xs)
       (λ y there. let k = in_filter p xs y there in grind (arith, nat_tests, rises_unique number xs y x rise k.0 here))))
 
   pub count_numbers : (p : ℕ → Bool) (xs : List X) → count_by (λ x. p (number x)) xs ≡ count_by p (map number xs)

@@ -8,7 +8,8 @@ use Rattle.cmwq_refinement.specs.ByNumber.{number_of_queueing}
 use Rattle.cmwq_refinement.specs.Pools.{task_for, pool_of, made_active, pool_before_activation, MayAllBeAdded}
 use Rattle.cmwq_lemmas.proofs.Members.{In, of_in, all_in, in_right}
 use Rattle.cmwq_refinement.proofs.ItemNumbers.{one_of}
-use Rattle.cmwq_refinement.proofs.Numbers.{in_any, in_map}
+use Rattle.cmwq_lemmas.proofs.Lists.{All_both}
+use Rattle.cmwq_refinement.proofs.Numbers.{all_mapped, in_any, in_map}
 use Rattle.cmwq_refinement.proofs.PlacesFit.{open_there}
 use Rattle.cmwq_refinement.proofs.PoolReads.{IsOnList, worklist_has}
 use Rattle.cmwq_refinement.proofs.PoolSteps.{first_listed, first_items}
@@ -32,21 +33,18 @@ apart_may_be_added s (x ∷ xs) l there apart = (
 
 -- ---- those of a worklist
 
-not_sooner : (s : Layout) (past : List Entry) (x y : Queueing) → IsSooner s past x y → x ≡ y → ⊥
-not_sooner s past x y h same =
-    let at : h.x_since ≡ h.y_since = same_Some h.x_since h.y_since (sym h.x_is ∙ ap (λ z. since s past z) same ∙ h.y_is) in
-    grind (arith, h.order, ap number_of_queueing same)
-
 unlike : (s : Layout) (past : List Entry) (p : PoolId) (x y : Queueing) → IsLegal s past → IsSooner s past x y → IsOnList s past p x → IsOnList s past p y → is_task_of y.item.0 (task_for s x) ≡ false
-unlike s past p x y legal sooner hx hy = false_from_ne_true (x.item.0 == y.item.0) (λ h. not_sooner s past x y sooner (one_of s past x y legal hx.stands hy.stands (eqb-true x.item.0 y.item.0 h) hx.not_started hy.not_started))
+unlike s past p x y legal sooner hx hy = false_from_ne_true (x.item.0 == y.item.0) (λ h.
+    let same = one_of s past x y legal hx.stands hy.stands (eqb-true x.item.0 y.item.0 h) hx.not_started hy.not_started in
+    let at : sooner.x_since ≡ sooner.y_since = same_Some sooner.x_since sooner.y_since (sym sooner.x_is ∙ ap (λ z. since s past z) same ∙ sooner.y_is) in
+    grind (arith, sooner.order, ap number_of_queueing same))
 
 in_order_apart : (s : Layout) (past : List Entry) (p : PoolId) (xs : List Queueing) → IsLegal s past → AreInOrder s past xs → AllByRecursion (IsOnList s past p) xs → AreApart (map (task_for s) xs)
 in_order_apart s past p [] legal order on = tt
-in_order_apart s past p (x ∷ xs) legal order on = (each xs order.0 on.1, in_order_apart s past p xs legal order.1 on.1)
-  where
-    each : (ys : List Queueing) → AllByRecursion (IsSooner s past x) ys → AllByRecursion (IsOnList s past p) ys → AllByRecursion (λ u. is_task_of u.item.0 (task_for s x) ≡ false) (map (task_for s) ys)
-    each [] h k = tt
-    each (y ∷ ys) h k = (unlike s past p x y legal h.0 on.0 k.0, each ys h.1 k.1)
+in_order_apart s past p (x ∷ xs) legal order on = (
+  all_mapped (task_for s) (λ u. is_task_of u.item.0 (task_for s x) ≡ false) xs (All_both (IsSooner s past x) (IsOnList s past p) (λ y. is_task_of y.item.0 (task_for s x) ≡ false) xs (λ y sooner on_y. unlike s past p x y legal sooner on.0 on_y) order.0 on.1),
+  in_order_apart s past p xs legal order.1 on.1,
+)
 
 worklist_apart : (s : Layout) (past : List Entry) (p : PoolId) → IsLegal s past → AreApart (map (task_for s) (worklist s past p))
 worklist_apart s past p legal = in_order_apart s past p (worklist s past p) legal (worklist_is s past p).in_order (worklist_has s past p)

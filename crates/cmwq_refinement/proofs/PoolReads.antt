@@ -67,16 +67,9 @@ any_agree p q (x ∷ xs) h = grind (arith, any_agree p q xs)
 pub starts_enlist_alike : (s : Layout) (past : List Entry) (w : WorkerId) → IsLegal s past → slots_enlisted_by (pool_of s past w.pool).slots w.index ≡ enlisted_by s past w
 unfolding enlisted_by
 starts_enlist_alike s past w legal =
-    ap (λ xs. if list_any (is_other_slot slots w.index) xs then None else find (is_reserve_at slots) xs) places
-    ∙ ap₂ (λ b o. if b then None else o)
-    (any_agree (is_other_slot slots w.index) (is_other_idle past w) (indices s) (All_map (λ x. x < s.workers) _ (indices s) (λ x less. ap (λ b. not (x == w.index) && b) (ap slot_is_idle (slot_is s past w.pool x less) ∙ idle_slot s past w.pool x legal)) (indices_below s)))
-    (find_same (is_reserve_at slots) (is_reserve past w.pool) (indices s) (All_map (λ x. x < s.workers) _ (indices s) (λ x less. ap slot_is_reserve (slot_is s past w.pool x less)) (indices_below s)))
-  where
-    slots : List Slot
-    slots = (pool_of s past w.pool).slots
-
-    places : slot_indices (pool_of s past w.pool).slots ≡ indices s
-    places = ap (range_with_len 0) (slots_for_workers s past w.pool)
+    let slots : List Slot = (pool_of s past w.pool).slots in
+    rw (slots_for_workers s past w.pool, any_agree (is_other_slot slots w.index) (is_other_idle past w) (indices s) (All_map (λ x. x < s.workers) _ (indices s) (λ x less. rw (slot_is s past w.pool x less, some_run s past (worker_at w.pool x) legal) refl) (indices_below s)),
+      find_same (is_reserve_at slots) (is_reserve past w.pool) (indices s) (All_map (λ x. x < s.workers) _ (indices s) (λ x less. ap slot_is_reserve (slot_is s past w.pool x less)) (indices_below s))) refl
 
 pub idle_retire_alike : (s : Layout) (past : List Entry) (p : PoolId) (x : ℕ) → IsLegal s past → x < s.workers → slot_may_retire (pool_of s past p).slots x ≡ (is_idle past p x && may_retire s past p)
 unfolding may_retire
