@@ -1,5 +1,5 @@
 -- What each call of a flush book leaves, over plain values.
-use Rattle.cmwq_refinement.specs.Common.{◌≡◌, ◌==◌, ◌<◌, ◌≤◌, ◌+◌, ℕ, Bool, true, false, List, [], ◌∷◌, ◌++◌, length, filter, Option, Some, None, nat_lt, refl, sym, ap, subst, arith, append-nil, ⊎_elim, is_some, if◌then◌else◌, AllByRecursion, eqb-true, ltb-true, ltb-false, append_assoc, map_push, length-append, filter-append, Entry, serving_from, Served, is_other_number, without, tickets_of_served, has_ticket, is_other_flush, FlushBook, flush_tickets, served_of, flush_from, flushes_with_wait, flushes_without_wait, serve_oldest, served_with_oldest, without_oldest, IsServing, find_none, nat_tests}
+use Rattle.cmwq_refinement.specs.Common.{◌≡◌, ◌==◌, ◌<◌, ◌≤◌, ◌+◌, ℕ, false, List, [], ◌∷◌, ◌++◌, length, filter, Option, Some, None, nat_lt, refl, sym, ap, subst, arith, append-nil, ⊎_elim, is_some, if◌then◌else◌, AllByRecursion, eqb-true, ltb-true, ltb-false, append_assoc, map_push, length-append, filter-append, Entry, serving_from, Served, is_other_number, without, tickets_of_served, has_ticket, is_other_flush, FlushBook, flush_tickets, served_of, flush_from, flushes_with_wait, flushes_without_wait, serve_oldest, served_with_oldest, without_oldest, IsServing, find_none, nat_tests}
 use Rattle.cmwq_flush.specs.Served.{ticket_of_served}
 use Rattle.cmwq_refinement.specs.FlushBooks.{IsServedFrom}
 use Rattle.std.proofs.lemmas.Bool.{cond_both}

@@ -1,5 +1,5 @@
 -- What a flush book answers is what the definitions say.
-use Rattle.cmwq_refinement.specs.Common.{◌≡◌, ◌<◌, ◌≤◌, ◌↔◌, ℕ, Bool, true, false, cond, List, [], ◌∷◌, filter, find, count_by, Option, Some, None, nat_lt, nat_le, refl, sym, ap, ◌∙◌, subst, arith, ⊎_elim, option_map, slice_get, Contains, All, MatchOption, AllByRecursion, eqb-true, ltb-false, le-ltb, recursion_from_All, All-from_recursion, QueueId, Entry, Ticket, Layout, still_open, unended_tickets, is_flush_of, serving_from, is_within, is_older_flush, waits_for, Served, tickets_of_served, has_ticket, FlushBook, flush_tickets, served_of, All_map, find_none, none_found, nat_tests}
+use Rattle.cmwq_refinement.specs.Common.{◌≡◌, ◌<◌, ◌≤◌, ◌↔◌, ℕ, Bool, true, false, cond, List, [], ◌∷◌, filter, find, count_by, Option, Some, None, nat_lt, nat_le, refl, sym, ap, ◌∙◌, subst, arith, ⊎_elim, option_map, slice_get, Contains, All, MatchOption, AllByRecursion, eqb-true, ltb-false, le-ltb, QueueId, Entry, Ticket, Layout, still_open, unended_tickets, is_flush_of, serving_from, is_within, is_older_flush, waits_for, Served, tickets_of_served, has_ticket, FlushBook, flush_tickets, served_of, find_none, nat_tests}
 use Rattle.cmwq_model.specs.declared.call.Call.TheVariants as call
 use Rattle.cmwq_flush.specs.FlushBook.{IsReady}
 use Rattle.cmwq_refinement.specs.ByNumber.{number_of_queueing, number_of_ticket}

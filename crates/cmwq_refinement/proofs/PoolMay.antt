@@ -3,7 +3,7 @@ use Rattle.cmwq_refinement.specs.Common.{◌≡◌, ◌<◌, ℕ, true, List, �
 use Rattle.cmwq_model.specs.declared.reply.Reply.TheVariants as reply
 use Rattle.cmwq_pool.specs.Slots.{slot_runs_awake as slot_awake_runs, slot_runs_asleep as slot_asleep_runs}
 use Rattle.cmwq_refinement.specs.Pools.{pool_of, MayStartInPool, MayReplyInPool}
-use Rattle.cmwq_refinement.proofs.PoolReads.{slot_is, some_run, idle_slot, runnables_are_runnable, idle_retire_alike}
+use Rattle.cmwq_refinement.proofs.PoolReads.{slot_is, some_run, runnables_are_runnable, idle_retire_alike}
 use Rattle.cmwq_refinement.proofs.PoolNext.{worker_fits, nexts_are_next}
 
 module _ (s : Layout) (past : List Entry) (e : Entry) (w : WorkerId) (legal : IsLegal s (e ∷ past)) (who : e.who ≡ Worker w) where
