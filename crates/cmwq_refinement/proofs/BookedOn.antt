@@ -1,10 +1,9 @@
 -- Whether some item is booked on a queue.
 use Rattle.cmwq_refinement.specs.Common.{◌≡◌, ℕ, true, List, Option, Some, None, refl, ap, ◌∙◌, arith, option_map, range_with_len, list_any, Entry, Booking, Layout, booking, standing, is_booked_on, IsLegal, is_timer_on}
+use Rattle.cmwq_refinement.proofs.Numbers.{any_in, in_any, in_map, in_mapped, in_range, same_bools}
 use Rattle.cmwq_timer.specs.Rows.{any_timer_on as booked_in_rows}
 use Rattle.cmwq_refinement.specs.Timers.{timer_for, timer_row, timers_of}
-use Rattle.cmwq_refinement.proofs.Numbers.{any_in, in_any, in_map, in_mapped, in_range}
 use Rattle.cmwq_refinement.proofs.FirstDue.{in_standing, standing_is, standing_fits}
-use Rattle.cmwq_lemmas.proofs.Truth.{same_bools}
 
 of_row : (past : List Entry) (q i : ℕ) (o : Option Booking) → booking past i ≡ o → is_timer_on q (option_map timer_for o) ≡ true → list_any (is_booked_on q) (standing past) ≡ true
 of_row past q i None is h = cc

@@ -1,12 +1,8 @@
 -- The timer that fires first is that of the booking that is due first.
 use Rattle.cmwq_refinement.specs.Common.{◌≡◌, ◌<◌, ◌≤◌, ℕ, suc, true, false, not, ◌&&◌, List, [], ◌∷◌, length, filter, Option, Some, None, option_to_list, nat_lt, nat_le, refl, sym, ap, ◌∙◌, arith, option_map, AllByRecursion, list_any, eqb-true, eq-eqb, not-true, nat_tests, same_Some, ItemId, Entry, Booking, Layout, is_at, is_of_item, now, booking, booking_of, bookings, number_booked, stands, standing, may_fire, is_due_before, is_soonest, soonest, first_due, IsLegal, Timer, MayFire, NoneMayFire, IsFirstToFire, timer_of, All_map, is_at-true, All-from_recursion, settles}
+use Rattle.cmwq_refinement.proofs.Numbers.{In, RisesBy, all_in, all_more, and_parts, cond_both, filter_in, find_is, found, in_filter, in_left, in_right, list_any_none, none_in, none_pass, of_in, option_in, rises_filter, rises_more, rises_unique}
 use Rattle.cmwq_timer.specs.Due.{is_sooner, timer_may_fire}
 use Rattle.cmwq_refinement.specs.Timers.{timer_for, timers_of, HoldsDraining, item_due, MayApplyToTimers}
-use Rattle.std.proofs.lemmas.Bool.{and_parts, cond_both}
-use Rattle.cmwq_lemmas.proofs.Members.{In, of_in, all_in, in_left, in_right, option_in, in_filter, filter_in, none_in, found}
-use Rattle.cmwq_lemmas.proofs.Rising.{RisesBy, rises_filter, rises_unique, find_is}
-use Rattle.std.proofs.lemmas.List.Folds.{list_any_none}
-use Rattle.cmwq_refinement.proofs.Numbers.{all_more, none_pass, rises_more}
 use Rattle.cmwq_refinement.proofs.TimerSteps.{booking_books, row_at, row_past}
 use Rattle.cmwq_refinement.proofs.Settled.{Fits, bookings_fit, settled_of_an_item, item_there, booking_fits}
 

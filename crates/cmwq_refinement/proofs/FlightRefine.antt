@@ -1,10 +1,8 @@
 -- The flights refine a legal history, and the calls that apply an entry to them may be made.
 use Rattle.cmwq_refinement.specs.Common.{◌≡◌, ◌<◌, ℕ, false, List, [], ◌∷◌, length, map, replicate, Option, Some, None, option_to_list, refl, sym, ap, ◌∙◌, arith, range_with_len, same_Some, length-map-range_with_len, get_or-map-range_with_len, Entry, Queueing, Layout, is_started, item_start, queueings, still_open, is_unstarted, unstarted_queueing, opening, IsLegal, opening_number, is_ended, ending, still_unstarted, open_go_on, unstarted_is, opening_inert, Flight, no_flight, flight_at, false≢true, is_some, ◌==◌, option_or, with_unstarted, eqb-true}
+use Rattle.cmwq_refinement.proofs.Numbers.{In, cond_both, found, in_right, of_in, option_in, rows_alike}
 use Rattle.cmwq_theory_steps.proofs.Unstarted.{unstarted_goes_on}
 use Rattle.cmwq_refinement.specs.Flights.{flight_of, flights_of, starting, flights_after_end, flights_after_start, flights_after_opening, flights_after_moves, flights_after, MayEndInFlight, MayStartInFlight, MayOpenInFlight, MayApplyToFlights}
-use Rattle.std.proofs.lemmas.Bool.{cond_both}
-use Rattle.cmwq_lemmas.proofs.Members.{In, of_in, in_right, option_in, found}
-use Rattle.cmwq_refinement.proofs.Numbers.{rows_alike}
 use Rattle.cmwq_refinement.proofs.TimerSteps.{same_rows}
 use Rattle.cmwq_refinement.proofs.PlacesFit.{open_there, opened_are_there}
 use Rattle.cmwq_refinement.proofs.FlightKinds.{EndKind, none_ends, run_ends, unstarted_ends, end_kind, legal_before, Starting, StartKind, none_starts, one_starts, start_kind}

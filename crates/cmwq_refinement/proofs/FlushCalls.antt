@@ -1,13 +1,8 @@
 -- What each call of a flush book leaves, over plain values.
 use Rattle.cmwq_refinement.specs.Common.{◌≡◌, ◌==◌, ◌<◌, ◌≤◌, ◌+◌, ℕ, false, List, [], ◌∷◌, ◌++◌, length, filter, Option, Some, None, nat_lt, refl, sym, ap, subst, arith, append-nil, ⊎_elim, is_some, if◌then◌else◌, AllByRecursion, eqb-true, ltb-true, ltb-false, append_assoc, map_push, length-append, filter-append, Entry, serving_from, Served, is_other_number, without, tickets_of_served, has_ticket, is_other_flush, FlushBook, flush_tickets, served_of, flush_from, flushes_with_wait, flushes_without_wait, serve_oldest, served_with_oldest, without_oldest, IsServing, find_none, nat_tests}
+use Rattle.cmwq_refinement.proofs.Numbers.{All_push, In, RisesBy, all_kept, all_mapped, all_split, cond_both, filter_shorter, found, in_mapped, in_some, itself, later_differ, none_in, of_in, rises_apart, without_none}
 use Rattle.cmwq_flush.specs.Served.{ticket_of_served}
 use Rattle.cmwq_refinement.specs.FlushBooks.{IsServedFrom}
-use Rattle.std.proofs.lemmas.Bool.{cond_both}
-use Rattle.cmwq_lemmas.proofs.Lists.{All_push, filter_shorter}
-use Rattle.cmwq_lemmas.proofs.Members.{In, of_in, found, none_in}
-use Rattle.cmwq_lemmas.proofs.Passing.{all_kept, all_split}
-use Rattle.cmwq_lemmas.proofs.Rising.{RisesBy}
-use Rattle.cmwq_refinement.proofs.Numbers.{itself, in_some, all_mapped, in_mapped, without_none, rises_apart, later_differ}
 
 -- a flush that is served: from a position of the history, or from the entry that is being applied
 pub data ServedSoon (past : List Entry) (q next : ℕ) (opened : List ℕ) (f : Served) : Type 0 where

@@ -1,11 +1,11 @@
 -- A flush whose end is answered done stands in the book and is ready.
 use Rattle.cmwq_refinement.specs.Common.{◌≡◌, ℕ, true, List, ◌∷◌, Some, None, refl, sym, ◌∙◌, Contains, eqb-true, same_Some, Call, Entry, Ticket, Layout, opening, flushes, is_flush_of, ticket_of, unended_tickets, waits_for, IsLegal, ending, ticket_ended, ends_which, FlushBook, flush_tickets, arith}
+use Rattle.cmwq_refinement.proofs.Numbers.{In, in_contained}
 use Rattle.cmwq_model.specs.declared.call.Call.TheVariants as call
 use Rattle.cmwq_model.specs.declared.reply.Reply.TheVariants as reply
 use Rattle.cmwq_theory_steps.proofs.Done.{ends_ticket}
 use Rattle.cmwq_flush.specs.FlushBook.{IsReady}
 use Rattle.cmwq_refinement.specs.FlushBooks.{AreFlushes}
-use Rattle.cmwq_lemmas.proofs.Members.{In, in_contained}
 use Rattle.cmwq_refinement.proofs.TicketSteps.{TicketStep, ticket_step, ends_one, ends_none, ends_it}
 use Rattle.cmwq_refinement.proofs.FlushReads.{unended_flushes_stand, ready_flushes_wait_for_nothing}
 

@@ -1,13 +1,10 @@
 -- What a flush book answers is what the definitions say.
 use Rattle.cmwq_refinement.specs.Common.{◌≡◌, ◌<◌, ◌≤◌, ◌↔◌, ℕ, Bool, true, false, cond, List, [], ◌∷◌, filter, find, count_by, Option, Some, None, nat_lt, nat_le, refl, sym, ap, ◌∙◌, subst, arith, ⊎_elim, option_map, slice_get, Contains, All, MatchOption, AllByRecursion, eqb-true, ltb-false, le-ltb, QueueId, Entry, Ticket, Layout, still_open, unended_tickets, is_flush_of, serving_from, is_within, is_older_flush, waits_for, Served, tickets_of_served, has_ticket, FlushBook, flush_tickets, served_of, find_none, nat_tests}
+use Rattle.cmwq_refinement.proofs.Numbers.{In, RisesBy, all_unfound, contained_in, filter_in, find_number, find_same, first_number, found, in_append, in_contained, in_mapped, itself, numbers_rise, of_in, rises_filter}
 use Rattle.cmwq_model.specs.declared.call.Call.TheVariants as call
 use Rattle.cmwq_flush.specs.FlushBook.{IsReady}
 use Rattle.cmwq_refinement.specs.ByNumber.{number_of_queueing, number_of_ticket}
 use Rattle.cmwq_refinement.specs.FlushBooks.{is_on_queue, open_numbers, IsServedFrom, AreFlushes}
-use Rattle.cmwq_lemmas.proofs.Members.{In, of_in, filter_in, in_append, found, contained_in, in_contained}
-use Rattle.cmwq_lemmas.proofs.Rising.{RisesBy, rises_filter}
-use Rattle.cmwq_refinement.proofs.Numbers.{itself, all_unfound, first_number, numbers_rise, in_mapped, find_number}
-use Rattle.cmwq_lemmas.proofs.Filters.{find_same}
 use Rattle.cmwq_refinement.proofs.QueueingSteps.{open_numbers_rise}
 use Rattle.cmwq_refinement.proofs.FlushSteps.{few_are_older, many_are_older}
 

@@ -1,9 +1,13 @@
--- Lists of what has a number, and of the numbers; with what of lists the other files share.
+-- Lists of what has a number, and of the numbers; with what the other files name of lists and truth values from outside the crate, in one import.
 use Rattle.cmwq_refinement.specs.Common.{◌≡◌, ◌==◌, ◌<◌, ◌≤◌, ◌+◌, ℕ, zero, suc, Bool, true, false, cond, not, ◌&&◌, List, [], ◌∷◌, ◌++◌, length, map, filter, find, count_by, replicate, Some, nat_lt, refl, ap, ◌∙◌, subst, arith, ⊎_elim, option_map, AllByRecursion, list_any, range_with_len, ne_eqb, nat_tests, length-range_with_len, slice_get, without, All_map, count_by-cons, Option, None, option_to_list, append-nil, sum_by, sum_by-cons, All_append, All_each, All, none_found, find_none, recursion_from_All, All-from_recursion, ◌↔◌}
-use Rattle.cmwq_lemmas.proofs.Members.{In, of_in, all_in, in_filter, in_option, in_right}
-use Rattle.cmwq_lemmas.proofs.Filters.{count_by-same}
-use Rattle.cmwq_lemmas.proofs.Passing.{all_split, once_there}
-use Rattle.cmwq_lemmas.proofs.Rising.{RisesBy, rises_snoc, rises_unique}
+pub use Rattle.cmwq_lemmas.proofs.Members.{In, all_in, contained_in, filter_in, found, in_append, in_contained, in_filter, in_left, in_option, in_right, none_in, of_in, option_in}
+pub use Rattle.cmwq_lemmas.proofs.Rising.{RisesBy, find_is, rises_filter, rises_snoc, rises_unique}
+pub use Rattle.cmwq_lemmas.proofs.Passing.{all_found, all_kept, all_split, fewer_kept, filter_mapped, once_there}
+pub use Rattle.cmwq_lemmas.proofs.Lists.{All_both, All_push, filter_all, filter_shorter, range_below}
+pub use Rattle.cmwq_lemmas.proofs.Truth.{same_bools}
+pub use Rattle.cmwq_lemmas.proofs.Filters.{count_by-same, find_same}
+pub use Rattle.std.proofs.lemmas.Bool.{and_parts, cond_both, or_from, or_right, true_from_ne_false}
+pub use Rattle.std.proofs.lemmas.List.Folds.{list_any-append, list_any_none}
 
 abbrev pub itself : ℕ → ℕ
 itself n = n

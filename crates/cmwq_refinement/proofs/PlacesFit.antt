@@ -1,13 +1,12 @@
 -- What is opened and what is waited for is of items, queues and CPUs that the layout has.
 use Rattle.cmwq_refinement.specs.Common.{◌≡◌, ◌<◌, ℕ, true, List, [], ◌∷◌, length, Option, Some, None, refl, sym, ap, ◌∙◌, subst, option_map, Contains, option_map_or, AllByRecursion, same_Some, Call, Entry, Booking, Queueing, Start, Ticket, Layout, has_numbers, booking, item_run, queueings, has_number, is_live, still_open, opening, place_called, place_booked, place_wanted, cpu_for, queued_at, tickets, unended_tickets, is_unended, ticket_in, IsLegal, opening_item, items_are_run, runs_are_in_pools, arith}
+use Rattle.cmwq_refinement.proofs.Numbers.{In, all_more, contained_in, found, in_filter, of_in}
 use Rattle.cmwq_model.specs.declared.id.CpuId.{CpuId}
 use Rattle.cmwq_model.specs.declared.record.Place.{Place}
 use Rattle.cmwq_model.specs.declared.call.Call.TheVariants as call
 use Rattle.cmwq_theory_steps.proofs.Pending.{opening_opens}
 use Rattle.cmwq_theory_steps.proofs.StateSteps.{opens_as_asked}
 use Rattle.cmwq_refinement.specs.Places.{IsQueueingThere}
-use Rattle.cmwq_lemmas.proofs.Members.{In, of_in, in_filter, found, contained_in}
-use Rattle.cmwq_refinement.proofs.Numbers.{all_more}
 use Rattle.cmwq_refinement.proofs.Settled.{numbers_fit, place_fits}
 use Rattle.cmwq_refinement.proofs.FirstDue.{in_standing, standing_fits, entries_apply_to_timers}
 use Rattle.cmwq_refinement.proofs.TicketSteps.{ticket_in_is}

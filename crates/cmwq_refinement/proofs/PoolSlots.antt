@@ -1,5 +1,6 @@
 -- The slots of a pool, entry by entry.
 use Rattle.cmwq_refinement.specs.Common.{◌≡◌, ◌≢◌, ◌==◌, ◌<◌, ◌+◌, ℕ, Bool, true, false, not, ◌&&◌, ◌||◌, List, ◌∷◌, map, Option, Some, None, refl, sym, ap, ap₂, ◌∙◌, arith, ⊎_elim, option_map, if◌then◌else◌, eq-eqb, ne_eqb, cases_eq, and_parts, get_or-map-range_with_len, PoolId, WorkerId, Who, Caller, Worker, Reply, Entry, Queueing, Layout, indices, is_at, is_by, same_pool, same_who, number_started, run, is_asleep, asleep_after, queueing_at, next, worker_at, index_enlisted, is_in_pool, enlists, is_retired, is_enlisted, is_reserve, enlisted_by, IsLegal, run_after, starts_next, IsFound, queueings_found, queueing_at-older, workers_run_on, same_worker_itself, by_itself, same_starter, same_pool-true, Task, Slot, no_slot, slot_at, with_slot, slot_running, slot_enlisted, slot_asleep, slot_awake, slot_free, slot_retired, next_task, nat_tests, and_false}
+use Rattle.cmwq_refinement.proofs.Numbers.{all_found, cond_both, range_below}
 use Rattle.cmwq_model.specs.declared.reply.Reply.TheVariants as reply
 use Rattle.cmwq_theory_steps.proofs.Activated.{next_holds}
 use Rattle.cmwq_pool.specs.Slots.{slots_enlisted_by}
@@ -7,9 +8,6 @@ use Rattle.cmwq_refinement.specs.Pools.{task_for, run_task, slot_of, pool_of, st
 use Rattle.cmwq_refinement.proofs.TimerSteps.{set_row, same_rows}
 use Rattle.cmwq_refinement.proofs.PoolReads.{idle, busy, run_of, run_task_none, slot_is, starts_enlist_alike}
 use Rattle.cmwq_refinement.proofs.PoolNext.{worker_fits, next_task_is}
-use Rattle.std.proofs.lemmas.Bool.{cond_both}
-use Rattle.cmwq_lemmas.proofs.Lists.{range_below}
-use Rattle.cmwq_lemmas.proofs.Passing.{all_found}
 
 -- ---- a run that goes on
 

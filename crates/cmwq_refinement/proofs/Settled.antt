@@ -1,8 +1,8 @@
 -- In a legal history what settles is of an item that there is, and what books is for a queue that there is.
 use Rattle.cmwq_refinement.specs.Common.{◌≡◌, ◌<◌, ℕ, true, false, List, [], ◌∷◌, length, Option, Some, None, refl, arith, is_some, option_and_then, option_or, AllByRecursion, and_parts, ltb-true, nat_tests, Who, Call, Reply, Entry, Booking, Layout, may_make, has_place, has_numbers, item_called, item_fired, item_of, settles, due_in, booked_by, booking_of, bookings, answer, wait_answer, destroy_answer, set_max_answer, fired_answer, first_due, take_answer, finish_answer, retire_answer, IsLegal, Bool, Ticket, WorkerId, finished_answer, Caller, Worker, end_of_ticket, start_of, Queueing, if◌then◌else◌, false≢true, sym, ◌∙◌}
+use Rattle.cmwq_refinement.proofs.Numbers.{all_more}
 use Rattle.cmwq_model.specs.declared.call.Call.TheVariants as call
 use Rattle.cmwq_theory_steps.proofs.Inversions.{answer_is}
-use Rattle.cmwq_refinement.proofs.Numbers.{all_more}
 
 -- ---- replies that neither settle an item nor name one
 

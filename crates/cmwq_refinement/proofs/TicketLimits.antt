@@ -1,8 +1,7 @@
 -- No more tickets are unended than 64 for each caller.
 use Rattle.cmwq_refinement.specs.Common.{◌≡◌, ◌==◌, ◌<◌, ◌≤◌, ℕ, Bool, true, List, [], ◌∷◌, length, count_by, Option, Some, None, refl, sym, ap, ◌∙◌, arith, ◌*◌, AllByRecursion, and_parts, eqb-true, ltb-true, leb-false, Entry, Ticket, Layout, is_callers, may_make, has_numbers, tickets, unended_tickets, is_unended, ticket_in, is_crowded, IsLegal, cause_of, legal_fits, ticket_reason, tickets_go_on}
+use Rattle.cmwq_refinement.proofs.Numbers.{all_kept, all_more}
 use Rattle.cmwq_theory_steps.proofs.OfEachKind.{no_longer}
-use Rattle.cmwq_lemmas.proofs.Passing.{all_kept}
-use Rattle.cmwq_refinement.proofs.Numbers.{all_more}
 use Rattle.cmwq_refinement.proofs.TicketSteps.{ticket_in_is}
 
 -- ---- of each caller
