@@ -1,8 +1,7 @@
 -- What the flights answer is what the definitions say.
 use Rattle.cmwq_refinement.specs.Common.{◌≡◌, ◌+◌, ◌<◌, ℕ, List, [], ◌∷◌, length, map, filter, cond, Option, Some, None, refl, sym, ap, ◌∙◌, arith, is_some, option_map, count_by, range_with_len, sum_by, same_Some, length-map, sum_by-cons, length-filter, WorkerId, Entry, Queueing, Start, Layout, run, item_run, queueings, has_number, is_live, still_open, is_of, unstarted_queueing, queueing_at, IsLegal, runs_are_queueings, runs_are_in_pools, found_number, Flight, flight_at, has_unstarted, open_count}
-use Rattle.cmwq_refinement.proofs.Numbers.{all_in, counted_by_number, filter_in, found}
+use Rattle.cmwq_refinement.proofs.Numbers.{all_in, counted_by_number, filter_in, found, number_of_queueing}
 use Rattle.cmwq_inflight.specs.Flights.{flight_has_run}
-use Rattle.cmwq_refinement.specs.ByNumber.{number_of_queueing}
 use Rattle.cmwq_refinement.specs.Flights.{queueing_started, flight_of, flights_of, starting, IsFlightOf}
 use Rattle.cmwq_refinement.proofs.PlacesFit.{open_there}
 use Rattle.cmwq_refinement.proofs.ItemNumbers.{run_then_unstarted}

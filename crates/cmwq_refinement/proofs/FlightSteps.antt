@@ -1,8 +1,7 @@
 -- The flights refine a history, row by row.
 use Rattle.cmwq_refinement.specs.Common.{◌≡◌, ◌≢◌, ◌<◌, ◌==◌, ℕ, Bool, true, false, not, List, ◌∷◌, map, Option, Some, None, refl, sym, ap, ◌∙◌, arith, is_some, if◌then◌else◌, range_with_len, eq-eqb, ne_eqb, same_Some, get_or-map-range_with_len, Entry, Reply, Queueing, Start, Layout, number_finished, starts, item_run, start_in, still_open, is_unstarted, unstarted_queueing, IsLegal, ends_run, survives, ending, still_unstarted, runs_are_queueings, unstarted_is, start_of_worker, starts_its_item, starts_no_item, no_start, items_run_on, found_known, queueing_at-older, Flight, no_flight, flight_at, with_unstarted, with_started, without_run, with_flight, flights_without_open, nat_tests}
-use Rattle.cmwq_refinement.proofs.Numbers.{In, found, of_in, rises_unique}
+use Rattle.cmwq_refinement.proofs.Numbers.{In, found, number_of_queueing, of_in, rises_unique}
 use Rattle.cmwq_inflight.specs.Flights.{flights_without_run}
-use Rattle.cmwq_refinement.specs.ByNumber.{number_of_queueing}
 use Rattle.cmwq_refinement.specs.Flights.{queueing_started, flight_of, starting, flights_after_end, flights_after_start, flights_after_opening}
 use Rattle.cmwq_refinement.proofs.TimerSteps.{set_row}
 use Rattle.cmwq_refinement.proofs.QueueingSteps.{QueueingStep, queueing_step, open_numbers_rise}

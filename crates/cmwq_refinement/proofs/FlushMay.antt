@@ -1,12 +1,8 @@
 -- The calls that apply an entry of a legal history to a flush book may be made.
-use Rattle.cmwq_refinement.specs.Common.{◌≡◌, ◌<◌, ◌≤◌, ◌+◌, ℕ, Bool, false, cond, List, [], ◌∷◌, ◌++◌, length, filter, count_by, Option, Some, None, option_to_list, refl, ap, ◌∙◌, arith, ◌*◌, IsTrue, length-append, length-map, All-from_recursion, length-filter, count_by-le-length, Entry, Queueing, Ticket, Layout, is_layout, still_open, opening, unended_tickets, is_flush_of, IsLegal, tickets_of_served, FlushBook, flush_tickets, ending, is_kept, ticket_ended, count_by-cons, opening_number, two_for_each_item, unended_go_on, nat_tests}
-use Rattle.cmwq_refinement.proofs.Numbers.{all_kept, filter_in, in_contained, in_mapped}
+use Rattle.cmwq_refinement.specs.Common.{◌≡◌, ◌<◌, ◌≤◌, ◌+◌, ℕ, Bool, false, cond, List, [], ◌∷◌, ◌++◌, length, filter, count_by, Option, Some, None, option_to_list, refl, ap, ◌∙◌, arith, ◌*◌, IsTrue, length-append, length-map, All-from_recursion, length-filter, count_by-le-length, Entry, Queueing, Ticket, Layout, is_layout, still_open, opening, unended_tickets, is_flush_of, IsLegal, tickets_of_served, FlushBook, flush_tickets, ending, is_kept, ticket_ended, count_by-cons, opening_number, two_for_each_item, unended_go_on, nat_tests, Call, flushes, sum_by-cons, nat_le, suc}
+use Rattle.cmwq_refinement.proofs.Numbers.{all_kept, filter_in, in_contained, in_mapped, number_of_queueing, number_of_ticket, ticket_given}
 use Rattle.cmwq_flush.specs.FlushBooks.{book_in, overflow_count}
 use Rattle.cmwq_model.specs.declared.call.Call.TheVariants as call
-use Rattle.std.specs.Prelude.{nat_le}
-use Rattle.std.proofs.Common.{suc}
-use Rattle.cmwq_refinement.specs.Common.{Call, flushes, sum_by-cons}
-use Rattle.cmwq_refinement.specs.ByNumber.{number_of_queueing, number_of_ticket, ticket_given}
 use Rattle.cmwq_refinement.specs.FlushBooks.{is_on_queue, open_numbers, AreFlushes, flushes_after_end, flushes_after_done, flushes_after_queueings, MayEndInFlushes, MayOpenInFlushes, MayBeDoneInFlushes, MayBeginInFlushes, MayApplyToFlushes, AreBegun}
 use Rattle.cmwq_refinement.proofs.TicketSteps.{unended_below, ticket_step, ticket_in_is}
 use Rattle.cmwq_refinement.proofs.TicketLimits.{unended_few}

@@ -1,9 +1,8 @@
 -- What a flush book answers is what the definitions say.
 use Rattle.cmwq_refinement.specs.Common.{◌≡◌, ◌<◌, ◌≤◌, ◌↔◌, ℕ, Bool, true, false, cond, List, [], ◌∷◌, filter, find, count_by, Option, Some, None, nat_lt, nat_le, refl, sym, ap, ◌∙◌, subst, arith, ⊎_elim, option_map, slice_get, Contains, All, MatchOption, AllByRecursion, eqb-true, ltb-false, le-ltb, QueueId, Entry, Ticket, Layout, still_open, unended_tickets, is_flush_of, serving_from, is_within, is_older_flush, waits_for, Served, tickets_of_served, has_ticket, FlushBook, flush_tickets, served_of, find_none, nat_tests}
-use Rattle.cmwq_refinement.proofs.Numbers.{In, RisesBy, all_unfound, contained_in, filter_in, find_number, find_same, first_number, found, in_append, in_contained, in_mapped, itself, numbers_rise, of_in, rises_filter}
+use Rattle.cmwq_refinement.proofs.Numbers.{In, RisesBy, all_unfound, contained_in, filter_in, find_number, find_same, first_number, found, in_append, in_contained, in_mapped, itself, number_of_queueing, number_of_ticket, numbers_rise, of_in, rises_filter}
 use Rattle.cmwq_model.specs.declared.call.Call.TheVariants as call
 use Rattle.cmwq_flush.specs.FlushBook.{IsReady}
-use Rattle.cmwq_refinement.specs.ByNumber.{number_of_queueing, number_of_ticket}
 use Rattle.cmwq_refinement.specs.FlushBooks.{is_on_queue, open_numbers, IsServedFrom, AreFlushes}
 use Rattle.cmwq_refinement.proofs.QueueingSteps.{open_numbers_rise}
 use Rattle.cmwq_refinement.proofs.FlushSteps.{few_are_older, many_are_older}
@@ -38,7 +37,7 @@ ready_flushes_wait_for_nothing s past q b t is here = by (served_of b t) refl
         rw (waits_by_number past q b t is.opened, over) (empty_waits b.opened)
     by (Some f) some =
         let k = found (has_ticket t) b.served f some in
-        rw (waits_of_served past q b t f is.opened (eqb-true f.ticket t k.1) (of_in (IsServedFrom past q.0 b.opened) b.served f is.served_from k.0)) 
+        rw (waits_of_served past q b t f is.opened (eqb-true f.ticket t k.1) (of_in (IsServedFrom past q.0 b.opened) b.served f is.served_from k.0))
         (all_unfound (λ n. f.bound ≤ n) (λ n. nat_lt n f.bound) b.opened (λ n le. le-ltb n f.bound le) (λ n h. ltb-false n f.bound h))
 
 -- ---- what stands

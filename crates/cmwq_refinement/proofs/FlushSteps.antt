@@ -1,8 +1,7 @@
 -- A flush book refines a history, entry by entry.
 use Rattle.cmwq_refinement.specs.Common.{◌≡◌, ◌==◌, ◌<◌, ◌≤◌, ◌+◌, ℕ, suc, Bool, true, false, cond, not, List, [], ◌∷◌, ◌++◌, length, map, filter, count_by, Option, Some, None, option_to_list, nat_lt, nat_le, refl, sym, ap, ◌∙◌, arith, append-nil, ◌⊎◌, inl, inr, ⊎_elim, if◌then◌else◌, AllByRecursion, lt-ltb, le-ltb, le-leb, lt-leb, map-append, length-map, filter-append, Entry, Queueing, Ticket, Layout, still_open, opening, queueings, unended_tickets, tickets, is_flush_of, serving_from, is_served_after, is_older_flush, IsLegal, Served, is_other_number, without, tickets_of_served, FlushBook, new_book, flush_tickets, flushes_with_open, flushes_without_open, flushes_with_wait, flushes_without_wait, IsServing, survives, ending, All_map, count_by-filter, opening_number, open_go_on, is_kept, ticket_ended, unended_go_on, served_stay, and_false}
-use Rattle.cmwq_refinement.proofs.Numbers.{All_push, In, RisesBy, all_before, all_in, all_kept, all_mapped, cond_both, count_numbers, fewer_before, filter_all, in_left, in_mapped, in_some, is_less, itself, numbers_lack, numbers_rise, numbers_without, of_in, rises_filter}
+use Rattle.cmwq_refinement.proofs.Numbers.{All_push, In, RisesBy, all_before, all_in, all_kept, all_mapped, cond_both, count_numbers, fewer_before, filter_all, in_left, in_mapped, in_some, is_less, itself, number_of_queueing, number_of_ticket, numbers_lack, numbers_rise, numbers_without, of_in, rises_filter, ticket_given}
 use Rattle.cmwq_flush.specs.Served.{ticket_of_served}
-use Rattle.cmwq_refinement.specs.ByNumber.{number_of_queueing, number_of_ticket, ticket_given}
 use Rattle.cmwq_refinement.specs.FlushBooks.{is_on_queue, open_numbers, flush_numbers, IsServedFrom, AreFlushes, flushes_after_end, flushes_after_opening, flushes_after_done, flushes_after_begun, flushes_after_queueings, flushes_after_tickets}
 use Rattle.cmwq_refinement.proofs.TicketSteps.{unended_rise, unended_below, TicketStep, ticket_step, ends_one, ends_none, ends_only, ticket_in_is}
 use Rattle.cmwq_refinement.proofs.QueueingSteps.{QueueingStep, queueing_step, open_numbers_rise}

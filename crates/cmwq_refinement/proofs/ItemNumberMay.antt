@@ -1,7 +1,6 @@
 -- The calls that apply an entry of a legal history to the open numbers of items may be made.
 use Rattle.cmwq_refinement.specs.Common.{◌≡◌, ℕ, List, [], ◌∷◌, length, filter, Option, Some, None, refl, ap, ◌∙◌, arith, eq-eqb, length-append, length-map, length-filter, Entry, Queueing, Layout, still_open, opening, is_of, IsLegal, numbers_open, ending, two_of_an_item}
-use Rattle.cmwq_refinement.proofs.Numbers.{filter_in, in_contained, in_mapped}
-use Rattle.cmwq_refinement.specs.ByNumber.{number_of_queueing}
+use Rattle.cmwq_refinement.proofs.Numbers.{filter_in, in_contained, in_mapped, number_of_queueing}
 use Rattle.cmwq_refinement.specs.ItemNumbers.{numbers_of, numbers_after_end, MayEndInNumbers, MayOpenInNumbers, MayApplyToNumbers}
 use Rattle.cmwq_refinement.proofs.QueueingSteps.{QueueingStep, queueing_step, ends_one, ends_none}
 use Rattle.cmwq_refinement.proofs.PlacesFit.{open_there, opened_are_there}

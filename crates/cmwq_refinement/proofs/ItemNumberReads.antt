@@ -1,9 +1,8 @@
 -- What the open numbers of items answer is what the definitions say.
 use Rattle.cmwq_refinement.specs.Common.{◌≡◌, ◌<◌, ◌↔◌, ℕ, ◌&&◌, List, find, None, nat_le, sym, ap, ◌∙◌, option_map, lt-leb, leb-false, ItemId, Entry, Layout, still_open, is_of, waits_for, numbers_open, is_up_to, IsItemReady}
-use Rattle.cmwq_refinement.proofs.Numbers.{all_unfound, find_number}
+use Rattle.cmwq_refinement.proofs.Numbers.{all_unfound, find_number, number_of_queueing}
 use Rattle.cmwq_model.specs.declared.call.Call.TheVariants as call
 use Rattle.cmwq_flush.specs.ItemNumbers.{item_waits_for}
-use Rattle.cmwq_refinement.specs.ByNumber.{number_of_queueing}
 use Rattle.cmwq_refinement.specs.ItemNumbers.{numbers_of}
 use Rattle.cmwq_refinement.proofs.ItemNumberSteps.{item_row}
 

@@ -1,7 +1,6 @@
 -- The open numbers of items refine a history, entry by entry.
 use Rattle.cmwq_refinement.specs.Common.{◌≡◌, ◌≢◌, ◌==◌, ◌<◌, ℕ, false, cond, List, [], ◌∷◌, ◌++◌, length, map, filter, set, get_or, replicate, Option, Some, None, option_to_list, refl, sym, ap, ◌∙◌, arith, append-nil, range_with_len, eq-eqb, ne_eqb, map-append, length-map-range_with_len, get_or-map-range_with_len, filter-append, Entry, Queueing, Layout, queueings, still_open, opening, is_of, IsLegal, survives, ending, open_go_on, without, numbers_open}
-use Rattle.cmwq_refinement.proofs.Numbers.{filter_all, numbers_lack, numbers_without, rows_alike}
-use Rattle.cmwq_refinement.specs.ByNumber.{number_of_queueing}
+use Rattle.cmwq_refinement.proofs.Numbers.{filter_all, number_of_queueing, numbers_lack, numbers_without, rows_alike}
 use Rattle.cmwq_refinement.specs.ItemNumbers.{item_numbers, numbers_of, numbers_after_end, numbers_after_opening, numbers_after}
 use Rattle.cmwq_refinement.proofs.TimerSteps.{set_row, same_rows}
 use Rattle.cmwq_refinement.proofs.PlacesFit.{open_there, opened_are_there}

@@ -1,8 +1,7 @@
 -- An item has two open queueings at most: its run, and after that one which hasn't started.
 use Rattle.cmwq_refinement.specs.Common.{◌≡◌, ◌==◌, ◌<◌, ℕ, true, false, not, List, [], ◌∷◌, ◌++◌, length, map, filter, Option, Some, None, option_to_list, refl, sym, ap, ◌∙◌, arith, inl, inr, ◌⊎◌, ⊎_elim, option_map, eqb-true, eq-eqb, and_parts, not-true, false_from_ne_true, same_Some, Entry, Queueing, Start, Layout, item_at, starts, is_started, is_open, item_run, queueings, has_number, is_live, still_open, opening, is_of, is_unstarted, unstarted_queueing, IsLegal, survives, opening_number, queueings_below, IsKnown, queueings_known, open_go_on, not_started_yet, items_are_run, last_started, run_is, found_known, found_number, starts_listed, runs_are_in_pools, unstarted_alone}
-use Rattle.cmwq_refinement.proofs.Numbers.{In, RisesBy, filter_in, found, in_append, in_filter, in_option, of_in, or_from, or_right, rises_filter, true_from_ne_false}
+use Rattle.cmwq_refinement.proofs.Numbers.{In, RisesBy, filter_in, found, in_append, in_filter, in_option, number_of_queueing, of_in, or_from, or_right, rises_filter, true_from_ne_false}
 use Rattle.cmwq_theory_steps.proofs.OneRun.{started_runs}
-use Rattle.cmwq_refinement.specs.ByNumber.{number_of_queueing}
 use Rattle.cmwq_refinement.specs.ItemNumbers.{item_numbers}
 use Rattle.cmwq_refinement.proofs.QueueingSteps.{open_numbers_rise}
 

@@ -1,5 +1,6 @@
 -- Lists of what has a number, and of the numbers; with what the other files name of lists and truth values from outside the crate, in one import.
 use Rattle.cmwq_refinement.specs.Common.{◌≡◌, ◌==◌, ◌<◌, ◌≤◌, ◌+◌, ℕ, zero, suc, Bool, true, false, cond, not, ◌&&◌, List, [], ◌∷◌, ◌++◌, length, map, filter, find, count_by, replicate, Some, nat_lt, refl, ap, ◌∙◌, subst, arith, ⊎_elim, option_map, AllByRecursion, list_any, range_with_len, ne_eqb, nat_tests, length-range_with_len, slice_get, without, All_map, count_by-cons, Option, None, option_to_list, append-nil, sum_by, sum_by-cons, All_append, All_each, All, none_found, find_none, recursion_from_All, All-from_recursion, ◌↔◌}
+pub use Rattle.cmwq_refinement.specs.ByNumber.{number_of_queueing, number_of_ticket, ticket_given}
 pub use Rattle.cmwq_lemmas.proofs.Members.{In, all_in, contained_in, filter_in, found, in_append, in_contained, in_filter, in_left, in_option, in_right, none_in, of_in, option_in}
 pub use Rattle.cmwq_lemmas.proofs.Rising.{RisesBy, find_is, rises_filter, rises_snoc, rises_unique}
 pub use Rattle.cmwq_lemmas.proofs.Passing.{all_found, all_kept, all_split, fewer_kept, filter_mapped, once_there}

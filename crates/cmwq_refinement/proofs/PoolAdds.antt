@@ -1,10 +1,9 @@
 -- What became active may be added to its pool: no two that are listed are of one item, in one pool or in two.
 use Rattle.cmwq_refinement.specs.Common.{◌≡◌, ◌==◌, ◌<◌, false, not, ◌&&◌, List, [], ◌∷◌, ◌++◌, map, filter, refl, sym, ap, ap₂, ◌∙◌, subst, arith, inl, AllByRecursion, eqb-true, false_from_ne_true, lt-ltb, same_Some, append_assoc, All-from_recursion, PoolId, Entry, Queueing, Layout, worklist, IsLegal, is_left, worklist_is, worklists_go_on, Task, PoolState, pool_with_task, ℕ, true, pool_at}
-use Rattle.cmwq_refinement.proofs.Numbers.{All_both, In, all_in, all_mapped, in_any, in_map, in_right, list_any_none, of_in}
+use Rattle.cmwq_refinement.proofs.Numbers.{All_both, In, all_in, all_mapped, in_any, in_map, in_right, list_any_none, number_of_queueing, of_in}
 use Rattle.cmwq_pool.specs.Slots.{is_task_of}
 use Rattle.cmwq_pool.specs.Pools.{lists_item}
 use Rattle.cmwq_theory_steps.specs.Order.{since, IsSooner, AreInOrder}
-use Rattle.cmwq_refinement.specs.ByNumber.{number_of_queueing}
 use Rattle.cmwq_refinement.specs.Pools.{task_for, pool_of, made_active, pool_before_activation, MayAllBeAdded}
 use Rattle.cmwq_refinement.proofs.ItemNumbers.{one_of}
 use Rattle.cmwq_refinement.proofs.PlacesFit.{open_there}

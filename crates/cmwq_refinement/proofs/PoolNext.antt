@@ -1,10 +1,9 @@
 -- The next queueing of a pool, by the runs of its own workers alone.
 use Rattle.cmwq_refinement.specs.Common.{◌≡◌, ◌==◌, ◌<◌, ℕ, true, false, not, List, [], ◌∷◌, map, Option, Some, None, refl, sym, ap, ◌∙◌, arith, option_map, is_some, option_map_or, eqb-true, and_parts, PoolId, WorkerId, Who, Caller, Worker, Entry, Queueing, Start, Layout, indices, may_make, has_numbers, is_by, same_who, item_at, run, last_start, item_run, item_runs, worklist, next, is_startable, worker_at, IsLegal, found_known, items_are_run, runs_are_items, run_is, last_start_cases, before, same_worker-true, queued_where_it_runs, Task, slot_runs, slots_run_item, next_task, nat_tests}
-use Rattle.cmwq_refinement.proofs.Numbers.{all_in, any_in, find_mapped, in_any, in_map, in_mapped, in_range, of_in, same_bools}
+use Rattle.cmwq_refinement.proofs.Numbers.{all_in, any_in, find_mapped, in_any, in_map, in_mapped, in_range, number_of_queueing, of_in, same_bools}
 use Rattle.cmwq_pool.specs.Slots.{is_task_of}
 use Rattle.cmwq_theory_steps.proofs.ItemRuns.{now}
 use Rattle.cmwq_pool.specs.PoolState.{is_task_startable as is_startable_task, next_number as pool_state_next}
-use Rattle.cmwq_refinement.specs.ByNumber.{number_of_queueing}
 use Rattle.cmwq_refinement.specs.Pools.{task_for, run_task, slot_of, pool_of}
 use Rattle.cmwq_refinement.proofs.ItemNumbers.{unstarted_one}
 use Rattle.cmwq_refinement.proofs.PoolReads.{RunOf, idle, busy, run_of, IsOnList, worklist_has}

@@ -1,7 +1,6 @@
 -- A pool refines a history, entry by entry.
 use Rattle.cmwq_refinement.specs.Common.{◌≡◌, ◌==◌, ℕ, true, false, not, ◌&&◌, List, [], ◌∷◌, ◌++◌, map, filter, Option, Some, None, refl, sym, ap, ap₂, ◌∙◌, subst, append-nil, eq-eqb, map-append, append_assoc, PoolId, WorkerId, Who, Caller, Worker, Reply, Entry, Queueing, Layout, indices, pool_at, is_at, same_pool, number_started, finishes, last_start, is_asleep, queueings, still_open, is_live, queueing_at, became_active, worklist, is_enlisted, worker_at, IsLegal, survives, is_ended, ending, is_left, is_in, All_map, All_each, none_found, listed_pool, no_end, IsFound, queueings_found, starts_listed, worklists_go_on, same_pool-true, new_slot, PoolState, new_pool_state, is_other_task, pool_with_task, pool_without_task, next_task, nat_tests, arith, and_true}
-use Rattle.cmwq_refinement.proofs.Numbers.{In, cond_both, filter_all, filter_mapped, in_filter, of_in, rises_unique}
-use Rattle.cmwq_refinement.specs.ByNumber.{number_of_queueing}
+use Rattle.cmwq_refinement.proofs.Numbers.{In, cond_both, filter_all, filter_mapped, in_filter, number_of_queueing, of_in, rises_unique}
 use Rattle.cmwq_refinement.specs.Pools.{task_for, slot_of, pool_of, start_next, pool_after_reply, pool_after_worker, pool_after_cancel, pool_after_activation, pool_before_activation, made_active, pool_after}
 use Rattle.cmwq_refinement.proofs.QueueingSteps.{QueueingStep, queueing_step, ends_one, ends_none, open_numbers_rise}
 use Rattle.cmwq_refinement.proofs.TimerSteps.{same_rows}

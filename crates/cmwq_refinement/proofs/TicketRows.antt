@@ -1,8 +1,7 @@
 -- The rows that a list of tickets makes, as tickets come and go, and what is found in them.
 use Rattle.cmwq_refinement.specs.Common.{◌≡◌, ◌≢◌, ◌<◌, ℕ, Bool, true, false, ◌&&◌, List, [], ◌∷◌, ◌++◌, length, map, filter, find, count_by, Option, Some, None, option_to_list, append-nil, refl, sym, ap, ◌∙◌, arith, inl, inr, ⊎_elim, flat_map, range_with_len, list_any, AllByRecursion, eqb-true, eq-eqb, ne_eqb, nat_tests, filter-append, get_or-map-range_with_len, length-filter, Ticket, is_held_by, find_none, filter_twice, filter_same, none_found, TicketRows, tickets_of_caller, is_numbered, rows_with, rows_without, Layout, count, sum_by, sum_by-cons}
-use Rattle.cmwq_refinement.proofs.Numbers.{In, RisesBy, all_in, any_in, counted_by_number, filter_in, found, in_any, in_append, in_filter, in_left, in_range, in_right, list_any-append, of_in, rises_unique, same_bools}
+use Rattle.cmwq_refinement.proofs.Numbers.{In, RisesBy, all_in, any_in, counted_by_number, filter_in, found, in_any, in_append, in_filter, in_left, in_range, in_right, list_any-append, number_of_ticket, of_in, rises_unique, same_bools}
 use Rattle.cmwq_ticket.specs.Rows.{is_other_ticket}
-use Rattle.cmwq_refinement.specs.ByNumber.{number_of_ticket}
 use Rattle.cmwq_refinement.specs.Tickets.{the_caller, tickets_held, rows_of, tickets_in, tickets_after_giving}
 use Rattle.cmwq_refinement.proofs.TimerSteps.{set_row}
 

@@ -1,10 +1,9 @@
 -- The unended tickets by their numbers, and the one that an entry ends.
 use Rattle.cmwq_refinement.specs.Common.{◌≡◌, ◌==◌, ◌<◌, ℕ, true, not, ◌&&◌, List, [], ◌∷◌, length, Option, Some, None, refl, sym, ap, ◌∙◌, AllByRecursion, and_parts, eqb-true, eq-eqb, false_from_ne_true, Who, Caller, Call, Entry, Ticket, is_by, gives_ticket, ticket_in, tickets, is_end_of, is_done, ends, is_unended, unended_tickets, All_map, is_kept, is_ended_by, ticket_ended, is_done_reply, one_ticket_ends, Bool, if◌then◌else◌, ticket_for, same_Some}
-use Rattle.cmwq_refinement.proofs.Numbers.{In, RisesBy, all_in, filter_in, in_filter, option_in, rises_filter, rises_more, rises_unique, same_bools}
+use Rattle.cmwq_refinement.proofs.Numbers.{In, RisesBy, all_in, filter_in, in_filter, number_of_ticket, option_in, rises_filter, rises_more, rises_unique, same_bools}
 use Rattle.cmwq_model.specs.declared.call.Call.TheVariants as call
 use Rattle.cmwq_model.specs.declared.reply.Reply.TheVariants as reply
 use Rattle.cmwq_theory_steps.proofs.Given.{IsGiven, tickets_given, unended_given}
-use Rattle.cmwq_refinement.specs.ByNumber.{number_of_ticket}
 
 -- ---- by their numbers
 

@@ -1,10 +1,9 @@
 -- The tickets of callers, entry by entry: they are those of the longer history, each call may be made, and what they answer.
 use Rattle.cmwq_refinement.specs.Common.{◌≡◌, ◌<◌, ◌≤◌, ℕ, true, List, [], ◌∷◌, length, filter, find, IsTrue, Option, Some, None, is_some, option_to_list, nat_le, refl, sym, ap, ◌∙◌, arith, list_all, AllByRecursion, eqb-true, eq-eqb, nat_tests, length-map-range_with_len, length-filter, Call, Entry, Ticket, Layout, is_layout, has_numbers, tickets, unended_tickets, is_unended, is_held_by, is_crowded, is_ticket, ticket_of, is_cancelling, is_draining, is_being_destroyed, is_cancel_sync_of, is_drain_of, is_destroy_of, IsLegal, is_kept, ticket_ended, filter_same, unended_go_on, is_numbered, comes_before, any_ticket, may_give, new_tickets, count}
-use Rattle.cmwq_refinement.proofs.Numbers.{In, all_in, all_kept, fewer_kept, filter_all, filter_in, find_is, in_right, of_in, option_in, rises_filter, rows_alike}
+use Rattle.cmwq_refinement.proofs.Numbers.{In, all_in, all_kept, fewer_kept, filter_all, filter_in, find_is, in_right, number_of_ticket, of_in, option_in, rises_filter, rows_alike, ticket_given}
 use Rattle.cmwq_ticket.specs.Counts.{is_counted}
 use Rattle.cmwq_ticket.specs.Rows as row
 use Rattle.cmwq_ticket.specs.Rows.{is_other_ticket}
-use Rattle.cmwq_refinement.specs.ByNumber.{number_of_ticket, ticket_given}
 use Rattle.cmwq_refinement.specs.Tickets.{the_caller, tickets_held, rows_of, tickets_in, tickets_of, tickets_after_end, tickets_after_giving, tickets_after, MayEndTicket, MayGiveTicket, MayApplyToTickets}
 use Rattle.cmwq_refinement.proofs.Settled.{numbers_fit}
 use Rattle.cmwq_refinement.proofs.TicketSteps.{TicketStep, ticket_step, ends_one, ends_none, ends_only, ticket_in_is, unended_rise, unended_below}

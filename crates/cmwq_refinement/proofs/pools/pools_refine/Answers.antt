@@ -6,5 +6,16 @@ use Rattle.cmwq_refinement.proofs.PoolAdds.{active_may_be_added, items_are_liste
 use Rattle.cmwq_refinement.proofs.pools.pools_refine.Goals as goal
 
 pub returns : goal.returns
-returns c = assumption (pools_at_first, pools_refine, nexts_are_next, runnables_are_runnable, starts_enlist_alike,
-  idle_retire_alike, slots_for_workers, slots_are_workers, replies_apply_to_pools, active_may_be_added, items_are_listed_once)
+returns c = assumption (
+  pools_at_first,
+  pools_refine,
+  nexts_are_next,
+  runnables_are_runnable,
+  starts_enlist_alike,
+  idle_retire_alike,
+  slots_for_workers,
+  slots_are_workers,
+  replies_apply_to_pools,
+  active_may_be_added,
+  items_are_listed_once,
+)

@@ -2,5 +2,16 @@ use Rattle.cmwq_refinement.proofs.TicketsRefine.{no_tickets_at_first, tickets_re
 use Rattle.cmwq_refinement.proofs.tickets.tickets_refine.Goals as goal
 
 pub returns : goal.returns
-returns c = assumption (no_tickets_at_first, tickets_refine, entries_apply_to_tickets, rows_for_callers, crowded_alike,
-  tickets_found_alike, tickets_of_any_caller, cancelling_alike, draining_alike, destroyed_alike, all_tickets_are_counted)
+returns c = assumption (
+  no_tickets_at_first,
+  tickets_refine,
+  entries_apply_to_tickets,
+  rows_for_callers,
+  crowded_alike,
+  tickets_found_alike,
+  tickets_of_any_caller,
+  cancelling_alike,
+  draining_alike,
+  destroyed_alike,
+  all_tickets_are_counted,
+)
