@@ -66,11 +66,9 @@ pub starts_enlist_alike : (s : Layout) (past : List Entry) (w : WorkerId) → Is
 unfolding enlisted_by
 starts_enlist_alike s past w legal =
     let slots : List Slot = (pool_of s past w.pool).slots in
-    rw (
-      slots_for_workers s past w.pool,
-      any_agree (is_other_slot slots w.index) (is_other_idle past w) (indices s) (All_map (λ x. x < s.workers) _ (indices s) (λ x less. rw (slot_is s past w.pool x less, some_run s past (worker_at w.pool x) legal) refl) (indices_below s)),
-      find_same (is_reserve_at slots) (is_reserve past w.pool) (indices s) (All_map (λ x. x < s.workers) _ (indices s) (λ x less. ap slot_is_reserve (slot_is s past w.pool x less)) (indices_below s)),
-    ) refl
+    let idle = any_agree (is_other_slot slots w.index) (is_other_idle past w) (indices s) (All_map (λ x. x < s.workers) _ (indices s) (λ x less. rw (slot_is s past w.pool x less, some_run s past (worker_at w.pool x) legal) refl) (indices_below s)) in
+    let reserve = find_same (is_reserve_at slots) (is_reserve past w.pool) (indices s) (All_map (λ x. x < s.workers) _ (indices s) (λ x less. ap slot_is_reserve (slot_is s past w.pool x less)) (indices_below s)) in
+    rw (slots_for_workers s past w.pool, idle, reserve) refl
 
 pub idle_retire_alike : (s : Layout) (past : List Entry) (p : PoolId) (x : ℕ) → IsLegal s past → x < s.workers → slot_may_retire (pool_of s past p).slots x ≡ (is_idle past p x && may_retire s past p)
 unfolding may_retire

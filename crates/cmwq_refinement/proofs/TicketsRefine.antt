@@ -71,19 +71,12 @@ rows_may_give s past e t legal h =
     let is = ticket_in_is e (length past) t h in
     let kept : List Ticket = filter (is_kept e) (unended_tickets past) in
     let held = is_held_by (the_caller t.caller.0) in
+    let there = given_there s past e t legal h in
     let below = all_kept (λ u. u.number < length past) held kept (all_kept (λ u. u.number < length past) (is_kept e) (unended_tickets past) (unended_below past)) in
     let older = all_before t (tickets_held kept t.caller.0) (rw is.number below) in
     let few : length (tickets_held kept t.caller.0) < 64 = omega (arith, given_free s past e t legal h, length-filter held kept, fewer_kept held (is_kept e) (unended_tickets past)) in
-    grind (
-      arith,
-      nat_tests,
-      given_there s past e t legal h,
-      row_is s.callers kept t.caller.0 (given_there s past e t legal h),
-      length-map-range_with_len (tickets_held kept) 0 s.callers,
-      older,
-      few,
-      fits_counted s t.call (ap (has_numbers s) is.call ∙ numbers_fit s past e legal),
-    )
+    let counted = fits_counted s t.call (ap (has_numbers s) is.call ∙ numbers_fit s past e legal) in
+    grind (arith, nat_tests, there, row_is s.callers kept t.caller.0 there, length-map-range_with_len (tickets_held kept) 0 s.callers, older, few, counted)
 
 pub entries_apply_to_tickets : (s : Layout) (past : List Entry) (e : Entry) → IsTrue (is_layout s) → IsLegal s (e ∷ past) → MayApplyToTickets past e (tickets_of s past)
 unfolding IsLegal

@@ -16,20 +16,6 @@ module _ {X : Type 0} where
   same_rows f g [] h = refl
   same_rows f g (x ∷ xs) h = grind (arith, same_rows f g xs h, h x)
 
--- ---- bookings
-
-booking_settled : (past : List Entry) (e : Entry) (i : ℕ) → settles e.reply ≡ true → is_of_item i e ≡ true → booking (e ∷ past) i ≡ booking_of e (length past)
-unfolding booking
-booking_settled past e i h k = rw (h, k) refl
-
-booking_of_other : (past : List Entry) (e : Entry) (i : ℕ) → is_of_item i e ≡ false → booking (e ∷ past) i ≡ booking past i
-unfolding booking
-booking_of_other past e i h = rw (h, and_false) refl
-
-booking_kept : (past : List Entry) (e : Entry) (i : ℕ) → settles e.reply ≡ false → booking (e ∷ past) i ≡ booking past i
-unfolding booking
-booking_kept past e i h = rw h refl
-
 -- ---- what an entry books
 
 booked_by_call : (c : Call) (n due : ℕ) (b : Booking) → booked_by c n due ≡ Some b → (item_called c ≡ Some b.item.0) × (b.number ≡ n)
@@ -51,20 +37,14 @@ booking_books e n b h = with_due (due_in e.reply) refl h
         let k = booked_by_call e.call n due b found in
         record { settled = due_settles e.reply due is; item = ap (λ o. option_or o (item_fired e.reply)) k.0; number = k.1 }
 
-is_its_item : (e : Entry) (i : ℕ) → item_of e ≡ Some i → is_of_item i e ≡ true
-is_its_item e i h = ap (λ o. is_at o i) h ∙ eq-eqb i i refl
-
-is_no_other : (e : Entry) (i j : ℕ) → item_of e ≡ Some i → j ≢ i → is_of_item j e ≡ false
-is_no_other e i j h differs = ap (λ o. is_at o j) h ∙ ne_eqb i j (λ same. differs (sym same))
-
 -- ---- the rows
 
 -- where an entry settles an item, its row is what the entry books
 row_settled : (s : Layout) (past : List Entry) (e : Entry) (i : ℕ) (o : Option Booking) → settles e.reply ≡ true → item_of e ≡ Some i → booking_of e (length past) ≡ o
     → timers_of s (e ∷ past) ≡ set (timers_of s past) i (option_map timer_for o)
+unfolding booking
 row_settled s past e i o settled item is = set_row (timer_row past) (timer_row (e ∷ past)) s.items i (option_map timer_for o)
-    (ap (option_map timer_for) (booking_settled past e i settled (is_its_item e i item) ∙ is))
-    (λ j differs. ap (option_map timer_for) (booking_of_other past e j (is_no_other e i j item differs)))
+    (rw (settled, item, eq-eqb i i refl, is) refl) (λ j differs. rw (item, ne_eqb i j (λ same. differs (sym same)), and_false) refl)
 
 pub bookings_set_timers : (s : Layout) (past : List Entry) (e : Entry) (b : Booking) → booking_of e (length past) ≡ Some b → timers_of s (e ∷ past) ≡ set (timers_of s past) b.item.0 (Some (timer_for b))
 bookings_set_timers s past e b h = let k = booking_books e (length past) b h in row_settled s past e b.item.0 (Some b) k.settled k.item h
@@ -74,7 +54,8 @@ pub settled_timers_are_taken_back : (s : Layout) (past : List Entry) (e : Entry)
 settled_timers_are_taken_back s past e i settled none item = row_settled s past e i None settled item none
 
 pub others_keep_timers : (s : Layout) (past : List Entry) (e : Entry) → settles e.reply ≡ false → timers_of s (e ∷ past) ≡ timers_of s past
-others_keep_timers s past e h = same_rows (timer_row past) (timer_row (e ∷ past)) (range_with_len 0 s.items) (λ j. ap (option_map timer_for) (booking_kept past e j h))
+unfolding booking
+others_keep_timers s past e h = same_rows (timer_row past) (timer_row (e ∷ past)) (range_with_len 0 s.items) (λ j. rw h refl)
 
 pub rows_for_items : (s : Layout) (past : List Entry) → length (timers_of s past) ≡ s.items
 rows_for_items s past = length-map-range_with_len (timer_row past) 0 s.items
