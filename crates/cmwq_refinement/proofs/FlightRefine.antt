@@ -1,5 +1,5 @@
 -- The flights refine a legal history, and the calls that apply an entry to them may be made.
-use Rattle.cmwq_refinement.specs.Common.{◌≡◌, ◌<◌, ℕ, false, List, [], ◌∷◌, length, map, replicate, Option, Some, None, option_to_list, refl, sym, ap, ◌∙◌, arith, range_with_len, same_Some, length-map-range_with_len, get_or-map-range_with_len, Entry, Queueing, Layout, is_started, item_start, queueings, still_open, is_unstarted, unstarted_queueing, opening, IsLegal, opening_number, is_ended, ending, still_unstarted, open_go_on, unstarted_is, opening_inert, Flight, no_flight, flight_at, false≢true, is_some, ◌==◌, option_or, with_unstarted, eqb-true}
+use Rattle.cmwq_refinement.specs.Common.{◌≡◌, ◌<◌, ℕ, false, List, [], ◌∷◌, length, map, replicate, Option, Some, None, option_to_list, refl, sym, ap, ◌∙◌, arith, range_with_len, same_Some, length-map-range_with_len, get_or-map-range_with_len, Entry, Queueing, Layout, is_started, item_start, queueings, still_open, is_unstarted, unstarted_queueing, opening, IsLegal, opening_number, is_ended, ending, still_unstarted, open_go_on, unstarted_is, opening_inert, Flight, no_flight, flight_at, false≢true, is_some, ◌==◌, option_or, with_unstarted, eqb-true, is_left}
 use Rattle.cmwq_refinement.proofs.Numbers.{In, cond_both, found, in_right, of_in, option_in, rows_alike}
 use Rattle.cmwq_theory_steps.proofs.Unstarted.{unstarted_goes_on}
 use Rattle.cmwq_refinement.specs.Flights.{flight_of, flights_of, starting, flights_after_end, flights_after_start, flights_after_opening, flights_after_moves, flights_after, MayEndInFlight, MayStartInFlight, MayOpenInFlight, MayApplyToFlights}
@@ -58,7 +58,7 @@ module _ (s : Layout) (past : List Entry) (e : Entry) (legal : IsLegal s (e ∷ 
     where
       by : (o : Option Queueing) → unstarted_queueing past x.item.0 ≡ o → still_unstarted past e o ≡ None
       by None was = refl
-      by (Some u) was = grind (arith, none_left x u opens was)
+      by (Some u) was = cond_both (is_left past e u) (Some u) None (λ o. o ≡ None) (λ left. absurd (none_left x u opens was (rw left refl))) (λ gone. refl)
 
   -- the row of each item is that of the longer history
   same_flight : (f g : Flight) → f.run ≡ g.run → f.unstarted ≡ g.unstarted → f ≡ g

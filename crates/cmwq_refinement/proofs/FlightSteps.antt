@@ -1,5 +1,5 @@
 -- The flights refine a history, row by row.
-use Rattle.cmwq_refinement.specs.Common.{◌≡◌, ◌≢◌, ◌<◌, ◌==◌, ℕ, Bool, true, false, not, List, ◌∷◌, map, Option, Some, None, refl, sym, ap, ◌∙◌, arith, is_some, if◌then◌else◌, range_with_len, eq-eqb, ne_eqb, same_Some, get_or-map-range_with_len, Entry, Reply, Queueing, Start, Layout, number_finished, starts, item_run, start_in, still_open, is_unstarted, unstarted_queueing, IsLegal, ends_run, survives, ending, still_unstarted, runs_are_queueings, unstarted_is, start_of_worker, starts_its_item, starts_no_item, no_start, items_run_on, found_known, queueing_at-older, Flight, no_flight, flight_at, with_unstarted, with_started, without_run, with_flight, flights_without_open, nat_tests}
+use Rattle.cmwq_refinement.specs.Common.{◌≡◌, ◌≢◌, ◌<◌, ◌==◌, ℕ, Bool, true, false, not, List, ◌∷◌, map, Option, Some, None, refl, sym, ap, ◌∙◌, arith, is_some, if◌then◌else◌, range_with_len, eq-eqb, ne_eqb, same_Some, get_or-map-range_with_len, Entry, Reply, Queueing, Start, Layout, number_finished, starts, item_run, start_in, still_open, is_unstarted, unstarted_queueing, IsLegal, ends_run, survives, ending, still_unstarted, runs_are_queueings, unstarted_is, start_of_worker, starts_its_item, starts_no_item, no_start, items_run_on, found_known, queueing_at-older, Flight, no_flight, flight_at, with_unstarted, with_started, without_run, with_flight, flights_without_open, nat_tests, ◌&&◌}
 use Rattle.cmwq_refinement.proofs.Numbers.{In, found, number_of_queueing, of_in, rises_unique}
 use Rattle.cmwq_inflight.specs.Flights.{flights_without_run}
 use Rattle.cmwq_refinement.specs.Flights.{queueing_started, flight_of, starting, flights_after_end, flights_after_start, flights_after_opening}
@@ -65,12 +65,15 @@ module _ (s : Layout) (past : List Entry) (e : Entry) (legal : IsLegal s (e ∷ 
 
   -- whether the entry spares it
   survives_if_none : (i : ℕ) (u : Queueing) → unstarted_queueing past i ≡ Some u → ending past e ≡ None → survives past e u ≡ true
-  survives_if_none i u hu none = grind (arith, queueing_step s past e legal, waiting_here i u hu, of_in (λ y. survives past e y ≡ true) (still_open past) u)
+  survives_if_none i u hu none = elim (queueing_step s past e legal) [
+    | queueing.ends_none is all ↦ of_in (λ y. survives past e y ≡ true) (still_open past) u all (waiting_here i u hu)
+    | queueing.ends_one x is here all ↦ let bad : None ≡ Some x = sym none ∙ is in cc
+  ]
 
   survives_if_one : (i : ℕ) (u x : Queueing) → unstarted_queueing past i ≡ Some u → ending past e ≡ Some x → survives past e u ≡ not (u.number == x.number)
   survives_if_one i u x hu one = elim (queueing_step s past e legal) [
-    | queueing.ends_none is all ↦ cc
-    | queueing.ends_one y is here all ↦ cc (of_in (λ w. survives past e w ≡ not (w.number == y.number)) (still_open past) u all (waiting_here i u hu), same_Some y x (sym is ∙ one))
+    | queueing.ends_none is all ↦ let bad : None ≡ Some x = sym is ∙ one in cc
+    | queueing.ends_one y is here all ↦ of_in (λ w. survives past e w ≡ not (w.number == y.number)) (still_open past) u all (waiting_here i u hu) ∙ ap (λ (w : Queueing). not (u.number == w.number)) (same_Some y x (sym is ∙ one))
   ]
 
   none_left : (f : Flight) (r : Reply) (o : Option Queueing) (i : ℕ) → f.unstarted ≡ None → (row_ended r o i f).unstarted ≡ None
@@ -81,9 +84,9 @@ module _ (s : Layout) (past : List Entry) (e : Entry) (legal : IsLegal s (e ∷ 
       → (row_ended e.reply (ending past e) i f).unstarted ≡ (if survives past e u then Some u else None)
   unfolding row_ended
   left_or_not f u i hu is = elim (end_kind s past e legal) [
-    | none_ends none unfinished ↦ grind (arith, survives_if_none i u hu none)
-    | run_ends x one fin run ↦ grind (arith, nat_tests, survives_if_one i u x hu one, run.was_started, (unstarted_is past i u hu).not_started)
-    | unstarted_ends x one unfinished waits ↦ grind (arith, nat_tests, survives_if_one i u x hu one, apart i x.item.0 x u waits hu)
+    | none_ends none unfinished ↦ rw (none, survives_if_none i u hu none) is
+    | run_ends x one fin run ↦ rw (survives_if_one i u x hu one) (grind (arith, nat_tests, run.was_started, (unstarted_is past i u hu).not_started))
+    | unstarted_ends x one unfinished waits ↦ rw (survives_if_one i u x hu one) (grind (arith, nat_tests, apart i x.item.0 x u waits hu))
   ]
 
   gone_or_not : (f : Flight) (u : Queueing) (i : ℕ) → unstarted_queueing past i ≡ Some u
@@ -105,10 +108,13 @@ module _ (s : Layout) (past : List Entry) (e : Entry) (legal : IsLegal s (e ∷ 
   unfolding moved
   moved_unstarted i = by (unstarted_queueing past i) refl
     where
+      two : (u : Queueing) (b c : Bool) → (if c then None else if b then Some u else None) ≡ (if b && not c then Some u else None)
+      two u b c = grind arith
+
       by : (o : Option Queueing) → unstarted_queueing past i ≡ o
           → (row_started (starting past e) i (row_ended e.reply (ending past e) i (flight_of past i))).unstarted ≡ still_unstarted past e o
       by None h = none_gone (row_ended e.reply (ending past e) i (flight_of past i)) (starting past e) i (none_left (flight_of past i) e.reply (ending past e) i h)
-      by (Some u) h = grind (arith, gone_or_not (row_ended e.reply (ending past e) i (flight_of past i)) u i h, left_or_not (flight_of past i) u i h h)
+      by (Some u) h = rw (gone_or_not (row_ended e.reply (ending past e) i (flight_of past i)) u i h, left_or_not (flight_of past i) u i h h) (two u (survives past e u) (starts u.number e))
 
   -- ---- and what its run is
 

@@ -14,8 +14,8 @@ use Rattle.cmwq_refinement.proofs.PoolNext.{worker_fits, next_task_is}
 same_run : (s : Layout) (past : List Entry) (e : Entry) (w : WorkerId) → IsLegal s (e ∷ past) → run (e ∷ past) w ≡ run past w → run_task s (e ∷ past) w ≡ run_task s past w
 unfolding IsLegal
 same_run s past e w legal is = elim (run_of s past w legal.2) [
-  | idle none ↦ cc
-  | busy x runs at pool ↦ cc (queueing_at-older e past x.number x at)
+  | idle none ↦ rw (is, none) refl
+  | busy x runs at pool ↦ rw (is, runs, queueing_at-older e past x.number x at, at) refl
 ]
 
 -- ---- a slot after an entry
@@ -46,7 +46,7 @@ own_slot s past e w r legal who is =
     slot_like (slot_of s (e ∷ past) w.pool w.index) (own_after s past w r (run_task s (e ∷ past) w)) (rw (by, who, pool_itself w, is) refl) refl (rw (by, is) refl)
 
 own_run : (s : Layout) (past : List Entry) (e : Entry) (w : WorkerId) (r : Reply) → IsLegal s (e ∷ past) → e.who ≡ Worker w → e.reply ≡ r → run (e ∷ past) w ≡ run_after r (run past w)
-own_run s past e w r legal who is = cc (workers_run_on s past e w legal, by_itself e w who)
+own_run s past e w r legal who is = rw (workers_run_on s past e w legal, by_itself e w who, is) refl
 
 not_by : (e : Entry) (w : WorkerId) (x : ℕ) → e.who ≡ Worker w → x ≢ w.index → is_by (Worker (worker_at w.pool x)) e ≡ false
 not_by e w x who differs = rw (who, ne_eqb w.index x (λ e. differs (sym e)), and_false) refl
