@@ -1,5 +1,5 @@
 -- The open numbers of items refine a history, entry by entry.
-use Rattle.cmwq_refinement.specs.Common.{◌≡◌, ◌≢◌, ◌==◌, ◌<◌, ℕ, false, cond, List, [], ◌∷◌, ◌++◌, length, map, filter, set, get_or, replicate, Option, Some, None, option_to_list, refl, sym, ap, ◌∙◌, arith, append-nil, range_with_len, eq-eqb, ne_eqb, map-append, length-map-range_with_len, get_or-map-range_with_len, filter-append, Entry, Queueing, Layout, queueings, still_open, opening, is_of, IsLegal, survives, ending, open_go_on, without, numbers_open}
+use Rattle.cmwq_refinement.specs.Common.{◌≡◌, ◌≢◌, ◌==◌, ◌<◌, ℕ, false, List, [], ◌∷◌, ◌++◌, length, map, filter, replicate, Option, Some, None, option_to_list, refl, sym, ap, ◌∙◌, arith, append-nil, range_with_len, eq-eqb, ne_eqb, map-append, length-map-range_with_len, get_or-map-range_with_len, filter-append, Entry, Queueing, Layout, queueings, still_open, opening, is_of, IsLegal, survives, ending, open_go_on, without, numbers_open}
 use Rattle.cmwq_refinement.proofs.Numbers.{filter_all, number_of_queueing, numbers_lack, numbers_without, rows_alike}
 use Rattle.cmwq_refinement.specs.ItemNumbers.{item_numbers, numbers_of, numbers_after_end, numbers_after_opening, numbers_after}
 use Rattle.cmwq_refinement.proofs.TimerSteps.{set_row, same_rows}
@@ -35,13 +35,8 @@ rows_opened : (s : Layout) (past : List Entry) (e : Entry) (o : Option Queueing)
 unfolding after_numbers
 rows_opened s past e None b there is = same_rows (left_numbers past e) (after_numbers past e None) (range_with_len 0 s.items) (λ j. append-nil (left_numbers past e j)) ∙ is
 rows_opened s past e (Some x) b there is =
-    set_row (left_numbers past e) (after_numbers past e (Some x)) s.items x.item.0 (numbers_open b x.item.0 ++ x.number ∷ [])
-    (ap (λ c. left_numbers past e x.item.0 ++ map number_of_queueing (cond c (x ∷ []) [])) (eq-eqb x.item.0 x.item.0 refl) ∙ ap (λ ns. ns ++ x.number ∷ []) (sym row))
-    (λ j differs. ap (λ c. left_numbers past e j ++ map number_of_queueing (cond c (x ∷ []) [])) (not_its x.item.0 j differs) ∙ append-nil (left_numbers past e j))
-    ∙ ap (λ rows. set rows x.item.0 (numbers_open b x.item.0 ++ x.number ∷ [])) is
-  where
-    row : numbers_open b x.item.0 ≡ left_numbers past e x.item.0
-    row = ap (λ rows. get_or rows x.item.0 []) (sym is) ∙ get_or-map-range_with_len (left_numbers past e) 0 s.items x.item.0 x.item.0 [] (there x refl) (omega arith)
+    rw (← is) (set_row (left_numbers past e) (after_numbers past e (Some x)) s.items x.item.0 (numbers_open (map (left_numbers past e) (range_with_len 0 s.items)) x.item.0 ++ x.number ∷ [])
+    (rw (eq-eqb x.item.0 x.item.0 refl, get_or-map-range_with_len (left_numbers past e) 0 s.items x.item.0 x.item.0 [] (there x refl) (omega arith)) refl) (λ j differs. rw (not_its x.item.0 j differs, append-nil) refl))
 
 item_numbers_after : (s : Layout) (past : List Entry) (e : Entry) (i : ℕ) → IsLegal s (e ∷ past) → item_numbers (e ∷ past) i ≡ after_numbers past e (opening past e) i
 unfolding after_numbers left_numbers
@@ -55,11 +50,8 @@ ended_rows s past e legal = sym (ap length (rows_ended s past e legal.2 (queuein
 pub opened_row : (s : Layout) (past : List Entry) (e : Entry) (x : Queueing) → IsLegal s (e ∷ past) → opening past e ≡ Some x → item_numbers (e ∷ past) x.item.0 ≡ numbers_open (numbers_after_end (ending past e) (numbers_of s past)) x.item.0 ++ x.number ∷ []
 unfolding after_numbers IsLegal
 opened_row s past e x legal h =
-    item_numbers_after s past e x.item.0 legal ∙ ap (λ o. left_numbers past e x.item.0 ++ map number_of_queueing (filter (is_of x.item.0) (option_to_list o))) h
-    ∙ ap (λ c. left_numbers past e x.item.0 ++ map number_of_queueing (cond c (x ∷ []) [])) (eq-eqb x.item.0 x.item.0 refl) ∙ ap (λ ns. ns ++ x.number ∷ []) (sym row)
-  where
-    row : numbers_open (numbers_after_end (ending past e) (numbers_of s past)) x.item.0 ≡ left_numbers past e x.item.0
-    row = ap (λ rows. get_or rows x.item.0 []) (sym (rows_ended s past e legal.2 (queueing_step s past e legal))) ∙ get_or-map-range_with_len (left_numbers past e) 0 s.items x.item.0 x.item.0 [] (opened_are_there s past e x legal h).item (omega arith)
+    let row = get_or-map-range_with_len (left_numbers past e) 0 s.items x.item.0 x.item.0 [] (opened_are_there s past e x legal h).item (omega arith) in
+    item_numbers_after s past e x.item.0 legal ∙ rw (h, eq-eqb x.item.0 x.item.0 refl, ← rows_ended s past e legal.2 (queueing_step s past e legal), row) refl
 
 -- ---- together
 

@@ -6,7 +6,7 @@ use Rattle.cmwq_ticket.specs.Rows as row
 use Rattle.cmwq_ticket.specs.Rows.{is_other_ticket}
 use Rattle.cmwq_refinement.specs.Tickets.{the_caller, tickets_held, rows_of, tickets_in, tickets_of, tickets_after_end, tickets_after_giving, tickets_after, MayEndTicket, MayGiveTicket, MayApplyToTickets}
 use Rattle.cmwq_refinement.proofs.Settled.{numbers_fit}
-use Rattle.cmwq_refinement.proofs.TicketSteps.{TicketStep, ticket_step, ends_one, ends_none, ends_only, ticket_in_is, unended_rise, unended_below}
+use Rattle.cmwq_refinement.proofs.TicketSteps.{ticket_step, ends_one, ends_none, ends_only, ticket_in_is, unended_rise, unended_below}
 use Rattle.cmwq_refinement.proofs.TicketLimits.{callers_there, given_free}
 use Rattle.cmwq_refinement.proofs.TicketRows.{row_is, rows_after, rows_ended, rows_any, rows_find, rows_count}
 
@@ -22,12 +22,11 @@ given_there s past e t legal h = of_in (λ u. u.caller.0 < s.callers) (unended_t
 -- ---- the rows go on
 
 after_ended : (s : Layout) (past : List Entry) (e : Entry) → IsLegal s past → tickets_after_end (ticket_ended past e) (tickets_of s past) ≡ tickets_in s (rows_of s.callers (filter (is_kept e) (unended_tickets past)))
-after_ended s past e legal = by (ticket_step past e)
-  where
-    by : TicketStep past e → tickets_after_end (ticket_ended past e) (tickets_of s past) ≡ tickets_in s (rows_of s.callers (filter (is_kept e) (unended_tickets past)))
-    by (ends_none is all) = rw (is, filter_all (is_kept e) (unended_tickets past) all) refl
-    by (ends_one u is here it) = rw (is, filter_same (is_kept e) (is_other_ticket u.number) (unended_tickets past) (all_in (λ t. is_kept e t ≡ is_other_ticket u.number t) (unended_tickets past) (ends_only past e u here it)))
-        (ap (tickets_in s) (rows_ended s.callers (unended_tickets past) u (unended_rise past) here (of_in (λ t. t.caller.0 < s.callers) (unended_tickets past) u (unended_there s past legal) here)))
+after_ended s past e legal = elim (ticket_step past e) [
+  | ends_none is all ↦ rw (is, filter_all (is_kept e) (unended_tickets past) all) refl
+  | ends_one u is here it ↦ rw (is, filter_same (is_kept e) (is_other_ticket u.number) (unended_tickets past) (all_in (λ t. is_kept e t ≡ is_other_ticket u.number t) (unended_tickets past) (ends_only past e u here it)))
+      (ap (tickets_in s) (rows_ended s.callers (unended_tickets past) u (unended_rise past) here (of_in (λ t. t.caller.0 < s.callers) (unended_tickets past) u (unended_there s past legal) here)))
+]
 
 pub tickets_refine : (s : Layout) (past : List Entry) (e : Entry) → IsLegal s (e ∷ past) → tickets_after past e (tickets_of s past) ≡ tickets_of s (e ∷ past)
 unfolding IsLegal
@@ -52,11 +51,10 @@ stands_in_row s past t legal here =
     (all_in (λ u. is_numbered t.number u ≡ true → t.number ≤ u.number) held (λ u i h. omega (arith, eqb-true u.number t.number h)))
 
 may_end : (s : Layout) (past : List Entry) (e : Entry) → IsLegal s past → MayEndTicket (ticket_ended past e) (tickets_of s past)
-may_end s past e legal = by (ticket_step past e)
-  where
-    by : TicketStep past e → MayEndTicket (ticket_ended past e) (tickets_of s past)
-    by (ends_none is all) = rw is tt
-    by (ends_one u is here it) = rw is (ap is_some (stands_in_row s past u legal here))
+may_end s past e legal = elim (ticket_step past e) [
+  | ends_none is all ↦ rw is tt
+  | ends_one u is here it ↦ rw is (ap is_some (stands_in_row s past u legal here))
+]
 
 -- a call that fits a layout has its count
 fits_counted : (s : Layout) (c : Call) → has_numbers s c ≡ true → is_counted s.items (length s.queues) c ≡ true

@@ -1,5 +1,5 @@
 -- The rows of timers, entry by entry.
-use Rattle.cmwq_refinement.specs.Common.{◌≡◌, ◌≢◌, ◌<◌, ◌≤◌, ℕ, true, false, List, [], ◌∷◌, length, map, replicate, set, Option, Some, None, refl, sym, ap, ◌∙◌, arith, ⊎_elim, option_map, option_and_then, range_with_len, length-set, get_or-set_same, get_or-set_other, get_or_past, fill_by_all, length-map-range_with_len, get_or-map-range_with_len, option_or, cases_eq, eq-eqb, ne_eqb, Call, Entry, Booking, Layout, item_called, item_fired, item_of, is_of_item, is_at, settles, due_in, booked_by, booking_of, booking, due_of, timer_of, and_false}
+use Rattle.cmwq_refinement.specs.Common.{◌≡◌, ◌≢◌, ◌<◌, ◌≤◌, ℕ, true, false, List, [], ◌∷◌, length, map, replicate, set, Option, Some, None, refl, sym, ap, ◌∙◌, arith, ⊎_elim, option_map, option_and_then, range_with_len, length-set, get_or-set_same, get_or-set_other, get_or_past, fill_by_all, length-map-range_with_len, get_or-map-range_with_len, option_or, cases_eq, eq-eqb, ne_eqb, Call, Entry, Booking, Layout, item_called, item_fired, item_of, settles, due_in, booked_by, booking_of, booking, due_of, timer_of, and_false}
 use Rattle.cmwq_refinement.proofs.Numbers.{rows_alike}
 use Rattle.cmwq_model.specs.declared.call.Call.TheVariants as call
 use Rattle.cmwq_refinement.specs.Timers.{timer_for, timer_row, timers_of, due_in_bookings}
