@@ -1,64 +1,39 @@
 -- The timer that fires first is that of the booking that is due first.
-use Rattle.cmwq_refinement.specs.Common.{◌≡◌, ◌<◌, ◌≤◌, ℕ, suc, Bool, true, false, not, ◌&&◌, ◌||◌, List, [], ◌∷◌, ◌++◌, length, filter, Option, Some, None, option_to_list, nat_lt, nat_le, refl, sym, ap, ap₂, ◌∙◌, subst, arith, append-nil, inl, inr, option_map, if◌then◌else◌, AllByRecursion, list_any, eqb-true, eq-eqb, not-true, cases_lt, or_parts, nat_tests, same_Some, ItemId, Entry, Booking, Layout, is_at, is_of_item, now, settles, booking, booking_of, bookings, number_booked, stands, standing, may_fire, is_due_before, is_soonest, soonest, first_due, IsLegal, Timer, MayFire, NoneMayFire, IsFirstToFire, timer_of, All_map, All_append, is_at-true}
+use Rattle.cmwq_refinement.specs.Common.{◌≡◌, ◌<◌, ◌≤◌, ℕ, suc, true, false, not, ◌&&◌, List, [], ◌∷◌, length, filter, Option, Some, None, option_to_list, nat_lt, nat_le, refl, sym, ap, ◌∙◌, arith, option_map, AllByRecursion, list_any, eqb-true, eq-eqb, not-true, nat_tests, same_Some, ItemId, Entry, Booking, Layout, is_at, is_of_item, now, booking, booking_of, bookings, number_booked, stands, standing, may_fire, is_due_before, is_soonest, soonest, first_due, IsLegal, Timer, MayFire, NoneMayFire, IsFirstToFire, timer_of, All_map, is_at-true, All-from_recursion, settles}
+use Rattle.cmwq_refinement.proofs.Numbers.{In, RisesBy, all_in, all_more, and_parts, cond_both, filter_in, find_is, found, in_filter, in_left, in_right, list_any_none, none_in, none_pass, of_in, option_in, rises_filter, rises_more, rises_unique}
 use Rattle.cmwq_timer.specs.Due.{is_sooner, timer_may_fire}
 use Rattle.cmwq_refinement.specs.Timers.{timer_for, timers_of, HoldsDraining, item_due, MayApplyToTimers}
-use Rattle.cmwq_lemmas.proofs.Members.{In, of_in, all_in, in_left, in_right, option_in, in_option, in_filter, filter_in, none_in, found}
-use Rattle.cmwq_lemmas.proofs.Rising.{RisesBy, rises_filter, rises_snoc, rises_unique, find_is}
 use Rattle.cmwq_refinement.proofs.TimerSteps.{booking_books, row_at, row_past}
 use Rattle.cmwq_refinement.proofs.Settled.{Fits, bookings_fit, settled_of_an_item, item_there, booking_fits}
 
 -- ---- bookings stand by their numbers
 
-below_more : (n : ℕ) (xs : List Booking) (o : Option Booking) → AllByRecursion (λ b. b.number < n) xs → ((b : Booking) → o ≡ Some b → b.number ≡ n) → AllByRecursion (λ b. b.number < suc n) (xs ++ option_to_list o)
-below_more n xs o h k = All_append (λ b. b.number < suc n) xs (option_to_list o) (All_map (λ b. b.number < n) (λ b. b.number < suc n) xs (λ b less. omega arith) h)
-    (all_in (λ b. b.number < suc n) (option_to_list o) (λ b i. let is = k b (in_option o b i) in omega arith))
-
 bookings_below : (past : List Entry) → AllByRecursion (λ b. b.number < length past) (bookings past)
 unfolding bookings
 bookings_below [] = tt
-bookings_below (e ∷ past) = below_more (length past) (bookings past) (booking_of e (length past)) (bookings_below past) (λ b is. (booking_books e (length past) b is).number)
-
-rises_more : (n : ℕ) (xs : List Booking) (o : Option Booking) → RisesBy number_booked xs → AllByRecursion (λ b. b.number < n) xs → ((b : Booking) → o ≡ Some b → b.number ≡ n) → RisesBy number_booked (xs ++ option_to_list o)
-rises_more n xs None h below k = rw append-nil h
-rises_more n xs (Some b) h below k = rises_snoc number_booked xs b h (subst (λ m. AllByRecursion (λ x. x.number < m) xs) (sym (k b refl)) below)
+bookings_below (e ∷ past) = all_more (λ b. b.number < suc (length past)) (bookings past) (booking_of e (length past)) (All_map (λ b. b.number < length past) (λ b. b.number < suc (length past)) (bookings past) (λ b less. omega arith) (bookings_below past))
+    (λ b is. omega (arith, (booking_books e (length past) b is).number))
 
 bookings_rise : (past : List Entry) → RisesBy number_booked (bookings past)
 unfolding bookings
 bookings_rise [] = tt
-bookings_rise (e ∷ past) = rises_more (length past) (bookings past) (booking_of e (length past)) (bookings_rise past) (bookings_below past) (λ b is. (booking_books e (length past) b is).number)
+bookings_rise (e ∷ past) = rises_more number_booked (length past) (bookings past) (booking_of e (length past)) (bookings_rise past) (bookings_below past) (λ b is. (booking_books e (length past) b is).number)
 
 -- ---- an item's booking is one of those that stand
 
-record IsItsBooking (past : List Entry) (i : ℕ) (b : Booking) : Type 0 where
-  item : b.item.0 ≡ i
-  made : In b (bookings past)
-
-more_made : (e : Entry) (past : List Entry) (i : ℕ) (b : Booking) → IsItsBooking past i b → IsItsBooking (e ∷ past) i b
-unfolding bookings
-more_made e past i b h = record { item = h.item; made = in_left (bookings past) (option_to_list (booking_of e (length past))) b h.made }
-
-newly_made : (e : Entry) (past : List Entry) (i : ℕ) (b : Booking) → is_of_item i e ≡ true → booking_of e (length past) ≡ Some b → IsItsBooking (e ∷ past) i b
-unfolding bookings
-newly_made e past i b of_item is =
-    let k = booking_books e (length past) b is in
-    let same : Some b.item.0 ≡ Some i = sym k.item ∙ is_at-true _ i of_item in
-    record { item = same_Some b.item.0 i same; made = in_right (bookings past) (option_to_list (booking_of e (length past))) b (option_in (booking_of e (length past)) b is) }
-
-its_booking : (past : List Entry) (i : ℕ) (b : Booking) → booking past i ≡ Some b → IsItsBooking past i b
-unfolding booking
+its_booking : (past : List Entry) (i : ℕ) (b : Booking) → booking past i ≡ Some b → (b.item.0 ≡ i) × In b (bookings past)
+unfolding booking bookings
 its_booking [] i b h = cc
-its_booking (e ∷ past) i b h = which (settles e.reply) (is_of_item i e) refl (its_booking past i b) h
-  where
-    which : (x y : Bool) → is_of_item i e ≡ y → (booking past i ≡ Some b → IsItsBooking past i b) → (if x && y then booking_of e (length past) else booking past i) ≡ Some b → IsItsBooking (e ∷ past) i b
-    which true true is before k = newly_made e past i b is k
-    which true false is before k = more_made e past i b (before k)
-    which false y is before k = more_made e past i b (before k)
+its_booking (e ∷ past) i b h =
+    let new = booking_of e (length past) in
+    cond_both (settles e.reply && is_of_item i e) new (booking past i) (λ o. o ≡ Some b → (b.item.0 ≡ i) × In b (bookings (e ∷ past)))
+    (λ settled is. (same_Some b.item.0 i (sym (booking_books e (length past) b is).item ∙ is_at-true _ i (and_parts (settles e.reply) (is_of_item i e) settled).1), in_right (bookings past) (option_to_list new) b (option_in new b is)))
+    (λ kept is. let k = its_booking past i b is in (k.0, in_left (bookings past) (option_to_list new) b k.1)) h
 
 pub in_standing : (past : List Entry) (i : ℕ) (b : Booking) → booking past i ≡ Some b → In b (standing past)
 in_standing past i b h =
     let k = its_booking past i b h in
-    let is : booking past b.item.0 ≡ Some b = ap (booking past) k.item ∙ h in
-    filter_in (stands past) (bookings past) b k.made (ap (λ o. is_at (option_map number_booked o) b.number) is ∙ eq-eqb b.number b.number refl)
+    filter_in (stands past) (bookings past) b k.1 (ap (λ o. is_at (option_map number_booked o) b.number) (ap (booking past) k.0 ∙ h) ∙ eq-eqb b.number b.number refl)
 
 -- what stands is the booking of its item
 pub standing_is : (past : List Entry) (b : Booking) → In b (standing past) → booking past b.item.0 ≡ Some b
@@ -68,9 +43,7 @@ standing_is past b h =
   where
     with : (o : Option Booking) → booking past b.item.0 ≡ o → In b (bookings past) → is_at (option_map number_booked o) b.number ≡ true → o ≡ Some b
     with None is made h = cc
-    with (Some c) is made h =
-        let number : c.number ≡ b.number = eqb-true c.number b.number h in
-        ap Some (rises_unique number_booked (bookings past) c b (bookings_rise past) (its_booking past b.item.0 c is).made made number)
+    with (Some c) is made h = ap Some (rises_unique number_booked (bookings past) c b (bookings_rise past) (its_booking past b.item.0 c is).1 made (eqb-true c.number b.number h))
 
 -- ---- what may fire
 
@@ -105,29 +78,15 @@ fired_booking s past holds i t legal each less may = with (booking past i) refl 
         let here = in_standing past i b is in
         record {
           booked = b;
-          item = (its_booking past i b is).item;
+          item = (its_booking past i b is).0;
           timer = same;
           fires = filter_in (may_fire past) (standing past) b here (sym (same_test s past holds b each (standing_fits s past b legal here)) ∙ ap (timer_may_fire (now past) holds) same ∙ may.1);
         }
 
 within_rows : (s : Layout) (past : List Entry) (i : ℕ) (t : Timer) → timer_of (timers_of s past) i ≡ Some t → i < s.items
-within_rows s past i t h = elim (cases_lt i s.items) [
-  | inl less ↦ less
-  | inr more ↦ let none = row_past s past i more in cc
-]
+within_rows s past i t h = grind (arith, row_past s past i)
 
 -- ---- the first
-
-none_before : (b : Booking) (bs : List Booking) → AllByRecursion (λ a. nat_lt a.due b.due ≡ false) bs → list_any (is_due_before b) bs ≡ false
-none_before b [] h = refl
-none_before b (a ∷ rest) h = ap₂ (λ (x y : Bool). x || y) h.0 (none_before b rest h.1)
-
-soonest_before : (b : Booking) (bs : List Booking) → is_soonest bs b ≡ true → AllByRecursion (λ a. nat_lt a.due b.due ≡ false) bs
-soonest_before b bs h = none bs (not-true (list_any (is_due_before b) bs) h)
-  where
-    none : (rest : List Booking) → list_any (is_due_before b) rest ≡ false → AllByRecursion (λ a. nat_lt a.due b.due ≡ false) rest
-    none [] h = tt
-    none (a ∷ rest) h = let k = or_parts (nat_lt a.due b.due) (list_any (is_due_before b) rest) h in (k.0, none rest k.1)
 
 due_later : (a t : Timer) → is_sooner a t ≡ false → nat_lt a.due t.due ≡ false
 due_later a t h = grind (arith, nat_tests)
@@ -137,8 +96,9 @@ number_later a t h k = grind (arith, nat_tests)
 
 soonest_is : (past : List Entry) (bs : List Booking) (b : Booking) → RisesBy number_booked bs → In b bs → AllByRecursion (λ a. is_sooner (timer_for a) (timer_for b) ≡ false) bs → soonest bs ≡ Some b
 soonest_is past bs b rise here none =
-    find_is number_booked (is_soonest bs) bs b rise here (ap not (none_before b bs (All_map _ (λ a. nat_lt a.due b.due ≡ false) bs (λ a h. due_later (timer_for a) (timer_for b) h) none)))
-    (all_in (λ a. is_soonest bs a ≡ true → b.number ≤ a.number) bs (λ a i first. number_later (timer_for a) (timer_for b) (of_in _ bs a none i) (of_in (λ c. nat_lt c.due a.due ≡ false) bs b (soonest_before a bs first) here)))
+    let none_before = list_any_none (is_due_before b) bs (All-from_recursion (λ a. nat_lt a.due b.due ≡ false) bs (All_map _ (λ a. nat_lt a.due b.due ≡ false) bs (λ a h. due_later (timer_for a) (timer_for b) h) none)) in
+    find_is number_booked (is_soonest bs) bs b rise here (ap not none_before) (all_in (λ a. is_soonest bs a ≡ true → b.number ≤ a.number) bs (λ a i first. number_later (timer_for a) (timer_for b) (of_in _ bs a none i)
+    (of_in (λ c. nat_lt c.due a.due ≡ false) bs b (none_pass (is_due_before a) bs (not-true (list_any (is_due_before a) bs) first)) here)))
 
 fireable_rises : (past : List Entry) → RisesBy number_booked (fireable past)
 fireable_rises past = rises_filter number_booked (may_fire past) (standing past) (rises_filter number_booked (stands past) (bookings past) (bookings_rise past))

@@ -1,6 +1,5 @@
 -- What an entry ends is a run or an unstarted queueing of its item, and what it starts is an unstarted one of an item without a run.
-use Rattle.cmwq_refinement.specs.Common.{◌≡◌, ℕ, true, false, List, ◌∷◌, Option, Some, None, refl, sym, ap, ◌∙◌, option_and_then, is_some, WorkerId, Who, Worker, Reply, Entry, Queueing, Start, Layout, item_of, item_at, number_started, number_finished, is_started, run, item_run, item_runs, unstarted_queueing, queueing_at, IsLegal, ending, queueing_run, ended_by, ends_as_told, unstarted_found, unstarted_is, finishes_run, runs_are_items, item_run_started, starts_known, start_is, started_was, runs_are_in_pools, found_known, found_number}
-use Rattle.cmwq_model.specs.declared.reply.Reply.TheVariants as reply
+use Rattle.cmwq_refinement.specs.Common.{◌≡◌, ℕ, true, false, List, ◌∷◌, Option, Some, None, refl, sym, ap, ◌∙◌, option_and_then, is_some, WorkerId, Who, Worker, Reply, Entry, Queueing, Start, Layout, item_of, item_at, number_started, number_finished, is_started, run, item_run, item_runs, unstarted_queueing, queueing_at, IsLegal, ending, queueing_run, ended_by, ends_as_told, unstarted_found, unstarted_is, finishes_run, runs_are_items, item_run_started, starts_known, start_is, started_was, runs_are_in_pools, found_known, found_number, arith}
 use Rattle.cmwq_refinement.specs.Flights.{starting}
 
 -- the run of an item is this queueing
@@ -16,8 +15,7 @@ pub worker_runs : (s : Layout) (past : List Entry) (w : WorkerId) (n : ℕ) (x :
     → queueing_at past n ≡ Some x → IsRun past x
 worker_runs s past w n x legal runs at =
     let number = found_number past n x at in
-    let item : item_at past n ≡ Some x.item.0 = ap (item_at past) (sym number) ∙ (found_known past n x at).item in
-    let is = runs_are_items s past w n x.item.0 legal runs item in
+    let is = runs_are_items s past w n x.item.0 legal runs (ap (item_at past) (sym number) ∙ (found_known past n x at).item) in
     let begun = start_is s past x.item.0 (record { worker = w; number = n }) legal (item_run_started past x.item.0 (record { worker = w; number = n }) is) in
     record { start = record { worker = w; number = n }; is_run = is; number = sym number; found = at; was_started = ap (is_started past) number ∙ begun.started }
 
@@ -33,33 +31,25 @@ module _ (s : Layout) (past : List Entry) (e : Entry) (legal : IsLegal s (e ∷ 
   unfolding IsLegal
   legal_before = legal.2
 
-  its_own : (i : ℕ) (x : Queueing) → unstarted_queueing past i ≡ Some x → unstarted_queueing past x.item.0 ≡ Some x
-  its_own i x is = ap (unstarted_queueing past) (unstarted_is past i x is).item ∙ is
-
-  of_item_ends : (o : Option ℕ) (p : Option Queueing) → ending past e ≡ option_and_then (unstarted_queueing past) o → option_and_then (unstarted_queueing past) o ≡ p
-      → number_finished e.reply ≡ None → EndKind past e
-  of_item_ends None p is same unfinished = none_ends is unfinished
-  of_item_ends (Some i) None is same unfinished = none_ends (is ∙ same) unfinished
-  of_item_ends (Some i) (Some x) is same unfinished = unstarted_ends x (is ∙ same) unfinished (its_own i x same)
-
-  finish_ends : (n : ℕ) → number_finished e.reply ≡ Some n → ending past e ≡ queueing_run past e.who → EndKind past e
-  finish_ends n h is =
+  finish_ends : (n : ℕ) → number_finished e.reply ≡ Some n → EndKind past e
+  finish_ends n h =
       let f = finishes_run s past e n legal h in
       let r = runs_are_in_pools s past f.worker n legal_before f.is_run in
-      let number = found_number past n r.queueing r.found in
-      run_ends r.queueing (is ∙ ap (queueing_run past) f.by_worker ∙ ap (option_and_then (queueing_at past)) f.is_run ∙ r.found) (h ∙ ap Some (sym number))
-      (worker_runs s past f.worker n r.queueing legal_before f.is_run r.found)
+      let is : ending past e ≡ queueing_run past e.who = grind (arith, ends_as_told s past e legal) in
+      run_ends r.queueing (cc (is, f.by_worker, f.is_run, r.found)) (h ∙ ap Some (sym (found_number past n r.queueing r.found))) (worker_runs s past f.worker n r.queueing legal_before f.is_run r.found)
 
-  ends_by : (r : Reply) → e.reply ≡ r → ending past e ≡ ended_by past e.who (item_of e) r → EndKind past e
-  ends_by (reply.Finished n) h is = finish_ends n (ap number_finished h) is
-  ends_by (reply.Cancelled n) h is = of_item_ends (item_of e) (option_and_then (unstarted_queueing past) (item_of e)) is refl (ap number_finished h)
-  ends_by (reply.TicketCancelled k n) h is = of_item_ends (item_of e) (option_and_then (unstarted_queueing past) (item_of e)) is refl (ap number_finished h)
-  ends_by (reply.Again k) h is = of_item_ends (item_of e) (option_and_then (unstarted_queueing past) (item_of e)) is refl (ap number_finished h)
-  ends_by (reply.Rebooked d) h is = of_item_ends (item_of e) (option_and_then (unstarted_queueing past) (item_of e)) is refl (ap number_finished h)
-  ends_by r h is = none_ends is (ap number_finished h)
+  -- what is not finished is taken back
+  taken_back : (item : Option ℕ) (r : Reply) (x : Queueing) → number_finished r ≡ None → ended_by past e.who item r ≡ Some x → unstarted_queueing past x.item.0 ≡ Some x
+  taken_back None r x unfinished is = grind arith
+  taken_back (Some i) r x unfinished is = grind (arith, unstarted_is past i x)
 
   pub end_kind : EndKind past e
-  end_kind = ends_by e.reply refl (ends_as_told s past e legal)
+  end_kind = by (number_finished e.reply) (ending past e) refl refl
+    where
+      by : (n : Option ℕ) (o : Option Queueing) → number_finished e.reply ≡ n → ending past e ≡ o → EndKind past e
+      by (Some n) o fin is = finish_ends n fin
+      by None None unfinished is = none_ends is unfinished
+      by None (Some x) unfinished is = unstarted_ends x is unfinished (taken_back (item_of e) e.reply x unfinished (sym (ends_as_told s past e legal) ∙ is))
 
 -- ---- what an entry starts
 
@@ -76,18 +66,15 @@ pub data StartKind (past : List Entry) (e : Entry) : Type 0 where
   none_starts : starting past e ≡ None → number_started e.reply ≡ None → StartKind past e
   one_starts : (x : Queueing) → starting past e ≡ Some x → Starting past e x → StartKind past e
 
-no_run : (o : Option Start) → is_some o ≡ false → o ≡ None
-no_run None h = refl
-no_run (Some x) h = cc
-
 start_ends_none : (past : List Entry) (who : Who) (item : Option ℕ) (r : Reply) (n : ℕ) → number_started r ≡ Some n → ended_by past who item r ≡ None
-start_ends_none past who item (reply.Started m) n h = refl
-start_ends_none past who item (reply.StartedEnlist m x) n h = refl
-start_ends_none past who item r n h = cc
+start_ends_none past who item r n h = grind arith
 
 pub start_kind : (s : Layout) (past : List Entry) (e : Entry) → IsLegal s (e ∷ past) → StartKind past e
 start_kind s past e legal = by (number_started e.reply) refl
   where
+    none_run : (o : Option Start) → is_some o ≡ false → o ≡ None
+    none_run o idle = grind arith
+
     by : (o : Option ℕ) → number_started e.reply ≡ o → StartKind past e
     by None h = none_starts (ap (option_and_then (queueing_at past)) h) h
     by (Some n) h =
@@ -96,12 +83,12 @@ start_kind s past e legal = by (number_started e.reply) refl
         let x = was.0 in
         let waits = unstarted_is past k.item x was.1 in
         let found = unstarted_found past k.item x was.1 in
-        one_starts x (ap (option_and_then (queueing_at past)) (h ∙ ap Some (sym was.2)) ∙ found) (record {
+        one_starts x (cc (h, was.2, found)) (record {
           worker = k.worker;
           by_worker = k.by_worker;
           number = h ∙ ap Some (sym was.2);
           found = found;
           waits = ap (unstarted_queueing past) waits.item ∙ was.1;
-          has_none = no_run (item_run past x.item.0) (ap (item_runs past) waits.item ∙ k.has_none);
+          has_none = none_run (item_run past x.item.0) (ap (item_runs past) waits.item ∙ k.has_none);
           ends_none = ends_as_told s past e legal ∙ start_ends_none past e.who (item_of e) e.reply n h;
         })

@@ -1,8 +1,8 @@
 -- The flights refine a legal history, and the calls that apply an entry to them may be made.
-use Rattle.cmwq_refinement.specs.Common.{◌≡◌, ◌<◌, ◌==◌, ℕ, Bool, true, false, List, [], ◌∷◌, length, map, replicate, Option, Some, None, option_to_list, refl, sym, ap, ap₂, ◌∙◌, subst, arith, is_some, if◌then◌else◌, option_or, range_with_len, eqb-true, same_Some, length-range_with_len, length-map-range_with_len, get_or-map-range_with_len, Entry, Queueing, Layout, is_started, item_start, queueings, still_open, is_unstarted, unstarted_queueing, opening, IsLegal, opening_number, is_ended, ending, is_left, still_unstarted, of_item, open_go_on, unstarted_is, opening_inert, Flight, no_flight, flight_at, with_unstarted}
+use Rattle.cmwq_refinement.specs.Common.{◌≡◌, ◌<◌, ℕ, false, List, [], ◌∷◌, length, map, replicate, Option, Some, None, option_to_list, refl, sym, ap, ◌∙◌, arith, range_with_len, same_Some, length-map-range_with_len, get_or-map-range_with_len, Entry, Queueing, Layout, is_started, item_start, queueings, still_open, is_unstarted, unstarted_queueing, opening, IsLegal, opening_number, is_ended, ending, still_unstarted, open_go_on, unstarted_is, opening_inert, Flight, no_flight, flight_at, false≢true, is_some, ◌==◌, option_or, with_unstarted, eqb-true, is_left}
+use Rattle.cmwq_refinement.proofs.Numbers.{In, cond_both, found, in_right, of_in, option_in, rows_alike}
 use Rattle.cmwq_theory_steps.proofs.Unstarted.{unstarted_goes_on}
-use Rattle.cmwq_refinement.specs.Flights.{queueing_started, flight_of, flights_of, starting, flights_after_end, flights_after_start, flights_after_opening, flights_after_moves, flights_after, MayEndInFlight, MayStartInFlight, MayStartOf, MayOpenInFlight, MayApplyToFlights}
-use Rattle.cmwq_lemmas.proofs.Members.{In, of_in, in_right, option_in, found}
+use Rattle.cmwq_refinement.specs.Flights.{flight_of, flights_of, starting, flights_after_end, flights_after_start, flights_after_opening, flights_after_moves, flights_after, MayEndInFlight, MayStartInFlight, MayOpenInFlight, MayApplyToFlights}
 use Rattle.cmwq_refinement.proofs.TimerSteps.{same_rows}
 use Rattle.cmwq_refinement.proofs.PlacesFit.{open_there, opened_are_there}
 use Rattle.cmwq_refinement.proofs.FlightKinds.{EndKind, none_ends, run_ends, unstarted_ends, end_kind, legal_before, Starting, StartKind, none_starts, one_starts, start_kind}
@@ -15,109 +15,66 @@ flights_for_items s past = length-map-range_with_len (flight_of past) 0 s.items
 pub row_of : (s : Layout) (past : List Entry) (i : ℕ) → i < s.items → flight_at (flights_of s past) i ≡ flight_of past i
 row_of s past i there = get_or-map-range_with_len (flight_of past) 0 s.items i i no_flight there (omega arith)
 
-none_rows : (xs : List ℕ) → map (flight_of []) xs ≡ replicate (length xs) no_flight
-unfolding item_start queueings
-none_rows [] = refl
-none_rows (x ∷ xs) = ap (λ ys. no_flight ∷ ys) (none_rows xs)
-
 pub no_flights_at_first : (s : Layout) → flights_of s [] ≡ replicate s.items no_flight
-no_flights_at_first s = none_rows (range_with_len 0 s.items) ∙ ap (λ n. replicate n no_flight) (length-range_with_len 0 s.items)
+unfolding item_start queueings
+no_flights_at_first s = rows_alike (flight_of []) no_flight s.items (λ i. refl)
 
 module _ (s : Layout) (past : List Entry) (e : Entry) (legal : IsLegal s (e ∷ past)) where
-  waits_there : (i : ℕ) (x : Queueing) → unstarted_queueing past i ≡ Some x → x.item.0 < s.items
-  waits_there i x is = (open_there s past x (legal_before s past e legal) (found (is_unstarted past i) (still_open past) x is).0).item
-
   -- what an entry ends, starts and opens is of an item that there is
   ending_there : (x : Queueing) → ending past e ≡ Some x → x.item.0 < s.items
   ending_there x is = (open_there s past x (legal_before s past e legal) (found (is_ended past e) (still_open past) x is).0).item
 
   pub starting_is : (x : Queueing) → starting past e ≡ Some x → Starting past e x
-  starting_is x is = by (start_kind s past e legal)
-    where
-      by : StartKind past e → Starting past e x
-      by (none_starts none unstarting) = let bad : None ≡ Some x = sym none ∙ is in cc
-      by (one_starts y one st) = subst (Starting past e) (same_Some y x (sym one ∙ is)) st
+  starting_is x is = elim (start_kind s past e legal) [
+    | none_starts none unstarting ↦ let bad : None ≡ Some x = sym none ∙ is in cc
+    | one_starts y one st ↦ rw (same_Some y x (sym one ∙ is)) at st
+  ]
 
   pub starting_there : (x : Queueing) → starting past e ≡ Some x → x.item.0 < s.items
-  starting_there x is = waits_there x.item.0 x (starting_is x is).waits
+  starting_there x is = (open_there s past x (legal_before s past e legal) (found (is_unstarted past x.item.0) (still_open past) x (starting_is x is).waits).0).item
 
   opening_there : (x : Queueing) → opening past e ≡ Some x → x.item.0 < s.items
   opening_there x is = (opened_are_there s past e x legal is).item
 
   -- the flights after what ends and starts, as rows
-  ended_flights : flights_after_end e.reply (ending past e) (flights_of s past) ≡ map (λ j. row_ended e.reply (ending past e) j (flight_of past j)) (range_with_len 0 s.items)
-  ended_flights = ended_rows (flight_of past) s.items e.reply (ending past e) ending_there
-
   moved_flights : flights_after_moves past e (flights_of s past) ≡ map (moved s past e legal) (range_with_len 0 s.items)
   unfolding moved
-  moved_flights = ap (flights_after_start (starting past e)) ended_flights
+  moved_flights = ap (flights_after_start (starting past e)) (ended_rows (flight_of past) s.items e.reply (ending past e) ending_there)
       ∙ started_rows (λ j. row_ended e.reply (ending past e) j (flight_of past j)) s.items (starting past e) starting_there
 
   -- where an entry opens a queueing, no older one of the item is left unstarted
   none_left : (x u : Queueing) → opening past e ≡ Some x → unstarted_queueing past x.item.0 ≡ Some u → still_unstarted past e (Some u) ≡ Some u → ⊥
   none_left x u opens was still =
-      let goes : unstarted_queueing (e ∷ past) x.item.0 ≡ Some u =
-      unstarted_goes_on s past e x.item.0 legal ∙ ap (λ o. option_or (still_unstarted past e o) (of_item x.item.0 (opening past e))) was
-      ∙ ap (λ o. option_or o (of_item x.item.0 (opening past e))) still in
-      let opened_here : In x (still_open (e ∷ past)) = subst (In x) (sym (open_go_on s past e legal)) (in_right _ _ x (option_in (opening past e) x opens)) in
+      let goes : unstarted_queueing (e ∷ past) x.item.0 ≡ Some u = rw (unstarted_goes_on s past e x.item.0 legal, was, still) refl in
+      let opened_here : In x (still_open (e ∷ past)) = rw (open_go_on s past e legal) (in_right _ _ x (option_in (opening past e) x opens)) in
       let waits = unstarted_is (e ∷ past) x.item.0 u goes in
-      let inert = opening_inert s past e (opening past e) legal refl in
-      let new = of_in (λ y. is_started (e ∷ past) y.number ≡ false) (option_to_list (opening past e)) x inert (option_in (opening past e) x opens) in
+      let new = of_in (λ y. is_started (e ∷ past) y.number ≡ false) (option_to_list (opening past e)) x (opening_inert s past e (opening past e) legal refl) (option_in (opening past e) x opens) in
       let older_here = (found (is_unstarted (e ∷ past) x.item.0) (still_open (e ∷ past)) u goes).0 in
       let same = one_of s (e ∷ past) u x legal older_here opened_here waits.item waits.not_started new in
-      let older : u.number < length past = (unstarted_is past x.item.0 u was).known.older in
-      let number : x.number ≡ length past = opening_number past e x opens in
-      let one : u.number ≡ x.number = ap (λ (y : Queueing). y.number) same in
-      absurd (omega arith)
+      absurd (omega (arith, (unstarted_is past x.item.0 u was).known.older, opening_number past e x opens, ap (λ (y : Queueing). y.number) same))
 
   still_none : (x : Queueing) → opening past e ≡ Some x → still_unstarted past e (unstarted_queueing past x.item.0) ≡ None
   still_none x opens = by (unstarted_queueing past x.item.0) refl
     where
-      left : (u : Queueing) → unstarted_queueing past x.item.0 ≡ Some u → (b : Bool) → is_left past e u ≡ b → (if b then Some u else None) ≡ None
-      left u was true is = absurd (none_left x u opens was (ap (λ b. if b then Some u else None) is))
-      left u was false is = refl
-
       by : (o : Option Queueing) → unstarted_queueing past x.item.0 ≡ o → still_unstarted past e o ≡ None
       by None was = refl
-      by (Some u) was = left u was (is_left past e u) refl
+      by (Some u) was = cond_both (is_left past e u) (Some u) None (λ o. o ≡ None) (λ left. absurd (none_left x u opens was (rw left refl))) (λ gone. refl)
 
   -- the row of each item is that of the longer history
   same_flight : (f g : Flight) → f.run ≡ g.run → f.unstarted ≡ g.unstarted → f ≡ g
-  same_flight f g run waits = ap₂ (λ r u. flight r u) run waits
-    where
-      flight : Option Queueing → Option Queueing → Flight
-      flight r u = record { run = r; unstarted = u }
-
-  waits_on : (i : ℕ) (o : Option Queueing) → opening past e ≡ o → unstarted_queueing (e ∷ past) i ≡ option_or (still_unstarted past e (unstarted_queueing past i)) (of_item i o)
-  waits_on i o opens = unstarted_goes_on s past e i legal ∙ ap (λ p. option_or (still_unstarted past e (unstarted_queueing past i)) (of_item i p)) opens
+  same_flight f g run waits = λ i. record { run = run i; unstarted = waits i }
 
   or_none : (o : Option Queueing) → o ≡ option_or o None
-  or_none None = refl
-  or_none (Some u) = refl
-
-  moved_waits : (i : ℕ) → (moved s past e legal i).unstarted ≡ option_or (still_unstarted past e (unstarted_queueing past i)) None
-  moved_waits i = moved_unstarted s past e legal i ∙ or_none (still_unstarted past e (unstarted_queueing past i))
+  or_none o = grind arith
 
   pub opened_row : (i : ℕ) (o : Option Queueing) → opening past e ≡ o → row_opened o i (moved s past e legal i) ≡ flight_of (e ∷ past) i
   unfolding row_opened
-  opened_row i None opens =
-      same_flight (moved s past e legal i) (flight_of (e ∷ past) i) (moved_run s past e legal i) (moved_waits i ∙ sym (waits_on i None opens))
-  opened_row i (Some x) opens = same_flight (row_opened (Some x) i (moved s past e legal i)) (flight_of (e ∷ past) i)
-      (run (x.item.0 == i) ∙ moved_run s past e legal i)
-      (waits (x.item.0 == i) refl ∙ sym (waits_on i (Some x) opens))
-    where
-      with_opened : Bool → Flight
-      with_opened a = if a then with_unstarted (Some x) (moved s past e legal i) else moved s past e legal i
-
-      run : (a : Bool) → (with_opened a).run ≡ (moved s past e legal i).run
-      run true = refl
-      run false = refl
-
-      waits : (a : Bool) → (x.item.0 == i) ≡ a → (with_opened a).unstarted ≡ option_or (still_unstarted past e (unstarted_queueing past i)) (if a then Some x else None)
-      waits true same =
-          let gone = ap (λ k. still_unstarted past e (unstarted_queueing past k)) (sym (eqb-true x.item.0 i same)) ∙ still_none x opens in
-          sym (ap (λ o. option_or o (Some x)) gone)
-      waits false other = moved_waits i
+  opened_row i None opens = same_flight (moved s past e legal i) (flight_of (e ∷ past) i) (moved_run s past e legal i) (rw (moved_unstarted s past e legal i, unstarted_goes_on s past e i legal, opens) (or_none _))
+  opened_row i (Some x) opens =
+      let m : Flight = moved s past e legal i in
+      cond_both (x.item.0 == i) (with_unstarted (Some x) m) m (λ f. f ≡ flight_of (e ∷ past) i)
+      (λ same. same_flight (with_unstarted (Some x) m) (flight_of (e ∷ past) i) (moved_run s past e legal i) (rw (unstarted_goes_on s past e i legal, opens, same, ← eqb-true x.item.0 i same, still_none x opens) refl))
+      (λ other. same_flight m (flight_of (e ∷ past) i) (moved_run s past e legal i) (rw (moved_unstarted s past e legal i, unstarted_goes_on s past e i legal, opens, other) (or_none _)))
 
   pub flights_refine : flights_of s (e ∷ past) ≡ flights_after past e (flights_of s past)
   flights_refine =
@@ -127,24 +84,19 @@ module _ (s : Layout) (past : List Entry) (e : Entry) (legal : IsLegal s (e ∷ 
   -- ---- each call may be made
 
   may_end : EndKind past e → MayEndInFlight e.reply (ending past e) (flights_of s past)
-  may_end (none_ends none unfinished) = subst (λ o. MayEndInFlight e.reply o (flights_of s past)) (sym none) tt
-  may_end (run_ends x one fin run) = subst (λ o. MayEndInFlight e.reply o (flights_of s past)) (sym one) (record {
+  may_end (none_ends none unfinished) = rw none tt
+  may_end (run_ends x one fin run) = rw one (record {
     known = rw (flights_for_items s past) (ending_there x one);
-    runs = λ h. ap (λ (f : Flight). is_some f.run) (row_of s past x.item.0 (ending_there x one))
-        ∙ ap is_some (ap (queueing_started past) run.is_run ∙ run.found);
+    runs = λ h. rw (row_of s past x.item.0 (ending_there x one), run.is_run, run.found) refl;
   })
-  may_end (unstarted_ends x one unfinished waits) = subst (λ o. MayEndInFlight e.reply o (flights_of s past)) (sym one) (record {
-    known = rw (flights_for_items s past) (ending_there x one);
-    runs = λ h. let bad : true ≡ false = sym h ∙ ap is_some unfinished in cc;
-  })
+  may_end (unstarted_ends x one unfinished waits) = rw one (record { known = rw (flights_for_items s past) (ending_there x one); runs = λ h. absurd (false≢true (sym (ap is_some unfinished) ∙ h)) })
 
   may_start : StartKind past e → MayStartInFlight (starting past e) (flights_after_end e.reply (ending past e) (flights_of s past))
-  may_start (none_starts none unstarting) = subst (λ o. MayStartInFlight o (flights_after_end e.reply (ending past e) (flights_of s past))) (sym none) tt
-  may_start (one_starts x one st) = subst (λ o. MayStartInFlight o (flights_after_end e.reply (ending past e) (flights_of s past))) (sym one)
-      (subst (λ o. MayStartOf x (flights_after_end e.reply o (flights_of s past))) (sym st.ends_none) (record {
-        free = ap (λ (f : Flight). f.run) (row_of s past x.item.0 (starting_there x one)) ∙ ap (queueing_started past) st.has_none;
-        unstarted = ap (λ (f : Flight). is_some f.unstarted) (row_of s past x.item.0 (starting_there x one)) ∙ ap is_some st.waits;
-      }))
+  may_start (none_starts none unstarting) = rw none tt
+  may_start (one_starts x one st) = rw (one, st.ends_none) (record {
+    free = rw (row_of s past x.item.0 (starting_there x one), st.has_none) refl;
+    unstarted = rw (row_of s past x.item.0 (starting_there x one), st.waits) refl;
+  })
 
   may_open : (o : Option Queueing) → opening past e ≡ o → MayOpenInFlight o (flights_after_moves past e (flights_of s past))
   may_open None opens = tt

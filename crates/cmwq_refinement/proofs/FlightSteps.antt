@@ -1,14 +1,12 @@
 -- The flights refine a history, row by row.
-use Rattle.cmwq_refinement.specs.Common.{◌≡◌, ◌≢◌, ◌<◌, ◌==◌, ℕ, Bool, true, false, not, ◌&&◌, List, ◌∷◌, map, Option, Some, None, refl, sym, ap, ◌∙◌, arith, is_some, if◌then◌else◌, range_with_len, eqb-true, eq-eqb, ne_eqb, same_Some, get_or-map-range_with_len, Entry, Reply, Queueing, Start, Layout, is_at, number_finished, starts, is_started, item_run, start_in, starts_item, still_open, is_unstarted, unstarted_queueing, queueing_at, IsLegal, ends_run, survives, ending, still_unstarted, runs_are_queueings, unstarted_is, start_of_worker, starts_its_item, starts_no_item, no_start, items_run_on, found_known, queueing_at-older, Flight, no_flight, flight_at, with_unstarted, with_started, without_run, with_flight, flights_without_open}
+use Rattle.cmwq_refinement.specs.Common.{◌≡◌, ◌≢◌, ◌<◌, ◌==◌, ℕ, Bool, true, false, not, List, ◌∷◌, map, Option, Some, None, refl, sym, ap, ◌∙◌, arith, is_some, if◌then◌else◌, range_with_len, eq-eqb, ne_eqb, same_Some, get_or-map-range_with_len, Entry, Reply, Queueing, Start, Layout, number_finished, starts, item_run, start_in, still_open, is_unstarted, unstarted_queueing, IsLegal, ends_run, survives, ending, still_unstarted, runs_are_queueings, unstarted_is, start_of_worker, starts_its_item, starts_no_item, no_start, items_run_on, found_known, queueing_at-older, Flight, no_flight, flight_at, with_unstarted, with_started, without_run, with_flight, flights_without_open, nat_tests, ◌&&◌}
+use Rattle.cmwq_refinement.proofs.Numbers.{In, found, number_of_queueing, of_in, rises_unique}
 use Rattle.cmwq_inflight.specs.Flights.{flights_without_run}
-use Rattle.cmwq_refinement.specs.ByNumber.{number_of_queueing}
 use Rattle.cmwq_refinement.specs.Flights.{queueing_started, flight_of, starting, flights_after_end, flights_after_start, flights_after_opening}
-use Rattle.cmwq_lemmas.proofs.Members.{In, of_in, found}
-use Rattle.cmwq_lemmas.proofs.Rising.{rises_unique}
 use Rattle.cmwq_refinement.proofs.TimerSteps.{set_row}
 use Rattle.cmwq_refinement.proofs.QueueingSteps.{QueueingStep, queueing_step, open_numbers_rise}
 use Rattle.cmwq_refinement.proofs.QueueingSteps as queueing
-use Rattle.cmwq_refinement.proofs.FlightKinds.{IsRun, EndKind, none_ends, run_ends, unstarted_ends, end_kind, legal_before, StartKind, none_starts, one_starts, start_kind}
+use Rattle.cmwq_refinement.proofs.FlightKinds.{none_ends, run_ends, unstarted_ends, end_kind, legal_before, none_starts, one_starts, start_kind}
 
 -- ---- what each of the calls makes of one row
 
@@ -67,89 +65,41 @@ module _ (s : Layout) (past : List Entry) (e : Entry) (legal : IsLegal s (e ∷ 
 
   -- whether the entry spares it
   survives_if_none : (i : ℕ) (u : Queueing) → unstarted_queueing past i ≡ Some u → ending past e ≡ None → survives past e u ≡ true
-  survives_if_none i u hu none = by (queueing_step s past e legal)
-    where
-      by : QueueingStep past e → survives past e u ≡ true
-      by (queueing.ends_none is all) = of_in (λ y. survives past e y ≡ true) (still_open past) u all (waiting_here i u hu)
-      by (queueing.ends_one x is here all) = let bad : None ≡ Some x = sym none ∙ is in cc
+  survives_if_none i u hu none = elim (queueing_step s past e legal) [
+    | queueing.ends_none is all ↦ of_in (λ y. survives past e y ≡ true) (still_open past) u all (waiting_here i u hu)
+    | queueing.ends_one x is here all ↦ let bad : None ≡ Some x = sym none ∙ is in cc
+  ]
 
   survives_if_one : (i : ℕ) (u x : Queueing) → unstarted_queueing past i ≡ Some u → ending past e ≡ Some x → survives past e u ≡ not (u.number == x.number)
-  survives_if_one i u x hu one = by (queueing_step s past e legal)
-    where
-      by : QueueingStep past e → survives past e u ≡ not (u.number == x.number)
-      by (queueing.ends_none is all) = let bad : None ≡ Some x = sym is ∙ one in cc
-      by (queueing.ends_one y is here all) = of_in (λ w. survives past e w ≡ not (w.number == y.number)) (still_open past) u all (waiting_here i u hu)
-          ∙ ap (λ (w : Queueing). not (u.number == w.number)) (same_Some y x (sym is ∙ one))
+  survives_if_one i u x hu one = elim (queueing_step s past e legal) [
+    | queueing.ends_none is all ↦ let bad : None ≡ Some x = sym is ∙ one in cc
+    | queueing.ends_one y is here all ↦ of_in (λ w. survives past e w ≡ not (w.number == y.number)) (still_open past) u all (waiting_here i u hu) ∙ ap (λ (w : Queueing). not (u.number == w.number)) (same_Some y x (sym is ∙ one))
+  ]
 
   none_left : (f : Flight) (r : Reply) (o : Option Queueing) (i : ℕ) → f.unstarted ≡ None → (row_ended r o i f).unstarted ≡ None
   unfolding row_ended
-  none_left f r None i none = none
-  none_left f r (Some x) i none = by (x.item.0 == i) (is_some (number_finished r))
-    where
-      by : (a b : Bool) → (if a then (if b then without_run f else with_unstarted None f) else f).unstarted ≡ None
-      by true true = none
-      by true false = refl
-      by false b = none
+  none_left f r o i none = grind arith
 
   left_or_not : (f : Flight) (u : Queueing) (i : ℕ) → unstarted_queueing past i ≡ Some u → f.unstarted ≡ Some u
       → (row_ended e.reply (ending past e) i f).unstarted ≡ (if survives past e u then Some u else None)
   unfolding row_ended
-  left_or_not f u i hu is = by (end_kind s past e legal)
-    where
-      by : EndKind past e → (row_ended e.reply (ending past e) i f).unstarted ≡ (if survives past e u then Some u else None)
-      by (none_ends none unfinished) = ap (λ o. (row_ended e.reply o i f).unstarted) none ∙ is
-          ∙ sym (ap (λ b. if b then Some u else None) (survives_if_none i u hu none))
-      by (run_ends x one fin run) =
-          let survivors : survives past e u ≡ true = survives_if_one i u x hu one ∙ ap not (ne_eqb u.number x.number (λ same.
-          let new : is_started past x.number ≡ false = ap (is_started past) (sym same) ∙ (unstarted_is past i u hu).not_started in
-          let bad : true ≡ false = sym run.was_started ∙ new in
-          cc)) in
-          ap (λ o. (row_ended e.reply o i f).unstarted) one
-          ∙ ap (λ o. (if x.item.0 == i then (if is_some o then without_run f else with_unstarted None f) else f).unstarted) fin
-          ∙ either (x.item.0 == i) ∙ sym (ap (λ b. if b then Some u else None) survivors)
-        where
-          either : (a : Bool) → (if a then without_run f else f).unstarted ≡ Some u
-          either true = is
-          either false = is
-      by (unstarted_ends x one unfinished waits) =
-          ap (λ o. (row_ended e.reply o i f).unstarted) one
-          ∙ ap (λ o. (if x.item.0 == i then (if is_some o then without_run f else with_unstarted None f) else f).unstarted) unfinished
-          ∙ either (x.item.0 == i) refl ∙ sym (ap (λ b. if b then Some u else None) (survives_if_one i u x hu one))
-        where
-          either : (a : Bool) → (x.item.0 == i) ≡ a
-              → (if a then with_unstarted None f else f).unstarted ≡ (if not (u.number == x.number) then Some u else None)
-          either true same =
-              let one_of : x ≡ u = same_Some x u (sym waits ∙ ap (unstarted_queueing past) (eqb-true x.item.0 i same) ∙ hu) in
-              sym (ap (λ b. if not b then Some u else None) (eq-eqb u.number x.number (ap number_of_queueing (sym one_of))))
-          either false other =
-              is ∙ sym (ap (λ b. if not b then Some u else None) (apart i x.item.0 x u waits hu (λ same. let bad : true ≡ false = sym (eq-eqb x.item.0 i same) ∙ other in cc)))
+  left_or_not f u i hu is = elim (end_kind s past e legal) [
+    | none_ends none unfinished ↦ rw (none, survives_if_none i u hu none) is
+    | run_ends x one fin run ↦ rw (survives_if_one i u x hu one) (grind (arith, nat_tests, run.was_started, (unstarted_is past i u hu).not_started))
+    | unstarted_ends x one unfinished waits ↦ rw (survives_if_one i u x hu one) (grind (arith, nat_tests, apart i x.item.0 x u waits hu))
+  ]
 
   gone_or_not : (f : Flight) (u : Queueing) (i : ℕ) → unstarted_queueing past i ≡ Some u
       → (row_started (starting past e) i f).unstarted ≡ (if starts u.number e then None else f.unstarted)
   unfolding row_started
-  gone_or_not f u i hu = by (start_kind s past e legal)
-    where
-      by : StartKind past e → (row_started (starting past e) i f).unstarted ≡ (if starts u.number e then None else f.unstarted)
-      by (none_starts none unstarting) = ap (λ o. (row_started o i f).unstarted) none
-          ∙ sym (ap (λ o. if is_at o u.number then None else f.unstarted) unstarting)
-      by (one_starts y one st) = ap (λ o. (row_started o i f).unstarted) one ∙ either (y.item.0 == i) refl
-          ∙ sym (ap (λ o. if is_at o u.number then None else f.unstarted) st.number)
-        where
-          either : (a : Bool) → (y.item.0 == i) ≡ a → (if a then with_started f else f).unstarted ≡ (if y.number == u.number then None else f.unstarted)
-          either true same =
-              let one_of : y ≡ u = same_Some y u (sym st.waits ∙ ap (unstarted_queueing past) (eqb-true y.item.0 i same) ∙ hu) in
-              sym (ap (λ b. if b then None else f.unstarted) (eq-eqb y.number u.number (ap number_of_queueing one_of)))
-          either false other =
-              sym (ap (λ b. if b then None else f.unstarted) (apart y.item.0 i u y hu st.waits (λ same. let bad : true ≡ false = sym (eq-eqb y.item.0 i (sym same)) ∙ other in cc)))
+  gone_or_not f u i hu = elim (start_kind s past e legal) [
+    | none_starts none unstarting ↦ grind arith
+    | one_starts y one st ↦ grind (arith, nat_tests, st.waits, st.number, apart y.item.0 i u y hu st.waits)
+  ]
 
   none_gone : (f : Flight) (o : Option Queueing) (i : ℕ) → f.unstarted ≡ None → (row_started o i f).unstarted ≡ None
   unfolding row_started
-  none_gone f None i none = none
-  none_gone f (Some y) i none = by (y.item.0 == i)
-    where
-      by : (a : Bool) → (if a then with_started f else f).unstarted ≡ None
-      by true = refl
-      by false = none
+  none_gone f o i none = grind arith
 
   unfoldable pub moved : ℕ → Flight
   moved i = row_started (starting past e) i (row_ended e.reply (ending past e) i (flight_of past i))
@@ -159,18 +109,12 @@ module _ (s : Layout) (past : List Entry) (e : Entry) (legal : IsLegal s (e ∷ 
   moved_unstarted i = by (unstarted_queueing past i) refl
     where
       two : (u : Queueing) (b c : Bool) → (if c then None else if b then Some u else None) ≡ (if b && not c then Some u else None)
-      two u true true = refl
-      two u true false = refl
-      two u false true = refl
-      two u false false = refl
+      two u b c = grind arith
 
       by : (o : Option Queueing) → unstarted_queueing past i ≡ o
           → (row_started (starting past e) i (row_ended e.reply (ending past e) i (flight_of past i))).unstarted ≡ still_unstarted past e o
       by None h = none_gone (row_ended e.reply (ending past e) i (flight_of past i)) (starting past e) i (none_left (flight_of past i) e.reply (ending past e) i h)
-      by (Some u) h =
-          gone_or_not (row_ended e.reply (ending past e) i (flight_of past i)) u i h
-          ∙ ap (λ o. if starts u.number e then None else o) (left_or_not (flight_of past i) u i h h)
-          ∙ two u (survives past e u) (starts u.number e)
+      by (Some u) h = rw (gone_or_not (row_ended e.reply (ending past e) i (flight_of past i)) u i h, left_or_not (flight_of past i) u i h h) (two u (survives past e u) (starts u.number e))
 
   -- ---- and what its run is
 
@@ -184,75 +128,24 @@ module _ (s : Layout) (past : List Entry) (e : Entry) (legal : IsLegal s (e ∷ 
   left_run : (i : ℕ)
       → (row_ended e.reply (ending past e) i (flight_of past i)).run ≡ queueing_started (e ∷ past) (if ends_run e (item_run past i) then None else item_run past i)
   unfolding row_ended
-  left_run i = by (end_kind s past e legal) (item_run past i) refl
+  left_run i = by (item_run past i) refl
     where
-      unended : number_finished e.reply ≡ None → (o : Option Start) → item_run past i ≡ o
-          → queueing_started past (item_run past i) ≡ queueing_started (e ∷ past) (if ends_run e o then None else o)
-      unended unfinished None is = ap (queueing_started past) is
-      unended unfinished (Some start) is =
-          ap (queueing_started past) is ∙ sym (run_kept i (Some start) is)
-          ∙ sym (ap (λ p. queueing_started (e ∷ past) (if is_at p start.number then None else Some start)) unfinished)
-
-      ended : (x : Queueing) (a : Bool) (o : Option Start) → (x.item.0 == i) ≡ a → item_run past i ≡ o → number_finished e.reply ≡ Some x.number
-          → IsRun past x
-          → (if a then without_run (flight_of past i) else flight_of past i).run ≡ queueing_started (e ∷ past) (if ends_run e o then None else o)
-      ended x true None same is fin run = refl
-      ended x true (Some start) same is fin run =
-          let one : run.start ≡ start = same_Some run.start start (sym run.is_run ∙ ap (item_run past) (eqb-true x.item.0 i same) ∙ is) in
-          let ends : is_at (number_finished e.reply) start.number ≡ true = ap (λ o. is_at o start.number) fin
-          ∙ eq-eqb x.number start.number (sym run.number ∙ ap (λ (st : Start). st.number) one) in
-          sym (ap (λ b. queueing_started (e ∷ past) (if b then None else Some start)) ends)
-      ended x false None other is fin run = ap (queueing_started past) is
-      ended x false (Some start) other is fin run =
-          let r = runs_are_queueings s past (legal_before s past e legal) i start is in
-          let survivors : is_at (number_finished e.reply) start.number ≡ false = ap (λ o. is_at o start.number) fin ∙ ne_eqb x.number start.number (λ same.
-          let one : x ≡ r.queueing = same_Some x r.queueing (sym run.found ∙ ap (queueing_at past) (run.number ∙ same) ∙ r.found) in
-          let bad : true ≡ false = sym (eq-eqb x.item.0 i (ap (λ (y : Queueing). y.item.0) one ∙ r.item)) ∙ other in
-          cc) in
-          ap (queueing_started past) is ∙ sym (run_kept i (Some start) is)
-          ∙ sym (ap (λ b. queueing_started (e ∷ past) (if b then None else Some start)) survivors)
-
-      unstarted_taken : (a : Bool) → (if a then with_unstarted None (flight_of past i) else flight_of past i).run ≡ queueing_started past (item_run past i)
-      unstarted_taken true = refl
-      unstarted_taken false = refl
-
-      by : EndKind past e → (o : Option Start) → item_run past i ≡ o
+      by : (o : Option Start) → item_run past i ≡ o
           → (row_ended e.reply (ending past e) i (flight_of past i)).run ≡ queueing_started (e ∷ past) (if ends_run e o then None else o)
-      by (none_ends none unfinished) o is = ap (λ p. (row_ended e.reply p i (flight_of past i)).run) none ∙ unended unfinished o is
-      by (run_ends x one fin run) o is =
-          ap (λ p. (row_ended e.reply p i (flight_of past i)).run) one
-          ∙ ap (λ p. (if x.item.0 == i then (if is_some p then without_run (flight_of past i) else with_unstarted None (flight_of past i)) else flight_of past i).run) fin
-          ∙ ended x (x.item.0 == i) o refl is fin run
-      by (unstarted_ends x one unfinished waits) o is =
-          ap (λ p. (row_ended e.reply p i (flight_of past i)).run) one
-          ∙ ap (λ p. (if x.item.0 == i then (if is_some p then without_run (flight_of past i) else with_unstarted None (flight_of past i)) else flight_of past i).run) unfinished
-          ∙ unstarted_taken (x.item.0 == i) ∙ unended unfinished o is
-
-  abbrev after : ℕ → Bool → Option Start
-  after i b = if b then start_in e else if ends_run e (item_run past i) then None else item_run past i
+      by None is = grind (arith, end_kind s past e legal)
+      by (Some start) is = elim (end_kind s past e legal) [
+        | none_ends none unfinished ↦ grind (arith, run_kept i (Some start) is)
+        | run_ends x one fin run ↦ grind (arith, nat_tests, run_kept i (Some start) is, run.is_run, run.number, run.found, runs_are_queueings s past (legal_before s past e legal) i start is)
+        | unstarted_ends x one unfinished waits ↦ grind (arith, run_kept i (Some start) is)
+      ]
 
   pub moved_run : (i : ℕ) → (moved i).run ≡ queueing_started (e ∷ past) (item_run (e ∷ past) i)
   unfolding moved row_started row_ended
-  moved_run i = by (start_kind s past e legal) ∙ sym (ap (queueing_started (e ∷ past)) (items_run_on s past e i legal))
-    where
-      by : StartKind past e
-          → (row_started (starting past e) i (row_ended e.reply (ending past e) i (flight_of past i))).run ≡ queueing_started (e ∷ past) (after i (starts_item past e i))
-      by (none_starts none unstarting) =
-          ap (λ o. (row_started o i (row_ended e.reply (ending past e) i (flight_of past i))).run) none ∙ left_run i
-          ∙ sym (ap (λ b. queueing_started (e ∷ past) (after i b)) (starts_no_item e past i (no_start e unstarting)))
-      by (one_starts y one st) =
-          let start : Start = record { worker = st.worker; number = y.number } in
-          let starts_it : start_in e ≡ Some start = start_of_worker e st.worker y.number st.by_worker st.number in
-          ap (λ o. (row_started o i (row_ended e.reply (ending past e) i (flight_of past i))).run) one ∙ either (y.item.0 == i) refl
-          ∙ sym (ap (λ b. queueing_started (e ∷ past) (after i b)) (starts_its_item e past start i y.item.0 starts_it (found_known past y.number y st.found).item))
-        where
-          old : Flight
-          old = row_ended e.reply (ending past e) i (flight_of past i)
-
-          either : (a : Bool) → (y.item.0 == i) ≡ a → (if a then with_started old else old).run ≡ queueing_started (e ∷ past) (after i a)
-          either true same =
-              let start : Start = record { worker = st.worker; number = y.number } in
-              let starts_it : start_in e ≡ Some start = start_of_worker e st.worker y.number st.by_worker st.number in
-              ap (λ o. (row_ended e.reply o i (flight_of past i)).unstarted) st.ends_none ∙ ap (unstarted_queueing past) (sym (eqb-true y.item.0 i same)) ∙ st.waits
-              ∙ sym (queueing_at-older e past y.number y st.found) ∙ sym (ap (queueing_started (e ∷ past)) starts_it)
-          either false other = left_run i
+  moved_run i = elim (start_kind s past e legal) [
+    | none_starts none unstarting ↦ grind (arith, left_run i, items_run_on s past e i legal, starts_no_item e past i (no_start e unstarting))
+    | one_starts y one st ↦
+        let start : Start = record { worker = st.worker; number = y.number } in
+        let starts_it : start_in e ≡ Some start = start_of_worker e st.worker y.number st.by_worker st.number in
+        let its = starts_its_item e past start i y.item.0 starts_it (found_known past y.number y st.found).item in
+        grind (arith, nat_tests, left_run i, items_run_on s past e i legal, starts_it, its, st.waits, st.ends_none, queueing_at-older e past y.number y st.found)
+  ]

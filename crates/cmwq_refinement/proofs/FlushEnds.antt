@@ -1,27 +1,20 @@
 -- A flush whose end is answered done stands in the book and is ready.
-use Rattle.cmwq_refinement.specs.Common.{◌≡◌, ℕ, true, List, ◌∷◌, Option, Some, None, refl, sym, ap, ◌∙◌, subst, Contains, if◌then◌else◌, option_map, option_and_then, option_or, eqb-true, same_Some, Call, Entry, Queueing, Ticket, Layout, item_of, number_finished, number_cancelled, replaces, opens, opening, place_wanted, queued_at, unstarted_queueing, flushes, is_flush_of, ticket_of, unended_tickets, is_done, waits_for, IsLegal, ending, ticket_ended, ticket_asked, ends_which, FlushBook, flush_tickets}
+use Rattle.cmwq_refinement.specs.Common.{◌≡◌, ℕ, true, List, ◌∷◌, Some, None, refl, sym, ◌∙◌, Contains, eqb-true, same_Some, Call, Entry, Ticket, Layout, opening, flushes, is_flush_of, ticket_of, unended_tickets, waits_for, IsLegal, ending, ticket_ended, ends_which, FlushBook, flush_tickets, arith}
+use Rattle.cmwq_refinement.proofs.Numbers.{In, in_contained}
 use Rattle.cmwq_model.specs.declared.call.Call.TheVariants as call
 use Rattle.cmwq_model.specs.declared.reply.Reply.TheVariants as reply
 use Rattle.cmwq_theory_steps.proofs.Done.{ends_ticket}
 use Rattle.cmwq_flush.specs.FlushBook.{IsReady}
 use Rattle.cmwq_refinement.specs.FlushBooks.{AreFlushes}
-use Rattle.cmwq_lemmas.proofs.Members.{In, in_contained}
 use Rattle.cmwq_refinement.proofs.TicketSteps.{TicketStep, ticket_step, ends_one, ends_none, ends_it}
 use Rattle.cmwq_refinement.proofs.FlushReads.{unended_flushes_stand, ready_flushes_wait_for_nothing}
 
 -- what is done neither ends nor opens a queueing
 done_opens : (past : List Entry) (e : Entry) → e.reply ≡ reply.Done → opening past e ≡ None
-done_opens past e done = ap (λ r. if opens r then option_and_then (λ i. option_map (queued_at past i) (place_wanted past e.call i)) (item_of e) else None) done
+done_opens past e done = rw done refl
 
 done_ends : (s : Layout) (past : List Entry) (e : Entry) → IsLegal s (e ∷ past) → e.reply ≡ reply.Done → ending past e ≡ None
-done_ends s past e legal done = by (ending past e) (ends_which s past e legal ∙ ap (λ r. option_or (number_finished r) (option_or (number_cancelled r) (if replaces r then replaced else None))) done)
-  where
-    replaced : Option ℕ
-    replaced = option_and_then (λ i. option_map (λ (x : Queueing). x.number) (unstarted_queueing past i)) (item_of e)
-
-    by : (o : Option Queueing) → option_map (λ (x : Queueing). x.number) o ≡ None → o ≡ None
-    by None h = refl
-    by (Some x) h = cc
+done_ends s past e legal done = grind (arith, ends_which s past e legal)
 
 -- the ticket that is ended stands, and waits for nothing
 pub record IsEnded (past : List Entry) (e : Entry) (t : Ticket) : Type 0 where
@@ -34,19 +27,14 @@ pub ended_ready : (s : Layout) (past : List Entry) (e : Entry) (t : Ticket) → 
 ended_ready s past e t legal h = which (ticket_step past e)
   where
     which : TicketStep past e → IsEnded past e t
-    which (ends_none is all) = let bad : None ≡ Some t = sym is ∙ h in cc
+    which (ends_none is all) = cc
     which (ends_one u is here it) =
         let same : u ≡ t = same_Some u t (sym is ∙ h) in
         let end = ends_it e u it in
         let done = ends_ticket s past e u.number legal (end.call, end.reply) in
-        let asked : ticket_ended past e ≡ ticket_of past e.who u.number = ap (λ r. if is_done r then ticket_asked past e.who e.call else None) end.reply ∙ ap (ticket_asked past e.who) end.call in
+        let asked : ticket_ended past e ≡ ticket_of past e.who u.number = rw (end.reply, end.call) refl in
         let one : done.ticket ≡ t = same_Some done.ticket t (sym done.found ∙ sym asked ∙ h) in
-        record {
-          stands = subst (λ v. In v (unended_tickets past)) same here;
-          ready = subst (λ (v : Ticket). waits_for past v.number v.call ≡ None) one done.ready;
-          ends_none = done_ends s past e legal end.reply;
-          opens_none = done_opens past e end.reply;
-        }
+        record { stands = rw same at here; ready = rw one at done.ready; ends_none = done_ends s past e legal end.reply; opens_none = done_opens past e end.reply }
 
 pub done_flushes_may_end : (s : Layout) (past : List Entry) (e : Entry) (q : ℕ) (b : FlushBook) (t : Ticket) → IsLegal s (e ∷ past) → AreFlushes s past q b → ticket_ended past e ≡ Some t → is_flush_of q t ≡ true
     → Contains (flush_tickets b) t.number × IsReady b t.number
@@ -59,5 +47,5 @@ done_flushes_may_end s past e q b t legal is h flush = (stands, by t.call flush 
     stands = unended_flushes_stand s past q b t is (in_contained (unended_tickets past) t k.stands) flush
 
     by : (c : Call) → flushes q c ≡ true → waits_for past t.number c ≡ None → IsReady b t.number
-    by (call.Flush r) same ready = (ready_flushes_wait_for_nothing s past r b t.number (subst (λ j. AreFlushes s past j b) (sym (eqb-true r.0 q same)) is) stands).1 ready
+    by (call.Flush r) same ready = (ready_flushes_wait_for_nothing s past r b t.number (rw (eqb-true r.0 q same) is) stands).1 ready
     by c same ready = cc

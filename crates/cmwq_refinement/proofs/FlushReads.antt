@@ -1,12 +1,9 @@
 -- What a flush book answers is what the definitions say.
-use Rattle.cmwq_refinement.specs.Common.{◌≡◌, ◌<◌, ◌≤◌, ◌↔◌, ℕ, Bool, true, false, cond, List, [], ◌∷◌, map, filter, find, count_by, Option, Some, None, nat_lt, nat_le, refl, sym, ap, ◌∙◌, subst, arith, ⊎_elim, option_map, slice_get, Contains, All, MatchOption, AllByRecursion, eqb-true, eq-eqb, ltb-false, le-ltb, leb-true, le-leb, false≢true, recursion_from_All, All-from_recursion, QueueId, Entry, Queueing, Ticket, Layout, still_open, unended_tickets, is_flush_of, serving_from, is_within, is_older_flush, waits_for, Served, tickets_of_served, has_ticket, FlushBook, flush_tickets, served_of, All_map, find_none, none_found}
+use Rattle.cmwq_refinement.specs.Common.{◌≡◌, ◌<◌, ◌≤◌, ◌↔◌, ℕ, Bool, true, false, cond, List, [], ◌∷◌, filter, find, count_by, Option, Some, None, nat_lt, nat_le, refl, sym, ap, ◌∙◌, subst, arith, ⊎_elim, option_map, slice_get, Contains, All, MatchOption, AllByRecursion, eqb-true, ltb-false, le-ltb, QueueId, Entry, Ticket, Layout, still_open, unended_tickets, is_flush_of, serving_from, is_within, is_older_flush, waits_for, Served, tickets_of_served, has_ticket, FlushBook, flush_tickets, served_of, find_none, nat_tests}
+use Rattle.cmwq_refinement.proofs.Numbers.{In, RisesBy, all_unfound, contained_in, filter_in, find_number, find_same, first_number, found, in_append, in_contained, in_mapped, itself, number_of_queueing, number_of_ticket, numbers_rise, of_in, rises_filter}
 use Rattle.cmwq_model.specs.declared.call.Call.TheVariants as call
 use Rattle.cmwq_flush.specs.FlushBook.{IsReady}
-use Rattle.cmwq_refinement.specs.ByNumber.{number_of_queueing, number_of_ticket}
 use Rattle.cmwq_refinement.specs.FlushBooks.{is_on_queue, open_numbers, IsServedFrom, AreFlushes}
-use Rattle.cmwq_lemmas.proofs.Members.{In, of_in, filter_in, in_append, found, contained_in, in_contained}
-use Rattle.cmwq_lemmas.proofs.Rising.{RisesBy, rises_filter}
-use Rattle.cmwq_refinement.proofs.Numbers.{itself, numbers_rise, numbers_have, find_number, find_agree}
 use Rattle.cmwq_refinement.proofs.QueueingSteps.{open_numbers_rise}
 use Rattle.cmwq_refinement.proofs.FlushSteps.{few_are_older, many_are_older}
 
@@ -18,48 +15,36 @@ waits_of_served : (past : List Entry) (q : QueueId) (b : FlushBook) (t : ℕ) (f
     → waits_for past t (call.Flush q) ≡ find (λ n. nat_lt n f.bound) b.opened
 waits_of_served past q b t f opened ticket h =
     waits_by_number past q b t opened ∙ ap (λ o. find (is_within o) b.opened) (ap (serving_from past q.0) (sym ticket) ∙ h.is_served)
-    ∙ sym (find_agree (λ n. nat_lt n f.bound) (λ n. nat_le n h.position) b.opened h.same)
-
-waits_in_overflow : (past : List Entry) (q : QueueId) (b : FlushBook) (t : ℕ) → b.opened ≡ open_numbers past q.0 → serving_from past q.0 t ≡ None → waits_for past t (call.Flush q) ≡ find (λ n. true) b.opened
-waits_in_overflow past q b t opened unserved = waits_by_number past q b t opened ∙ ap (λ o. find (is_within o) b.opened) unserved
+    ∙ sym (find_same (λ n. nat_lt n f.bound) (λ n. nat_le n h.position) b.opened h.same)
 
 empty_waits : (ns : List ℕ) → (ns ≡ []) ↔ (find (λ n. true) ns ≡ None)
 empty_waits [] = ((λ h. refl), (λ h. refl))
 empty_waits (n ∷ ns) = ((λ h. cc), (λ h. cc))
-
-both_ways : (P : Type 0) (a b : Option ℕ) → a ≡ b → P ↔ (b ≡ None) → P ↔ (a ≡ None)
-both_ways P a b same h = ((λ p. same ∙ h.0 p), (λ none. h.1 (sym same ∙ none)))
-
-bounded_waits : (bound : ℕ) (ns : List ℕ) → (All (λ n. bound ≤ n) ns) ↔ (find (λ n. nat_lt n bound) ns ≡ None)
-bounded_waits bound ns = (
-  (λ all. none_found (λ n. nat_lt n bound) ns (All_map (λ n. bound ≤ n) (λ n. nat_lt n bound ≡ false) ns (λ n le. le-ltb n bound le) (recursion_from_All (λ n. bound ≤ n) ns all))),
-  (λ none. All-from_recursion (λ n. bound ≤ n) ns (All_map (λ n. nat_lt n bound ≡ false) (λ n. bound ≤ n) ns (λ n h. ltb-false n bound h) (find_none (λ n. nat_lt n bound) ns none))),
-)
 
 in_overflow : (b : FlushBook) (t : ℕ) → served_of b t ≡ None → In t (flush_tickets b) → In t b.overflow
 in_overflow b t none here = ⊎_elim (λ i. absurd (not_served b.served (find_none (has_ticket t) b.served none) i)) (λ o. o) (in_append (tickets_of_served b.served) b.overflow t here)
   where
     not_served : (fs : List Served) → AllByRecursion (λ f. has_ticket t f ≡ false) fs → In t (tickets_of_served fs) → ⊥
     not_served [] h i = i
-    not_served (f ∷ fs) h i = ⊎_elim (λ e. let has : has_ticket t f ≡ true = eq-eqb f.ticket t e in let not_so = h.0 in absurd (false≢true (sym not_so ∙ has))) (λ k. not_served fs h.1 k) i
+    not_served (f ∷ fs) h i = grind (arith, nat_tests, not_served fs)
 
 pub ready_flushes_wait_for_nothing : (s : Layout) (past : List Entry) (q : QueueId) (b : FlushBook) (t : ℕ) → AreFlushes s past q.0 b → Contains (flush_tickets b) t → IsReady b t ↔ (waits_for past t (call.Flush q) ≡ None)
 ready_flushes_wait_for_nothing s past q b t is here = by (served_of b t) refl
   where
     by : (o : Option Served) → served_of b t ≡ o → MatchOption o (b.opened ≡ []) (λ f. All (λ n. f.bound ≤ n) b.opened) ↔ (waits_for past t (call.Flush q) ≡ None)
     by None none =
-        let over = in_overflow b t none (contained_in (flush_tickets b) t here) in
-        both_ways (b.opened ≡ []) (waits_for past t (call.Flush q)) (find (λ n. true) b.opened) (waits_in_overflow past q b t is.opened (of_in (λ u. serving_from past q.0 u ≡ None) b.overflow t is.overflowed over)) (empty_waits b.opened)
+        let over = of_in (λ u. serving_from past q.0 u ≡ None) b.overflow t is.overflowed (in_overflow b t none (contained_in (flush_tickets b) t here)) in
+        rw (waits_by_number past q b t is.opened, over) (empty_waits b.opened)
     by (Some f) some =
         let k = found (has_ticket t) b.served f some in
-        both_ways (All (λ n. f.bound ≤ n) b.opened) (waits_for past t (call.Flush q)) (find (λ n. nat_lt n f.bound) b.opened)
-        (waits_of_served past q b t f is.opened (eqb-true f.ticket t k.1) (of_in (IsServedFrom past q.0 b.opened) b.served f is.served_from k.0)) (bounded_waits f.bound b.opened)
+        rw (waits_of_served past q b t f is.opened (eqb-true f.ticket t k.1) (of_in (IsServedFrom past q.0 b.opened) b.served f is.served_from k.0))
+        (all_unfound (λ n. f.bound ≤ n) (λ n. nat_lt n f.bound) b.opened (λ n le. le-ltb n f.bound le) (λ n h. ltb-false n f.bound h))
 
 -- ---- what stands
 
 pub unended_flushes_stand : (s : Layout) (past : List Entry) (q : ℕ) (b : FlushBook) (t : Ticket) → AreFlushes s past q b → Contains (unended_tickets past) t → is_flush_of q t ≡ true → Contains (flush_tickets b) t.number
 unended_flushes_stand s past q b t is here flush =
-    in_contained (flush_tickets b) t.number (subst (In t.number) (sym is.flushes) (numbers_have number_of_ticket (filter (is_flush_of q) (unended_tickets past)) t (filter_in (is_flush_of q) (unended_tickets past) t (contained_in (unended_tickets past) t here) flush)))
+    in_contained (flush_tickets b) t.number (subst (In t.number) (sym is.flushes) (in_mapped number_of_ticket (filter (is_flush_of q) (unended_tickets past)) t (filter_in (is_flush_of q) (unended_tickets past) t (contained_in (unended_tickets past) t here) flush)))
 
 -- ---- who is in overflow
 
@@ -73,8 +58,7 @@ overflowed_are_behind_fifteen s past q b t is here = (
 -- ---- the least
 
 within_less : (o : Option ℕ) (m n : ℕ) → m < n → is_within o n ≡ true → is_within o m ≡ true
-within_less None m n less h = refl
-within_less (Some p) m n less h = let le = leb-true n p h in le-leb m p (omega arith)
+within_less o m n less h = grind (arith, nat_tests)
 
 least_first : (o : Option ℕ) (ns : List ℕ) (n : ℕ) → RisesBy itself ns → find (is_within o) ns ≡ Some n → slice_get ns 0 ≡ Some n
 least_first o [] n rise h = cc
@@ -82,10 +66,7 @@ least_first o (m ∷ ms) n rise h = here (is_within o m) refl h
   where
     here : (c : Bool) → is_within o m ≡ c → cond c (Some m) (find (is_within o) ms) ≡ Some n → Some m ≡ Some n
     here true is k = k
-    here false is k =
-        let l = found (is_within o) ms n k in
-        let less = of_in (λ x. m < x) ms n rise.0 l.0 in
-        absurd (false≢true (sym is ∙ within_less o m n less l.1))
+    here false is k = let l = found (is_within o) ms n k in cc (within_less o m n (of_in (λ x. m < x) ms n rise.0 l.0) l.1)
 
 opened_rise : (past : List Entry) (q : ℕ) → RisesBy itself (open_numbers past q)
 opened_rise past q = numbers_rise number_of_queueing (filter (is_on_queue q) (still_open past)) (rises_filter number_of_queueing (is_on_queue q) (still_open past) (open_numbers_rise past))
@@ -96,18 +77,9 @@ flushes_wait_for_least_open s past q b t n is here waits =
 
 -- ---- drains
 
-first_number : (p : Queueing → Bool) (xs : List Queueing) → option_map number_of_queueing (find p xs) ≡ slice_get (map number_of_queueing (filter p xs)) 0
-first_number p [] = refl
-first_number p (x ∷ xs) = here (p x) (first_number p xs)
-  where
-    here : (c : Bool) → option_map number_of_queueing (find p xs) ≡ slice_get (map number_of_queueing (filter p xs)) 0
-        → option_map number_of_queueing (cond c (Some x) (find p xs)) ≡ slice_get (map number_of_queueing (cond c (x ∷ filter p xs) (filter p xs))) 0
-    here true later = refl
-    here false later = later
-
 pub drains_wait_for_least_open : (s : Layout) (past : List Entry) (q : QueueId) (b : FlushBook) (t : ℕ) → AreFlushes s past q.0 b
     → (waits_for past t (call.Drain q) ≡ slice_get b.opened 0) × (waits_for past t (call.Destroy q) ≡ slice_get b.opened 0)
 drains_wait_for_least_open s past q b t is = (least, least)
   where
     least : option_map number_of_queueing (find (is_on_queue q.0) (still_open past)) ≡ slice_get b.opened 0
-    least = first_number (is_on_queue q.0) (still_open past) ∙ ap (λ ns. slice_get ns 0) (sym is.opened)
+    least = first_number number_of_queueing (is_on_queue q.0) (still_open past) ∙ ap (λ ns. slice_get ns 0) (sym is.opened)

@@ -1,10 +1,9 @@
 -- What the open numbers of items answer is what the definitions say.
-use Rattle.cmwq_refinement.specs.Common.{◌≡◌, ◌<◌, ◌↔◌, ℕ, false, ◌&&◌, List, find, Option, None, nat_le, sym, ap, ◌∙◌, option_map, All, lt-leb, leb-false, recursion_from_All, All-from_recursion, ItemId, Entry, Layout, still_open, is_of, waits_for, All_map, find_none, none_found, numbers_open, is_up_to, IsItemReady}
+use Rattle.cmwq_refinement.specs.Common.{◌≡◌, ◌<◌, ◌↔◌, ℕ, ◌&&◌, List, find, None, nat_le, sym, ap, ◌∙◌, option_map, lt-leb, leb-false, ItemId, Entry, Layout, still_open, is_of, waits_for, numbers_open, is_up_to, IsItemReady}
+use Rattle.cmwq_refinement.proofs.Numbers.{all_unfound, find_number, number_of_queueing}
 use Rattle.cmwq_model.specs.declared.call.Call.TheVariants as call
 use Rattle.cmwq_flush.specs.ItemNumbers.{item_waits_for}
-use Rattle.cmwq_refinement.specs.ByNumber.{number_of_queueing}
 use Rattle.cmwq_refinement.specs.ItemNumbers.{numbers_of}
-use Rattle.cmwq_refinement.proofs.Numbers.{find_number}
 use Rattle.cmwq_refinement.proofs.ItemNumberSteps.{item_row}
 
 module _ (s : Layout) (past : List Entry) (i : ItemId) (t : ℕ) (there : i.0 < s.items) where
@@ -14,20 +13,9 @@ module _ (s : Layout) (past : List Entry) (i : ItemId) (t : ℕ) (there : i.0 < 
   pub items_wait_for_least : (item_waits_for (numbers_of s past) i.0 t ≡ waits_for past t (call.FlushItem i)) × (item_waits_for (numbers_of s past) i.0 t ≡ waits_for past t (call.FlushDelayed i))
   items_wait_for_least = (waits, waits)
 
-ready_numbers : (t : ℕ) (ns : List ℕ) → (All (λ n. t < n) ns) ↔ (find (is_up_to t) ns ≡ None)
-ready_numbers t ns = (
-  (λ all. none_found (is_up_to t) ns (All_map (λ n. t < n) (λ n. is_up_to t n ≡ false) ns (λ n less. lt-leb n t less) (recursion_from_All (λ n. t < n) ns all))),
-  (λ none. All-from_recursion (λ n. t < n) ns (All_map (λ n. is_up_to t n ≡ false) (λ n. t < n) ns (λ n h. leb-false n t h) (find_none (is_up_to t) ns none))),
-)
-
-told : (P : Type 0) (a b : Option ℕ) → a ≡ b → P ↔ (a ≡ None) → P ↔ (b ≡ None)
-told P a b same h = ((λ p. sym same ∙ h.0 p), (λ none. h.1 (same ∙ none)))
-
 pub ready_items_wait_for_nothing : (s : Layout) (past : List Entry) (i : ItemId) (t : ℕ) → i.0 < s.items
     → (IsItemReady (numbers_of s past) i.0 t ↔ (waits_for past t (call.FlushItem i) ≡ None)) × (IsItemReady (numbers_of s past) i.0 t ↔ (waits_for past t (call.FlushDelayed i) ≡ None))
 ready_items_wait_for_nothing s past i t there =
-    let ready = ready_numbers t (numbers_open (numbers_of s past) i.0) in
-    let least = items_wait_for_least s past i t there in (
-      told (IsItemReady (numbers_of s past) i.0 t) (item_waits_for (numbers_of s past) i.0 t) (waits_for past t (call.FlushItem i)) least.0 ready,
-      told (IsItemReady (numbers_of s past) i.0 t) (item_waits_for (numbers_of s past) i.0 t) (waits_for past t (call.FlushDelayed i)) least.1 ready,
-    )
+    let ready = all_unfound (λ n. t < n) (is_up_to t) (numbers_open (numbers_of s past) i.0) (λ n less. lt-leb n t less) (λ n h. leb-false n t h) in
+    let least = items_wait_for_least s past i t there in
+    (rw (← least.0) ready, rw (← least.1) ready)

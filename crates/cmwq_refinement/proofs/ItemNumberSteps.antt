@@ -1,8 +1,7 @@
 -- The open numbers of items refine a history, entry by entry.
-use Rattle.cmwq_refinement.specs.Common.{◌≡◌, ◌≢◌, ◌==◌, ◌<◌, ℕ, false, cond, List, [], ◌∷◌, ◌++◌, length, map, filter, set, get_or, replicate, Option, Some, None, option_to_list, refl, sym, ap, ◌∙◌, arith, append-nil, range_with_len, eq-eqb, ne_eqb, map-append, length-range_with_len, length-map-range_with_len, get_or-map-range_with_len, filter-append, Entry, Queueing, Layout, queueings, still_open, opening, is_of, IsLegal, survives, ending, open_go_on, without, numbers_open}
-use Rattle.cmwq_refinement.specs.ByNumber.{number_of_queueing}
+use Rattle.cmwq_refinement.specs.Common.{◌≡◌, ◌≢◌, ◌==◌, ◌<◌, ℕ, false, List, [], ◌∷◌, ◌++◌, length, map, filter, replicate, Option, Some, None, option_to_list, refl, sym, ap, ◌∙◌, arith, append-nil, range_with_len, eq-eqb, ne_eqb, map-append, length-map-range_with_len, get_or-map-range_with_len, filter-append, Entry, Queueing, Layout, queueings, still_open, opening, is_of, IsLegal, survives, ending, open_go_on, without, numbers_open}
+use Rattle.cmwq_refinement.proofs.Numbers.{filter_all, number_of_queueing, numbers_lack, numbers_without, rows_alike}
 use Rattle.cmwq_refinement.specs.ItemNumbers.{item_numbers, numbers_of, numbers_after_end, numbers_after_opening, numbers_after}
-use Rattle.cmwq_refinement.proofs.Numbers.{numbers_without, numbers_lack, filter_goes_on}
 use Rattle.cmwq_refinement.proofs.TimerSteps.{set_row, same_rows}
 use Rattle.cmwq_refinement.proofs.PlacesFit.{open_there, opened_are_there}
 use Rattle.cmwq_refinement.proofs.QueueingSteps.{QueueingStep, queueing_step, open_numbers_rise}
@@ -22,17 +21,11 @@ not_its i j differs = ne_eqb i j (λ same. differs (sym same))
 
 rows_ended : (s : Layout) (past : List Entry) (e : Entry) → IsLegal s past → QueueingStep past e → map (left_numbers past e) (range_with_len 0 s.items) ≡ numbers_after_end (ending past e) (numbers_of s past)
 unfolding left_numbers
-rows_ended s past e legal (queueing.ends_none is all) =
-    same_rows (item_numbers past) (left_numbers past e) (range_with_len 0 s.items) (λ j. ap (λ xs. map number_of_queueing (filter (is_of j) xs)) (filter_goes_on number_of_queueing (survives past e) (still_open past) all))
-    ∙ sym (ap (λ o. numbers_after_end o (numbers_of s past)) is)
+rows_ended s past e legal (queueing.ends_none is all) = rw (is, left_numbers, filter_all (survives past e) (still_open past) all) refl
 rows_ended s past e legal (queueing.ends_one x is here all) =
-    set_row (item_numbers past) (left_numbers past e) s.items x.item.0 (without x.number (numbers_open (numbers_of s past) x.item.0))
-    (numbers_without number_of_queueing (is_of x.item.0) (survives past e) x.number (still_open past) all ∙ ap (without x.number) (sym row))
-    (λ j differs. numbers_without number_of_queueing (is_of j) (survives past e) x.number (still_open past) all ∙ numbers_lack number_of_queueing (is_of j) x (still_open past) (open_numbers_rise past) here (not_its x.item.0 j differs))
-    ∙ sym (ap (λ o. numbers_after_end o (numbers_of s past)) is)
-  where
-    row : numbers_open (numbers_of s past) x.item.0 ≡ item_numbers past x.item.0
-    row = item_row s past x.item.0 (open_there s past x legal here).item
+    rw is (set_row (item_numbers past) (left_numbers past e) s.items x.item.0 (without x.number (numbers_open (numbers_of s past) x.item.0))
+    (numbers_without number_of_queueing (is_of x.item.0) (survives past e) x.number (still_open past) all ∙ ap (without x.number) (sym (item_row s past x.item.0 (open_there s past x legal here).item)))
+    (λ j differs. numbers_without number_of_queueing (is_of j) (survives past e) x.number (still_open past) all ∙ numbers_lack number_of_queueing (is_of j) x (still_open past) (open_numbers_rise past) here (not_its x.item.0 j differs)))
 
 after_numbers : List Entry → Entry → Option Queueing → ℕ → List ℕ
 after_numbers past e o i = left_numbers past e i ++ map number_of_queueing (filter (is_of i) (option_to_list o))
@@ -42,19 +35,12 @@ rows_opened : (s : Layout) (past : List Entry) (e : Entry) (o : Option Queueing)
 unfolding after_numbers
 rows_opened s past e None b there is = same_rows (left_numbers past e) (after_numbers past e None) (range_with_len 0 s.items) (λ j. append-nil (left_numbers past e j)) ∙ is
 rows_opened s past e (Some x) b there is =
-    set_row (left_numbers past e) (after_numbers past e (Some x)) s.items x.item.0 (numbers_open b x.item.0 ++ x.number ∷ [])
-    (ap (λ c. left_numbers past e x.item.0 ++ map number_of_queueing (cond c (x ∷ []) [])) (eq-eqb x.item.0 x.item.0 refl) ∙ ap (λ ns. ns ++ x.number ∷ []) (sym row))
-    (λ j differs. ap (λ c. left_numbers past e j ++ map number_of_queueing (cond c (x ∷ []) [])) (not_its x.item.0 j differs) ∙ append-nil (left_numbers past e j))
-    ∙ ap (λ rows. set rows x.item.0 (numbers_open b x.item.0 ++ x.number ∷ [])) is
-  where
-    row : numbers_open b x.item.0 ≡ left_numbers past e x.item.0
-    row = ap (λ rows. get_or rows x.item.0 []) (sym is) ∙ get_or-map-range_with_len (left_numbers past e) 0 s.items x.item.0 x.item.0 [] (there x refl) (omega arith)
+    rw (← is) (set_row (left_numbers past e) (after_numbers past e (Some x)) s.items x.item.0 (numbers_open (map (left_numbers past e) (range_with_len 0 s.items)) x.item.0 ++ x.number ∷ [])
+    (rw (eq-eqb x.item.0 x.item.0 refl, get_or-map-range_with_len (left_numbers past e) 0 s.items x.item.0 x.item.0 [] (there x refl) (omega arith)) refl) (λ j differs. rw (not_its x.item.0 j differs, append-nil) refl))
 
 item_numbers_after : (s : Layout) (past : List Entry) (e : Entry) (i : ℕ) → IsLegal s (e ∷ past) → item_numbers (e ∷ past) i ≡ after_numbers past e (opening past e) i
 unfolding after_numbers left_numbers
-item_numbers_after s past e i legal =
-    ap (λ xs. map number_of_queueing (filter (is_of i) xs)) (open_go_on s past e legal) ∙ ap (map number_of_queueing) (filter-append (is_of i) (filter (survives past e) (still_open past)) (option_to_list (opening past e)))
-    ∙ map-append number_of_queueing (filter (is_of i) (filter (survives past e) (still_open past))) (filter (is_of i) (option_to_list (opening past e)))
+item_numbers_after s past e i legal = rw (open_go_on s past e legal, filter-append, map-append) refl
 
 -- after what ended each item has a row still, and what is opened comes after what is left in its row
 pub ended_rows : (s : Layout) (past : List Entry) (e : Entry) → IsLegal s (e ∷ past) → length (numbers_after_end (ending past e) (numbers_of s past)) ≡ s.items
@@ -64,11 +50,8 @@ ended_rows s past e legal = sym (ap length (rows_ended s past e legal.2 (queuein
 pub opened_row : (s : Layout) (past : List Entry) (e : Entry) (x : Queueing) → IsLegal s (e ∷ past) → opening past e ≡ Some x → item_numbers (e ∷ past) x.item.0 ≡ numbers_open (numbers_after_end (ending past e) (numbers_of s past)) x.item.0 ++ x.number ∷ []
 unfolding after_numbers IsLegal
 opened_row s past e x legal h =
-    item_numbers_after s past e x.item.0 legal ∙ ap (λ o. left_numbers past e x.item.0 ++ map number_of_queueing (filter (is_of x.item.0) (option_to_list o))) h
-    ∙ ap (λ c. left_numbers past e x.item.0 ++ map number_of_queueing (cond c (x ∷ []) [])) (eq-eqb x.item.0 x.item.0 refl) ∙ ap (λ ns. ns ++ x.number ∷ []) (sym row)
-  where
-    row : numbers_open (numbers_after_end (ending past e) (numbers_of s past)) x.item.0 ≡ left_numbers past e x.item.0
-    row = ap (λ rows. get_or rows x.item.0 []) (sym (rows_ended s past e legal.2 (queueing_step s past e legal))) ∙ get_or-map-range_with_len (left_numbers past e) 0 s.items x.item.0 x.item.0 [] (opened_are_there s past e x legal h).item (omega arith)
+    let row = get_or-map-range_with_len (left_numbers past e) 0 s.items x.item.0 x.item.0 [] (opened_are_there s past e x legal h).item (omega arith) in
+    item_numbers_after s past e x.item.0 legal ∙ rw (h, eq-eqb x.item.0 x.item.0 refl, ← rows_ended s past e legal.2 (queueing_step s past e legal), row) refl
 
 -- ---- together
 
@@ -78,10 +61,6 @@ numbers_refine s past e legal =
     same_rows (after_numbers past e (opening past e)) (item_numbers (e ∷ past)) (range_with_len 0 s.items) (λ j. item_numbers_after s past e j legal)
     ∙ rows_opened s past e (opening past e) (numbers_after_end (ending past e) (numbers_of s past)) (λ x h. (opened_are_there s past e x legal h).item) (rows_ended s past e legal.2 (queueing_step s past e legal))
 
-none_open : (xs : List ℕ) → map (item_numbers []) xs ≡ replicate (length xs) []
-unfolding queueings
-none_open [] = refl
-none_open (x ∷ xs) = ap (λ ys. [] ∷ ys) (none_open xs)
-
 pub numbers_at_first : (s : Layout) → numbers_of s [] ≡ replicate s.items []
-numbers_at_first s = none_open (range_with_len 0 s.items) ∙ ap (λ n. replicate n []) (length-range_with_len 0 s.items)
+unfolding queueings
+numbers_at_first s = rows_alike (item_numbers []) [] s.items (λ i. refl)

@@ -1,57 +1,44 @@
 -- An item has two open queueings at most: its run, and after that one which hasn't started.
-use Rattle.cmwq_refinement.specs.Common.{◌≡◌, ◌==◌, ◌<◌, ℕ, Bool, true, false, not, ◌&&◌, ◌||◌, List, [], ◌∷◌, ◌++◌, length, map, filter, Option, Some, None, option_to_list, refl, sym, ap, ap₂, ◌∙◌, subst, arith, inl, inr, ◌⊎◌, ⊎_elim, option_map, eqb-true, eq-eqb, and_parts, not-true, false≢true, false_from_ne_true, same_Some, Entry, Queueing, Start, Layout, item_at, starts, is_started, is_open, item_run, queueings, has_number, is_live, still_open, opening, is_of, is_unstarted, unstarted_queueing, IsLegal, survives, opening_number, queueings_below, IsKnown, queueings_known, open_go_on, not_started_yet, items_are_run, last_started, run_is, found_known, found_number, starts_listed, runs_are_in_pools, unstarted_alone}
+use Rattle.cmwq_refinement.specs.Common.{◌≡◌, ◌==◌, ◌<◌, ℕ, true, false, not, List, [], ◌∷◌, ◌++◌, length, map, filter, Option, Some, None, option_to_list, refl, sym, ap, ◌∙◌, arith, inl, inr, ◌⊎◌, ⊎_elim, option_map, eqb-true, eq-eqb, and_parts, not-true, false_from_ne_true, same_Some, Entry, Queueing, Start, Layout, item_at, starts, is_started, is_open, item_run, queueings, has_number, is_live, still_open, opening, is_of, is_unstarted, unstarted_queueing, IsLegal, survives, opening_number, queueings_below, IsKnown, queueings_known, open_go_on, not_started_yet, items_are_run, last_started, run_is, found_known, found_number, starts_listed, runs_are_in_pools, unstarted_alone}
+use Rattle.cmwq_refinement.proofs.Numbers.{In, RisesBy, filter_in, found, in_append, in_filter, in_option, number_of_queueing, of_in, or_from, or_right, rises_filter, true_from_ne_false}
 use Rattle.cmwq_theory_steps.proofs.OneRun.{started_runs}
-use Rattle.cmwq_refinement.specs.ByNumber.{number_of_queueing}
 use Rattle.cmwq_refinement.specs.ItemNumbers.{item_numbers}
-use Rattle.cmwq_lemmas.proofs.Members.{In, of_in, in_append, in_filter, filter_in, in_option, found}
-use Rattle.cmwq_lemmas.proofs.Rising.{RisesBy, rises_filter}
 use Rattle.cmwq_refinement.proofs.QueueingSteps.{open_numbers_rise}
-use Rattle.std.proofs.lemmas.Bool.{true_from_ne_false}
 
 -- ---- of two open queueings of an item the older has started
 
 -- what is opened hasn't started
 opened_unstarted : (s : Layout) (past : List Entry) (e : Entry) → IsLegal s (e ∷ past) → is_started (e ∷ past) (length past) ≡ false
 unfolding IsLegal
-opened_unstarted s past e legal = ap₂ (λ a b. a || b) not_now (not_started_yet s past (length past) legal.2 (omega arith))
-  where
-    not_now : starts (length past) e ≡ false
-    not_now = false_from_ne_true (starts (length past) e) (λ h.
-        let st = starts_listed s past e (length past) legal h in
-        let older : st.queueing.number < length past = (found_known past (length past) st.queueing st.found).older in
-        let number = st.number in
-        absurd (omega arith))
+opened_unstarted s past e legal = or_from (starts (length past) e) (is_started past (length past)) (false_from_ne_true (starts (length past) e) (λ h.
+    let st = starts_listed s past e (length past) legal h in
+    absurd (omega (arith, (found_known past (length past) st.queueing st.found).older, st.number)))) (not_started_yet s past (length past) legal.2 (omega arith))
+
+-- an item's open queueing that hasn't started is its unstarted one
+pub unstarted_one : (s : Layout) (past : List Entry) (i : ℕ) (x : Queueing) → IsLegal s past → In x (still_open past) → x.item.0 ≡ i → is_started past x.number ≡ false → unstarted_queueing past i ≡ Some x
+unstarted_one s past i x legal here item idle = of_in (λ w. is_unstarted past i w ≡ true → unstarted_queueing past i ≡ Some w) (still_open past) x (unstarted_alone s past i legal) here (rw (eq-eqb x.item.0 i item, idle) refl)
 
 pub one_of : (s : Layout) (past : List Entry) (x y : Queueing) → IsLegal s past → In x (still_open past) → In y (still_open past) → x.item.0 ≡ y.item.0 → is_started past x.number ≡ false → is_started past y.number ≡ false → x ≡ y
-one_of s past x y legal hx hy item ux uy = same_Some x y (sym (listed x hx refl ux) ∙ ap (unstarted_queueing past) item ∙ listed y hy refl uy)
-  where
-    listed : (z : Queueing) → In z (still_open past) → z.item.0 ≡ z.item.0 → is_started past z.number ≡ false → unstarted_queueing past z.item.0 ≡ Some z
-    listed z h same idle = of_in (λ w. is_unstarted past z.item.0 w ≡ true → unstarted_queueing past z.item.0 ≡ Some w) (still_open past) z (unstarted_alone s past z.item.0 legal) h (ap₂ (λ a b. a && not b) (eq-eqb z.item.0 z.item.0 refl) idle)
+one_of s past x y legal hx hy item ux uy = same_Some x y (sym (unstarted_one s past y.item.0 x legal hx item ux) ∙ unstarted_one s past y.item.0 y legal hy refl uy)
 
 open_older : (past : List Entry) (x : Queueing) → In x (still_open past) → x.number < length past
 open_older past x i = of_in (λ y. y.number < length past) (queueings past) x (queueings_below past) (in_filter (is_live past) (queueings past) x i).0
 
+-- what is open was so before, or is opened now
+was_open : (s : Layout) (past : List Entry) (e : Entry) (x : Queueing) → IsLegal s (e ∷ past) → In x (still_open (e ∷ past)) → In x (still_open past) ⊎ (opening past e ≡ Some x)
+was_open s past e x legal h = ⊎_elim (λ i. inl (in_filter (survives past e) (still_open past) x i).0) (λ i. inr (in_option (opening past e) x i))
+    (in_append (filter (survives past e) (still_open past)) (option_to_list (opening past e)) x (rw (open_go_on s past e legal) at h))
+
 pub older_started : (s : Layout) (past : List Entry) (x y : Queueing) → IsLegal s past → In x (still_open past) → In y (still_open past) → x.item.0 ≡ y.item.0 → x.number < y.number → is_started past x.number ≡ true
 unfolding IsLegal queueings
 older_started s [] x y legal hx hy item less = absurd hx
-older_started s (e ∷ past) x y legal hx hy item less = which (in_append (filter (survives past e) (still_open past)) (option_to_list (opening past e)) y (subst (In y) (open_go_on s past e legal) hy)) (older_started s past x y legal.2)
-  where
-    was : In x (still_open past)
-    was = ⊎_elim (λ i. (in_filter (survives past e) (still_open past) x i).0)
-        (λ i. let number = opening_number past e x (in_option (opening past e) x i) in let last = open_older (e ∷ past) y hy in absurd (omega arith))
-        (in_append (filter (survives past e) (still_open past)) (option_to_list (opening past e)) x (subst (In x) (open_go_on s past e legal) hx))
-
-    which : (In y (filter (survives past e) (still_open past))) ⊎ (In y (option_to_list (opening past e))) → (In x (still_open past) → In y (still_open past) → x.item.0 ≡ y.item.0 → x.number < y.number → is_started past x.number ≡ true) → is_started (e ∷ past) x.number ≡ true
-    which (inl i) before = ap (λ b. starts x.number e || b) (before was (in_filter (survives past e) (still_open past) y i).0 item less) ∙ either (starts x.number e)
-      where
-        either : (b : Bool) → (b || true) ≡ true
-        either true = refl
-        either false = refl
-    which (inr i) before = true_from_ne_false (is_started (e ∷ past) x.number) (λ idle.
-        let number = opening_number past e y (in_option (opening past e) y i) in
-        let new : is_started (e ∷ past) y.number ≡ false = ap (is_started (e ∷ past)) number ∙ opened_unstarted s past e legal in
-        let same : x.number ≡ y.number = ap number_of_queueing (one_of s (e ∷ past) x y legal hx hy item idle new) in
-        absurd (omega arith))
+older_started s (e ∷ past) x y legal hx hy item less = ⊎_elim
+    (λ x_was. ⊎_elim (λ y_was. or_right (starts x.number e) (is_started past x.number) (older_started s past x y legal.2 x_was y_was item less))
+    (λ y_new. true_from_ne_false (is_started (e ∷ past) x.number) (λ idle.
+    let number = opening_number past e y y_new in
+    let same = one_of s (e ∷ past) x y legal hx hy item idle (ap (is_started (e ∷ past)) number ∙ opened_unstarted s past e legal) in
+    absurd (omega (arith, ap number_of_queueing same)))) (was_open s past e y legal hy))
+    (λ x_new. absurd (omega (arith, opening_number past e x x_new, open_older (e ∷ past) y hy))) (was_open s past e x legal hx)
 
 -- ---- the run, and then the unstarted one
 
@@ -67,39 +54,15 @@ two_at_most : (past : List Entry) (run : Option ℕ) (new : Option Queueing) (xs
 two_at_most past None None [] k = refl
 two_at_most past (Some n) new [] k = absurd (k.run_open n refl).1
 two_at_most past None (Some y) [] k = absurd (k.new_open y refl).0
-two_at_most past run new (x ∷ []) k = by (is_started past x.number) refl
-  where
-    none_new : is_started past x.number ≡ true → (o : Option Queueing) → new ≡ o → o ≡ None
-    none_new started None h = refl
-    none_new started (Some y) h =
-        let there = k.new_open y h in
-        ⊎_elim (λ e. absurd (false≢true (sym there.1 ∙ ap (λ (z : Queueing). is_started past z.number) (sym e) ∙ started))) (λ i. absurd i) there.0
-
-    none_run : is_started past x.number ≡ false → (o : Option ℕ) → run ≡ o → o ≡ None
-    none_run idle None h = refl
-    none_run idle (Some n) h =
-        let there = k.run_open n h in
-        ⊎_elim (λ e. absurd (false≢true (sym idle ∙ ap (λ (z : Queueing). is_started past z.number) e ∙ ap (is_started past) there.2 ∙ there.3))) (λ i. absurd i) there.1
-
-    by : (b : Bool) → is_started past x.number ≡ b → x.number ∷ [] ≡ option_to_list run ++ option_to_list (option_map number_of_queueing new)
-    by true started = sym (ap₂ (λ o p. option_to_list o ++ option_to_list (option_map number_of_queueing p)) (k.started_run x (inl refl) started) (none_new started new refl))
-    by false idle = sym (ap₂ (λ o p. option_to_list o ++ option_to_list (option_map number_of_queueing p)) (none_run idle run refl) (k.unstarted_new x (inl refl) idle))
-two_at_most past run new (x ∷ y ∷ zs) k = rest zs k
-  where
-    rest : (ws : List Queueing) → AreItems past run new (x ∷ y ∷ ws) → map number_of_queueing (x ∷ y ∷ ws) ≡ option_to_list run ++ option_to_list (option_map number_of_queueing new)
-    rest (w ∷ ws) j =
-        let first = j.started_run x (inl refl) (j.older x y (inl refl) (inr (inl refl)) j.rise.0.0) in
-        let second = j.started_run y (inr (inl refl)) (j.older y w (inr (inl refl)) (inr (inr (inl refl))) j.rise.1.0.0) in
-        let same : x.number ≡ y.number = same_Some x.number y.number (sym first ∙ second) in
-        let less : x.number < y.number = j.rise.0.0 in
-        absurd (omega arith)
-    rest [] j =
-        let first = j.started_run x (inl refl) (j.older x y (inl refl) (inr (inl refl)) j.rise.0.0) in
-        let less : x.number < y.number = j.rise.0.0 in
-        let idle : is_started past y.number ≡ false = false_from_ne_true (is_started past y.number) (λ h.
-        let same : x.number ≡ y.number = same_Some x.number y.number (sym first ∙ j.started_run y (inr (inl refl)) h) in
-        absurd (omega arith)) in
-        sym (ap₂ (λ o p. option_to_list o ++ option_to_list (option_map number_of_queueing p)) first (j.unstarted_new y (inr (inl refl)) idle))
+two_at_most past None None (x ∷ []) k = grind (arith, k.started_run x (inl refl), k.unstarted_new x (inl refl))
+two_at_most past (Some n) None (x ∷ []) k = grind (arith, k.started_run x (inl refl), k.unstarted_new x (inl refl))
+two_at_most past None (Some y) (x ∷ []) k = grind (arith, k.started_run x (inl refl), k.unstarted_new x (inl refl))
+two_at_most past (Some n) (Some y) (x ∷ []) k = grind (arith, k.run_open n refl, k.new_open y refl)
+two_at_most past run new (x ∷ y ∷ []) k = grind (arith, k.rise.0.0, k.started_run x (inl refl), k.older x y (inl refl) (inr (inl refl)), k.started_run y (inr (inl refl)), k.unstarted_new y (inr (inl refl)))
+two_at_most past run new (x ∷ y ∷ z ∷ zs) k =
+    let first = k.started_run x (inl refl) (k.older x y (inl refl) (inr (inl refl)) k.rise.0.0) in
+    let second = k.started_run y (inr (inl refl)) (k.older y z (inr (inl refl)) (inr (inr (inl refl))) k.rise.1.0.0) in
+    absurd (omega (arith, same_Some x.number y.number (sym first ∙ second), k.rise.0.0))
 
 -- ---- of a history
 
@@ -124,33 +87,22 @@ its_queueing s past i n legal h = by (item_run past i) refl h
 are_items : (s : Layout) (past : List Entry) (i : ℕ) → IsLegal s past → AreItems past (run_number (item_run past i)) (unstarted_queueing past i) (filter (is_of i) (still_open past))
 are_items s past i legal = record {
   rise = rises_filter number_of_queueing (is_of i) (still_open past) (open_numbers_rise past);
-  started_run = started_run;
-  unstarted_new = unstarted_new;
+  started_run = λ x h started.
+      let k = its x h in
+      let live = in_filter (is_live past) (queueings past) x k.0 in
+      let known = (of_in (IsKnown past) (queueings past) x (queueings_known past) live.0).item ∙ ap Some k.1 in
+      started_runs s past i x.number legal known started (ap (λ j. is_open past j x.number) (sym k.1) ∙ live.1);
+  unstarted_new = λ x h idle. unstarted_one s past i x legal (its x h).0 (its x h).1 idle;
   run_open = λ n h. its_queueing s past i n legal h;
-  new_open = new_open;
+  new_open = λ x h.
+      let k = found (is_unstarted past i) (still_open past) x h in
+      let both = and_parts (x.item.0 == i) (not (is_started past x.number)) k.1 in
+      (filter_in (is_of i) (still_open past) x k.0 both.0, not-true (is_started past x.number) both.1);
   older = λ x y hx hy less. older_started s past x y legal (its x hx).0 (its y hy).0 ((its x hx).1 ∙ sym (its y hy).1) less;
 }
   where
     its : (x : Queueing) → In x (filter (is_of i) (still_open past)) → In x (still_open past) × (x.item.0 ≡ i)
     its x h = let k = in_filter (is_of i) (still_open past) x h in (k.0, eqb-true x.item.0 i k.1)
-
-    started_run : (x : Queueing) → In x (filter (is_of i) (still_open past)) → is_started past x.number ≡ true → run_number (item_run past i) ≡ Some x.number
-    started_run x h started =
-        let k = its x h in
-        let live = in_filter (is_live past) (queueings past) x k.0 in
-        let known : item_at past x.number ≡ Some i = (of_in (IsKnown past) (queueings past) x (queueings_known past) live.0).item ∙ ap Some k.1 in
-        started_runs s past i x.number legal known started (ap (λ j. is_open past j x.number) (sym k.1) ∙ live.1)
-
-    unstarted_new : (x : Queueing) → In x (filter (is_of i) (still_open past)) → is_started past x.number ≡ false → unstarted_queueing past i ≡ Some x
-    unstarted_new x h idle =
-        let k = its x h in
-        of_in (λ w. is_unstarted past i w ≡ true → unstarted_queueing past i ≡ Some w) (still_open past) x (unstarted_alone s past i legal) k.0 (ap₂ (λ a b. a && not b) (eq-eqb x.item.0 i k.1) idle)
-
-    new_open : (x : Queueing) → unstarted_queueing past i ≡ Some x → In x (filter (is_of i) (still_open past)) × (is_started past x.number ≡ false)
-    new_open x h =
-        let k = found (is_unstarted past i) (still_open past) x h in
-        let both = and_parts (x.item.0 == i) (not (is_started past x.number)) k.1 in
-        (filter_in (is_of i) (still_open past) x k.0 both.0, not-true (is_started past x.number) both.1)
 
 pub run_then_unstarted : (s : Layout) (past : List Entry) (i : ℕ) → IsLegal s past → item_numbers past i ≡ option_to_list (run_number (item_run past i)) ++ option_to_list (option_map number_of_queueing (unstarted_queueing past i))
 run_then_unstarted s past i legal = two_at_most past (run_number (item_run past i)) (unstarted_queueing past i) (filter (is_of i) (still_open past)) (are_items s past i legal)

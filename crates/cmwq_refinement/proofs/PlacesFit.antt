@@ -1,12 +1,12 @@
 -- What is opened and what is waited for is of items, queues and CPUs that the layout has.
-use Rattle.cmwq_refinement.specs.Common.{◌≡◌, ◌<◌, ℕ, true, List, [], ◌∷◌, length, Option, Some, None, option_to_list, refl, sym, ap, ◌∙◌, subst, option_map, Contains, option_or, option_map_or, AllByRecursion, same_Some, Call, Entry, Booking, Queueing, Start, Ticket, Layout, has_numbers, booking, item_run, queueings, has_number, is_live, still_open, opening, place_called, place_booked, place_wanted, cpu_for, queued_at, tickets, unended_tickets, is_unended, ticket_in, IsLegal, All_append, opening_item, items_are_run, runs_are_in_pools}
+use Rattle.cmwq_refinement.specs.Common.{◌≡◌, ◌<◌, ℕ, true, List, [], ◌∷◌, length, Option, Some, None, refl, sym, ap, ◌∙◌, subst, option_map, Contains, option_map_or, AllByRecursion, same_Some, Call, Entry, Booking, Queueing, Start, Ticket, Layout, has_numbers, booking, item_run, queueings, has_number, is_live, still_open, opening, place_called, place_booked, place_wanted, cpu_for, queued_at, tickets, unended_tickets, is_unended, ticket_in, IsLegal, opening_item, items_are_run, runs_are_in_pools, arith}
+use Rattle.cmwq_refinement.proofs.Numbers.{In, all_more, contained_in, found, in_filter, of_in}
 use Rattle.cmwq_model.specs.declared.id.CpuId.{CpuId}
 use Rattle.cmwq_model.specs.declared.record.Place.{Place}
 use Rattle.cmwq_model.specs.declared.call.Call.TheVariants as call
 use Rattle.cmwq_theory_steps.proofs.Pending.{opening_opens}
 use Rattle.cmwq_theory_steps.proofs.StateSteps.{opens_as_asked}
 use Rattle.cmwq_refinement.specs.Places.{IsQueueingThere}
-use Rattle.cmwq_lemmas.proofs.Members.{In, of_in, all_in, in_option, in_filter, found, contained_in}
 use Rattle.cmwq_refinement.proofs.Settled.{numbers_fit, place_fits}
 use Rattle.cmwq_refinement.proofs.FirstDue.{in_standing, standing_fits, entries_apply_to_timers}
 use Rattle.cmwq_refinement.proofs.TicketSteps.{ticket_in_is}
@@ -18,9 +18,9 @@ record IsPlaceOf (s : Layout) (p : Place) : Type 0 where
 -- ---- the place that is asked for
 
 called_there : (s : Layout) (c : Call) (p : Place) → has_numbers s c ≡ true → place_called c ≡ Some p → IsPlaceOf s p
-called_there s (call.Queue i q c) p fits h = let all = place_fits s i.0 q.0 c.0 fits in subst (IsPlaceOf s) (same_Some _ p h) (record { queue = all.1; cpu = all.2 })
-called_there s (call.Delay i q c t) p fits h = let all = place_fits s i.0 q.0 c.0 fits in subst (IsPlaceOf s) (same_Some _ p h) (record { queue = all.1; cpu = all.2 })
-called_there s (call.Modify i q c t) p fits h = let all = place_fits s i.0 q.0 c.0 fits in subst (IsPlaceOf s) (same_Some _ p h) (record { queue = all.1; cpu = all.2 })
+called_there s (call.Queue i q c) p fits h = grind (arith, place_fits s i.0 q.0 c.0 fits, h)
+called_there s (call.Delay i q c t) p fits h = grind (arith, place_fits s i.0 q.0 c.0 fits, h)
+called_there s (call.Modify i q c t) p fits h = grind (arith, place_fits s i.0 q.0 c.0 fits, h)
 called_there s c p fits h = cc
 
 booked_there : (s : Layout) (past : List Entry) (i : ℕ) (p : Place) → IsLegal s past → place_booked past i ≡ Some p → IsPlaceOf s p
@@ -28,16 +28,10 @@ booked_there s past i p legal h = by (booking past i) refl h
   where
     by : (o : Option Booking) → booking past i ≡ o → option_map (λ (b : Booking). b.place) o ≡ Some p → IsPlaceOf s p
     by None is k = cc
-    by (Some b) is k =
-        let fits = standing_fits s past b legal (in_standing past i b is) in
-        subst (IsPlaceOf s) (same_Some b.place p k) (record { queue = fits.queue; cpu = fits.cpu })
+    by (Some b) is k = grind (arith, standing_fits s past b legal (in_standing past i b is), k)
 
 wanted_there : (s : Layout) (past : List Entry) (c : Call) (i : ℕ) (p : Place) → IsLegal s past → has_numbers s c ≡ true → place_wanted past c i ≡ Some p → IsPlaceOf s p
-wanted_there s past c i p legal fits h = by (place_called c) refl h
-  where
-    by : (o : Option Place) → place_called c ≡ o → option_or o (place_booked past i) ≡ Some p → IsPlaceOf s p
-    by None is k = booked_there s past i p legal k
-    by (Some r) is k = called_there s c p fits (is ∙ k)
+wanted_there s past c i p legal fits h = grind (arith, booked_there s past i p legal, called_there s c p fits, h)
 
 -- ---- the CPU where the item runs, or the one that is asked for
 
@@ -61,17 +55,12 @@ opened_fits s past e x legal there h =
     let k = opens_as_asked s past e legal (opening_opens past e x h) in
     let same : queued_at past k.item k.place ≡ x = same_Some (queued_at past k.item k.place) x (sym k.opened ∙ h) in
     let place = wanted_there s past e.call k.item k.place legal.2 (numbers_fit s past e legal) k.is_place in
-    record {
-      item = (entries_apply_to_timers s past e legal).item x.item.0 (opening_item e past x h);
-      queue = subst (λ (y : Queueing). y.place.queue.0 < length s.queues) same place.queue;
-      cpu = subst (λ (y : Queueing). y.place.cpu.0 < s.cpus) same (cpu_there s past k.item k.place.cpu legal.2 there place.cpu);
-    }
+    record { item = (entries_apply_to_timers s past e legal).item x.item.0 (opening_item e past x h); queue = rw (← same) place.queue; cpu = rw (← same) (cpu_there s past k.item k.place.cpu legal.2 there place.cpu) }
 
 queueings_fit : (s : Layout) (past : List Entry) → IsLegal s past → AllThere s past
 unfolding queueings IsLegal
 queueings_fit s [] legal = tt
-queueings_fit s (e ∷ past) legal = All_append (IsQueueingThere s) (queueings past) (option_to_list (opening past e)) (queueings_fit s past legal.2)
-    (all_in (IsQueueingThere s) (option_to_list (opening past e)) (λ x i. opened_fits s past e x legal (queueings_fit s past legal.2) (in_option (opening past e) x i)))
+queueings_fit s (e ∷ past) legal = all_more (IsQueueingThere s) (queueings past) (opening past e) (queueings_fit s past legal.2) (λ x h. opened_fits s past e x legal (queueings_fit s past legal.2) h)
 
 pub opened_are_there : (s : Layout) (past : List Entry) (e : Entry) (x : Queueing) → IsLegal s (e ∷ past) → opening past e ≡ Some x → IsQueueingThere s x
 unfolding IsLegal
@@ -88,9 +77,7 @@ open_are_there s past x legal here = open_there s past x legal (contained_in (st
 tickets_fit : (s : Layout) (past : List Entry) → IsLegal s past → AllByRecursion (λ t. has_numbers s t.call ≡ true) (tickets past)
 unfolding tickets IsLegal
 tickets_fit s [] legal = tt
-tickets_fit s (e ∷ past) legal = All_append (λ t. has_numbers s t.call ≡ true) (tickets past) (option_to_list (ticket_in e (length past))) (tickets_fit s past legal.2)
-    (all_in (λ t. has_numbers s t.call ≡ true) (option_to_list (ticket_in e (length past)))
-    (λ t i. ap (has_numbers s) (ticket_in_is e (length past) t (in_option (ticket_in e (length past)) t i)).call ∙ numbers_fit s past e legal))
+tickets_fit s (e ∷ past) legal = all_more (λ t. has_numbers s t.call ≡ true) (tickets past) (ticket_in e (length past)) (tickets_fit s past legal.2) (λ t h. ap (has_numbers s) (ticket_in_is e (length past) t h).call ∙ numbers_fit s past e legal)
 
 pub unended_fit : (s : Layout) (past : List Entry) (t : Ticket) → IsLegal s past → In t (unended_tickets past) → has_numbers s t.call ≡ true
 unended_fit s past t legal i = of_in (λ u. has_numbers s u.call ≡ true) (tickets past) t (tickets_fit s past legal) (in_filter (is_unended past) (tickets past) t i).0

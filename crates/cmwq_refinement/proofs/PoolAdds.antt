@@ -1,12 +1,10 @@
 -- What became active may be added to its pool: no two that are listed are of one item, in one pool or in two.
-use Rattle.cmwq_refinement.specs.Common.{◌≡◌, ◌==◌, ◌<◌, false, not, ◌&&◌, List, [], ◌∷◌, ◌++◌, map, filter, refl, sym, ap, ap₂, ◌∙◌, subst, arith, inl, ⊎_elim, AllByRecursion, eqb-true, false_from_ne_true, lt-ltb, same_Some, append_assoc, All-from_recursion, PoolId, Entry, Queueing, Layout, worklist, IsLegal, is_left, worklist_is, worklists_go_on, Task, PoolState, pool_with_task, ℕ, true, list_any, or_cases, pool_at}
+use Rattle.cmwq_refinement.specs.Common.{◌≡◌, ◌==◌, ◌<◌, false, not, ◌&&◌, List, [], ◌∷◌, ◌++◌, map, filter, refl, sym, ap, ap₂, ◌∙◌, subst, arith, inl, AllByRecursion, eqb-true, false_from_ne_true, lt-ltb, same_Some, append_assoc, All-from_recursion, PoolId, Entry, Queueing, Layout, worklist, IsLegal, is_left, worklist_is, worklists_go_on, Task, PoolState, pool_with_task, ℕ, true, pool_at}
+use Rattle.cmwq_refinement.proofs.Numbers.{All_both, In, all_in, all_mapped, in_any, in_map, in_right, list_any_none, number_of_queueing, of_in}
 use Rattle.cmwq_pool.specs.Slots.{is_task_of}
 use Rattle.cmwq_pool.specs.Pools.{lists_item}
-use Rattle.std.proofs.lemmas.List.Folds.{list_any_none}
 use Rattle.cmwq_theory_steps.specs.Order.{since, IsSooner, AreInOrder}
-use Rattle.cmwq_refinement.specs.ByNumber.{number_of_queueing}
 use Rattle.cmwq_refinement.specs.Pools.{task_for, pool_of, made_active, pool_before_activation, MayAllBeAdded}
-use Rattle.cmwq_lemmas.proofs.Members.{In, of_in, all_in, in_right}
 use Rattle.cmwq_refinement.proofs.ItemNumbers.{one_of}
 use Rattle.cmwq_refinement.proofs.PlacesFit.{open_there}
 use Rattle.cmwq_refinement.proofs.PoolReads.{IsOnList, worklist_has}
@@ -31,22 +29,18 @@ apart_may_be_added s (x ∷ xs) l there apart = (
 
 -- ---- those of a worklist
 
-not_sooner : (s : Layout) (past : List Entry) (x y : Queueing) → IsSooner s past x y → x ≡ y → ⊥
-not_sooner s past x y h same =
-    let at : h.x_since ≡ h.y_since = same_Some h.x_since h.y_since (sym h.x_is ∙ ap (λ z. since s past z) same ∙ h.y_is) in
-    let number : x.number ≡ y.number = ap number_of_queueing same in
-    ⊎_elim (λ less. absurd (omega arith)) (λ k. let less = k.1 in absurd (omega arith)) h.order
-
 unlike : (s : Layout) (past : List Entry) (p : PoolId) (x y : Queueing) → IsLegal s past → IsSooner s past x y → IsOnList s past p x → IsOnList s past p y → is_task_of y.item.0 (task_for s x) ≡ false
-unlike s past p x y legal sooner hx hy = false_from_ne_true (x.item.0 == y.item.0) (λ h. not_sooner s past x y sooner (one_of s past x y legal hx.stands hy.stands (eqb-true x.item.0 y.item.0 h) hx.not_started hy.not_started))
+unlike s past p x y legal sooner hx hy = false_from_ne_true (x.item.0 == y.item.0) (λ h.
+    let same = one_of s past x y legal hx.stands hy.stands (eqb-true x.item.0 y.item.0 h) hx.not_started hy.not_started in
+    let at : sooner.x_since ≡ sooner.y_since = same_Some sooner.x_since sooner.y_since (sym sooner.x_is ∙ ap (λ z. since s past z) same ∙ sooner.y_is) in
+    grind (arith, sooner.order, ap number_of_queueing same))
 
 in_order_apart : (s : Layout) (past : List Entry) (p : PoolId) (xs : List Queueing) → IsLegal s past → AreInOrder s past xs → AllByRecursion (IsOnList s past p) xs → AreApart (map (task_for s) xs)
 in_order_apart s past p [] legal order on = tt
-in_order_apart s past p (x ∷ xs) legal order on = (each xs order.0 on.1, in_order_apart s past p xs legal order.1 on.1)
-  where
-    each : (ys : List Queueing) → AllByRecursion (IsSooner s past x) ys → AllByRecursion (IsOnList s past p) ys → AllByRecursion (λ u. is_task_of u.item.0 (task_for s x) ≡ false) (map (task_for s) ys)
-    each [] h k = tt
-    each (y ∷ ys) h k = (unlike s past p x y legal h.0 on.0 k.0, each ys h.1 k.1)
+in_order_apart s past p (x ∷ xs) legal order on = (
+  all_mapped (task_for s) (λ u. is_task_of u.item.0 (task_for s x) ≡ false) xs (All_both (IsSooner s past x) (IsOnList s past p) (λ y. is_task_of y.item.0 (task_for s x) ≡ false) xs (λ y sooner on_y. unlike s past p x y legal sooner on.0 on_y) order.0 on.1),
+  in_order_apart s past p xs legal order.1 on.1,
+)
 
 worklist_apart : (s : Layout) (past : List Entry) (p : PoolId) → IsLegal s past → AreApart (map (task_for s) (worklist s past p))
 worklist_apart s past p legal = in_order_apart s past p (worklist s past p) legal (worklist_is s past p).in_order (worklist_has s past p)
@@ -64,18 +58,15 @@ active_may_be_added s past e p legal =
 
 -- ---- an item is listed in one pool
 
-record IsListing (s : Layout) (past : List Entry) (p : PoolId) (i : ℕ) : Type 0 where
-  queueing : Queueing
-  on : IsOnList s past p queueing
-  of_item : queueing.item.0 ≡ i
-
-listing : (s : Layout) (past : List Entry) (p : PoolId) (i : ℕ) (xs : List Queueing) → AllByRecursion (IsOnList s past p) xs → list_any (is_task_of i) (map (task_for s) xs) ≡ true → IsListing s past p i
-listing s past p i [] on h = cc
-listing s past p i (x ∷ xs) on h = ⊎_elim (λ here. record { queueing = x; on = on.0; of_item = eqb-true x.item.0 i here }) (λ later. listing s past p i xs on.1 later) (or_cases (is_task_of i (task_for s x)) (list_any (is_task_of i) (map (task_for s) xs)) h)
+listing : (s : Layout) (past : List Entry) (p : PoolId) (i : ℕ) → lists_item i (pool_of s past p) ≡ true → (x : Queueing) × IsOnList s past p x × (x.item.0 ≡ i)
+listing s past p i h =
+    let t = in_any (is_task_of i) (map (task_for s) (worklist s past p)) h in
+    let x = in_map (task_for s) (worklist s past p) t.0 t.1 in
+    (x.0, of_in (IsOnList s past p) (worklist s past p) x.0 (worklist_has s past p) x.1, eqb-true x.0.item.0 i (ap (is_task_of i) x.2 ∙ t.2))
 
 pub items_are_listed_once : (s : Layout) (past : List Entry) (p q : PoolId) (i : ℕ) → IsLegal s past → lists_item i (pool_of s past p) ≡ true → lists_item i (pool_of s past q) ≡ true → p ≡ q
 items_are_listed_once s past p q i legal hp hq =
-    let x = listing s past p i (worklist s past p) (worklist_has s past p) hp in
-    let y = listing s past q i (worklist s past q) (worklist_has s past q) hq in
-    let one = one_of s past x.queueing y.queueing legal x.on.stands y.on.stands (x.of_item ∙ sym y.of_item) x.on.not_started y.on.not_started in
-    sym x.on.pool ∙ (ap (λ (z : Queueing). pool_at s z.place) one ∙ y.on.pool)
+    let x = listing s past p i hp in
+    let y = listing s past q i hq in
+    let one = one_of s past x.0 y.0 legal x.1.stands y.1.stands (x.2 ∙ sym y.2) x.1.not_started y.1.not_started in
+    sym x.1.pool ∙ (ap (λ (z : Queueing). pool_at s z.place) one ∙ y.1.pool)

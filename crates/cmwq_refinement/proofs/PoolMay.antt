@@ -1,10 +1,9 @@
 -- What a worker is answered in a legal history may be applied to its pool.
-use Rattle.cmwq_refinement.specs.Common.{◌≡◌, ◌<◌, ℕ, true, false, not, ◌&&◌, List, ◌∷◌, Some, refl, sym, ap, ap₂, ◌∙◌, option_map, is_some, WorkerId, Worker, Reply, Entry, Layout, number_started, number_finished, has_run, is_asleep, runs_awake, runs_asleep, next, is_enlisted, may_retire, runnable, IsLegal, starts_next, finishes_run, cause_of, sleep_reason, wake_reason, retire_reason, slot_at, by_itself, same_starter}
+use Rattle.cmwq_refinement.specs.Common.{◌≡◌, ◌<◌, ℕ, true, List, ◌∷◌, Some, refl, sym, ap, ◌∙◌, WorkerId, Worker, Reply, Entry, Layout, number_started, number_finished, runs_awake, runs_asleep, IsLegal, starts_next, finishes_run, cause_of, sleep_reason, wake_reason, retire_reason, slot_at, by_itself, same_starter}
 use Rattle.cmwq_model.specs.declared.reply.Reply.TheVariants as reply
-use Rattle.cmwq_pool.specs.Slots.{slot_is_idle as is_idle_slot, slot_runs_awake as slot_awake_runs, slot_runs_asleep as slot_asleep_runs}
-use Rattle.cmwq_refinement.specs.ByNumber.{number_of_queueing}
+use Rattle.cmwq_pool.specs.Slots.{slot_runs_awake as slot_awake_runs, slot_runs_asleep as slot_asleep_runs}
 use Rattle.cmwq_refinement.specs.Pools.{pool_of, MayStartInPool, MayReplyInPool}
-use Rattle.cmwq_refinement.proofs.PoolReads.{slot_is, some_run, idle_slot, runnables_are_runnable, idle_retire_alike}
+use Rattle.cmwq_refinement.proofs.PoolReads.{slot_is, some_run, runnables_are_runnable, idle_retire_alike}
 use Rattle.cmwq_refinement.proofs.PoolNext.{worker_fits, nexts_are_next}
 
 module _ (s : Layout) (past : List Entry) (e : Entry) (w : WorkerId) (legal : IsLegal s (e ∷ past)) (who : e.who ≡ Worker w) where
@@ -16,43 +15,31 @@ module _ (s : Layout) (past : List Entry) (e : Entry) (w : WorkerId) (legal : Is
   there = worker_fits s past e w legal (by_itself e w who)
 
   awake_slot : runs_awake past w ≡ true → slot_awake_runs (slot_at (pool_of s past w.pool).slots w.index) ≡ true
-  awake_slot h = ap slot_awake_runs (slot_is s past w.pool w.index there) ∙ ap (λ b. b && not (is_asleep past w)) (some_run s past w before) ∙ h
+  awake_slot h = rw (slot_is s past w.pool w.index there, some_run s past w before) h
 
   asleep_slot : runs_asleep past w ≡ true → slot_asleep_runs (slot_at (pool_of s past w.pool).slots w.index) ≡ true
-  asleep_slot h = ap slot_asleep_runs (slot_is s past w.pool w.index there) ∙ ap (λ b. b && is_asleep past w) (some_run s past w before) ∙ h
+  asleep_slot h = rw (slot_is s past w.pool w.index there, some_run s past w before) h
 
   may_start : (n : ℕ) → number_started e.reply ≡ Some n → MayStartInPool (pool_of s past w.pool) w.index
   may_start n h =
       let st = starts_next s past e n legal h in
       let same = same_starter st.worker w (sym st.by_worker ∙ who) in
-      let enlisted : is_enlisted past w ≡ true = ap (is_enlisted past) (sym same) ∙ st.enlisted in
-      let none : has_run past w ≡ false = ap (has_run past) (sym same) ∙ st.idle in
-      let next_is : next s past w.pool ≡ Some st.queueing = ap (λ (v : WorkerId). next s past v.pool) (sym same) ∙ st.is_next in
       record {
-        idle = ap is_idle_slot (slot_is s past w.pool w.index there) ∙ idle_slot s past w.pool w.index before ∙ ap₂ (λ a b. a && not b) enlisted none;
-        next = ap is_some (nexts_are_next s past w.pool before ∙ ap (option_map number_of_queueing) next_is);
-        free = runnables_are_runnable s past w.pool before ∙ ap (λ (v : WorkerId). runnable s past v.pool) (sym same) ∙ st.is_clear;
+        idle = rw (slot_is s past w.pool w.index there, some_run s past w before, (rw same at st.enlisted), (rw same at st.idle)) refl;
+        next = rw (nexts_are_next s past w.pool before, (rw same at st.is_next)) refl;
+        free = rw (runnables_are_runnable s past w.pool before) (rw same at st.is_clear);
       }
 
   may_reply : (r : Reply) → e.reply ≡ r → MayReplyInPool r (pool_of s past w.pool) w.index
   may_reply (reply.Started n) is = may_start n (ap number_started is)
   may_reply (reply.StartedEnlist n y) is = may_start n (ap number_started is)
-  may_reply (reply.Finished n) is =
-      let f = finishes_run s past e n legal (ap number_finished is) in
-      awake_slot (ap (runs_awake past) (sym (same_starter f.worker w (sym f.by_worker ∙ who))) ∙ f.awake)
-  may_reply reply.Slept is =
-      let k = sleep_reason s past e.who e.call e.reply (cause_of s past e legal) is in
-      awake_slot (ap (runs_awake past) (sym (same_starter k.0 w (sym k.1 ∙ who))) ∙ k.3)
-  may_reply reply.Woke is =
-      let k = wake_reason s past e.who e.call e.reply (cause_of s past e legal) is in
-      asleep_slot (ap (runs_asleep past) (sym (same_starter k.0 w (sym k.1 ∙ who))) ∙ k.3)
+  may_reply (reply.Finished n) is = let f = finishes_run s past e n legal (ap number_finished is) in awake_slot (rw (same_starter f.worker w (sym f.by_worker ∙ who)) at f.awake)
+  may_reply reply.Slept is = let k = sleep_reason s past e.who e.call e.reply (cause_of s past e legal) is in awake_slot (rw (same_starter k.0 w (sym k.1 ∙ who)) at k.3)
+  may_reply reply.Woke is = let k = wake_reason s past e.who e.call e.reply (cause_of s past e legal) is in asleep_slot (rw (same_starter k.0 w (sym k.1 ∙ who)) at k.3)
   may_reply reply.Retired is =
       let k = retire_reason s past e.who e.call e.reply (cause_of s past e legal) is in
       let same = same_starter k.0 w (sym k.1 ∙ who) in
-      let enlisted : is_enlisted past w ≡ true = ap (is_enlisted past) (sym same) ∙ k.3 in
-      let none : has_run past w ≡ false = ap (has_run past) (sym same) ∙ k.4 in
-      let may : may_retire s past w.pool ≡ true = ap (λ (v : WorkerId). may_retire s past v.pool) (sym same) ∙ k.5 in
-      idle_retire_alike s past w.pool w.index before there ∙ ap₂ (λ a b. a && b) (ap₂ (λ a b. a && not b) enlisted none) may
+      rw (idle_retire_alike s past w.pool w.index before there, (rw same at k.3), (rw same at k.4), (rw same at k.5)) refl
   may_reply r is = tt
 
 pub replies_apply_to_pools : (s : Layout) (past : List Entry) (e : Entry) (w : WorkerId) → IsLegal s (e ∷ past) → e.who ≡ Worker w → MayReplyInPool e.reply (pool_of s past w.pool) w.index

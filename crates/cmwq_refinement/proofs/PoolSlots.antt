@@ -1,28 +1,22 @@
 -- The slots of a pool, entry by entry.
-use Rattle.cmwq_refinement.specs.Common.{◌≡◌, ◌≢◌, ◌==◌, ◌<◌, ◌+◌, ℕ, Bool, true, false, not, ◌&&◌, ◌||◌, List, ◌∷◌, map, find, set, Option, Some, None, refl, sym, ap, ap₂, ◌∙◌, subst, arith, ⊎_elim, option_map, option_and_then, if◌then◌else◌, list_any, eq-eqb, ne_eqb, cases_eq, and_parts, get_or-map-range_with_len, PoolId, WorkerId, Who, Caller, Worker, Reply, Entry, Queueing, Layout, indices, is_at, is_by, same_pool, same_who, number_started, run, is_asleep, asleep_after, queueing_at, next, worker_at, index_enlisted, is_in_pool, enlists, is_retired, is_enlisted, is_other_idle, is_reserve, enlisted_by, IsLegal, run_after, starts_next, IsFound, queueings_found, queueing_at-older, workers_run_on, same_worker_itself, by_itself, same_starter, same_pool-true, Task, Slot, no_slot, slot_at, with_slot, with_enlisted, slot_running, slot_enlisted, slot_asleep, slot_awake, slot_free, slot_retired, next_task, with_slot_again}
+use Rattle.cmwq_refinement.specs.Common.{◌≡◌, ◌≢◌, ◌==◌, ◌<◌, ◌+◌, ℕ, Bool, true, false, not, ◌&&◌, ◌||◌, List, ◌∷◌, map, Option, Some, None, refl, sym, ap, ap₂, ◌∙◌, arith, ⊎_elim, option_map, if◌then◌else◌, eq-eqb, ne_eqb, cases_eq, and_parts, get_or-map-range_with_len, PoolId, WorkerId, Who, Caller, Worker, Reply, Entry, Queueing, Layout, indices, is_at, is_by, same_pool, same_who, number_started, run, is_asleep, asleep_after, queueing_at, next, worker_at, index_enlisted, is_in_pool, enlists, is_retired, is_enlisted, is_reserve, enlisted_by, IsLegal, run_after, starts_next, IsFound, queueings_found, queueing_at-older, workers_run_on, same_worker_itself, by_itself, same_starter, same_pool-true, Task, Slot, no_slot, slot_at, with_slot, slot_running, slot_enlisted, slot_asleep, slot_awake, slot_free, slot_retired, next_task, nat_tests, and_false}
+use Rattle.cmwq_refinement.proofs.Numbers.{all_found, cond_both, range_below}
 use Rattle.cmwq_model.specs.declared.reply.Reply.TheVariants as reply
-use Rattle.cmwq_model.specs.Answer.{started_answer as started_reply}
 use Rattle.cmwq_theory_steps.proofs.Activated.{next_holds}
 use Rattle.cmwq_pool.specs.Slots.{slots_enlisted_by}
 use Rattle.cmwq_refinement.specs.Pools.{task_for, run_task, slot_of, pool_of, start_next, pool_after_reply, pool_after_worker}
-use Rattle.cmwq_lemmas.proofs.Members.{of_in, found}
 use Rattle.cmwq_refinement.proofs.TimerSteps.{set_row, same_rows}
-use Rattle.cmwq_refinement.proofs.PoolReads.{RunOf, idle, busy, run_of, run_task_none, slot_is, starts_enlist_alike}
+use Rattle.cmwq_refinement.proofs.PoolReads.{idle, busy, run_of, run_task_none, slot_is, starts_enlist_alike}
 use Rattle.cmwq_refinement.proofs.PoolNext.{worker_fits, next_task_is}
-use Rattle.cmwq_lemmas.proofs.Lists.{range_below}
 
 -- ---- a run that goes on
 
-later_queueing : (s : Layout) (past : List Entry) (e : Entry) (w : WorkerId) → IsLegal s past → option_and_then (queueing_at (e ∷ past)) (run past w) ≡ option_and_then (queueing_at past) (run past w)
-later_queueing s past e w legal = which (run_of s past w legal)
-  where
-    which : RunOf s past w → option_and_then (queueing_at (e ∷ past)) (run past w) ≡ option_and_then (queueing_at past) (run past w)
-    which (idle none) = ap (option_and_then (queueing_at (e ∷ past))) none ∙ sym (ap (option_and_then (queueing_at past)) none)
-    which (busy x is at pool) = ap (option_and_then (queueing_at (e ∷ past))) is ∙ queueing_at-older e past x.number x at ∙ sym (ap (option_and_then (queueing_at past)) is ∙ at)
-
 same_run : (s : Layout) (past : List Entry) (e : Entry) (w : WorkerId) → IsLegal s (e ∷ past) → run (e ∷ past) w ≡ run past w → run_task s (e ∷ past) w ≡ run_task s past w
 unfolding IsLegal
-same_run s past e w legal is = ap (λ o. option_map (task_for s) (option_and_then (queueing_at (e ∷ past)) o)) is ∙ ap (option_map (task_for s)) (later_queueing s past e w legal.2)
+same_run s past e w legal is = elim (run_of s past w legal.2) [
+  | idle none ↦ rw (is, none) refl
+  | busy x runs at pool ↦ rw (is, runs, queueing_at-older e past x.number x at, at) refl
+]
 
 -- ---- a slot after an entry
 
@@ -47,165 +41,101 @@ pool_itself w = (and_parts (same_pool w.pool w.pool) (w.index == w.index) (same_
 
 own_slot : (s : Layout) (past : List Entry) (e : Entry) (w : WorkerId) (r : Reply) → IsLegal s (e ∷ past) → e.who ≡ Worker w → e.reply ≡ r → slot_of s (e ∷ past) w.pool w.index ≡ own_after s past w r (run_task s (e ∷ past) w)
 unfolding is_enlisted is_asleep own_after
-own_slot s past e w r legal who is = slot_like (slot_of s (e ∷ past) w.pool w.index) (own_after s past w r (run_task s (e ∷ past) w))
-    (ap₂ (λ b c. c || (not (b && is_retired e.reply) && is_enlisted past w)) by enlisting ∙ ap (λ q. is_at (index_enlisted q) w.index || (not (is_retired q) && is_enlisted past w)) is)
-    refl
-    (ap (λ b. if b then asleep_after e.reply (is_asleep past w) else is_asleep past w) by ∙ ap (λ q. asleep_after q (is_asleep past w)) is)
-  where
-    by : is_by (Worker w) e ≡ true
-    by = by_itself e w who
-
-    enlisting : enlists e w ≡ is_at (index_enlisted e.reply) w.index
-    enlisting = ap (λ x. is_in_pool w.pool x && is_at (index_enlisted e.reply) w.index) who ∙ ap (λ b. b && is_at (index_enlisted e.reply) w.index) (pool_itself w)
+own_slot s past e w r legal who is =
+    let by = by_itself e w who in
+    slot_like (slot_of s (e ∷ past) w.pool w.index) (own_after s past w r (run_task s (e ∷ past) w)) (rw (by, who, pool_itself w, is) refl) refl (rw (by, is) refl)
 
 own_run : (s : Layout) (past : List Entry) (e : Entry) (w : WorkerId) (r : Reply) → IsLegal s (e ∷ past) → e.who ≡ Worker w → e.reply ≡ r → run (e ∷ past) w ≡ run_after r (run past w)
-own_run s past e w r legal who is = workers_run_on s past e w legal ∙ ap (λ b. if b then run_after e.reply (run past w) else run past w) (by_itself e w who) ∙ ap (λ q. run_after q (run past w)) is
+own_run s past e w r legal who is = rw (workers_run_on s past e w legal, by_itself e w who, is) refl
 
 not_by : (e : Entry) (w : WorkerId) (x : ℕ) → e.who ≡ Worker w → x ≢ w.index → is_by (Worker (worker_at w.pool x)) e ≡ false
-not_by e w x who differs =
-    ap (λ y. same_who y (Worker (worker_at w.pool x))) who ∙ ap (λ b. same_pool w.pool w.pool && b) (ne_eqb w.index x (λ e. differs (sym e))) ∙ neither (same_pool w.pool w.pool)
-  where
-    neither : (b : Bool) → (b && false) ≡ false
-    neither true = refl
-    neither false = refl
+not_by e w x who differs = rw (who, ne_eqb w.index x (λ e. differs (sym e)), and_false) refl
 
 enlists_at : (e : Entry) (w : WorkerId) (x : ℕ) (r : Reply) → e.who ≡ Worker w → e.reply ≡ r → enlists e (worker_at w.pool x) ≡ is_at (index_enlisted r) x
-enlists_at e w x r who is = ap₂ (λ y q. is_in_pool w.pool y && is_at (index_enlisted q) x) who is ∙ ap (λ b. b && is_at (index_enlisted r) x) (pool_itself w)
+enlists_at e w x r who is = rw (who, is, pool_itself w) refl
 
 -- where the reply enlists nobody, the other slots stay
 others_stay : (s : Layout) (past : List Entry) (e : Entry) (w : WorkerId) (r : Reply) (x : ℕ) → IsLegal s (e ∷ past) → e.who ≡ Worker w → e.reply ≡ r → index_enlisted r ≡ None → x ≢ w.index → slot_of s (e ∷ past) w.pool x ≡ slot_of s past w.pool x
 others_stay s past e w r x legal who is none differs = other_slot s past e w.pool x false legal (not_by e w x who differs) (enlists_at e w x r who is ∙ ap (λ o. is_at o x) none)
 
-own_changes : (s : Layout) (past : List Entry) (e : Entry) (w : WorkerId) (r : Reply) (change : Slot → Slot) → IsLegal s (e ∷ past) → e.who ≡ Worker w → e.reply ≡ r → index_enlisted r ≡ None
-    → slot_of s (e ∷ past) w.pool w.index ≡ change (slot_of s past w.pool w.index) → map (slot_of s (e ∷ past) w.pool) (indices s) ≡ with_slot change w.index (pool_of s past w.pool).slots
-own_changes s past e w r change legal who is none own =
+-- where it changes the run, its sleep or the enlisting of its own worker alone
+own_changes : (s : Layout) (past : List Entry) (e : Entry) (w : WorkerId) (r : Reply) (change : Slot → Slot) (o : Option Task) → IsLegal s (e ∷ past) → e.who ≡ Worker w → e.reply ≡ r → index_enlisted r ≡ None → run_task s (e ∷ past) w ≡ o
+    → own_after s past w r o ≡ change (slot_of s past w.pool w.index) → map (slot_of s (e ∷ past) w.pool) (indices s) ≡ with_slot change w.index (pool_of s past w.pool).slots
+own_changes s past e w r change o legal who is none runs own =
     set_row (slot_of s past w.pool) (slot_of s (e ∷ past) w.pool) s.workers w.index (change (slot_at (pool_of s past w.pool).slots w.index))
-    (own ∙ ap change (sym (slot_is s past w.pool w.index (worker_fits s past e w legal (by_itself e w who)))))
+    (own_slot s past e w r legal who is ∙ ap (own_after s past w r) runs ∙ own ∙ ap change (sym (slot_is s past w.pool w.index (worker_fits s past e w legal (by_itself e w who)))))
     (λ x differs. others_stay s past e w r x legal who is none differs)
 
 -- ---- a start
 
-pub record StartsTask (s : Layout) (past : List Entry) (e : Entry) (w : WorkerId) (n : ℕ) (o : Option ℕ) : Type 0 where
+pub record StartsTask (s : Layout) (past : List Entry) (e : Entry) (w : WorkerId) (n : ℕ) : Type 0 where
   pub queueing : Queueing
   pub number : queueing.number ≡ n
   pub found : queueing_at past queueing.number ≡ Some queueing
   pub task : next_task (pool_of s past w.pool) ≡ Some (task_for s queueing)
   pub runs : run_task s (e ∷ past) w ≡ Some (task_for s queueing)
-  pub enlists : slots_enlisted_by (pool_of s past w.pool).slots w.index ≡ o
+  pub enlists : slots_enlisted_by (pool_of s past w.pool).slots w.index ≡ index_enlisted e.reply
 
-enlisted_in : (n : ℕ) (o : Option ℕ) → index_enlisted (started_reply n o) ≡ o
-enlisted_in n None = refl
-enlisted_in n (Some x) = refl
+after_start : (n : ℕ) (r : Reply) (q : Option ℕ) → number_started r ≡ Some n → run_after r q ≡ Some n
+after_start n r q h = grind arith
 
-number_of_start : (n : ℕ) (o : Option ℕ) → number_started (started_reply n o) ≡ Some n
-number_of_start n None = refl
-number_of_start n (Some x) = refl
-
-after_start : (n : ℕ) (o q : Option ℕ) → run_after (started_reply n o) q ≡ Some n
-after_start n None q = refl
-after_start n (Some x) q = refl
-
-pub starts_task : (s : Layout) (past : List Entry) (e : Entry) (w : WorkerId) (n : ℕ) (o : Option ℕ) → IsLegal s (e ∷ past) → e.who ≡ Worker w → e.reply ≡ started_reply n o → StartsTask s past e w n o
+pub starts_task : (s : Layout) (past : List Entry) (e : Entry) (w : WorkerId) (n : ℕ) → IsLegal s (e ∷ past) → e.who ≡ Worker w → number_started e.reply ≡ Some n → StartsTask s past e w n
 unfolding IsLegal
-starts_task s past e w n o legal who is =
-    let number : number_started e.reply ≡ Some n = ap number_started is ∙ number_of_start n o in
+starts_task s past e w n legal who number =
     let st = starts_next s past e n legal number in
     let same : st.worker ≡ w = same_starter st.worker w (sym st.by_worker ∙ who) in
-    let next_is : next s past w.pool ≡ Some st.queueing = subst (λ (v : WorkerId). next s past v.pool ≡ Some st.queueing) same st.is_next in
+    let next_is : next s past w.pool ≡ Some st.queueing = rw same at st.is_next in
     let at : queueing_at past n ≡ Some st.queueing = ap (queueing_at past) (sym st.number) ∙ (next_holds s IsFound (λ f h x k. queueing_at-older f h x.number x k) queueings_found past w.pool st.queueing next_is).holds in
     record {
       queueing = st.queueing;
       number = st.number;
       found = ap (queueing_at past) st.number ∙ at;
       task = next_task_is s past w.pool legal.2 ∙ ap (option_map (task_for s)) next_is;
-      runs = ap (λ q. option_map (task_for s) (option_and_then (queueing_at (e ∷ past)) q)) (own_run s past e w (started_reply n o) legal who is ∙ after_start n o (run past w)) ∙ ap (option_map (task_for s)) (queueing_at-older e past n st.queueing at);
-      enlists = starts_enlist_alike s past w legal.2 ∙ sym (ap (enlisted_by s past) same) ∙ sym st.enlists ∙ ap index_enlisted is ∙ enlisted_in n o;
+      runs = rw (own_run s past e w e.reply legal who refl, after_start n e.reply (run past w) number, queueing_at-older e past n st.queueing at) refl;
+      enlists = starts_enlist_alike s past w legal.2 ∙ sym (ap (enlisted_by s past) same) ∙ sym st.enlists;
     }
-
-started_slots : (s : Layout) (past : List Entry) (w : WorkerId) (t : Task) (o : Option ℕ) → next_task (pool_of s past w.pool) ≡ Some t → slots_enlisted_by (pool_of s past w.pool).slots w.index ≡ o
-    → (start_next w.index (next_task (pool_of s past w.pool)) (pool_of s past w.pool)).slots ≡ with_enlisted o (with_slot (slot_running t) w.index (pool_of s past w.pool).slots)
-started_slots s past w t o next enlists =
-    ap (λ n. (start_next w.index n (pool_of s past w.pool)).slots) next ∙ ap (λ q. with_enlisted q (with_slot (slot_running t) w.index (pool_of s past w.pool).slots)) enlists
 
 start_refines : (s : Layout) (past : List Entry) (e : Entry) (w : WorkerId) (n : ℕ) → IsLegal s (e ∷ past) → e.who ≡ Worker w → e.reply ≡ reply.Started n
     → map (slot_of s (e ∷ past) w.pool) (indices s) ≡ (start_next w.index (next_task (pool_of s past w.pool)) (pool_of s past w.pool)).slots
 unfolding own_after
 start_refines s past e w n legal who is =
-    let st = starts_task s past e w n None legal who is in
-    own_changes s past e w (reply.Started n) (slot_running (task_for s st.queueing)) legal who is refl
-    (own_slot s past e w (reply.Started n) legal who is ∙ ap (own_after s past w (reply.Started n)) st.runs)
-    ∙ sym (started_slots s past w (task_for s st.queueing) None st.task st.enlists)
-
--- the slots with one that runs, before another is enlisted
-run_at : (ℕ → Slot) → ℕ → Task → ℕ → Slot
-run_at f i t x = if x == i then slot_running t (f x) else f x
-
-found_below : (s : Layout) (p : ℕ → Bool) (y : ℕ) → find p (indices s) ≡ Some y → y < s.workers
-found_below s p y h = let k = of_in (λ x. x < 0 + s.workers) (indices s) y (range_below 0 s.workers) (found p (indices s) y h).0 in omega arith
+    let st = starts_task s past e w n legal who (ap number_started is) in
+    rw (st.task, st.enlists ∙ ap index_enlisted is) (own_changes s past e w (reply.Started n) (slot_running (task_for s st.queueing)) (Some (task_for s st.queueing)) legal who is refl st.runs refl)
 
 enlisted_below : (s : Layout) (past : List Entry) (w : WorkerId) (y : ℕ) → enlisted_by s past w ≡ Some y → y < s.workers
 unfolding enlisted_by
-enlisted_below s past w y h = here (list_any (is_other_idle past w) (indices s)) h
-  where
-    here : (b : Bool) → (if b then None else find (is_reserve past w.pool) (indices s)) ≡ Some y → y < s.workers
-    here true k = cc
-    here false k = found_below s (is_reserve past w.pool) y k
+enlisted_below s past w y h = grind (arith, all_found (λ x. x < 0 + s.workers) (is_reserve past w.pool) (indices s) y (range_below 0 s.workers))
 
 enlist_refines : (s : Layout) (past : List Entry) (e : Entry) (w : WorkerId) (n y : ℕ) → IsLegal s (e ∷ past) → e.who ≡ Worker w → e.reply ≡ reply.StartedEnlist n y
     → map (slot_of s (e ∷ past) w.pool) (indices s) ≡ (start_next w.index (next_task (pool_of s past w.pool)) (pool_of s past w.pool)).slots
-unfolding run_at IsLegal own_after
+unfolding IsLegal own_after
 enlist_refines s past e w n y legal who is =
-    set_row between (slot_of s (e ∷ past) w.pool) s.workers y (slot_enlisted (slot_at (with_slot (slot_running t) w.index (pool_of s past w.pool).slots) y)) (enlisted_one ∙ ap slot_enlisted (sym between_at)) others
-    ∙ ap (λ slots. set slots y (slot_enlisted (slot_at (with_slot (slot_running t) w.index (pool_of s past w.pool).slots) y))) first
-    ∙ sym (started_slots s past w t (Some y) st.task st.enlists)
+    rw (st.task, enlists, ← first) (set_row between (slot_of s (e ∷ past) w.pool) s.workers y (slot_enlisted (slot_at (map between (indices s)) y))
+    (slot_now y true (eq-eqb y y refl) ∙ ap slot_enlisted (sym (get_or-map-range_with_len between 0 s.workers y y no_slot (enlisted_below s past w y (sym (starts_enlist_alike s past w legal.2) ∙ enlists)) (omega arith))))
+    (λ x differs. slot_now x false (ne_eqb y x (λ same. differs (sym same)))))
   where
-    st : StartsTask s past e w n (Some y)
-    st = starts_task s past e w n (Some y) legal who is
+    st : StartsTask s past e w n
+    st = starts_task s past e w n legal who (ap number_started is)
+
+    enlists : slots_enlisted_by (pool_of s past w.pool).slots w.index ≡ Some y
+    enlists = st.enlists ∙ ap index_enlisted is
 
     t : Task
     t = task_for s st.queueing
 
+    -- the slots with one that runs, before another is enlisted
     between : ℕ → Slot
-    between = run_at (slot_of s past w.pool) w.index t
-
-    between_own : between w.index ≡ slot_running t (slot_of s past w.pool w.index)
-    between_own = ap (λ b. if b then slot_running t (slot_of s past w.pool w.index) else slot_of s past w.pool w.index) (eq-eqb w.index w.index refl)
-
-    between_other : (x : ℕ) → x ≢ w.index → between x ≡ slot_of s past w.pool x
-    between_other x differs = ap (λ b. if b then slot_running t (slot_of s past w.pool x) else slot_of s past w.pool x) (ne_eqb x w.index differs)
-
-    within : w.index < s.workers
-    within = worker_fits s past e w legal (by_itself e w who)
+    between x = if x == w.index then slot_running t (slot_of s past w.pool x) else slot_of s past w.pool x
 
     first : map between (indices s) ≡ with_slot (slot_running t) w.index (pool_of s past w.pool).slots
-    first = set_row (slot_of s past w.pool) between s.workers w.index (slot_running t (slot_at (pool_of s past w.pool).slots w.index)) (between_own ∙ ap (slot_running t) (sym (slot_is s past w.pool w.index within))) between_other
-
-    below : y < s.workers
-    below = enlisted_below s past w y (sym (starts_enlist_alike s past w legal.2) ∙ st.enlists)
-
-    between_at : slot_at (with_slot (slot_running t) w.index (pool_of s past w.pool).slots) y ≡ between y
-    between_at = ap (λ slots. slot_at slots y) (sym first) ∙ get_or-map-range_with_len between 0 s.workers y y no_slot below (omega arith)
+    first = set_row (slot_of s past w.pool) between s.workers w.index (slot_running t (slot_at (pool_of s past w.pool).slots w.index))
+        (rw (eq-eqb w.index w.index refl, slot_is s past w.pool w.index (worker_fits s past e w legal (by_itself e w who))) refl) (λ x differs. rw (ne_eqb x w.index differs) refl)
 
     -- each slot after the entry is what stands between, unless it is enlisted
     slot_now : (x : ℕ) (b : Bool) → (y == x) ≡ b → slot_of s (e ∷ past) w.pool x ≡ record { enlisted = b || (between x).enlisted; run = (between x).run; asleep = (between x).asleep }
-    slot_now x b h = ⊎_elim mine other (cases_eq x w.index)
-      where
-        mine : x ≡ w.index → slot_of s (e ∷ past) w.pool x ≡ record { enlisted = b || (between x).enlisted; run = (between x).run; asleep = (between x).asleep }
-        mine own =
-            ap (slot_of s (e ∷ past) w.pool) own ∙ own_slot s past e w (reply.StartedEnlist n y) legal who is ∙ ap (own_after s past w (reply.StartedEnlist n y)) st.runs
-            ∙ ap (λ c. record { enlisted = c || is_enlisted past w; run = Some t; asleep = false }) (ap (λ z. y == z) (sym own) ∙ h)
-            ∙ sym (ap (λ (q : Slot). record { enlisted = b || q.enlisted; run = q.run; asleep = q.asleep }) (ap between own ∙ between_own))
-
-        other : (x ≡ w.index → ⊥) → slot_of s (e ∷ past) w.pool x ≡ record { enlisted = b || (between x).enlisted; run = (between x).run; asleep = (between x).asleep }
-        other differs =
-            other_slot s past e w.pool x b legal (not_by e w x who differs) (enlists_at e w x (reply.StartedEnlist n y) who is ∙ h)
-            ∙ sym (ap (λ (q : Slot). record { enlisted = b || q.enlisted; run = q.run; asleep = q.asleep }) (between_other x differs))
-
-    enlisted_one : slot_of s (e ∷ past) w.pool y ≡ slot_enlisted (between y)
-    enlisted_one = slot_now y true (eq-eqb y y refl)
-
-    others : (x : ℕ) → x ≢ y → slot_of s (e ∷ past) w.pool x ≡ between x
-    others x differs = slot_now x false (ne_eqb y x (λ same. differs (sym same)))
+    slot_now x b h = ⊎_elim
+        (λ own. grind (arith, nat_tests, own_slot s past e w (reply.StartedEnlist n y) legal who is, st.runs))
+        (λ differs. rw (ne_eqb x w.index differs) (other_slot s past e w.pool x b legal (not_by e w x who differs) (enlists_at e w x (reply.StartedEnlist n y) who is ∙ h))) (cases_eq x w.index)
 
 -- ---- an entry of one of its workers
 
@@ -213,31 +143,22 @@ enlist_refines s past e w n y legal who is =
 unchanged : (s : Layout) (past : List Entry) (e : Entry) (w : WorkerId) (r : Reply) → IsLegal s (e ∷ past) → e.who ≡ Worker w → e.reply ≡ r → index_enlisted r ≡ None → is_retired r ≡ false → asleep_after r (is_asleep past w) ≡ is_asleep past w
     → run_after r (run past w) ≡ run past w → map (slot_of s (e ∷ past) w.pool) (indices s) ≡ (pool_of s past w.pool).slots
 unfolding own_after
-unchanged s past e w r legal who is none stays sleeps runs = same_rows (slot_of s past w.pool) (slot_of s (e ∷ past) w.pool) (indices s) (λ x. ⊎_elim (mine x) (others_stay s past e w r x legal who is none) (cases_eq x w.index))
-  where
-    mine : (x : ℕ) → x ≡ w.index → slot_of s (e ∷ past) w.pool x ≡ slot_of s past w.pool x
-    mine x own =
-        ap (slot_of s (e ∷ past) w.pool) own ∙ own_slot s past e w r legal who is
-        ∙ slot_like (own_after s past w r (run_task s (e ∷ past) w)) (slot_of s past w.pool w.index) (ap₂ (λ o b. is_at o w.index || (not b && is_enlisted past w)) none stays) (same_run s past e w legal (own_run s past e w r legal who is ∙ runs)) sleeps
-        ∙ sym (ap (slot_of s past w.pool) own)
-
--- one that changes the run, its sleep or the enlisting of its own worker alone
-own_refines : (s : Layout) (past : List Entry) (e : Entry) (w : WorkerId) (r : Reply) (change : Slot → Slot) (o : Option Task) → IsLegal s (e ∷ past) → e.who ≡ Worker w → e.reply ≡ r → index_enlisted r ≡ None → run_task s (e ∷ past) w ≡ o
-    → own_after s past w r o ≡ change (slot_of s past w.pool w.index) → map (slot_of s (e ∷ past) w.pool) (indices s) ≡ (with_slot_again change (pool_of s past w.pool) w.index).slots
-own_refines s past e w r change o legal who is none runs own = own_changes s past e w r change legal who is none (own_slot s past e w r legal who is ∙ ap (own_after s past w r) runs ∙ own)
+unchanged s past e w r legal who is none stays sleeps runs = same_rows (slot_of s past w.pool) (slot_of s (e ∷ past) w.pool) (indices s) (λ x. ⊎_elim
+    (λ own. rw own (own_slot s past e w r legal who is ∙ slot_like (own_after s past w r (run_task s (e ∷ past) w)) (slot_of s past w.pool w.index) (rw (none, stays) refl) (same_run s past e w legal (own_run s past e w r legal who is ∙ runs)) sleeps))
+    (others_stay s past e w r x legal who is none) (cases_eq x w.index))
 
 reply_refines : (s : Layout) (past : List Entry) (e : Entry) (w : WorkerId) (r : Reply) → IsLegal s (e ∷ past) → e.who ≡ Worker w → e.reply ≡ r → map (slot_of s (e ∷ past) w.pool) (indices s) ≡ (pool_after_reply r w.index (pool_of s past w.pool)).slots
 unfolding own_after
 reply_refines s past e w (reply.Started n) legal who is = start_refines s past e w n legal who is
 reply_refines s past e w (reply.StartedEnlist n y) legal who is = enlist_refines s past e w n y legal who is
 reply_refines s past e w (reply.Finished n) legal who is =
-    own_refines s past e w (reply.Finished n) slot_free None legal who is refl (run_task_none s (e ∷ past) w (own_run s past e w (reply.Finished n) legal who is)) refl
+    own_changes s past e w (reply.Finished n) slot_free None legal who is refl (run_task_none s (e ∷ past) w (own_run s past e w (reply.Finished n) legal who is)) refl
 reply_refines s past e w reply.Slept legal who is =
-    own_refines s past e w reply.Slept slot_asleep (run_task s past w) legal who is refl (same_run s past e w legal (own_run s past e w reply.Slept legal who is)) refl
+    own_changes s past e w reply.Slept slot_asleep (run_task s past w) legal who is refl (same_run s past e w legal (own_run s past e w reply.Slept legal who is)) refl
 reply_refines s past e w reply.Woke legal who is =
-    own_refines s past e w reply.Woke slot_awake (run_task s past w) legal who is refl (same_run s past e w legal (own_run s past e w reply.Woke legal who is)) refl
+    own_changes s past e w reply.Woke slot_awake (run_task s past w) legal who is refl (same_run s past e w legal (own_run s past e w reply.Woke legal who is)) refl
 reply_refines s past e w reply.Retired legal who is =
-    own_refines s past e w reply.Retired slot_retired (run_task s past w) legal who is refl (same_run s past e w legal (own_run s past e w reply.Retired legal who is)) refl
+    own_changes s past e w reply.Retired slot_retired (run_task s past w) legal who is refl (same_run s past e w legal (own_run s past e w reply.Retired legal who is)) refl
 reply_refines s past e w r legal who is = unchanged s past e w r legal who is refl refl refl refl
 
 -- ---- any entry
@@ -247,16 +168,12 @@ elsewhere : (s : Layout) (past : List Entry) (e : Entry) (p : PoolId) → IsLega
 elsewhere s past e p legal out = same_rows (slot_of s past p) (slot_of s (e ∷ past) p) (indices s) (λ x. other_slot s past e p x false legal (not_here x e.who out) (ap (λ b. b && is_at (index_enlisted e.reply) x) out))
   where
     not_here : (x : ℕ) (who : Who) → is_in_pool p who ≡ false → same_who who (Worker (worker_at p x)) ≡ false
-    not_here x (Caller c) h = refl
-    not_here x (Worker v) h = ap (λ b. b && (v.index == x)) h
+    not_here x who h = grind arith
 
 pub slots_refine : (s : Layout) (past : List Entry) (e : Entry) (p : PoolId) → IsLegal s (e ∷ past) → map (slot_of s (e ∷ past) p) (indices s) ≡ (pool_after_worker p e.who e.reply (pool_of s past p)).slots
 slots_refine s past e p legal = by e.who refl
   where
     by : (who : Who) → e.who ≡ who → map (slot_of s (e ∷ past) p) (indices s) ≡ (pool_after_worker p who e.reply (pool_of s past p)).slots
     by (Caller c) is = elsewhere s past e p legal (ap (is_in_pool p) is)
-    by (Worker w) is = here (same_pool w.pool p) refl
-      where
-        here : (b : Bool) → same_pool w.pool p ≡ b → map (slot_of s (e ∷ past) p) (indices s) ≡ (if b then pool_after_reply e.reply w.index (pool_of s past p) else pool_of s past p).slots
-        here true same = subst (λ q. map (slot_of s (e ∷ past) q) (indices s) ≡ (pool_after_reply e.reply w.index (pool_of s past q)).slots) (same_pool-true w.pool p same) (reply_refines s past e w e.reply legal is refl)
-        here false other = elsewhere s past e p legal (ap (is_in_pool p) is ∙ other)
+    by (Worker w) is = cond_both (same_pool w.pool p) (pool_after_reply e.reply w.index (pool_of s past p)) (pool_of s past p) (λ l. map (slot_of s (e ∷ past) p) (indices s) ≡ l.slots)
+        (λ same. rw (← same_pool-true w.pool p same) (reply_refines s past e w e.reply legal is refl)) (λ other. elsewhere s past e p legal (ap (is_in_pool p) is ∙ other))

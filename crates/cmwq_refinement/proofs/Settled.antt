@@ -1,8 +1,7 @@
 -- In a legal history what settles is of an item that there is, and what books is for a queue that there is.
-use Rattle.cmwq_refinement.specs.Common.{◌≡◌, ◌<◌, ℕ, Bool, true, false, List, [], ◌∷◌, length, Option, Some, None, option_to_list, refl, sym, ap, ◌∙◌, arith, min, is_some, option_and_then, if◌then◌else◌, option_or, AllByRecursion, and_parts, ltb-true, same_Some, WorkerId, Who, Caller, Worker, Call, Reply, Entry, Booking, Queueing, Ticket, Layout, may_make, has_place, has_numbers, item_called, item_fired, item_of, settles, due_in, booked_by, booking_of, bookings, runs_awake, runs_asleep, run, next, enlisted_by, is_gone, is_crowded, ticket_of, is_frozen, waits_for, answer, wait_answer, destroy_answer, set_max_answer, fired_answer, first_due, end_of_ticket, waiting_for, take_answer, start_of, finish_answer, finished_answer, retire_answer, IsLegal, All_append}
-use Rattle.cmwq_model.specs.Prelude.{started_answer}
+use Rattle.cmwq_refinement.specs.Common.{◌≡◌, ◌<◌, ℕ, true, false, List, [], ◌∷◌, length, Option, Some, None, refl, arith, is_some, option_and_then, option_or, AllByRecursion, and_parts, ltb-true, nat_tests, Who, Call, Reply, Entry, Booking, Layout, may_make, has_place, has_numbers, item_called, item_fired, item_of, settles, due_in, booked_by, booking_of, bookings, answer, wait_answer, destroy_answer, set_max_answer, fired_answer, first_due, take_answer, finish_answer, retire_answer, IsLegal, Bool, Ticket, WorkerId, finished_answer, Caller, Worker, end_of_ticket, start_of, Queueing, if◌then◌else◌, false≢true, sym, ◌∙◌}
+use Rattle.cmwq_refinement.proofs.Numbers.{all_more}
 use Rattle.cmwq_model.specs.declared.call.Call.TheVariants as call
-use Rattle.cmwq_model.specs.declared.reply.Reply.TheVariants as reply
 use Rattle.cmwq_theory_steps.proofs.Inversions.{answer_is}
 
 -- ---- replies that neither settle an item nor name one
@@ -11,63 +10,6 @@ record IsQuiet (r : Reply) : Type 0 where
   unsettled : settles r ≡ false
   unfired : item_fired r ≡ None
 
-quiet_if : (b : Bool) (q r : Reply) → IsQuiet q → IsQuiet r → IsQuiet (if b then q else r)
-quiet_if true q r h k = h
-quiet_if false q r h k = k
-
-is_quiet : (r : Reply) → settles r ≡ false → item_fired r ≡ None → IsQuiet r
-is_quiet r h k = record { unsettled = h; unfired = k }
-
-misuse : IsQuiet reply.Misuse
-misuse = is_quiet reply.Misuse refl refl
-
-waiting_quiet : (o : Option ℕ) → IsQuiet (waiting_for o)
-waiting_quiet None = is_quiet reply.Done refl refl
-waiting_quiet (Some n) = is_quiet (reply.Waiting n) refl refl
-
-end_quiet : (past : List Entry) (o : Option Ticket) → IsQuiet (end_of_ticket past o)
-end_quiet past None = misuse
-end_quiet past (Some t) = waiting_quiet (waits_for past t.number t.call)
-
-started_quiet : (n : ℕ) (o : Option ℕ) → IsQuiet (started_answer n o)
-started_quiet n None = is_quiet (reply.Started n) refl refl
-started_quiet n (Some x) = is_quiet (reply.StartedEnlist n x) refl refl
-
-start_quiet : (s : Layout) (past : List Entry) (w : WorkerId) (o : Option Queueing) → IsQuiet (start_of s past w o)
-start_quiet s past w None = is_quiet reply.Nothing refl refl
-start_quiet s past w (Some x) = quiet_if _ reply.Held (started_answer x.number (enlisted_by s past w)) (is_quiet reply.Held refl refl) (started_quiet x.number (enlisted_by s past w))
-
-finished_quiet : (o : Option ℕ) → IsQuiet (finished_answer o)
-finished_quiet None = misuse
-finished_quiet (Some n) = is_quiet (reply.Finished n) refl refl
-
-take_quiet : (s : Layout) (past : List Entry) (w : WorkerId) → IsQuiet (take_answer s past w)
-unfolding take_answer
-take_quiet s past w = quiet_if _ reply.Misuse (start_of s past w (next s past w.pool)) misuse (start_quiet s past w (next s past w.pool))
-
-finish_quiet : (past : List Entry) (w : WorkerId) → IsQuiet (finish_answer past w)
-unfolding finish_answer
-finish_quiet past w = quiet_if _ (finished_answer (run past w)) reply.Misuse (finished_quiet (run past w)) misuse
-
-retire_quiet : (s : Layout) (past : List Entry) (w : WorkerId) → IsQuiet (retire_answer s past w)
-unfolding retire_answer
-retire_quiet s past w = quiet_if _ reply.Misuse _ misuse (quiet_if _ reply.Retired reply.Kept (is_quiet reply.Retired refl refl) (is_quiet reply.Kept refl refl))
-
-begin_quiet : (b : Bool) (n : ℕ) → IsQuiet (if b then reply.Crowded else reply.Ticket n)
-begin_quiet b n = quiet_if b reply.Crowded (reply.Ticket n) (is_quiet reply.Crowded refl refl) (is_quiet (reply.Ticket n) refl refl)
-
-wait_quiet : (past : List Entry) (who : Who) (q : ℕ) → IsQuiet (wait_answer past who q)
-unfolding wait_answer
-wait_quiet past who q = quiet_if (is_gone past q) reply.Gone _ (is_quiet reply.Gone refl refl) (begin_quiet (is_crowded past who) (length past))
-
-destroy_quiet : (past : List Entry) (who : Who) (q : ℕ) → IsQuiet (destroy_answer past who q)
-unfolding destroy_answer
-destroy_quiet past who q = quiet_if _ reply.Gone _ (is_quiet reply.Gone refl refl) (quiet_if _ reply.Draining _ (is_quiet reply.Draining refl refl) (quiet_if _ reply.Timers _ (is_quiet reply.Timers refl refl) (begin_quiet (is_crowded past who) (length past))))
-
-set_max_quiet : (past : List Entry) (q n : ℕ) → IsQuiet (set_max_answer past q n)
-unfolding set_max_answer
-set_max_quiet past q n = quiet_if (is_gone past q) reply.Gone (reply.Width (min n 512)) (is_quiet reply.Gone refl refl) (is_quiet _ refl refl)
-
 -- ---- the item of a call: it stands there, or is fired, or there is none
 
 data ItemCase (s : Layout) (past : List Entry) (c : Call) (r : Reply) : Type 0 where
@@ -75,48 +17,43 @@ data ItemCase (s : Layout) (past : List Entry) (c : Call) (r : Reply) : Type 0 w
   fires : item_called c ≡ None → r ≡ fired_answer (first_due past) (length past) → ItemCase s past c r
   none : item_called c ≡ None → IsQuiet r → ItemCase s past c r
 
-place_item : (s : Layout) (i q c : ℕ) → has_place s i q c ≡ true → i < s.items
-place_item s i q c h = ltb-true _ _ (and_parts _ _ (and_parts _ _ h).0).0
+pub place_fits : (s : Layout) (i q c : ℕ) → has_place s i q c ≡ true → (i < s.items) × (q < length s.queues) × (c < s.cpus)
+place_fits s i q c h = grind (arith, nat_tests)
+
+quiet_if : (b : Bool) (q r : Reply) → IsQuiet q → IsQuiet r → IsQuiet (if b then q else r)
+quiet_if true q r h k = h
+quiet_if false q r h k = k
+
+end_quiet : (past : List Entry) (o : Option Ticket) → IsQuiet (end_of_ticket past o)
+end_quiet past o = grind arith
+
+start_quiet : (s : Layout) (past : List Entry) (w : WorkerId) (o : Option Queueing) → IsQuiet (start_of s past w o)
+start_quiet s past w o = grind arith
+
+finished_quiet : (o : Option ℕ) → IsQuiet (finished_answer o)
+finished_quiet o = grind arith
+
+ruleset quiet_rules = (quiet_if, end_quiet, start_quiet, finished_quiet)
 
 item_case : (s : Layout) (past : List Entry) (who : Who) (c : Call) → ItemCase s past c (answer s past who c)
-unfolding answer
-item_case s past who (call.Queue i q c) = called i.0 refl (place_item s i.0 q.0 c.0)
-item_case s past who (call.Delay i q c t) = called i.0 refl (place_item s i.0 q.0 c.0)
-item_case s past who (call.Modify i q c t) = called i.0 refl (place_item s i.0 q.0 c.0)
+unfolding answer take_answer finish_answer retire_answer wait_answer destroy_answer set_max_answer
+item_case s past who (call.Queue i q c) = called i.0 refl (λ h. (place_fits s i.0 q.0 c.0 h).0)
+item_case s past who (call.Delay i q c t) = called i.0 refl (λ h. (place_fits s i.0 q.0 c.0 h).0)
+item_case s past who (call.Modify i q c t) = called i.0 refl (λ h. (place_fits s i.0 q.0 c.0 h).0)
 item_case s past who (call.Cancel i) = called i.0 refl (ltb-true _ _)
-item_case s past who (call.Tick t) = none refl (is_quiet _ refl refl)
 item_case s past who call.Fire = fires refl refl
-item_case s past who (call.Flush q) = none refl (wait_quiet past who q.0)
-item_case s past who (call.Drain q) = none refl (wait_quiet past who q.0)
 item_case s past who (call.FlushItem i) = called i.0 refl (ltb-true _ _)
 item_case s past who (call.FlushDelayed i) = called i.0 refl (ltb-true _ _)
 item_case s past who (call.CancelSync i) = called i.0 refl (ltb-true _ _)
-item_case s past who (call.End t) = none refl (end_quiet past (ticket_of past who t))
-item_case s past (Caller c) call.Take = none refl misuse
-item_case s past (Worker w) call.Take = none refl (take_quiet s past w)
-item_case s past (Caller c) call.Finish = none refl misuse
-item_case s past (Worker w) call.Finish = none refl (finish_quiet past w)
-item_case s past (Caller c) call.Sleep = none refl misuse
-item_case s past (Worker w) call.Sleep = none refl (quiet_if (runs_awake past w) reply.Slept reply.Misuse (is_quiet reply.Slept refl refl) misuse)
-item_case s past (Caller c) call.Wake = none refl misuse
-item_case s past (Worker w) call.Wake = none refl (quiet_if (runs_asleep past w) reply.Woke reply.Misuse (is_quiet reply.Woke refl refl) misuse)
-item_case s past (Caller c) call.Retire = none refl misuse
-item_case s past (Worker w) call.Retire = none refl (retire_quiet s past w)
-item_case s past who (call.SetMax q n) = none refl (set_max_quiet past q.0 n)
-item_case s past who call.Freeze = none refl (quiet_if (is_frozen past) reply.No reply.Frozen (is_quiet reply.No refl refl) (is_quiet reply.Frozen refl refl))
-item_case s past who call.Thaw = none refl (quiet_if (is_frozen past) reply.Thawed reply.No (is_quiet reply.Thawed refl refl) (is_quiet reply.No refl refl))
-item_case s past who (call.Destroy q) = none refl (destroy_quiet past who q.0)
+item_case s past (Caller c) k = none refl (search quiet_rules)
+item_case s past (Worker w) k = none refl (search quiet_rules)
 
 -- ---- what settles is of an item
 
-settled_fire : (o : Option Booking) (n : ℕ) → settles (fired_answer o n) ≡ true → is_some (item_fired (fired_answer o n)) ≡ true
-settled_fire None n h = cc
-settled_fire (Some b) n h = refl
-
 settled_item : (s : Layout) (past : List Entry) (c : Call) (r : Reply) → ItemCase s past c r → settles r ≡ true → is_some (option_or (item_called c) (item_fired r)) ≡ true
-settled_item s past c r (called i is less) h = ap (λ o. is_some (option_or o (item_fired r))) is
-settled_item s past c r (fires is fire) h = rw (is, fire) (settled_fire (first_due past) (length past) (rw fire at h))
-settled_item s past c r (none is quiet) h = let not_so = quiet.unsettled in cc
+settled_item s past c r (called i is less) h = rw is refl
+settled_item s past c r (fires is fire) h = grind (arith, is, fire)
+settled_item s past c r (none is quiet) h = absurd (false≢true (sym quiet.unsettled ∙ h))
 
 pub settled_of_an_item : (s : Layout) (past : List Entry) (e : Entry) → IsLegal s (e ∷ past) → settles e.reply ≡ true → is_some (item_of e) ≡ true
 settled_of_an_item s past e legal h =
@@ -134,20 +71,9 @@ pub numbers_fit : (s : Layout) (past : List Entry) (e : Entry) → IsLegal s (e 
 unfolding IsLegal
 numbers_fit s past e legal = (and_parts (may_make s e.who e.call) (has_numbers s e.call) legal.0).1
 
-pub place_fits : (s : Layout) (i q c : ℕ) → has_place s i q c ≡ true → (i < s.items) × (q < length s.queues) × (c < s.cpus)
-place_fits s i q c h =
-    let outer = and_parts _ _ h in
-    let two = and_parts _ _ outer.0 in (ltb-true _ _ two.0, ltb-true _ _ two.1, ltb-true _ _ outer.1)
-
 booked_fits : (s : Layout) (c : Call) (n due : ℕ) (b : Booking) → has_numbers s c ≡ true → booked_by c n due ≡ Some b → Fits s b
-booked_fits s (call.Delay i q k t) n due b h is =
-    let same = same_Some _ b is in
-    let all = place_fits s i.0 q.0 k.0 h in
-    rw (← same) (record { item = all.0; queue = all.1; cpu = all.2 })
-booked_fits s (call.Modify i q k t) n due b h is =
-    let same = same_Some _ b is in
-    let all = place_fits s i.0 q.0 k.0 h in
-    rw (← same) (record { item = all.0; queue = all.1; cpu = all.2 })
+booked_fits s (call.Delay i q k t) n due b h is = grind (arith, place_fits s i.0 q.0 k.0 h, is)
+booked_fits s (call.Modify i q k t) n due b h is = grind (arith, place_fits s i.0 q.0 k.0 h, is)
 booked_fits s c n due b h is = cc
 
 pub booking_fits : (s : Layout) (past : List Entry) (e : Entry) (b : Booking) → IsLegal s (e ∷ past) → booking_of e (length past) ≡ Some b → Fits s b
@@ -157,33 +83,22 @@ booking_fits s past e b legal is = due (due_in e.reply) is
     due None h = cc
     due (Some d) h = booked_fits s e.call (length past) d b (numbers_fit s past e legal) h
 
-option_fits : (s : Layout) (o : Option Booking) → ((b : Booking) → o ≡ Some b → Fits s b) → AllByRecursion (Fits s) (option_to_list o)
-option_fits s None h = tt
-option_fits s (Some b) h = (h b refl, tt)
-
 pub bookings_fit : (s : Layout) (past : List Entry) → IsLegal s past → AllByRecursion (Fits s) (bookings past)
 unfolding bookings IsLegal
 bookings_fit s [] legal = tt
-bookings_fit s (e ∷ past) legal = All_append (Fits s) (bookings past) (option_to_list (booking_of e (length past))) (bookings_fit s past legal.2) (option_fits s (booking_of e (length past)) (λ b is. booking_fits s past e b legal is))
+bookings_fit s (e ∷ past) legal = all_more (Fits s) (bookings past) (booking_of e (length past)) (bookings_fit s past legal.2) (λ b is. booking_fits s past e b legal is)
 
 -- ---- the item is one that there is
 
-fired_fits : (s : Layout) (past : List Entry) (n i : ℕ) (o : Option Booking) → ((b : Booking) → o ≡ Some b → Fits s b) → item_fired (fired_answer o n) ≡ Some i → i < s.items
-fired_fits s past n i None h is = cc
-fired_fits s past n i (Some b) h is = let same : b.item.0 ≡ i = same_Some b.item.0 i is in let fits = (h b refl).item in omega arith
-
 item_less : (s : Layout) (past : List Entry) (c : Call) (r : Reply) (i : ℕ) → has_numbers s c ≡ true → ((b : Booking) → first_due past ≡ Some b → Fits s b) → ItemCase s past c r
     → option_or (item_called c) (item_fired r) ≡ Some i → i < s.items
-item_less s past c r i numbers due (called j is less) h =
-    let same : j ≡ i = same_Some j i (sym (ap (λ o. option_or o (item_fired r)) is) ∙ h) in
-    let there : j < s.items = less numbers in
-    omega arith
-item_less s past c r i numbers due (fires is fire) h =
-    fired_fits s past (length past) i (first_due past) due (sym (ap item_fired fire) ∙ sym (ap (λ o. option_or o (item_fired r)) is) ∙ h)
-item_less s past c r i numbers due (none is quiet) h =
-    let unfired = quiet.unfired in
-    let both : option_or (item_called c) (item_fired r) ≡ None = ap (λ o. option_or o (item_fired r)) is ∙ unfired in
-    cc
+item_less s past c r i numbers due (called j is less) h = grind (arith, less numbers)
+item_less s past c r i numbers due (fires is fire) h = fired (first_due past) due (cc)
+  where
+    fired : (o : Option Booking) → ((b : Booking) → o ≡ Some b → Fits s b) → item_fired (fired_answer o (length past)) ≡ Some i → i < s.items
+    fired None fits k = cc
+    fired (Some b) fits k = grind (arith, fits b refl)
+item_less s past c r i numbers due (none is quiet) h = cc (quiet.unfired)
 
 pub item_there : (s : Layout) (past : List Entry) (e : Entry) (i : ℕ) → IsLegal s (e ∷ past) → ((b : Booking) → first_due past ≡ Some b → Fits s b) → item_of e ≡ Some i → i < s.items
 item_there s past e i legal due h =

@@ -1,8 +1,7 @@
 -- No more tickets are unended than 64 for each caller.
-use Rattle.cmwq_refinement.specs.Common.{◌≡◌, ◌==◌, ◌<◌, ◌≤◌, ◌+◌, ℕ, Bool, true, false, List, [], ◌∷◌, length, count_by, Option, Some, None, option_to_list, refl, sym, ap, ◌∙◌, subst, arith, ◌*◌, AllByRecursion, and_parts, eqb-true, ltb-true, leb-false, Entry, Ticket, Layout, is_callers, may_make, has_numbers, tickets, unended_tickets, is_unended, ticket_in, is_crowded, IsLegal, passes, ticket_ended, All_map, All_append, All_filter, cause_of, legal_fits, ticket_reason, tickets_go_on}
-use Rattle.cmwq_theory_steps.specs.Histories.{one}
+use Rattle.cmwq_refinement.specs.Common.{◌≡◌, ◌==◌, ◌<◌, ◌≤◌, ℕ, Bool, true, List, [], ◌∷◌, length, count_by, Option, Some, None, refl, sym, ap, ◌∙◌, arith, ◌*◌, AllByRecursion, and_parts, eqb-true, ltb-true, leb-false, Entry, Ticket, Layout, is_callers, may_make, has_numbers, tickets, unended_tickets, is_unended, ticket_in, is_crowded, IsLegal, cause_of, legal_fits, ticket_reason, tickets_go_on}
+use Rattle.cmwq_refinement.proofs.Numbers.{all_kept, all_more}
 use Rattle.cmwq_theory_steps.proofs.OfEachKind.{no_longer}
-use Rattle.cmwq_lemmas.proofs.Members.{all_in, in_option}
 use Rattle.cmwq_refinement.proofs.TicketSteps.{ticket_in_is}
 
 -- ---- of each caller
@@ -20,38 +19,21 @@ given_free s past e t legal h =
 few_of_caller : (s : Layout) (past : List Entry) → IsLegal s past → (c : ℕ) → count_by (is_of_caller c) (unended_tickets past) ≤ 64
 unfolding tickets IsLegal
 few_of_caller s [] legal c = omega arith
-few_of_caller s (e ∷ past) legal c = by (ticket_in e (length past)) refl (few_of_caller s past legal.2 c) (tickets_go_on s past e (is_of_caller c) legal)
+few_of_caller s (e ∷ past) legal c = by (ticket_in e (length past)) refl (few_of_caller s past legal.2 c)
   where
-    by : (o : Option Ticket) → ticket_in e (length past) ≡ o → count_by (is_of_caller c) (unended_tickets past) ≤ 64
-        → count_by (is_of_caller c) (unended_tickets (e ∷ past)) + one (passes (is_of_caller c) (ticket_ended past e)) ≡ count_by (is_of_caller c) (unended_tickets past) + one (passes (is_of_caller c) (ticket_in e (length past))) → count_by (is_of_caller c) (unended_tickets (e ∷ past)) ≤ 64
-    by None none before count = let zero : one (passes (is_of_caller c) (ticket_in e (length past))) ≡ 0 = ap (λ o. one (passes (is_of_caller c) o)) none in omega arith
-    by (Some t) given before count = which (is_of_caller c t) refl
-      where
-        is_one : (b : Bool) → is_of_caller c t ≡ b → one (passes (is_of_caller c) (ticket_in e (length past))) ≡ one b
-        is_one b same = ap (λ o. one (passes (is_of_caller c) o)) given ∙ ap one same
-
-        which : (b : Bool) → is_of_caller c t ≡ b → count_by (is_of_caller c) (unended_tickets (e ∷ past)) ≤ 64
-        which true same =
-            let free = subst (λ m. count_by (is_of_caller m) (unended_tickets past) < 64) (eqb-true t.caller.0 c same) (given_free s past e t legal given) in
-            let more = is_one true same in
-            omega arith
-        which false same = let more = is_one false same in omega arith
+    by : (o : Option Ticket) → ticket_in e (length past) ≡ o → count_by (is_of_caller c) (unended_tickets past) ≤ 64 → count_by (is_of_caller c) (unended_tickets (e ∷ past)) ≤ 64
+    by None none before = grind (arith, tickets_go_on s past e (is_of_caller c) legal)
+    by (Some t) given before = grind (arith, tickets_go_on s past e (is_of_caller c) legal, λ (same : (t.caller.0 == c) ≡ true). rw (eqb-true t.caller.0 c same) at (given_free s past e t legal given))
 
 -- ---- of all
 
 pub callers_there : (s : Layout) (past : List Entry) → IsLegal s past → AllByRecursion (λ t. t.caller.0 < s.callers) (tickets past)
 unfolding tickets IsLegal
 callers_there s [] legal = tt
-callers_there s (e ∷ past) legal = All_append (λ t. t.caller.0 < s.callers) (tickets past) (option_to_list (ticket_in e (length past))) (callers_there s past legal.2)
-    (all_in (λ t. t.caller.0 < s.callers) (option_to_list (ticket_in e (length past))) (λ t i. there t (in_option (ticket_in e (length past)) t i)))
-  where
-    there : (t : Ticket) → ticket_in e (length past) ≡ Some t → t.caller.0 < s.callers
-    there t h =
-        let makes = (and_parts (may_make s e.who e.call) (has_numbers s e.call) legal.0).0 in
-        let caller = sym (ap (λ who. may_make s who e.call) (ticket_in_is e (length past) t h).caller) ∙ makes in
-        ltb-true t.caller.0 s.callers (and_parts _ (is_callers e.call) caller).0
+callers_there s (e ∷ past) legal = all_more (λ t. t.caller.0 < s.callers) (tickets past) (ticket_in e (length past)) (callers_there s past legal.2) (λ t h.
+    let makes = (and_parts (may_make s e.who e.call) (has_numbers s e.call) legal.0).0 in
+    let caller = sym (ap (λ who. may_make s who e.call) (ticket_in_is e (length past) t h).caller) ∙ makes in
+    ltb-true t.caller.0 s.callers (and_parts _ (is_callers e.call) caller).0)
 
 pub unended_few : (s : Layout) (past : List Entry) → IsLegal s past → length (unended_tickets past) ≤ 64 * s.callers
-unended_few s past legal = no_longer (λ (t : Ticket). t.caller.0) 64 s.callers (unended_tickets past)
-    (All_filter (λ t. t.caller.0 < s.callers) (is_unended past) (tickets past) (All_map (λ t. t.caller.0 < s.callers) (λ t. is_unended past t ≡ true → t.caller.0 < s.callers) (tickets past) (λ t less stands. less) (callers_there s past legal)))
-    (few_of_caller s past legal)
+unended_few s past legal = no_longer (λ (t : Ticket). t.caller.0) 64 s.callers (unended_tickets past) (all_kept (λ t. t.caller.0 < s.callers) (is_unended past) (tickets past) (callers_there s past legal)) (few_of_caller s past legal)

@@ -1,45 +1,32 @@
 -- The tickets of callers, entry by entry: they are those of the longer history, each call may be made, and what they answer.
-use Rattle.cmwq_refinement.specs.Common.{◌≡◌, ◌<◌, ◌≤◌, ℕ, Bool, true, false, not, cond, ◌&&◌, List, [], ◌∷◌, length, map, filter, find, count_by, replicate, IsTrue, Option, Some, None, is_some, option_to_list, nat_le, nat_lt, refl, sym, ap, ap₂, ◌∙◌, subst, arith, range_with_len, list_all, AllByRecursion, and_parts, eqb-true, eq-eqb, lt-ltb, nat_tests, length-range_with_len, length-map-range_with_len, length-filter, Call, Entry, Ticket, Layout, is_layout, has_numbers, tickets, unended_tickets, is_unended, is_held_by, is_crowded, is_ticket, ticket_of, is_cancelling, is_draining, is_being_destroyed, is_cancel_sync_of, is_drain_of, is_destroy_of, IsLegal, All_map, All_filter, All_each, count_by-filter, is_kept, ticket_ended, filter_same, count_by-wider, unended_go_on, and_true, and_false, tickets_of_caller, is_numbered, comes_before, any_ticket, may_give, new_tickets, count}
-use Rattle.cmwq_model.specs.declared.call.Call.TheVariants as call
+use Rattle.cmwq_refinement.specs.Common.{◌≡◌, ◌<◌, ◌≤◌, ℕ, true, List, [], ◌∷◌, length, filter, find, IsTrue, Option, Some, None, is_some, option_to_list, nat_le, refl, sym, ap, ◌∙◌, arith, list_all, AllByRecursion, eqb-true, eq-eqb, nat_tests, length-map-range_with_len, length-filter, Call, Entry, Ticket, Layout, is_layout, has_numbers, tickets, unended_tickets, is_unended, is_held_by, is_crowded, is_ticket, ticket_of, is_cancelling, is_draining, is_being_destroyed, is_cancel_sync_of, is_drain_of, is_destroy_of, IsLegal, is_kept, ticket_ended, filter_same, unended_go_on, is_numbered, comes_before, any_ticket, may_give, new_tickets, count}
+use Rattle.cmwq_refinement.proofs.Numbers.{In, all_in, all_kept, fewer_kept, filter_all, filter_in, find_is, in_right, number_of_ticket, of_in, option_in, rises_filter, rows_alike, ticket_given}
 use Rattle.cmwq_ticket.specs.Counts.{is_counted}
 use Rattle.cmwq_ticket.specs.Rows as row
 use Rattle.cmwq_ticket.specs.Rows.{is_other_ticket}
-use Rattle.cmwq_refinement.specs.ByNumber.{number_of_ticket, ticket_given}
 use Rattle.cmwq_refinement.specs.Tickets.{the_caller, tickets_held, rows_of, tickets_in, tickets_of, tickets_after_end, tickets_after_giving, tickets_after, MayEndTicket, MayGiveTicket, MayApplyToTickets}
-use Rattle.cmwq_lemmas.proofs.Members.{In, of_in, all_in, in_right, option_in, filter_in}
-use Rattle.cmwq_lemmas.proofs.Rising.{rises_filter, find_is}
 use Rattle.cmwq_refinement.proofs.Settled.{numbers_fit}
-use Rattle.cmwq_refinement.proofs.TicketSteps.{TicketStep, ticket_step, ends_one, ends_none, ends_only, ticket_in_is, unended_rise, unended_below}
+use Rattle.cmwq_refinement.proofs.TicketSteps.{ticket_step, ends_one, ends_none, ends_only, ticket_in_is, unended_rise, unended_below}
 use Rattle.cmwq_refinement.proofs.TicketLimits.{callers_there, given_free}
 use Rattle.cmwq_refinement.proofs.TicketRows.{row_is, rows_after, rows_ended, rows_any, rows_find, rows_count}
 
 -- ---- the callers are there
 
--- what holds of all tickets holds of those that pass
-still_all : (P : Ticket → Type 0) (p : Ticket → Bool) (ts : List Ticket) → AllByRecursion P ts → AllByRecursion P (filter p ts)
-still_all P p ts h = All_filter P p ts (All_map P (λ t. p t ≡ true → P t) ts (λ t holds passes. holds) h)
-
 unended_there : (s : Layout) (past : List Entry) → IsLegal s past → AllByRecursion (λ t. t.caller.0 < s.callers) (unended_tickets past)
-unended_there s past legal = still_all (λ t. t.caller.0 < s.callers) (is_unended past) (tickets past) (callers_there s past legal)
+unended_there s past legal = all_kept (λ t. t.caller.0 < s.callers) (is_unended past) (tickets past) (callers_there s past legal)
 
 given_there : (s : Layout) (past : List Entry) (e : Entry) (t : Ticket) → IsLegal s (e ∷ past) → ticket_given past e ≡ Some t → t.caller.0 < s.callers
 given_there s past e t legal h = of_in (λ u. u.caller.0 < s.callers) (unended_tickets (e ∷ past)) t (unended_there s (e ∷ past) legal)
-    (subst (In t) (sym (unended_go_on s past e legal)) (in_right (filter (is_kept e) (unended_tickets past)) (option_to_list (ticket_given past e)) t (option_in (ticket_given past e) t h)))
+    (rw (unended_go_on s past e legal) (in_right (filter (is_kept e) (unended_tickets past)) (option_to_list (ticket_given past e)) t (option_in (ticket_given past e) t h)))
 
 -- ---- the rows go on
 
-all_pass : (p : Ticket → Bool) (ts : List Ticket) → AllByRecursion (λ t. p t ≡ true) ts → filter p ts ≡ ts
-all_pass p [] h = refl
-all_pass p (t ∷ ts) h = rw (h.0) (ap (λ us. t ∷ us) (all_pass p ts h.1))
-
 after_ended : (s : Layout) (past : List Entry) (e : Entry) → IsLegal s past → tickets_after_end (ticket_ended past e) (tickets_of s past) ≡ tickets_in s (rows_of s.callers (filter (is_kept e) (unended_tickets past)))
-after_ended s past e legal = by (ticket_step past e)
-  where
-    by : TicketStep past e → tickets_after_end (ticket_ended past e) (tickets_of s past) ≡ tickets_in s (rows_of s.callers (filter (is_kept e) (unended_tickets past)))
-    by (ends_none is all) = ap (λ o. tickets_after_end o (tickets_of s past)) is ∙ ap (λ ts. tickets_in s (rows_of s.callers ts)) (sym (all_pass (is_kept e) (unended_tickets past) all))
-    by (ends_one u is here it) = ap (λ o. tickets_after_end o (tickets_of s past)) is
-        ∙ ap (tickets_in s) (rows_ended s.callers (unended_tickets past) u (unended_rise past) here (of_in (λ t. t.caller.0 < s.callers) (unended_tickets past) u (unended_there s past legal) here)
-        ∙ ap (rows_of s.callers) (sym (filter_same (is_kept e) (is_other_ticket u.number) (unended_tickets past) (all_in (λ t. is_kept e t ≡ is_other_ticket u.number t) (unended_tickets past) (ends_only past e u here it)))))
+after_ended s past e legal = elim (ticket_step past e) [
+  | ends_none is all ↦ rw (is, filter_all (is_kept e) (unended_tickets past) all) refl
+  | ends_one u is here it ↦ rw (is, filter_same (is_kept e) (is_other_ticket u.number) (unended_tickets past) (all_in (λ t. is_kept e t ≡ is_other_ticket u.number t) (unended_tickets past) (ends_only past e u here it)))
+      (ap (tickets_in s) (rows_ended s.callers (unended_tickets past) u (unended_rise past) here (of_in (λ t. t.caller.0 < s.callers) (unended_tickets past) u (unended_there s past legal) here)))
+]
 
 pub tickets_refine : (s : Layout) (past : List Entry) (e : Entry) → IsLegal s (e ∷ past) → tickets_after past e (tickets_of s past) ≡ tickets_of s (e ∷ past)
 unfolding IsLegal
@@ -47,13 +34,9 @@ tickets_refine s past e legal = ap (tickets_after_giving (ticket_given past e)) 
     ∙ rows_after s (filter (is_kept e) (unended_tickets past)) (ticket_given past e) (λ t h. given_there s past e t legal h)
     ∙ ap (λ ts. tickets_in s (rows_of s.callers ts)) (sym (unended_go_on s past e legal))
 
-empty_rows : (cs : List ℕ) → map (tickets_held []) cs ≡ replicate (length cs) []
-empty_rows [] = refl
-empty_rows (c ∷ cs) = ap (λ rows. [] ∷ rows) (empty_rows cs)
-
 pub no_tickets_at_first : (s : Layout) → tickets_of s [] ≡ new_tickets s.callers s.items (length s.queues)
 unfolding tickets
-no_tickets_at_first s = ap (tickets_in s) (empty_rows (range_with_len 0 s.callers) ∙ ap (λ n. replicate n []) (length-range_with_len 0 s.callers))
+no_tickets_at_first s = ap (tickets_in s) (rows_alike (tickets_held []) [] s.callers (λ c. refl))
 
 -- ---- each call may be made
 
@@ -65,58 +48,39 @@ stands_in_row s past t legal here =
     let mine = filter_in (is_held_by (the_caller t.caller.0)) (unended_tickets past) t here (eq-eqb t.caller.0 t.caller.0 refl) in
     ap (find (is_numbered t.number)) (row_is s.callers (unended_tickets past) t.caller.0 less)
     ∙ find_is number_of_ticket (is_numbered t.number) held t (rises_filter number_of_ticket (is_held_by (the_caller t.caller.0)) (unended_tickets past) (unended_rise past)) mine (eq-eqb t.number t.number refl)
-    (all_in (λ u. is_numbered t.number u ≡ true → t.number ≤ u.number) held (λ u i h. let same = eqb-true u.number t.number h in omega arith))
+    (all_in (λ u. is_numbered t.number u ≡ true → t.number ≤ u.number) held (λ u i h. omega (arith, eqb-true u.number t.number h)))
 
 may_end : (s : Layout) (past : List Entry) (e : Entry) → IsLegal s past → MayEndTicket (ticket_ended past e) (tickets_of s past)
-may_end s past e legal = by (ticket_step past e)
-  where
-    by : TicketStep past e → MayEndTicket (ticket_ended past e) (tickets_of s past)
-    by (ends_none is all) = subst (λ o. MayEndTicket o (tickets_of s past)) (sym is) tt
-    by (ends_one u is here it) = subst (λ o. MayEndTicket o (tickets_of s past)) (sym is) (ap is_some (stands_in_row s past u legal here))
+may_end s past e legal = elim (ticket_step past e) [
+  | ends_none is all ↦ rw is tt
+  | ends_one u is here it ↦ rw is (ap is_some (stands_in_row s past u legal here))
+]
 
 -- a call that fits a layout has its count
 fits_counted : (s : Layout) (c : Call) → has_numbers s c ≡ true → is_counted s.items (length s.queues) c ≡ true
-fits_counted s (call.CancelSync i) fits = fits
-fits_counted s (call.Drain q) fits = fits
-fits_counted s (call.Destroy q) fits = fits
-fits_counted s c fits = refl
+fits_counted s c fits = grind arith
 
 all_before : (t : Ticket) (ts : List Ticket) → AllByRecursion (λ u. u.number < t.number) ts → list_all (comes_before t) ts ≡ true
 all_before t [] h = refl
-all_before t (u ∷ ts) h = ap₂ (λ a b. a && b) (lt-ltb u.number t.number h.0) (all_before t ts h.1)
-
-four_tests : (a b c d : Bool) → a ≡ true → b ≡ false → c ≡ true → d ≡ true → (a && not b && c && d) ≡ true
-four_tests a b c d p q r t = rw (p, q, r, t) refl
-
--- of fewer tickets a caller has fewer
-fewer_held : (held kept : Ticket → Bool) (ts : List Ticket) → count_by held ts < 64 → length (filter held (filter kept ts)) < 64
-fewer_held held kept ts free =
-    let is = length-filter held (filter kept ts) in
-    let all : count_by (λ t. kept t && held t) ts ≡ count_by held (filter kept ts) = count_by-filter (λ t. kept t && held t) kept held ts (λ t. refl) in
-    let wider : count_by (λ t. kept t && held t) ts ≤ count_by held ts = count_by-wider (λ t. kept t && held t) held ts (All_each _ ts (λ t h. (and_parts (kept t) (held t) h).1)) in
-    omega arith
+all_before t (u ∷ ts) h = grind (arith, nat_tests, all_before t ts)
 
 rows_may_give : (s : Layout) (past : List Entry) (e : Entry) (t : Ticket) → IsLegal s (e ∷ past) → ticket_given past e ≡ Some t → may_give (tickets_in s (rows_of s.callers (filter (is_kept e) (unended_tickets past)))) t ≡ true
 rows_may_give s past e t legal h =
     let is = ticket_in_is e (length past) t h in
-    let kept = filter (is_kept e) (unended_tickets past) in
-    let less = given_there s past e t legal h in
+    let kept : List Ticket = filter (is_kept e) (unended_tickets past) in
     let held = is_held_by (the_caller t.caller.0) in
-    let at : tickets_of_caller (rows_of s.callers kept) t.caller.0 ≡ tickets_held kept t.caller.0 = row_is s.callers kept t.caller.0 less in
-    let size : length (rows_of s.callers kept) ≡ s.callers = length-map-range_with_len (tickets_held kept) 0 s.callers in
-    let free = given_free s past e t legal h in
-    let before : AllByRecursion (λ u. u.number < t.number) (tickets_held kept t.caller.0) = subst (λ n. AllByRecursion (λ u. u.number < n) (tickets_held kept t.caller.0)) (sym is.number) (still_all (λ u. u.number < length past) held kept (still_all (λ u. u.number < length past) (is_kept e) (unended_tickets past) (unended_below past))) in
-    four_tests (nat_lt t.caller.0 (length (rows_of s.callers kept))) (row.is_row_crowded (rows_of s.callers kept) t.caller.0) (list_all (comes_before t) (tickets_of_caller (rows_of s.callers kept) t.caller.0)) (is_counted s.items (length s.queues) t.call)
-    (lt-ltb t.caller.0 (length (rows_of s.callers kept)) (rw size less))
-    (let few : length (tickets_of_caller (rows_of s.callers kept) t.caller.0) < 64 = rw at (fewer_held held (is_kept e) (unended_tickets past) free) in let fits : nat_le 64 (length (tickets_of_caller (rows_of s.callers kept) t.caller.0)) ≡ false = grind (arith, nat_tests) in fits)
-    (ap (list_all (comes_before t)) at ∙ all_before t (tickets_held kept t.caller.0) before)
-    (fits_counted s t.call (ap (has_numbers s) is.call ∙ numbers_fit s past e legal))
+    let there = given_there s past e t legal h in
+    let below = all_kept (λ u. u.number < length past) held kept (all_kept (λ u. u.number < length past) (is_kept e) (unended_tickets past) (unended_below past)) in
+    let older = all_before t (tickets_held kept t.caller.0) (rw is.number below) in
+    let few : length (tickets_held kept t.caller.0) < 64 = omega (arith, given_free s past e t legal h, length-filter held kept, fewer_kept held (is_kept e) (unended_tickets past)) in
+    let counted = fits_counted s t.call (ap (has_numbers s) is.call ∙ numbers_fit s past e legal) in
+    grind (arith, nat_tests, there, row_is s.callers kept t.caller.0 there, length-map-range_with_len (tickets_held kept) 0 s.callers, older, few, counted)
 
 pub entries_apply_to_tickets : (s : Layout) (past : List Entry) (e : Entry) → IsTrue (is_layout s) → IsLegal s (e ∷ past) → MayApplyToTickets past e (tickets_of s past)
 unfolding IsLegal
 entries_apply_to_tickets s past e inside legal = record {
   ended = may_end s past e legal.2;
-  given = subst (MayGiveTicket (ticket_given past e)) (sym (after_ended s past e legal.2)) (by (ticket_given past e) refl);
+  given = rw (after_ended s past e legal.2) (by (ticket_given past e) refl);
 }
   where
     by : (o : Option Ticket) → ticket_given past e ≡ o → MayGiveTicket o (tickets_in s (rows_of s.callers (filter (is_kept e) (unended_tickets past))))
@@ -136,17 +100,7 @@ tickets_found_alike s past c n less = ap (find (is_numbered n)) (row_is s.caller
   where
     find_kept : (ts : List Ticket) → find (is_numbered n) (filter (is_held_by (the_caller c)) ts) ≡ find (is_ticket (the_caller c) n) ts
     find_kept [] = refl
-    find_kept (t ∷ ts) = first (is_held_by (the_caller c) t) ∙ ap (λ o. cond (is_ticket (the_caller c) n t) (Some t) o) (find_kept ts)
-      where
-        rest : List Ticket
-        rest = filter (is_held_by (the_caller c)) ts
-
-        choice : Bool → Option Ticket
-        choice b = cond b (Some t) (find (is_numbered n) rest)
-
-        first : (b : Bool) → find (is_numbered n) (cond b (t ∷ rest) rest) ≡ cond (is_numbered n t && b) (Some t) (find (is_numbered n) rest)
-        first true = ap choice (sym (and_true (is_numbered n t)))
-        first false = ap choice (sym (and_false (is_numbered n t)))
+    find_kept (t ∷ ts) = grind (arith, find_kept ts)
 
 pub tickets_of_any_caller : (s : Layout) (past : List Entry) (n : ℕ) → IsLegal s past → any_ticket (tickets_of s past).rows n ≡ find (is_numbered n) (unended_tickets past)
 tickets_of_any_caller s past n legal = rows_find s.callers (unended_tickets past) (unended_there s past legal) n (unended_rise past)

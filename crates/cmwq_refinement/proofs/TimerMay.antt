@@ -20,17 +20,7 @@ timers_refine s past e legal = by (settles e.reply) refl
 pub timers_may_be_set : (s : Layout) (past : List Entry) (e : Entry) → IsLegal s (e ∷ past) → MayBeSet (item_of e) (booking_of e (length past)) (timers_of s past)
 timers_may_be_set s past e legal = by (item_of e) (booking_of e (length past)) refl refl
   where
-    rows : length (timers_of s past) ≡ s.items
-    rows = rows_for_items s past
-
     by : (i : Option ℕ) (o : Option Booking) → item_of e ≡ i → booking_of e (length past) ≡ o → MayBeSet i o (timers_of s past)
-    by i (Some b) item books =
-        let fits = booking_fits s past e b legal books in
-        let less = fits.item in
-        let size = rows in
-        omega arith
-    by (Some i) None item none =
-        let less = (entries_apply_to_timers s past e legal).item i item in
-        let size = rows in
-        omega arith
+    by i (Some b) item books = omega (arith, (booking_fits s past e b legal books).item, rows_for_items s past)
+    by (Some i) None item none = omega (arith, (entries_apply_to_timers s past e legal).item i item, rows_for_items s past)
     by None None item none = tt

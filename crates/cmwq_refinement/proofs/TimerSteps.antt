@@ -1,5 +1,6 @@
 -- The rows of timers, entry by entry.
-use Rattle.cmwq_refinement.specs.Common.{◌≡◌, ◌≢◌, ◌<◌, ◌≤◌, ℕ, Bool, true, false, ◌&&◌, List, [], ◌∷◌, length, map, replicate, set, get_or, Option, Some, None, refl, sym, ap, ap₂, ◌∙◌, arith, ⊎_elim, option_map, option_and_then, if◌then◌else◌, range_with_len, length-set, get_or-set_same, get_or-set_other, get_or_past, fill_by_all, length-range_with_len, length-map-range_with_len, get_or-map-range_with_len, option_or, same_Some, cases_eq, eq-eqb, ne_eqb, Call, Entry, Booking, Layout, item_called, item_fired, item_of, is_of_item, is_at, settles, due_in, booked_by, booking_of, booking, Timer, due_of, timer_of}
+use Rattle.cmwq_refinement.specs.Common.{◌≡◌, ◌≢◌, ◌<◌, ◌≤◌, ℕ, true, false, List, [], ◌∷◌, length, map, replicate, set, Option, Some, None, refl, sym, ap, ◌∙◌, arith, ⊎_elim, option_map, option_and_then, range_with_len, length-set, get_or-set_same, get_or-set_other, get_or_past, fill_by_all, length-map-range_with_len, get_or-map-range_with_len, option_or, cases_eq, eq-eqb, ne_eqb, Call, Entry, Booking, Layout, item_called, item_fired, item_of, settles, due_in, booked_by, booking_of, booking, due_of, timer_of, and_false}
+use Rattle.cmwq_refinement.proofs.Numbers.{rows_alike}
 use Rattle.cmwq_model.specs.declared.call.Call.TheVariants as call
 use Rattle.cmwq_refinement.specs.Timers.{timer_for, timer_row, timers_of, due_in_bookings}
 use Rattle.cmwq_theory_steps.proofs.Standing.{due_settles}
@@ -7,54 +8,19 @@ use Rattle.cmwq_theory_steps.proofs.Standing.{due_settles}
 module _ {X : Type 0} where
   -- one place of a table that a function makes
   pub set_row : (f g : ℕ → X) (n i : ℕ) (v : X) → g i ≡ v → ((j : ℕ) → j ≢ i → g j ≡ f j) → map g (range_with_len 0 n) ≡ set (map f (range_with_len 0 n)) i v
-  set_row f g n i v here others = sym (fill_by_all g (set (map f (range_with_len 0 n)) i v) n v (length-set (map f (range_with_len 0 n)) i v ∙ length-map-range_with_len f 0 n) at)
-    where
-      at : (k : ℕ) → k < n → get_or (set (map f (range_with_len 0 n)) i v) k v ≡ g k
-      at k less = ⊎_elim same other (cases_eq k i)
-        where
-          same : k ≡ i → get_or (set (map f (range_with_len 0 n)) i v) k v ≡ g k
-          same is =
-              let within : i < length (map f (range_with_len 0 n)) = rw (length-map-range_with_len f 0 n, ← is) less in
-              ap (λ m. get_or (set (map f (range_with_len 0 n)) i v) m v) is ∙ get_or-set_same (map f (range_with_len 0 n)) i v v within ∙ sym here ∙ ap g (sym is)
-
-          other : (k ≡ i → ⊥) → get_or (set (map f (range_with_len 0 n)) i v) k v ≡ g k
-          other differs = get_or-set_other (map f (range_with_len 0 n)) i k v v differs ∙ get_or-map-range_with_len f 0 n k k v less (omega arith) ∙ sym (others k differs)
+  set_row f g n i v here others = sym (fill_by_all g (set (map f (range_with_len 0 n)) i v) n v (length-set (map f (range_with_len 0 n)) i v ∙ length-map-range_with_len f 0 n) (λ k less. ⊎_elim
+      (λ same. grind (arith, get_or-set_same (map f (range_with_len 0 n)) i v v, length-map-range_with_len f 0 n))
+      (λ differs. get_or-set_other (map f (range_with_len 0 n)) i k v v differs ∙ get_or-map-range_with_len f 0 n k k v less (omega arith) ∙ sym (others k differs)) (cases_eq k i)))
 
   pub same_rows : (f g : ℕ → X) (xs : List ℕ) → ((j : ℕ) → g j ≡ f j) → map g xs ≡ map f xs
   same_rows f g [] h = refl
-  same_rows f g (x ∷ xs) h = ap₂ (λ y ys. y ∷ ys) (h x) (same_rows f g xs h)
-
--- ---- bookings
-
-pub booking_settled : (past : List Entry) (e : Entry) (i : ℕ) → settles e.reply ≡ true → is_of_item i e ≡ true → booking (e ∷ past) i ≡ booking_of e (length past)
-unfolding booking
-booking_settled past e i h k = ap₂ (λ a b. if a && b then booking_of e (length past) else booking past i) h k
-
-pub booking_of_other : (past : List Entry) (e : Entry) (i : ℕ) → is_of_item i e ≡ false → booking (e ∷ past) i ≡ booking past i
-unfolding booking
-booking_of_other past e i h = ap (λ b. if settles e.reply && b then booking_of e (length past) else booking past i) h ∙ neither (settles e.reply)
-  where
-    neither : (a : Bool) → (if a && false then booking_of e (length past) else booking past i) ≡ booking past i
-    neither true = refl
-    neither false = refl
-
-pub booking_kept : (past : List Entry) (e : Entry) (i : ℕ) → settles e.reply ≡ false → booking (e ∷ past) i ≡ booking past i
-unfolding booking
-booking_kept past e i h = ap (λ a. if a && is_of_item i e then booking_of e (length past) else booking past i) h
+  same_rows f g (x ∷ xs) h = grind (arith, same_rows f g xs h, h x)
 
 -- ---- what an entry books
 
-pub record IsBooked (c : Call) (n due : ℕ) (b : Booking) : Type 0 where
-  pub item : item_called c ≡ Some b.item.0
-  pub number : b.number ≡ n
-
-booked_by_call : (c : Call) (n due : ℕ) (b : Booking) → booked_by c n due ≡ Some b → IsBooked c n due b
-booked_by_call (call.Delay i q k t) n due b h =
-    let same = same_Some _ b h in
-    record { item = ap (λ (x : Booking). Some x.item.0) same; number = ap (λ (x : Booking). x.number) (sym same) }
-booked_by_call (call.Modify i q k t) n due b h =
-    let same = same_Some _ b h in
-    record { item = ap (λ (x : Booking). Some x.item.0) same; number = ap (λ (x : Booking). x.number) (sym same) }
+booked_by_call : (c : Call) (n due : ℕ) (b : Booking) → booked_by c n due ≡ Some b → (item_called c ≡ Some b.item.0) × (b.number ≡ n)
+booked_by_call (call.Delay i q k t) n due b h = grind (arith, h)
+booked_by_call (call.Modify i q k t) n due b h = grind (arith, h)
 booked_by_call c n due b h = cc
 
 pub record Books (e : Entry) (n : ℕ) (b : Booking) : Type 0 where
@@ -69,22 +35,16 @@ booking_books e n b h = with_due (due_in e.reply) refl h
     with_due None is found = cc
     with_due (Some due) is found =
         let k = booked_by_call e.call n due b found in
-        record { settled = due_settles e.reply due is; item = ap (λ o. option_or o (item_fired e.reply)) k.item; number = k.number }
-
-is_its_item : (e : Entry) (i : ℕ) → item_of e ≡ Some i → is_of_item i e ≡ true
-is_its_item e i h = ap (λ o. is_at o i) h ∙ eq-eqb i i refl
-
-is_no_other : (e : Entry) (i j : ℕ) → item_of e ≡ Some i → j ≢ i → is_of_item j e ≡ false
-is_no_other e i j h differs = ap (λ o. is_at o j) h ∙ ne_eqb i j (λ same. differs (sym same))
+        record { settled = due_settles e.reply due is; item = ap (λ o. option_or o (item_fired e.reply)) k.0; number = k.1 }
 
 -- ---- the rows
 
 -- where an entry settles an item, its row is what the entry books
 row_settled : (s : Layout) (past : List Entry) (e : Entry) (i : ℕ) (o : Option Booking) → settles e.reply ≡ true → item_of e ≡ Some i → booking_of e (length past) ≡ o
     → timers_of s (e ∷ past) ≡ set (timers_of s past) i (option_map timer_for o)
+unfolding booking
 row_settled s past e i o settled item is = set_row (timer_row past) (timer_row (e ∷ past)) s.items i (option_map timer_for o)
-    (ap (option_map timer_for) (booking_settled past e i settled (is_its_item e i item) ∙ is))
-    (λ j differs. ap (option_map timer_for) (booking_of_other past e j (is_no_other e i j item differs)))
+    (rw (settled, item, eq-eqb i i refl, is) refl) (λ j differs. rw (item, ne_eqb i j (λ same. differs (sym same)), and_false) refl)
 
 pub bookings_set_timers : (s : Layout) (past : List Entry) (e : Entry) (b : Booking) → booking_of e (length past) ≡ Some b → timers_of s (e ∷ past) ≡ set (timers_of s past) b.item.0 (Some (timer_for b))
 bookings_set_timers s past e b h = let k = booking_books e (length past) b h in row_settled s past e b.item.0 (Some b) k.settled k.item h
@@ -94,30 +54,21 @@ pub settled_timers_are_taken_back : (s : Layout) (past : List Entry) (e : Entry)
 settled_timers_are_taken_back s past e i settled none item = row_settled s past e i None settled item none
 
 pub others_keep_timers : (s : Layout) (past : List Entry) (e : Entry) → settles e.reply ≡ false → timers_of s (e ∷ past) ≡ timers_of s past
-others_keep_timers s past e h = same_rows (timer_row past) (timer_row (e ∷ past)) (range_with_len 0 s.items) (λ j. ap (option_map timer_for) (booking_kept past e j h))
-
-none_rows : (xs : List ℕ) → map (timer_row []) xs ≡ replicate (length xs) None
 unfolding booking
-none_rows [] = refl
-none_rows (x ∷ xs) = ap (λ ys. None ∷ ys) (none_rows xs)
+others_keep_timers s past e h = same_rows (timer_row past) (timer_row (e ∷ past)) (range_with_len 0 s.items) (λ j. rw h refl)
 
 pub rows_for_items : (s : Layout) (past : List Entry) → length (timers_of s past) ≡ s.items
 rows_for_items s past = length-map-range_with_len (timer_row past) 0 s.items
 
 pub no_timers_at_first : (s : Layout) → timers_of s [] ≡ replicate s.items None
-no_timers_at_first s = none_rows (range_with_len 0 s.items) ∙ ap (λ n. replicate n None) (length-range_with_len 0 s.items)
+unfolding booking
+no_timers_at_first s = rows_alike (timer_row []) None s.items (λ i. refl)
 
 pub row_at : (s : Layout) (past : List Entry) (i : ℕ) → i < s.items → timer_of (timers_of s past) i ≡ timer_row past i
 row_at s past i less = get_or-map-range_with_len (timer_row past) 0 s.items i i None less (omega arith)
 
 pub row_past : (s : Layout) (past : List Entry) (i : ℕ) → s.items ≤ i → timer_of (timers_of s past) i ≡ None
-row_past s past i more =
-    let length_is : length (timers_of s past) ≡ s.items = length-map-range_with_len (timer_row past) 0 s.items in
-    get_or_past (timers_of s past) i None (rw length_is more)
-
-due_of_row : (o : Option Booking) → option_map (λ (t : Timer). t.due) (option_map timer_for o) ≡ option_map (λ (b : Booking). b.due) o
-due_of_row None = refl
-due_of_row (Some b) = refl
+row_past s past i more = get_or_past (timers_of s past) i None (rw (rows_for_items s past) more)
 
 pub timers_are_due_as_booked : (s : Layout) (past : List Entry) (i : ℕ) → i < s.items → due_of (timers_of s past) i ≡ due_in_bookings past i
-timers_are_due_as_booked s past i less = ap (option_map (λ (t : Timer). t.due)) (row_at s past i less) ∙ due_of_row (booking past i)
+timers_are_due_as_booked s past i less = grind (arith, row_at s past i less)

@@ -3,13 +3,4 @@ use Rattle.cmwq_refinement.proofs.FlightReads.{flights_are_of_items, open_are_in
 use Rattle.cmwq_refinement.proofs.flights.flights_refine.Goals as goal
 
 pub returns : goal.returns
-returns c = record {
-  no_flights_at_first = no_flights_at_first;
-  flights_refine = flights_refine;
-  flights_for_items = flights_for_items;
-  flights_are_of_items = flights_are_of_items;
-  open_are_in_flight = open_are_in_flight;
-  workers_run_flights = workers_run_flights;
-  starts_are_unstarted = starts_are_unstarted;
-  entries_apply_to_flights = entries_apply_to_flights;
-}
+returns c = assumption (no_flights_at_first, flights_refine, flights_for_items, flights_are_of_items, open_are_in_flight, workers_run_flights, starts_are_unstarted, entries_apply_to_flights)

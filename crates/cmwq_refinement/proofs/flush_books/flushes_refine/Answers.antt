@@ -4,16 +4,9 @@ use Rattle.cmwq_refinement.proofs.FlushEnds.{done_flushes_may_end}
 use Rattle.cmwq_refinement.proofs.FlushMay.{entries_apply_to_flushes, given_flushes_have_room}
 use Rattle.cmwq_refinement.proofs.flush_books.flushes_refine.Goals as goal
 
+ruleset history = (flushes_at_first, flushes_refine, unended_flushes_stand, entries_apply_to_flushes, given_flushes_have_room, done_flushes_may_end)
+
+ruleset waiting = (ready_flushes_wait_for_nothing, flushes_wait_for_least_open, drains_wait_for_least_open, overflowed_are_behind_fifteen)
+
 pub returns : goal.returns
-returns c = record {
-  flushes_at_first = flushes_at_first;
-  flushes_refine = flushes_refine;
-  unended_flushes_stand = unended_flushes_stand;
-  ready_flushes_wait_for_nothing = ready_flushes_wait_for_nothing;
-  flushes_wait_for_least_open = flushes_wait_for_least_open;
-  drains_wait_for_least_open = drains_wait_for_least_open;
-  overflowed_are_behind_fifteen = overflowed_are_behind_fifteen;
-  done_flushes_may_end = done_flushes_may_end;
-  entries_apply_to_flushes = entries_apply_to_flushes;
-  given_flushes_have_room = given_flushes_have_room;
-}
+returns c = assumption (history, waiting)

@@ -5,11 +5,4 @@ use Rattle.cmwq_refinement.proofs.ItemNumberMay.{entries_apply_to_numbers}
 use Rattle.cmwq_refinement.proofs.item_numbers.item_numbers_refine.Goals as goal
 
 pub returns : goal.returns
-returns c = record {
-  numbers_at_first = numbers_at_first;
-  numbers_refine = numbers_refine;
-  items_wait_for_least = items_wait_for_least;
-  ready_items_wait_for_nothing = ready_items_wait_for_nothing;
-  items_have_run_then_unstarted = run_then_unstarted;
-  entries_apply_to_numbers = entries_apply_to_numbers;
-}
+returns c = assumption (numbers_at_first, numbers_refine, items_wait_for_least, ready_items_wait_for_nothing, run_then_unstarted, entries_apply_to_numbers)

