@@ -16,7 +16,6 @@ pub mod ItemRuns
 pub mod ItemSteps
 pub mod Limits
 pub mod Marks
-pub mod ModifyCases
 pub mod NewlyActive
 pub mod OfEachKind
 pub mod OneRun
