@@ -1,11 +1,6 @@
 -- What holds of all queueings of a history, and goes on to hold as it grows, holds of all that ever became active.
-use Rattle.cmwq_theory_steps.specs.Common.{◌≡◌, Bool, true, List, [], ◌∷◌, Option, Some, None, option_to_list, refl, find, AllByRecursion, PoolId, Entry, Queueing, Layout, queueings, became_active, newly_active, is_newly_active, worklist, is_listed, next, is_startable, All_map, All_append, All_filter}
+use Rattle.cmwq_theory_steps.specs.Common.{◌≡◌, Bool, true, List, [], ◌∷◌, Some, find, AllByRecursion, PoolId, Entry, Queueing, Layout, queueings, became_active, newly_active, is_newly_active, worklist, is_listed, next, is_startable, All_map, All_append, All_filter}
 use Rattle.cmwq_lemmas.proofs.Passing.{all_found, all_kept}
-
--- what an option may hold
-pub of_option : {X : Type 0} (P : X → Type 0) (o : Option X) → ((x : X) → o ≡ Some x → P x) → AllByRecursion P (option_to_list o)
-of_option P None h = tt
-of_option P (Some x) h = (h x refl, tt)
 
 pub activated_all : (s : Layout) (P : List Entry → Queueing → Type 0) → ((e : Entry) (past : List Entry) (x : Queueing) → P past x → P (e ∷ past) x)
     → ((past : List Entry) → AllByRecursion (P past) (queueings past)) → (past : List Entry) → AllByRecursion (P past) (became_active s past)

@@ -9,7 +9,7 @@ use Rattle.std.proofs.lemmas.List.Sums.{length-filter}
 use Rattle.cmwq_lemmas.proofs.Lists.{count_append}
 use Rattle.cmwq_lemmas.proofs.Passing.{all_kept}
 use Rattle.cmwq_lemmas.proofs.Truth.{flip}
-use Rattle.cmwq_theory_steps.proofs.Activated.{of_option}
+use Rattle.cmwq_theory_steps.proofs.Options.{of_option}
 
 -- ---- what is below max_active is a front, as long as the queue is wide
 

@@ -1,5 +1,5 @@
 -- How many are active on a queue and CPU after an entry, and what waits there.
-use Rattle.cmwq_theory_steps.specs.Common.{◌≡◌, ◌+◌, ◌-◌, ℕ, zero, suc, Bool, false, cond, not, ◌&&◌, List, [], ◌∷◌, filter, count_by, take, drop, Option, Some, None, option_to_list, refl, sym, ap, ap₂, ◌∙◌, arith, option_map_or, AllByRecursion, sum_by-filter_both, Entry, Layout, width, queueings, opening, still_open, is_below_max_active, is_active, is_newly_active, newly_active, IsLegal, All_each, count_by-cons, count_by-none, count_by-filter, opening_number, stays_active}
+use Rattle.cmwq_theory_steps.specs.Common.{◌≡◌, ◌+◌, ◌-◌, ℕ, zero, suc, Bool, false, cond, not, ◌&&◌, List, [], ◌∷◌, filter, count_by, take, drop, option_to_list, refl, sym, ap, ap₂, ◌∙◌, arith, AllByRecursion, sum_by-filter_both, Entry, Layout, width, queueings, opening, still_open, is_below_max_active, is_active, is_newly_active, newly_active, IsLegal, All_each, count_by-none, count_by-filter, opening_number, stays_active}
 use Rattle.cmwq_theory_steps.specs.Histories.{one}
 use Rattle.cmwq_theory_steps.specs.Places.{is_on, open_on, active_count}
 use Rattle.cmwq_theory_steps.specs.Endings.{survives, is_ended, ending}
@@ -17,7 +17,7 @@ use Rattle.cmwq_lemmas.proofs.Truth.{flip, and_false}
 use Rattle.cmwq_lemmas.proofs.Lists.{All_map, count_append, filter_all}
 use Rattle.std.proofs.lemmas.List.{drop_all}
 use Rattle.cmwq_lemmas.proofs.Passing.{none_kept}
-use Rattle.cmwq_theory_steps.proofs.Activated.{of_option}
+use Rattle.cmwq_theory_steps.proofs.Options.{of_option, count_option}
 
 -- ---- where the first so many pass, the rest fail
 
@@ -62,10 +62,6 @@ active_count_goes_on s past e q c =
     ∙ ap₂ (λ m n. m + n) (count_by-same _ (is_active s past) (open_on (e ∷ past) q c) (both_active s past e q c)) (newly_counted s past e q c)
 
 -- ---- those that stay active
-
-pub count_option : {X : Type 0} (p : X → Bool) (o : Option X) → count_by p (option_to_list o) ≡ one (option_map_or p o false)
-count_option p None = refl
-count_option p (Some x) = grind (arith, count_by-cons p x [])
 
 pub stays_counted : (s : Layout) (past : List Entry) (e : Entry) → IsLegal s (e ∷ past) → (q c : ℕ) → stay_count s past e q c + one (ends_active_on s past e q c) ≡ active_count s past q c
 stays_counted s past e legal q c =

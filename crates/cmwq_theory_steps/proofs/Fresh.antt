@@ -25,7 +25,7 @@ pub record IsOpenOne (past : List Entry) (x : Queueing) : Type 0 where
   pub live : is_live past x ≡ true
 
 pub open_known : (past : List Entry) → AllByRecursion (λ x. IsOpenOne past x) (still_open past)
-open_known past = All_filter (λ x. IsOpenOne past x) (is_live past) (queueings past) (All_map (IsKnown past) (λ x. is_live past x ≡ true → IsOpenOne past x) (queueings past) (λ x known live. record { known = known; live = live }) (queueings_known past))
+open_known past = All_filter (λ x. IsOpenOne past x) (is_live past) (queueings past) (All_map (IsKnown past) _ (queueings past) (λ x known live. record { known = known; live = live }) (queueings_known past))
 
 pub unstarted_is : (past : List Entry) (i : ℕ) (x : Queueing) → unstarted_queueing past i ≡ Some x → IsWaiting past i x
 unstarted_is past i x found =

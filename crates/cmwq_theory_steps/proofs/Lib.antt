@@ -19,6 +19,7 @@ pub mod Marks
 pub mod NewlyActive
 pub mod OfEachKind
 pub mod OneRun
+pub mod Options
 pub mod Order
 pub mod OwedFrozen
 pub mod OwedItems
