@@ -1,9 +1,11 @@
 -- The queueing that an entry ends, read off its reply, and an item's run as a queueing.
-use Rattle.cmwq_theory_steps.specs.Common.{◌≡◌, ℕ, List, ◌∷◌, Option, Some, None, refl, sym, ap, ◌∙◌, option_map, option_and_then, if◌then◌else◌, option_or, AllByRecursion, Who, Caller, Worker, Call, Reply, Entry, Queueing, Start, Layout, item_called, item_fired, item_of, item_at, number_finished, number_cancelled, replaces, run, item_run, queueings, queueing_at, is_live, still_open, is_unstarted, unstarted_queueing, IsLegal, All_map, All_filter}
+use Rattle.cmwq_theory_steps.specs.Common.{arith, ◌≡◌, ℕ, List, ◌∷◌, Option, Some, None, refl, sym, ap, ◌∙◌, option_map, option_and_then, if◌then◌else◌, option_or, AllByRecursion, Who, Caller, Worker, Call, Reply, Entry, Queueing, Start, Layout, item_called, item_fired, item_of, item_at, number_finished, number_cancelled, replaces, run, item_run, queueings, queueing_at, is_live, still_open, is_unstarted, unstarted_queueing, IsLegal}
 use Rattle.cmwq_model.specs.declared.reply.Reply.TheVariants as reply
 use Rattle.cmwq_theory_steps.specs.Endings.{is_ended, ending}
 use Rattle.cmwq_theory_steps.specs.Reasons.{FinishesRun, TakesBack}
 use Rattle.cmwq_theory_steps.specs.ItemQueueings.{IsRunOf, queueing_run, ended_by}
+use Rattle.std.proofs.lemmas.Option.{option_and_then_some}
+use Rattle.cmwq_lemmas.proofs.Passing.{all_kept}
 use Rattle.cmwq_theory_steps.proofs.Activated.{find_holds}
 use Rattle.cmwq_theory_steps.proofs.StartsListed.{IsFound, queueings_found}
 use Rattle.cmwq_theory_steps.proofs.RunsActive.{found_known, found_number}
@@ -30,16 +32,15 @@ abbrev number_of : Queueing → ℕ
 number_of x = x.number
 
 pub open_found : (past : List Entry) → AllByRecursion (IsFound past) (still_open past)
-open_found past = All_filter (IsFound past) (is_live past) (queueings past) (All_map (IsFound past) _ (queueings past) (λ x found live. found) (queueings_found past))
+open_found past = all_kept (IsFound past) (is_live past) (queueings past) (queueings_found past)
 
 pub same_by_number : (past : List Entry) (x y : Queueing) → IsFound past x → IsFound past y → x.number ≡ y.number → x ≡ y
-same_by_number past x y hx hy same = let both : Some x ≡ Some y = sym hx ∙ ap (queueing_at past) same ∙ hy in cc
+same_by_number past x y hx hy same = cc
 
 same_found : (past : List Entry) (a b : Option Queueing) → ((x : Queueing) → a ≡ Some x → IsFound past x) → ((x : Queueing) → b ≡ Some x → IsFound past x) → option_map number_of a ≡ option_map number_of b → a ≡ b
 same_found past None None ha hb h = refl
-same_found past None (Some y) ha hb h = cc
-same_found past (Some x) None ha hb h = cc
-same_found past (Some x) (Some y) ha hb h = ap Some (same_by_number past x y (ha x refl) (hb y refl) (let same : x.number ≡ y.number = cc in same))
+same_found past (Some x) (Some y) ha hb h = ap Some (same_by_number past x y (ha x refl) (hb y refl) cc)
+same_found past a b ha hb h = cc
 
 ending_found : (past : List Entry) (e : Entry) (x : Queueing) → ending past e ≡ Some x → IsFound past x
 ending_found past e x h = (find_holds (IsFound past) (is_ended past e) (still_open past) x (open_found past) h).holds
@@ -50,16 +51,11 @@ unstarted_found past i x h = (find_holds (IsFound past) (is_unstarted past i) (s
 -- ---- what the reply tells is found
 
 of_item_found : (past : List Entry) (o : Option ℕ) (x : Queueing) → option_and_then (unstarted_queueing past) o ≡ Some x → IsFound past x
-of_item_found past None x h = cc
-of_item_found past (Some i) x h = unstarted_found past i x h
+of_item_found past o x h = option_and_then_some (unstarted_queueing past) o x h (λ i is k. unstarted_found past i x k)
 
 run_found : (past : List Entry) (who : Who) (x : Queueing) → queueing_run past who ≡ Some x → IsFound past x
 run_found past (Caller c) x h = cc
-run_found past (Worker w) x h = at (run past w) h
-  where
-    at : (o : Option ℕ) → option_and_then (queueing_at past) o ≡ Some x → IsFound past x
-    at None k = cc
-    at (Some n) k = ap (queueing_at past) (found_number past n x k) ∙ k
+run_found past (Worker w) x h = option_and_then_some (queueing_at past) (run past w) x h (λ n runs k. ap (queueing_at past) (found_number past n x k) ∙ k)
 
 told_found : (past : List Entry) (who : Who) (item : Option ℕ) (r : Reply) (x : Queueing) → ended_by past who item r ≡ Some x → IsFound past x
 told_found past who item (reply.Finished n) x h = run_found past who x h
@@ -88,8 +84,7 @@ back_number past c r n t =
     ap (λ o. option_map number_of (option_and_then (unstarted_queueing past) (option_or o (item_fired r)))) t.is_item ∙ ap (option_map number_of) t.is_unstarted ∙ ap Some t.number
 
 anew_number : (past : List Entry) (o : Option ℕ) → option_map number_of (option_and_then (unstarted_queueing past) o) ≡ replaced past o
-anew_number past None = refl
-anew_number past (Some i) = refl
+anew_number past o = grind arith
 
 told_number : (s : Layout) (past : List Entry) (who : Who) (c : Call) (r : Reply) → IsLegal s past → Cause s past who c r
     → option_map number_of (ended_by past who (option_or (item_called c) (item_fired r)) r) ≡ number_by past (option_or (item_called c) (item_fired r)) r

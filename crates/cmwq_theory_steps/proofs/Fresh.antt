@@ -1,5 +1,5 @@
 -- Numbers that replies speak of are those of older entries, so of a number that is still to come nothing was told.
-use Rattle.cmwq_theory_steps.specs.Common.{◌≡◌, ◌<◌, ◌≤◌, ℕ, true, false, ◌||◌, List, [], ◌∷◌, length, Option, Some, None, nat_lt, refl, ap₂, subst, arith, lt-ltb, le-ltb, eqb-true, nat_tests, AllByRecursion, Entry, Queueing, Layout, is_at, number_started, number_finished, number_cancelled, is_started, is_finished, is_cancelled, is_open, queueings, is_live, still_open, unstarted_queueing, is_unstarted, IsLegal, All_map, All_filter}
+use Rattle.cmwq_theory_steps.specs.Common.{◌≡◌, ◌+◌, ◌<◌, ◌≤◌, ℕ, true, false, ◌||◌, List, [], ◌∷◌, length, Option, Some, None, nat_lt, refl, ap₂, subst, arith, lt-ltb, eqb-true, nat_tests, AllByRecursion, Entry, Queueing, Layout, is_at, number_started, number_finished, number_cancelled, is_started, is_finished, is_cancelled, is_open, queueings, is_live, still_open, unstarted_queueing, is_unstarted, IsLegal, All_map, All_filter}
 use Rattle.cmwq_theory_steps.proofs.Entries.{IsKnown, queueings_known}
 use Rattle.cmwq_theory_steps.proofs.Activated.{find_holds}
 use Rattle.cmwq_theory_steps.proofs.ItemRuns.{run_is, started_older, starts_known}
@@ -49,7 +49,7 @@ cancelled_older s past e n legal h =
 
 pub not_told : (o : Option ℕ) (n m : ℕ) → ((k : ℕ) → o ≡ Some k → k < m) → m ≤ n → is_at o n ≡ false
 not_told None n m h less = refl
-not_told (Some k) n m h less = let older : k < m = h k refl in grind (arith, nat_tests)
+not_told (Some k) n m h less = let older = h k refl in grind (arith, nat_tests)
 
 pub not_started_yet : (s : Layout) (past : List Entry) (n : ℕ) → IsLegal s past → length past ≤ n → is_started past n ≡ false
 unfolding IsLegal
@@ -57,22 +57,19 @@ not_started_yet s [] n legal less = refl
 not_started_yet s (e ∷ past) n legal less =
     ap₂ (λ a b. a || b) (not_told (number_started e.reply) n (length past) (λ k h. (starts_known s past e k legal h).older) (omega arith)) (not_started_yet s past n legal.2 (omega arith))
 
-not_finished_more : (s : Layout) (past : List Entry) (e : Entry) (n : ℕ) → IsLegal s (e ∷ past) → length past ≤ n → is_finished past n ≡ false → is_finished (e ∷ past) n ≡ false
-not_finished_more s past e n legal less earlier = ap₂ (λ a b. a || b) (not_told (number_finished e.reply) n (length past) (λ k h. finished_older s past e k legal h) less) earlier
-
-not_finished_yet : (s : Layout) (past : List Entry) (n : ℕ) → IsLegal s past → length past ≤ n → is_finished past n ≡ false
+not_finished_yet : (s : Layout) (past : List Entry) (n : ℕ) → IsLegal s past → length past ≤ n + 1 → is_finished past n ≡ false
 unfolding IsLegal
 not_finished_yet s [] n legal less = refl
-not_finished_yet s (e ∷ past) n legal less = not_finished_more s past e n legal (omega arith) (not_finished_yet s past n legal.2 (omega arith))
+not_finished_yet s (e ∷ past) n legal less =
+    ap₂ (λ a b. a || b) (not_told (number_finished e.reply) n (length past) (λ k h. finished_older s past e k legal h) (omega arith)) (not_finished_yet s past n legal.2 (omega arith))
 
 not_cancelled_more : (s : Layout) (past : List Entry) (e : Entry) (i n : ℕ) → IsLegal s (e ∷ past) → length past ≤ n → is_cancelled past i n ≡ false → is_cancelled (e ∷ past) i n ≡ false
 unfolding is_cancelled
 not_cancelled_more s past e i n legal less earlier =
     let here = not_told (number_cancelled e.reply) n (length past) (λ k h. cancelled_older s past e k legal h) less in
-    let too_young : nat_lt n (length past) ≡ false = le-ltb n (length past) less in
-    grind arith
+    grind (arith, nat_tests)
 
-not_cancelled_yet : (s : Layout) (past : List Entry) (i n : ℕ) → IsLegal s past → length past ≤ n → is_cancelled past i n ≡ false
+not_cancelled_yet : (s : Layout) (past : List Entry) (i n : ℕ) → IsLegal s past → length past ≤ n + 1 → is_cancelled past i n ≡ false
 unfolding IsLegal is_cancelled
 not_cancelled_yet s [] i n legal less = refl
 not_cancelled_yet s (e ∷ past) i n legal less = not_cancelled_more s past e i n legal (omega arith) (not_cancelled_yet s past i n legal.2 (omega arith))
@@ -82,6 +79,4 @@ pub open_at_once : (s : Layout) (past : List Entry) (e : Entry) (i : ℕ) → Is
 unfolding IsLegal
 open_at_once s past e i legal =
     let young : nat_lt (length past) (length (e ∷ past)) ≡ true = lt-ltb (length past) (length (e ∷ past)) (omega arith) in
-    let unfinished = not_finished_more s past e (length past) legal (omega arith) (not_finished_yet s past (length past) legal.2 (omega arith)) in
-    let uncancelled = not_cancelled_more s past e i (length past) legal (omega arith) (not_cancelled_yet s past i (length past) legal.2 (omega arith)) in
-    rw (young, unfinished, uncancelled) refl
+    rw (young, not_finished_yet s (e ∷ past) (length past) legal (omega arith), not_cancelled_yet s (e ∷ past) i (length past) legal (omega arith)) refl
