@@ -62,9 +62,12 @@ pub data Cause (s : Layout) (past : List Entry) : Who → Call → Reply → Typ
 -- ---- a reply that goes by tests
 
 module _ {s : Layout} {past : List Entry} {who : Who} {c : Call} where
+  by_test : (f : Bool → Reply) (b : Bool) → (b ≡ true → Cause s past who c (f true)) → (b ≡ false → Cause s past who c (f false)) → Cause s past who c (f b)
+  by_test f true when otherwise = when refl
+  by_test f false when otherwise = otherwise refl
+
   tested : (b : Bool) {x y : Reply} → (b ≡ true → Cause s past who c x) → (b ≡ false → Cause s past who c y) → Cause s past who c (if b then x else y)
-  tested true when otherwise = when refl
-  tested false when otherwise = otherwise refl
+  tested b {x} {y} = by_test (λ t. if t then x else y) b
 
   -- for queue and delay, r where nothing forbids it
   queue_cause : (i q t : ℕ) {r : Reply} → (IsFree past who i q t → is_pending past i ≡ false → Cause s past who c r)
@@ -84,45 +87,10 @@ module _ {s : Layout} {past : List Entry} {who : Who} {c : Call} where
       tested (runs_elsewhere past i q) (λ d. foreign who c) (λ d. tested (is_shut past who q t) (λ e. draining who c) (λ e.
       free (record { awake = not-false _ a; not_gone = g; not_cancelling = b; not_foreign = d; not_shut = e }))))))
 
-cancel_cause : (s : Layout) (past : List Entry) (who : Who) (i : ItemId) (o : Option Queueing) (b : Bool) → unstarted_queueing past i.0 ≡ o → is_booked past i.0 ≡ b → Cause s past who (call.Cancel i) (taken_back_answer o b)
-cancel_cause s past who i (Some x) b ho hb = cancelled who i x ho
-cancel_cause s past who i None true ho hb = unbooked who i ho hb
-cancel_cause s past who i None false ho hb = no who _
-
-cancel_sync_cause : (s : Layout) (past : List Entry) (who : Who) (i : ItemId) (o : Option Queueing) (b : Bool) → is_crowded past who ≡ false → unstarted_queueing past i.0 ≡ o → is_booked past i.0 ≡ b
-    → Cause s past who (call.CancelSync i) (taken_back_for (length past) o b)
-cancel_sync_cause s past who i (Some x) b ha ho hb = sync_cancelled who i x ha ho
-cancel_sync_cause s past who i None true ha ho hb = sync_unbooked who i ha ho hb
-cancel_sync_cause s past who i None false ha ho hb = sync_waits who i ha ho hb
-
-fire_cause : (s : Layout) (past : List Entry) (who : Who) (o : Option Booking) → first_due past ≡ o → Cause s past who call.Fire (fired_answer o (length past))
-fire_cause s past who None h = nothing who _
-fire_cause s past who (Some b) h = fires who b h
-
--- ---- the end of a wait
-
-wait_cause : (s : Layout) (past : List Entry) (who : Who) (n : ℕ) (t : Ticket) (o : Option ℕ) → ticket_of past who n ≡ Some t → waits_for past t.number t.call ≡ o → Cause s past who (call.End n) (waiting_for o)
-wait_cause s past who n t None ht ho = ended who n t ht ho
-wait_cause s past who n t (Some m) ht ho = waiting who n t m ho
-
-end_cause : (s : Layout) (past : List Entry) (who : Who) (n : ℕ) (o : Option Ticket) → ticket_of past who n ≡ o → Cause s past who (call.End n) (end_of_ticket past o)
-end_cause s past who n None h = misuse who _
-end_cause s past who n (Some t) h = wait_cause s past who n t (waits_for past t.number t.call) h refl
-
--- ---- a worker's own calls
-
-start_cause : (s : Layout) (past : List Entry) (w : WorkerId) (x : Queueing) (o : Option ℕ) → is_enlisted past w ≡ true → has_run past w ≡ false → next s past w.pool ≡ Some x → nat_lt 0 (runnable s past w.pool) ≡ false → enlisted_by s past w ≡ o
-    → Cause s past (Worker w) call.Take (started_answer x.number o)
-start_cause s past w x None enlisted none found clear h = starts w x enlisted none found clear h
-start_cause s past w x (Some y) enlisted none found clear h = enlists w x y enlisted none found clear h
-
-take_cause : (s : Layout) (past : List Entry) (w : WorkerId) (o : Option Queueing) → is_enlisted past w ≡ true → has_run past w ≡ false → next s past w.pool ≡ o → Cause s past (Worker w) call.Take (start_of s past w o)
-take_cause s past w None enlisted none found = nothing (Worker w) _
-take_cause s past w (Some x) enlisted none found = tested (nat_lt 0 (runnable s past w.pool)) (λ busy. held (Worker w) _) (λ clear. start_cause s past w x (enlisted_by s past w) enlisted none found clear refl)
-
-finish_cause : (s : Layout) (past : List Entry) (w : WorkerId) (o : Option ℕ) → runs_awake past w ≡ true → run past w ≡ o → Cause s past (Worker w) call.Finish (finished_answer o)
-finish_cause s past w None ha ho = misuse (Worker w) _
-finish_cause s past w (Some n) ha ho = finishes w n ha ho
+  -- by what is held, if anything
+  by_held : {X : Type 0} (f : Option X → Reply) (o : Option X) → ((x : X) → o ≡ Some x → Cause s past who c (f (Some x))) → (o ≡ None → Cause s past who c (f None)) → Cause s past who c (f o)
+  by_held f (Some x) some otherwise = some x refl
+  by_held f None some otherwise = otherwise refl
 
 -- ---- the answer to each call has a cause
 
@@ -133,20 +101,26 @@ causes s past who (call.Delay i q c t) = queue_cause i.0 q.0 t (λ free idle. te
 causes s past who (call.Modify i q c t) =
     modify_cause i.0 q.0 t (λ free. tested (is_pending past i.0) (λ p. tested (t == 0) (λ z. modified_again who i q c t z free p) (λ z. modified_rebooked who i q c t z free p))
     (λ p. tested (t == 0) (λ z. modified_idle who i q c t z free p) (λ z. modified_booked who i q c t z free p)))
-causes s past who (call.Cancel i) = tested (not (may_call past who)) (λ a. misuse who _) (λ a. cancel_cause s past who i (unstarted_queueing past i.0) (is_booked past i.0) refl refl)
+causes s past who (call.Cancel i) =
+    tested (not (may_call past who)) (λ a. misuse who _) (λ a. by_held (λ o. taken_back_answer o (is_booked past i.0)) (unstarted_queueing past i.0) (cancelled who i)
+    (λ o. by_test (taken_back_answer None) (is_booked past i.0) (unbooked who i o) (λ b. no who _)))
 causes s past who (call.Tick t) = told who t
-causes s past who call.Fire = fire_cause s past who (first_due past) refl
+causes s past who call.Fire = by_held (λ o. fired_answer o (length past)) (first_due past) (fires who) (λ o. nothing who _)
 causes s past who (call.Flush q) = tested (is_gone past q.0) (λ g. gone who _) (λ g. tested (is_crowded past who) (λ b. crowded who _) (λ b. flushed who q b g))
 causes s past who (call.Drain q) = tested (is_gone past q.0) (λ g. gone who _) (λ g. tested (is_crowded past who) (λ b. crowded who _) (λ b. drained who q b g))
 causes s past who (call.FlushItem i) = tested (is_crowded past who) (λ b. crowded who _) (λ b. tested (is_item_open past i.0) (λ o. item_flushed who i b o) (λ o. idle who _))
 causes s past who (call.FlushDelayed i) =
     tested (is_crowded past who) (λ b. crowded who _) (λ b. tested (is_held_back past i.0) (λ h. draining who _) (λ h. tested (is_booked past i.0) (λ k. delayed_queued who i b h k)
     (λ k. tested (is_item_open past i.0) (λ o. delayed_flushed who i b k o) (λ o. idle who _))))
-causes s past who (call.CancelSync i) = tested (is_crowded past who) (λ b. crowded who _) (λ b. cancel_sync_cause s past who i (unstarted_queueing past i.0) (is_booked past i.0) b refl refl)
-causes s past who (call.End n) = end_cause s past who n (ticket_of past who n) refl
+causes s past who (call.CancelSync i) =
+    tested (is_crowded past who) (λ k. crowded who _) (λ k. by_held (λ o. taken_back_for (length past) o (is_booked past i.0)) (unstarted_queueing past i.0) (λ x. sync_cancelled who i x k)
+    (λ o. by_test (taken_back_for (length past) None) (is_booked past i.0) (sync_unbooked who i k o) (sync_waits who i k o)))
+causes s past who (call.End n) = by_held (end_of_ticket past) (ticket_of past who n) (λ t h. by_held waiting_for (waits_for past t.number t.call) (waiting who n t) (ended who n t h)) (λ o. misuse who _)
 causes s past (Worker w) call.Take =
-    tested (not (is_enlisted past w) || has_run past w) (λ a. misuse (Worker w) _) (λ a. let k = or_parts _ _ a in take_cause s past w (next s past w.pool) (not-false _ k.0) k.1 refl)
-causes s past (Worker w) call.Finish = tested (runs_awake past w) (λ a. finish_cause s past w (run past w) a refl) (λ a. misuse (Worker w) _)
+    tested (not (is_enlisted past w) || has_run past w) (λ a. misuse (Worker w) _) (λ a. let k = or_parts _ _ a in let enlisted = not-false _ k.0 in
+    by_held (start_of s past w) (next s past w.pool) (λ x found. tested (nat_lt 0 (runnable s past w.pool)) (λ b. held (Worker w) _)
+    (λ b. by_held (started_answer x.number) (enlisted_by s past w) (λ y. enlists w x y enlisted k.1 found b) (starts w x enlisted k.1 found b))) (λ o. nothing (Worker w) _))
+causes s past (Worker w) call.Finish = tested (runs_awake past w) (λ a. by_held finished_answer (run past w) (λ n. finishes w n a) (λ o. misuse (Worker w) _)) (λ a. misuse (Worker w) _)
 causes s past (Worker w) call.Sleep = tested (runs_awake past w) (sleeps w) (λ a. misuse (Worker w) _)
 causes s past (Worker w) call.Wake = tested (runs_asleep past w) (wakes w) (λ a. misuse (Worker w) _)
 causes s past (Worker w) call.Retire =

@@ -1,5 +1,5 @@
 -- The unended tickets after one more entry, and which flushes it serves.
-use Rattle.cmwq_theory_steps.specs.Common.{◌≡◌, ◌<◌, ◌≤◌, ◌+◌, ◌==◌, ℕ, Bool, true, false, cond, ◌&&◌, ◌||◌, not, List, [], ◌∷◌, ◌++◌, length, filter, find, count_by, Option, Some, None, option_to_list, nat_lt, nat_le, refl, sym, ap, ap₂, ◌∙◌, subst, arith, if◌then◌else◌, option_or, AllByRecursion, list_any, ltb-false, eqb-true, eq-eqb, nat_tests, filter-append, sum_by-filter_both, Who, Caller, Call, Reply, Entry, Ticket, Layout, same_who, gives_ticket, ticket_in, tickets, is_end_of, is_done, ends, is_unended, unended_tickets, is_flush_of, is_held_by, is_ticket, is_older_flush, is_served_after, serving_from, IsLegal, All_map, All_each, count_by-cons, count_by-none, count_by-filter, find_none}
+use Rattle.cmwq_theory_steps.specs.Common.{◌≡◌, ◌<◌, ◌≤◌, ◌+◌, ◌==◌, ℕ, Bool, true, false, cond, ◌&&◌, ◌||◌, not, List, [], ◌∷◌, ◌++◌, length, filter, find, count_by, Option, Some, None, option_to_list, nat_lt, nat_le, refl, sym, ap, ap₂, ◌∙◌, subst, arith, if◌then◌else◌, option_or, AllByRecursion, list_any, eqb-true, eq-eqb, nat_tests, filter-append, sum_by-filter_both, Who, Caller, Call, Reply, Entry, Ticket, Layout, same_who, gives_ticket, ticket_in, tickets, is_end_of, is_done, ends, is_unended, unended_tickets, is_flush_of, is_held_by, is_ticket, is_older_flush, is_served_after, serving_from, IsLegal, All_map, All_each, count_by-none, count_by-filter, find_none}
 use Rattle.cmwq_model.specs.declared.call.Call.TheVariants as call
 use Rattle.cmwq_model.specs.declared.reply.Reply.TheVariants as reply
 use Rattle.cmwq_theory_steps.specs.Histories.{one}
@@ -10,8 +10,8 @@ use Rattle.cmwq_theory_steps.proofs.Given.{IsGiven, tickets_given, unended_given
 use Rattle.cmwq_theory_steps.proofs.Causes.{cause_of}
 use Rattle.cmwq_theory_steps.proofs.Reasons.{done_reason}
 use Rattle.std.proofs.lemmas.Bool.{and_parts}
-use Rattle.cmwq_lemmas.proofs.Lists.{count_append}
-use Rattle.cmwq_theory_steps.proofs.Options.{count_option}
+use Rattle.cmwq_lemmas.proofs.Lists.{count_append, filter_all}
+use Rattle.cmwq_theory_steps.proofs.Options.{count_option, of_option}
 use Rattle.cmwq_lemmas.proofs.Truth.{and_false}
 
 -- ---- what is given is not ended yet
@@ -45,23 +45,16 @@ not_ended_yet s (e ∷ past) t legal less = ap₂ (λ a b. a || b) (ends_older s
 
 -- ---- the unended tickets
 
-unended_step : (e : Entry) (past : List Entry) (t : Ticket) → is_unended (e ∷ past) t ≡ (is_unended past t && is_kept e t)
-unended_step e past t = grind arith
-
-given_unended : (s : Layout) (past : List Entry) (e : Entry) (o : Option Ticket) → IsLegal s (e ∷ past) → ticket_in e (length past) ≡ o → filter (is_unended (e ∷ past)) (option_to_list o) ≡ option_to_list o
+given_unended : (s : Layout) (past : List Entry) (e : Entry) → IsLegal s (e ∷ past) → AllByRecursion (λ t. is_unended (e ∷ past) t ≡ true) (option_to_list (ticket_in e (length past)))
 unfolding IsLegal
-given_unended s past e None legal h = refl
-given_unended s past e (Some t) legal h =
-    let number : t.number ≡ length past = ticket_number e (length past) t h in
-    let none = ap₂ (λ a b. a || b) (ends_older s past e t legal (omega arith)) (not_ended_yet s past t legal.2 (omega arith)) in
-    ap (λ b. cond (not b) (t ∷ []) []) none
+given_unended s past e legal = of_option _ (ticket_in e (length past)) (λ t h. let number = ticket_number e (length past) t h in ap₂ (λ a b. not (a || b)) (ends_older s past e t legal (omega arith)) (not_ended_yet s past t legal.2 (omega arith)))
 
 pub unended_go_on : (s : Layout) (past : List Entry) (e : Entry) → IsLegal s (e ∷ past) → unended_tickets (e ∷ past) ≡ filter (is_kept e) (unended_tickets past) ++ option_to_list (ticket_in e (length past))
 unfolding tickets
 unended_go_on s past e legal =
     filter-append (is_unended (e ∷ past)) (tickets past) (option_to_list (ticket_in e (length past)))
-    ∙ ap₂ (λ xs ys. xs ++ ys) (filter_same (is_unended (e ∷ past)) (λ t. is_unended past t && is_kept e t) (tickets past) (All_each _ (tickets past) (unended_step e past)) ∙ sym (filter_twice (is_kept e) (is_unended past) (tickets past)))
-    (given_unended s past e (ticket_in e (length past)) legal refl)
+    ∙ ap₂ (λ xs ys. xs ++ ys) (filter_same (is_unended (e ∷ past)) (λ t. is_unended past t && is_kept e t) (tickets past) (All_each _ (tickets past) (λ t. grind arith)) ∙ sym (filter_twice (is_kept e) (is_unended past) (tickets past)))
+    (filter_all (is_unended (e ∷ past)) (option_to_list (ticket_in e (length past))) (given_unended s past e legal))
 
 -- ---- one ticket at most ends
 
@@ -72,15 +65,12 @@ few_numbered : (past : List Entry) (n : ℕ) → count_by (has_number n) (ticket
 unfolding tickets
 few_numbered [] n = omega arith
 few_numbered (e ∷ past) n =
-    let sum = count_append (has_number n) (tickets past) (option_to_list (ticket_in e (length past))) in
     let none : length past ≤ n → count_by (has_number n) (tickets past) ≡ 0
     = λ young. count_by-none (has_number n) (tickets past) (All_map (IsGiven past) (λ t. has_number n t ≡ false) (tickets past) (λ t given. let older = given.older in grind (arith, nat_tests)) (tickets_given past)) in
-    let given = new (ticket_in e (length past)) refl in
-    grind (arith, few_numbered past n)
-  where
-    new : (o : Option Ticket) → ticket_in e (length past) ≡ o → (count_by (has_number n) (option_to_list o) ≤ 1) × (n < length past → count_by (has_number n) (option_to_list o) ≡ 0)
-    new None h = (omega arith, λ less. refl)
-    new (Some t) h = let number = ticket_number e (length past) t h in (grind (arith, count_by-cons (has_number n) t []), λ less. grind (arith, nat_tests, count_by-cons (has_number n) t []))
+    let other : n < length past → count_by (has_number n) (option_to_list (ticket_in e (length past))) ≡ 0
+    = λ older. count_by-none (has_number n) _ (of_option _ (ticket_in e (length past)) (λ t h. let number = ticket_number e (length past) t h in grind (arith, nat_tests))) in
+    let sum = count_append (has_number n) (tickets past) (option_to_list (ticket_in e (length past))) in
+    grind (arith, few_numbered past n, count_option (has_number n) (ticket_in e (length past)))
 
 few_unended : (past : List Entry) (n : ℕ) → count_by (has_number n) (unended_tickets past) ≤ 1
 few_unended past n = omega (
@@ -101,10 +91,7 @@ abbrev is_asked : Who → Call → Ticket → Bool
 is_asked who c t = same_who who (Caller t.caller) && is_end_of t.number c
 
 asked_is : (past : List Entry) (who : Who) (c : Call) → filter (is_asked who c) (unended_tickets past) ≡ option_to_list (ticket_asked past who c)
-asked_is past who (call.End n) = filter_same (is_asked who (call.End n)) (is_ticket who n) (unended_tickets past) (All_each _ (unended_tickets past) (same who)) ∙ filter_one (is_ticket who n) (unended_tickets past) (one_asked past who n)
-  where
-    same : (w : Who) (t : Ticket) → is_asked w (call.End n) t ≡ is_ticket w n t
-    same w t = grind (arith, nat_tests)
+asked_is past who (call.End n) = filter_same (is_asked who (call.End n)) (is_ticket who n) (unended_tickets past) (All_each _ (unended_tickets past) (λ t. grind (arith, nat_tests))) ∙ filter_one (is_ticket who n) (unended_tickets past) (one_asked past who n)
 asked_is past who c = filter_none (is_asked who c) (unended_tickets past) (All_each _ (unended_tickets past) (λ t. and_false (same_who who (Caller t.caller))))
 
 pub one_ticket_ends : (past : List Entry) (e : Entry) → filter (is_ended_by e) (unended_tickets past) ≡ option_to_list (ticket_ended past e)
@@ -122,13 +109,10 @@ tickets_go_on s past e p legal = omega (
   arith,
   count_append p (filter (is_kept e) (unended_tickets past)) (option_to_list (ticket_in e (length past))),
   ap (count_by p) (unended_go_on s past e legal),
-  sum_by-filter_both (is_kept e) (is_ended_by e) (λ t. twice (ends t e)) (λ t. cond (p t) 1 0) (unended_tickets past),
+  sum_by-filter_both (is_kept e) (is_ended_by e) (λ t. grind arith) (λ t. cond (p t) 1 0) (unended_tickets past),
   ap (count_by p) (one_ticket_ends past e) ∙ count_option p (ticket_ended past e),
   count_option p (ticket_in e (length past)),
 )
-  where
-    twice : (b : Bool) → b ≡ not (not b)
-    twice b = grind arith
 
 -- ---- flushes that are served
 
@@ -139,51 +123,31 @@ served_stay past e q n b h = ap (λ o. option_or o (if nat_le n (length past) &&
 -- of the tickets after the entry those older than n are those that were and aren't ended
 older_after : (s : Layout) (past : List Entry) (e : Entry) (q n : ℕ) → IsLegal s (e ∷ past) → n ≤ length past
     → count_by (is_older_flush q n) (unended_tickets (e ∷ past)) + one (passes (is_older_flush q n) (ticket_ended past e)) ≡ count_by (is_older_flush q n) (unended_tickets past)
-older_after s past e q n legal less = omega (arith, tickets_go_on s past e (is_older_flush q n) legal, new (ticket_in e (length past)) refl)
-  where
-    new : (o : Option Ticket) → ticket_in e (length past) ≡ o → one (passes (is_older_flush q n) o) ≤ 0
-    new None h = omega arith
-    new (Some t) h = let number = ticket_number e (length past) t h in grind (arith, nat_tests)
+older_after s past e q n legal less =
+    let young = of_option (λ t. is_older_flush q n t ≡ false) (ticket_in e (length past)) (λ t h. let number = ticket_number e (length past) t h in grind (arith, nat_tests)) in
+    omega (arith, tickets_go_on s past e (is_older_flush q n) legal, count_option (is_older_flush q n) (ticket_in e (length past)), count_by-none (is_older_flush q n) _ young)
 
 -- what isn't served though it stands has 15 older ones
 overflowed : (past : List Entry) (q n : ℕ) → n < length past → serving_from past q n ≡ None → 15 ≤ count_by (is_older_flush q n) (unended_tickets past)
 unfolding serving_from
 overflowed [] q n less h = absurd (omega arith)
-overflowed (e ∷ past) q n less h = at (serving_from past q n) (is_served_after (e ∷ past) q n) refl h
-  where
-    at : (o : Option ℕ) (b : Bool) → is_served_after (e ∷ past) q n ≡ b → option_or o (if nat_le n (length past) && b then Some (length past) else None) ≡ None
-        → 15 ≤ count_by (is_older_flush q n) (unended_tickets (e ∷ past))
-    at (Some m) b is k = cc
-    at None true is k = grind (arith, nat_tests)
-    at None false is k = ltb-false _ 15 is
+overflowed (e ∷ past) q n less h = grind (arith, nat_tests)
 
 pub overflowed_move_up : (s : Layout) (past : List Entry) (e : Entry) (q n : ℕ) → IsLegal s (e ∷ past) → n < length past → serving_from past q n ≡ None → serving_from (e ∷ past) q n ≡ (if moves_up past e q n then Some (length past) else None)
 unfolding serving_from
 overflowed_move_up s past e q n legal less h =
-    ap (λ o. option_or o (if nat_le n (length past) && is_served_after (e ∷ past) q n then Some (length past) else None)) h
-    ∙ ap₂ (λ a b. if a && b then Some (length past) else None) within moved
-  where
-    within : nat_le n (length past) ≡ true
-    within = grind (arith, nat_tests)
-
-    counted : (b : Bool) (m k : ℕ) → k + one b ≡ m → 15 ≤ m → nat_lt k 15 ≡ (b && (m == 15))
-    counted b m k sum many = grind (arith, nat_tests)
-
-    moved : is_served_after (e ∷ past) q n ≡ moves_up past e q n
-    moved = counted _ _ _ (older_after s past e q n legal (omega arith)) (overflowed past q n less h)
+    let sum = older_after s past e q n legal (omega arith) in
+    let many = overflowed past q n less h in
+    grind (arith, nat_tests)
 
 -- what is still to come isn't served
 pub not_served_yet : (past : List Entry) (q n : ℕ) → length past ≤ n → serving_from past q n ≡ None
 unfolding serving_from
 not_served_yet [] q n less = refl
-not_served_yet (e ∷ past) q n less =
-    ap₂ (λ o b. option_or o (if b && is_served_after (e ∷ past) q n then Some (length past) else None)) (not_served_yet past q n (omega arith)) (let young : nat_le n (length past) ≡ false = grind (arith, nat_tests) in young)
+not_served_yet (e ∷ past) q n less = grind (arith, nat_tests, not_served_yet past q n (omega arith))
 
 gives_no_end : (past : List Entry) (e : Entry) → gives_ticket e.reply ≡ true → ticket_ended past e ≡ None
-gives_no_end past e h = ap (λ b. if b then ticket_asked past e.who e.call else None) (open_wait e.reply h)
-  where
-    open_wait : (r : Reply) → gives_ticket r ≡ true → is_done r ≡ false
-    open_wait r h = grind arith
+gives_no_end past e h = grind arith
 
 pub begun_are_served : (s : Layout) (past : List Entry) (e : Entry) (q : ℕ) (t : Ticket) → IsLegal s (e ∷ past) → ticket_in e (length past) ≡ Some t
     → serving_from (e ∷ past) q t.number ≡ (if nat_lt (count_by (is_flush_of q) (unended_tickets past)) 15 then Some (length past) else None)
@@ -207,13 +171,7 @@ abbrev IsFewer : List Entry → ℕ → Ticket → Type 0
 IsFewer past q t = (n : ℕ) → is_flush_of q t ≡ true → t.number < n → count_by (is_older_flush q t.number) (unended_tickets past) < count_by (is_older_flush q n) (unended_tickets past)
 
 all_fewer : (past : List Entry) (q : ℕ) → AllByRecursion (IsFewer past q) (unended_tickets past)
-all_fewer past q = All_map _ (IsFewer past q) (unended_tickets past) (λ t fewer n flush less. omega (arith, fewer (is_older_flush q t.number) (is_older_flush q n) (λ u h. older t u n less h) (not_self t) (grind (arith, nat_tests)))) (count_by-fewer (unended_tickets past))
-  where
-    older : (t u : Ticket) (n : ℕ) → t.number < n → is_older_flush q t.number u ≡ true → is_older_flush q n u ≡ true
-    older t u n less h = grind (arith, nat_tests)
-
-    not_self : (t : Ticket) → is_older_flush q t.number t ≡ false
-    not_self t = grind (arith, nat_tests)
+all_fewer past q = All_map _ (IsFewer past q) (unended_tickets past) (λ t fewer n flush less. omega (arith, fewer (is_older_flush q t.number) (is_older_flush q n) (λ u h. grind (arith, nat_tests)) (grind (arith, nat_tests)) (grind (arith, nat_tests)))) (count_by-fewer (unended_tickets past))
 
 -- what moves up is a flush with 15 older ones
 moving_counts : (past : List Entry) (e : Entry) (q : ℕ) (t : Ticket) → is_moving past e q t ≡ true → (is_flush_of q t ≡ true) × (count_by (is_older_flush q t.number) (unended_tickets past) ≡ 15)
