@@ -53,10 +53,7 @@ length-count f xs = sym (length-filter f xs)
 pub ways_counted : (s : Layout) (past : List Entry) (q c : ℕ) → count_by (is_below_max_active s past) (open_on past q c) ≡ min (length (open_on past q c)) (width s past q)
 ways_counted s past q c =
     let first = filter-ranked (is_below_max_active s past) (λ x. count_by (is_below x) (open_on past q c)) (width s past q) 0 (open_on past q c) (ways s past q c) (open_ranked past q c) in
-    length-count (is_below_max_active s past) (open_on past q c) ∙ ap length first ∙ length-take (width s past q - 0) (open_on past q c) ∙ sizes (width s past q) (length (open_on past q c))
-  where
-    sizes : (w n : ℕ) → min (w - 0) n ≡ min n w
-    sizes w n = grind arith
+    length-count (is_below_max_active s past) (open_on past q c) ∙ ap length first ∙ length-take (width s past q - 0) (open_on past q c) ∙ omega arith
 
 -- ---- what was active is a front of what is open after an entry
 

@@ -1,5 +1,5 @@
 -- On a legal history the run of a worker is the run of its item.
-use Rattle.cmwq_theory_steps.specs.Common.{◌≡◌, ◌==◌, ◌<◌, ℕ, Bool, true, false, List, [], ◌∷◌, length, Option, Some, None, refl, sym, ap, ◌∙◌, subst, arith, option_map, is_some, if◌then◌else◌, option_map_or, eqb-true, eq-eqb, beq, WorkerId, Who, Worker, Entry, Start, Layout, is_by, same_worker, same_who, item_at, number_started, is_open, is_number_open, last_start, run, item_start, item_run, item_runs, start_in, starts_item, IsLegal, open_before}
+use Rattle.cmwq_theory_steps.specs.Common.{◌≡◌, ◌==◌, ◌<◌, ℕ, Bool, true, false, List, [], ◌∷◌, length, Option, Some, None, refl, sym, ap, ◌∙◌, subst, arith, is_some, if◌then◌else◌, option_map_or, eqb-true, eq-eqb, beq, WorkerId, Who, Worker, Entry, Start, Layout, is_by, same_worker, same_who, item_at, number_started, is_open, is_number_open, last_start, run, item_start, item_run, item_runs, start_in, starts_item, IsLegal, open_before}
 use Rattle.cmwq_theory_steps.proofs.Entries.{IsKnown, known_more, queueings_known, item_at-older}
 use Rattle.cmwq_theory_steps.proofs.Activated.{next_holds}
 use Rattle.std.proofs.lemmas.Bool.{both_ways, ne_eqb, not-true}
@@ -55,9 +55,6 @@ pub item_run_started : (past : List Entry) (i : ℕ) (start : Start) → item_ru
 item_run_started past i start h = grind arith
 
 -- ---- an entry that starts a queueing, and one that starts none
-
-abbrev start_with : Option ℕ → WorkerId → Option Start
-start_with o v = option_map (λ k. record { worker = v; number = k }) o
 
 pub start_of_worker : (e : Entry) (w : WorkerId) (n : ℕ) → e.who ≡ Worker w → number_started e.reply ≡ Some n → start_in e ≡ Some (record { worker = w; number = n })
 start_of_worker e w n who number = grind arith

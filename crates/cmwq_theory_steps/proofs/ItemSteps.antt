@@ -1,7 +1,6 @@
 -- The run of an item after one more entry, and whose run it is.
-use Rattle.cmwq_theory_steps.specs.Common.{◌≡◌, ◌<◌, ℕ, Bool, true, false, not, ◌&&◌, List, [], ◌∷◌, length, Option, Some, None, refl, sym, ap, ◌∙◌, subst, arith, option_map, option_and_then, is_some, if◌then◌else◌, option_map_or, eq-eqb, WorkerId, Who, Worker, Reply, Entry, Start, Layout, is_at, is_by, same_who, item_at, worker_of, number_started, number_finished, finishes, starts, is_started, is_open, run, has_run, item_start, item_run, start_in, starts_item, IsLegal}
-use Rattle.cmwq_model.specs.declared.reply.Reply.TheVariants as reply
-use Rattle.std.proofs.lemmas.Bool.{both_ways, or_left, or_right}
+use Rattle.cmwq_theory_steps.specs.Common.{nat_tests, ◌≡◌, ◌<◌, ℕ, Bool, true, false, not, ◌&&◌, List, [], ◌∷◌, length, Option, Some, None, refl, sym, ap, ◌∙◌, subst, arith, option_map, option_and_then, is_some, if◌then◌else◌, option_map_or, WorkerId, Who, Worker, Entry, Start, Layout, is_at, is_by, same_who, item_at, worker_of, number_started, number_finished, finishes, starts, is_started, is_open, run, has_run, item_start, item_run, start_in, starts_item, IsLegal}
+use Rattle.std.proofs.lemmas.Bool.{both_ways, or_right}
 use Rattle.cmwq_theory_steps.specs.RunSteps.{run_after, ends_run}
 use Rattle.cmwq_theory_steps.proofs.Entries.{item_at-older, is_at-true}
 use Rattle.cmwq_theory_steps.proofs.ItemRuns.{same_worker-true, item_run_is, item_run_started, item_starts, item_stays, starts_known, same_worker_itself}
@@ -16,13 +15,8 @@ pub record StartsOf (past : List Entry) (e : Entry) (i : ℕ) (start : Start) : 
   pub number : number_started e.reply ≡ Some start.number
   pub item : item_at past start.number ≡ Some i
 
-start_parts : (who : Who) (o : Option ℕ) (start : Start) → option_and_then (λ w. option_map (λ n. record { worker = w; number = n }) o) (worker_of who) ≡ Some start → (who ≡ Worker start.worker) × (o ≡ Some start.number)
-start_parts who o start h = grind arith
-
 pub starts_of : (past : List Entry) (e : Entry) (i : ℕ) (start : Start) → starts_item past e i ≡ true → start_in e ≡ Some start → StartsOf past e i start
-starts_of past e i start h is =
-    let parts = start_parts e.who (number_started e.reply) start is in
-    record { by_worker = parts.0; number = parts.1; item = is_at-true (item_at past start.number) i (grind arith) }
+starts_of past e i start h is = record { by_worker = grind arith; number = grind arith; item = is_at-true (item_at past start.number) i (grind arith) }
 
 -- where nothing is started, nothing of the item is
 pub none_started : (who : Who) (past : List Entry) (i : ℕ) (o : Option ℕ) → o ≡ None
@@ -49,7 +43,7 @@ start_is s (e ∷ past) i start legal h = at (starts_item past e i) refl h (star
     at true is h earlier =
         let st = starts_of past e i start is h in
         let k = starts_known s past e start.number legal st.number in
-        record { older = omega (arith, k.older); item = item_at-older e past start.number k.older ∙ st.item; started = or_left (starts start.number e) _ (ap (λ o. is_at o start.number) st.number ∙ eq-eqb start.number start.number refl) }
+        record { older = omega (arith, k.older); item = item_at-older e past start.number k.older ∙ st.item; started = let now = st.number in grind (arith, nat_tests) }
     at false is h earlier =
         let st = earlier h in
         record { older = omega (arith, st.older); item = item_at-older e past start.number st.older ∙ st.item; started = or_right (starts start.number e) _ st.started }
@@ -104,16 +98,10 @@ run_keeps s past e start legal survivors runs = workers_run_on s past e start.wo
     finishing n h by =
         let f = finishes_run s past e n legal h in
         let its = subst (λ (v : WorkerId). run past v ≡ Some n) (by_this s past e f.worker start.worker f.by_worker by) f.is_run in
-        both_ways (finishes start.number e) survivors (ap (λ o. is_at o start.number) (h ∙ sym its ∙ runs) ∙ eq-eqb start.number start.number refl)
-
-    after : (r : Reply) → e.reply ≡ r → is_by (Worker start.worker) e ≡ true → run_after r (run past start.worker) ≡ Some start.number
-    after (reply.Started m) h by = absurd (starting m (ap number_started h) by)
-    after (reply.StartedEnlist m x) h by = absurd (starting m (ap number_started h) by)
-    after (reply.Finished m) h by = absurd (finishing m (ap number_finished h) by)
-    after r h by = runs
+        grind (arith, nat_tests)
 
     at : (b : Bool) → is_by (Worker start.worker) e ≡ b → (if b then run_after e.reply (run past start.worker) else run past start.worker) ≡ Some start.number
-    at true by = after e.reply refl by
+    at true by = let begun = starting in let ended = finishing in grind arith
     at false by = runs
 
 -- a run that is left was there, and the entry doesn't finish it
@@ -127,9 +115,7 @@ runs_its_item s (e ∷ past) i start legal h = at (starts_item past e i) refl (s
   where
     at : (b : Bool) → starts_item past e i ≡ b → (if b then start_in e else if ends_run e (item_run past i) then None else item_run past i) ≡ Some start
         → (item_run past i ≡ Some start → run past start.worker ≡ Some start.number) → run (e ∷ past) start.worker ≡ Some start.number
-    at true is h earlier =
-        let st = starts_of past e i start is h in
-        run_begun s past e start.worker start.number legal (ap (λ (x : Who). same_who x (Worker start.worker)) st.by_worker ∙ same_worker_itself start.worker) st.number
+    at true is h earlier = let st = starts_of past e i start is h in run_begun s past e start.worker start.number legal (ap (λ (x : Who). same_who x (Worker start.worker)) st.by_worker ∙ same_worker_itself start.worker) st.number
     at false is h earlier = let was = left_run e (item_run past i) start h in run_keeps s past e start legal was.1 (earlier was.0)
 
 pub items_are_run : (s : Layout) (past : List Entry) (i : ℕ) (start : Start) → IsLegal s past → item_run past i ≡ Some start → (run past start.worker ≡ Some start.number) × (item_at past start.number ≡ Some i)
