@@ -8,11 +8,10 @@ use Rattle.cmwq_theory_steps.specs.Waiting.{candidates, has_none, waiting_on, is
 use Rattle.cmwq_lemmas.proofs.Filters.{filter_none, count_by-same}
 use Rattle.cmwq_theory_steps.proofs.Fronts.{IsFront, front_filter, count_split}
 use Rattle.cmwq_theory_steps.proofs.Active.{on_each, fronts_below_max_active, not_active_yet, active_counted}
-use Rattle.cmwq_theory_steps.proofs.Promoted.{newly_of_open, newly_active_on}
+use Rattle.cmwq_theory_steps.proofs.Promoted.{newly_of_open, newly_active_on, turn_filters}
 use Rattle.cmwq_theory_steps.proofs.Endings.{open_go_on}
 use Rattle.cmwq_theory_steps.proofs.Ended.{one_ends}
 use Rattle.cmwq_theory_steps.proofs.Waiting.{newly_are, waiting_goes_on}
-use Rattle.cmwq_theory_steps.proofs.Promoted.{turn_filters}
 use Rattle.cmwq_lemmas.proofs.Truth.{flip, and_false}
 use Rattle.cmwq_lemmas.proofs.Lists.{All_map, count_append, filter_all}
 use Rattle.std.proofs.lemmas.List.{drop_all}

@@ -1,14 +1,10 @@
 -- What is open after one more entry.
-use Rattle.cmwq_theory_steps.specs.Common.{◌≡◌, ◌<◌, ℕ, Bool, true, ◌&&◌, ◌||◌, not, List, ◌∷◌, ◌++◌, length, filter, Some, option_to_list, nat_lt, sym, ap, ap₂, ◌∙◌, arith, lt-ltb, filter-append, Entry, Queueing, Layout, is_of_item, finishes, takes_back, replaces, is_started, is_finished, is_cancelled, is_open, queueings, is_live, still_open, opening, IsLegal, All_map, IsBelow, queueings_below, opening_number}
+use Rattle.cmwq_theory_steps.specs.Common.{◌≡◌, ◌<◌, ℕ, true, ◌&&◌, not, List, ◌∷◌, ◌++◌, length, filter, Some, option_to_list, nat_lt, sym, ap, ap₂, ◌∙◌, arith, lt-ltb, filter-append, Entry, Queueing, Layout, is_of_item, finishes, takes_back, replaces, is_started, is_cancelled, is_open, queueings, is_live, still_open, opening, IsLegal, All_map, IsBelow, queueings_below, opening_number}
 use Rattle.cmwq_theory_steps.specs.Endings.{survives}
 use Rattle.cmwq_lemmas.proofs.Filters.{filter_twice, filter_same}
 use Rattle.cmwq_lemmas.proofs.Lists.{filter_all}
 use Rattle.cmwq_theory_steps.proofs.Options.{of_option}
 use Rattle.cmwq_theory_steps.proofs.Fresh.{open_at_once}
-
--- f, t: finished, cancelled by the entry; a, b: before it; r, i, u: it replaces, is of the item, which has started
-live_step : (f a b t r i u : Bool) → (not (f || a) && not (b || t || (r && i && true && not u))) ≡ (not a && not b && (not f && not t && not (r && i && not u)))
-live_step f a b t r i u = grind arith
 
 -- of a queueing of item i with number n
 pub open_step : (past : List Entry) (e : Entry) (i n : ℕ) → n < length past
@@ -16,8 +12,7 @@ pub open_step : (past : List Entry) (e : Entry) (i n : ℕ) → n < length past
 unfolding is_cancelled
 open_step past e i n less =
     let now : nat_lt n (length (e ∷ past)) ≡ true = lt-ltb n (length (e ∷ past)) (omega arith) in
-    let was : nat_lt n (length past) ≡ true = lt-ltb n (length past) less in
-    rw (now, was) (live_step (finishes n e) (is_finished past n) (is_cancelled past i n) (takes_back n e) (replaces e.reply) (is_of_item i e) (is_started past n))
+    rw (now, lt-ltb n (length past) less) (grind arith)
 
 pub live_goes_on : (past : List Entry) (e : Entry) (x : Queueing) → x.number < length past → is_live (e ∷ past) x ≡ (is_live past x && survives past e x)
 live_goes_on past e x less = open_step past e x.item.0 x.number less

@@ -1,5 +1,5 @@
 -- Entries and queueings by their numbers, as a history grows.
-use Rattle.cmwq_theory_steps.specs.Common.{◌≡◌, ◌-◌, ◌<◌, ℕ, suc, true, List, [], ◌∷◌, length, Option, Some, None, option_to_list, ap, ◌∙◌, arith, option_and_then, AllByRecursion, nat_tests, Entry, Queueing, item_of, entry_at, item_at, queueings, opening, is_at, All_map, All_append, opening_number, eqb-true}
+use Rattle.cmwq_theory_steps.specs.Common.{◌≡◌, ◌-◌, ◌<◌, ℕ, suc, true, List, [], ◌∷◌, length, Option, Some, option_to_list, ap, ◌∙◌, arith, option_and_then, AllByRecursion, nat_tests, Entry, Queueing, item_of, entry_at, item_at, queueings, opening, is_at, All_map, All_append, opening_number}
 use Rattle.cmwq_theory_steps.proofs.Options.{of_option}
 
 pub entry_at-older : (e : Entry) (past : List Entry) (n : ℕ) → n < length past → entry_at (e ∷ past) n ≡ entry_at past n
@@ -42,5 +42,4 @@ queueings_known (e ∷ past) =
     (of_option (IsKnown (e ∷ past)) (opening past e) (opening_known e past))
 
 pub is_at-true : (o : Option ℕ) (n : ℕ) → is_at o n ≡ true → o ≡ Some n
-is_at-true None n h = cc
-is_at-true (Some m) n h = ap Some (eqb-true m n h)
+is_at-true o n h = grind (arith, nat_tests)

@@ -1,5 +1,5 @@
 -- Tickets by their numbers: each was given by the entry with its number.
-use Rattle.cmwq_theory_steps.specs.Common.{◌≡◌, ◌<◌, ℕ, Bool, true, false, List, [], ◌∷◌, length, Some, None, option_to_list, sym, ap, ◌∙◌, arith, if◌then◌else◌, AllByRecursion, eqb-true, Who, Caller, Worker, Entry, Ticket, entry_at, tickets, unended_tickets, is_unended, ticket_in, ticket_for, gives_ticket, ticket_of, is_ticket, All_map, All_append}
+use Rattle.cmwq_theory_steps.specs.Common.{◌≡◌, ◌<◌, ℕ, List, [], ◌∷◌, length, Some, option_to_list, ap, ◌∙◌, arith, AllByRecursion, eqb-true, Who, Entry, Ticket, entry_at, tickets, unended_tickets, is_unended, ticket_in, ticket_of, is_ticket, All_map, All_append}
 use Rattle.cmwq_theory_steps.proofs.Activated.{find_holds}
 use Rattle.cmwq_theory_steps.proofs.Options.{of_option}
 use Rattle.cmwq_lemmas.proofs.Passing.{all_kept}
@@ -14,20 +14,17 @@ pub record IsGiven (past : List Entry) (t : Ticket) : Type 0 where
 given_more : (e : Entry) (past : List Entry) (t : Ticket) → IsGiven past t → IsGiven (e ∷ past) t
 given_more e past t h = record { begun = h.begun; older = omega (arith, h.older); at = entry_at-older e past t.number h.older ∙ h.at; call = h.call }
 
-given_now : (e : Entry) (past : List Entry) (t : Ticket) (b : Bool) (who : Who) → (if b then ticket_for who e.call (length past) else None) ≡ Some t → IsGiven (e ∷ past) t
-given_now e past t false who h = cc
-given_now e past t true (Worker w) h = cc
-given_now e past t true (Caller c) h =
-    let is : record { caller = c; call = e.call; number = length past } ≡ t = cc in
-    let number = ap (λ (u : Ticket). u.number) is in
-    record { begun = e; older = omega arith; at = ap (entry_at (e ∷ past)) (sym number) ∙ entry_at-newest e past; call = ap (λ (u : Ticket). u.call) is }
+given_now : (e : Entry) (past : List Entry) (t : Ticket) → ticket_in e (length past) ≡ Some t → IsGiven (e ∷ past) t
+given_now e past t h =
+    let number : t.number ≡ length past = grind arith in
+    record { begun = e; older = omega arith; at = ap (entry_at (e ∷ past)) number ∙ entry_at-newest e past; call = grind arith }
 
 pub tickets_given : (past : List Entry) → AllByRecursion (IsGiven past) (tickets past)
 unfolding tickets
 tickets_given [] = tt
 tickets_given (e ∷ past) =
     All_append (IsGiven (e ∷ past)) (tickets past) (option_to_list (ticket_in e (length past))) (All_map (IsGiven past) (IsGiven (e ∷ past)) (tickets past) (given_more e past) (tickets_given past))
-    (of_option (IsGiven (e ∷ past)) (ticket_in e (length past)) (λ t h. given_now e past t (gives_ticket e.reply) e.who h))
+    (of_option (IsGiven (e ∷ past)) (ticket_in e (length past)) (given_now e past))
 
 pub unended_given : (past : List Entry) → AllByRecursion (IsGiven past) (unended_tickets past)
 unended_given past = all_kept (IsGiven past) (is_unended past) (tickets past) (tickets_given past)

@@ -1,7 +1,6 @@
 -- The bits of items that an entry doesn't mark stay.
-use Rattle.cmwq_theory_steps.specs.Common.{◌≡◌, ◌+◌, ℕ, Bool, true, false, List, ◌∷◌, Option, Some, None, refl, ap, ap₂, ◌∙◌, option_and_then, if◌then◌else◌, option_or, eq-eqb, Reply, Entry, Start, Layout, is_at, item_called, item_fired, item_of, item_at, is_of_item, number_started, number_finished, item_run, start_in, starts_item, IsLegal, bits}
+use Rattle.cmwq_theory_steps.specs.Common.{arith, nat_tests, ◌≡◌, ◌+◌, ℕ, Bool, true, false, List, ◌∷◌, Option, Some, None, refl, ap, ap₂, ◌∙◌, if◌then◌else◌, option_or, Reply, Entry, Start, Layout, is_at, item_called, item_fired, item_of, item_at, is_of_item, number_started, number_finished, item_run, start_in, starts_item, IsLegal, bits}
 use Rattle.std.proofs.lemmas.Bool.{both_ways, false_from_ne_true}
-use Rattle.cmwq_theory_steps.specs.Common.{arith}
 use Rattle.cmwq_theory_steps.specs.RunSteps.{ends_run}
 use Rattle.cmwq_theory_steps.specs.Marks.{item_marked}
 use Rattle.cmwq_theory_steps.proofs.Entries.{is_at-true}
@@ -14,7 +13,7 @@ use Rattle.cmwq_theory_steps.proofs.PendingSteps.{bits_go_on}
 -- ---- what is of item i marks it
 
 marks_own : (past : List Entry) (e : Entry) (i : ℕ) → is_of_item i e ≡ true → is_at (item_marked past e) i ≡ true
-marks_own past e i h = ap (λ o. is_at (option_or o (option_and_then (item_at past) (option_or (number_started e.reply) (number_finished e.reply)))) i) (is_at-true (item_of e) i h) ∙ eq-eqb i i refl
+marks_own past e i h = let item = is_at-true (item_of e) i h in grind (arith, nat_tests)
 
 pub no_item : (r : Reply) (n : ℕ) → number_started r ≡ Some n → item_fired r ≡ None
 no_item r n h = grind arith
@@ -22,18 +21,16 @@ no_item r n h = grind arith
 no_item_ended : (r : Reply) (n : ℕ) → number_finished r ≡ Some n → (item_fired r ≡ None) × (number_started r ≡ None)
 no_item_ended r n h = grind arith
 
-marks_by : (past : List Entry) (e : Entry) (n i : ℕ) → item_of e ≡ None → option_or (number_started e.reply) (number_finished e.reply) ≡ Some n → item_at past n ≡ Some i → is_at (item_marked past e) i ≡ true
-marks_by past e n i none h item = ap₂ (λ o m. is_at (option_or o (option_and_then (item_at past) m)) i) none h ∙ ap (λ o. is_at o i) item ∙ eq-eqb i i refl
-
 marks_started : (s : Layout) (past : List Entry) (e : Entry) (n i : ℕ) → IsLegal s (e ∷ past) → number_started e.reply ≡ Some n → item_at past n ≡ Some i → is_at (item_marked past e) i ≡ true
 marks_started s past e n i legal h item =
-    let st = starts_next s past e n legal h in
-    marks_by past e n i (ap₂ option_or (ap item_called st.is_take) (no_item e.reply n h)) (ap (λ o. option_or o (number_finished e.reply)) h) item
+    let none = ap₂ option_or (ap item_called (starts_next s past e n legal h).is_take) (no_item e.reply n h) in
+    grind (arith, nat_tests)
 
 marks_finished : (s : Layout) (past : List Entry) (e : Entry) (n i : ℕ) → IsLegal s (e ∷ past) → number_finished e.reply ≡ Some n → item_at past n ≡ Some i → is_at (item_marked past e) i ≡ true
 marks_finished s past e n i legal h item =
-    let none = no_item_ended e.reply n h in
-    marks_by past e n i (ap₂ option_or (ap item_called (finishes_run s past e n legal h).is_finish) none.0) (ap₂ option_or none.1 h) item
+    let ended = no_item_ended e.reply n h in
+    let none = ap₂ option_or (ap item_called (finishes_run s past e n legal h).is_finish) ended.0 in
+    grind (arith, nat_tests)
 
 -- ---- so what is of another item stays
 

@@ -1,5 +1,5 @@
 -- The unended tickets after one more entry, and which flushes it serves.
-use Rattle.cmwq_theory_steps.specs.Common.{◌≡◌, ◌<◌, ◌≤◌, ◌+◌, ◌==◌, ℕ, Bool, true, false, cond, ◌&&◌, ◌||◌, not, List, [], ◌∷◌, ◌++◌, length, filter, find, count_by, Option, Some, None, option_to_list, nat_lt, nat_le, refl, sym, ap, ap₂, ◌∙◌, subst, arith, if◌then◌else◌, option_or, AllByRecursion, list_any, eqb-true, eq-eqb, nat_tests, filter-append, sum_by-filter_both, Who, Caller, Call, Reply, Entry, Ticket, Layout, same_who, gives_ticket, ticket_in, tickets, is_end_of, is_done, ends, is_unended, unended_tickets, is_flush_of, is_held_by, is_ticket, is_older_flush, is_served_after, serving_from, IsLegal, All_map, All_each, count_by-none, count_by-filter, find_none}
+use Rattle.cmwq_theory_steps.specs.Common.{◌≡◌, ◌<◌, ◌≤◌, ◌+◌, ◌==◌, ℕ, Bool, true, false, cond, ◌&&◌, ◌||◌, not, List, [], ◌∷◌, ◌++◌, length, filter, find, count_by, Option, Some, None, option_to_list, nat_lt, nat_le, refl, sym, ap, ap₂, ◌∙◌, subst, arith, if◌then◌else◌, option_or, AllByRecursion, list_any, eqb-true, eq-eqb, nat_tests, filter-append, sum_by-filter_both, Who, Caller, Call, Reply, Entry, Ticket, Layout, same_who, gives_ticket, ticket_in, tickets, is_end_of, is_done, ends, is_unended, unended_tickets, is_flush_of, is_held_by, is_ticket, is_older_flush, is_served_after, serving_from, IsLegal, All_map, All_each, count_by-none, find_none}
 use Rattle.cmwq_model.specs.declared.call.Call.TheVariants as call
 use Rattle.cmwq_model.specs.declared.reply.Reply.TheVariants as reply
 use Rattle.cmwq_theory_steps.specs.Histories.{one}
@@ -10,6 +10,7 @@ use Rattle.cmwq_theory_steps.proofs.Given.{IsGiven, tickets_given, unended_given
 use Rattle.cmwq_theory_steps.proofs.Causes.{cause_of}
 use Rattle.cmwq_theory_steps.proofs.Reasons.{done_reason}
 use Rattle.std.proofs.lemmas.Bool.{and_parts}
+use Rattle.cmwq_lemmas.proofs.Passing.{fewer_kept}
 use Rattle.cmwq_lemmas.proofs.Lists.{count_append, filter_all}
 use Rattle.cmwq_theory_steps.proofs.Options.{count_option, of_option}
 use Rattle.cmwq_lemmas.proofs.Truth.{and_false}
@@ -73,19 +74,10 @@ few_numbered (e ∷ past) n =
     grind (arith, few_numbered past n, count_option (has_number n) (ticket_in e (length past)))
 
 few_unended : (past : List Entry) (n : ℕ) → count_by (has_number n) (unended_tickets past) ≤ 1
-few_unended past n = omega (
-  arith,
-  count_by-filter (λ t. is_unended past t && has_number n t) (is_unended past) (has_number n) (tickets past) (λ t. refl),
-  count_by-wider (λ t. is_unended past t && has_number n t) (has_number n) (tickets past) (All_each _ (tickets past) (λ t h. (and_parts (is_unended past t) (has_number n t) h).1)),
-  few_numbered past n,
-)
+few_unended past n = omega (arith, fewer_kept (has_number n) (is_unended past) (tickets past), few_numbered past n)
 
 one_asked : (past : List Entry) (who : Who) (n : ℕ) → count_by (is_ticket who n) (unended_tickets past) ≤ 1
-one_asked past who n = omega (
-  arith,
-  count_by-wider (is_ticket who n) (has_number n) (unended_tickets past) (All_each _ (unended_tickets past) (λ t h. (and_parts (has_number n t) (is_held_by who t) h).0)),
-  few_unended past n,
-)
+one_asked past who n = omega (arith, count_by-wider (is_ticket who n) (has_number n) (unended_tickets past) (All_each _ (unended_tickets past) (λ t h. (and_parts (has_number n t) (is_held_by who t) h).0)), few_unended past n)
 
 abbrev is_asked : Who → Call → Ticket → Bool
 is_asked who c t = same_who who (Caller t.caller) && is_end_of t.number c
