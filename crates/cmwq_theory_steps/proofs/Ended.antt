@@ -1,5 +1,5 @@
 -- What an entry ends is one queueing at most, and which.
-use Rattle.cmwq_theory_steps.specs.Common.{Who, ap₂, option_or, option_and_then, is_some, item_fired, ◌||◌, AllByRecursion, ◌≡◌, ◌<◌, ◌≤◌, ◌==◌, ℕ, Bool, true, false, List, [], ◌∷◌, filter, find, count_by, Option, Some, None, option_to_list, refl, sym, ap, ◌∙◌, subst, arith, option_map, nat_tests, Reply, Entry, Queueing, Layout, item_of, number_finished, number_cancelled, replaces, queueings, queueing_at, has_number, is_live, still_open, is_unstarted, unstarted_queueing, IsLegal, IsRising, All_each, All_map, count_by-cons, count_by-none, open_rise, active_live}
+use Rattle.cmwq_theory_steps.specs.Common.{if◌then◌else◌, Who, ap₂, option_or, option_and_then, is_some, item_fired, ◌||◌, AllByRecursion, ◌≡◌, ◌<◌, ◌≤◌, ◌==◌, ℕ, Bool, true, false, List, [], ◌∷◌, filter, find, count_by, Option, Some, None, option_to_list, refl, sym, ap, ◌∙◌, subst, arith, option_map, nat_tests, Reply, Entry, Queueing, Layout, item_of, number_finished, number_cancelled, replaces, queueings, queueing_at, has_number, is_live, still_open, is_unstarted, unstarted_queueing, IsLegal, IsRising, All_each, All_map, count_by-cons, count_by-none, open_rise, active_live}
 use Rattle.cmwq_model.specs.declared.reply.Reply.TheVariants as reply
 use Rattle.cmwq_theory_steps.specs.Endings.{is_ended, ending, number_ended}
 use Rattle.cmwq_theory_steps.specs.ItemQueueings.{ended_by}
@@ -52,12 +52,9 @@ by_number past e n x found live same told number = by_test past e (has_number n)
 finished_reply : (r : Reply) (n : ℕ) → number_finished r ≡ Some n → r ≡ reply.Finished n
 finished_reply r n h = grind arith
 
--- what is taken back or put anew ends the item's unstarted queueing
-back_or_anew : (past : List Entry) (who : Who) (o : Option ℕ) (r : Reply) → (is_some (number_cancelled r) || replaces r) ≡ true → (number_finished r ≡ None) × (ended_by past who o r ≡ option_and_then (unstarted_queueing past) o)
-back_or_anew past who o r h = grind arith
-
-nothing_told : (past : List Entry) (who : Who) (o : Option ℕ) (r : Reply) → number_finished r ≡ None → number_cancelled r ≡ None → replaces r ≡ false → ended_by past who o r ≡ None
-nothing_told past who o r hf hc hr = grind arith
+-- and what it says of the item ends its unstarted queueing
+told_by : (past : List Entry) (who : Who) (o : Option ℕ) (r : Reply) → number_finished r ≡ None → ended_by past who o r ≡ (if is_some (number_cancelled r) || replaces r then option_and_then (unstarted_queueing past) o else None)
+told_by past who o r h = grind arith
 
 back_not_anew : (r : Reply) (n : ℕ) → number_cancelled r ≡ Some n → replaces r ≡ false
 back_not_anew r n h = grind arith
@@ -86,15 +83,14 @@ ends s past e None (Some n) o r legal hf hc ho hr =
     let found = subst (λ m. queueing_at past m ≡ Some f.queueing) f.number (unstarted_found past f.item f.queueing f.is_unstarted) in
     let kept = back_not_anew e.reply n hc in
     let item : item_of e ≡ Some f.item = ap (λ a. option_or a (item_fired e.reply)) f.is_item in
-    let told = (back_or_anew past e.who (item_of e) e.reply (grind arith)).1 ∙ ap (option_and_then (unstarted_queueing past)) item ∙ f.is_unstarted in
-    by_number past e n f.queueing found (unstarted_is past f.item f.queueing f.is_unstarted).live (λ x. grind (arith, nat_tests)) told (grind arith)
+    let unstarted = f.is_unstarted in
+    let told = told_by past e.who (item_of e) e.reply hf in
+    by_number past e n f.queueing found (unstarted_is past f.item f.queueing f.is_unstarted).live (λ x. grind (arith, nat_tests)) (grind arith) (grind arith)
 ends s past e None None (Some i) true legal hf hc ho hr =
-    let told = (back_or_anew past e.who (item_of e) e.reply (grind arith)).1 ∙ ap (option_and_then (unstarted_queueing past)) ho in
-    by_test past e (is_unstarted past i) (λ x. grind (arith, nat_tests)) (omega (arith, few_pending s past i legal.2)) (sym told) (grind arith)
-ends s past e None None None true legal hf hc ho hr =
-    let told = (back_or_anew past e.who (item_of e) e.reply (grind arith)).1 ∙ ap (option_and_then (unstarted_queueing past)) ho in
-    ends_nothing past e (λ x. grind arith) told (grind arith)
-ends s past e None None o false legal hf hc ho hr = ends_nothing past e (λ x. grind arith) (nothing_told past e.who (item_of e) e.reply hf hc hr) (grind arith)
+    let told = told_by past e.who (item_of e) e.reply hf in
+    by_test past e (is_unstarted past i) (λ x. grind (arith, nat_tests)) (omega (arith, few_pending s past i legal.2)) (grind arith) (grind arith)
+ends s past e None None None true legal hf hc ho hr = let told = told_by past e.who (item_of e) e.reply hf in ends_nothing past e (λ x. grind arith) (grind arith) (grind arith)
+ends s past e None None o false legal hf hc ho hr = let told = told_by past e.who (item_of e) e.reply hf in ends_nothing past e (λ x. grind arith) (grind arith) (grind arith)
 
 -- ---- the laws
 

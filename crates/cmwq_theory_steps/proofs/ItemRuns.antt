@@ -119,25 +119,6 @@ unmoved s past e i (Some m) legal started runs =
 abbrev RunsItem : List Entry → WorkerId → ℕ → ℕ → Type 0
 RunsItem past w n i = item_run past i ≡ Some (record { worker = w; number = n })
 
-run_begins : (s : Layout) (past : List Entry) (e : Entry) (w : WorkerId) (n i : ℕ) → IsLegal s (e ∷ past) → is_by (Worker w) e ≡ true → number_started e.reply ≡ Some n
-    → item_at (e ∷ past) n ≡ Some i → is_open (e ∷ past) i n ≡ true → RunsItem (e ∷ past) w n i
-run_begins s past e w n i legal by starts item is_live =
-    let k = starts_known s past e n legal starts in
-    let same : k.worker ≡ w = same_worker-true k.worker w (subst (λ (x : Who). same_who x (Worker w) ≡ true) k.by_worker by) in
-    let is_start = start_of_worker e w n (k.by_worker ∙ ap Worker same) starts in
-    let known : item_at past n ≡ Some i = sym (item_at-older e past n k.older) ∙ item in
-    let starts_it = starts_its_item e past (record { worker = w; number = n }) i i is_start known ∙ eq-eqb i i refl in
-    item_run_is (e ∷ past) i (record { worker = w; number = n }) (item_starts e past i starts_it ∙ is_start) is_live
-
-run_goes_on : (s : Layout) (past : List Entry) (e : Entry) (w : WorkerId) (n i : ℕ) → IsLegal s (e ∷ past) → last_start past w ≡ Some n → n < length past
-    → item_at (e ∷ past) n ≡ Some i → is_open (e ∷ past) i n ≡ true → (run past w ≡ Some n → item_at past n ≡ Some i → RunsItem past w n i) → RunsItem (e ∷ past) w n i
-run_goes_on s past e w n i legal last less item is_live until_here =
-    let known : item_at past n ≡ Some i = sym (item_at-older e past n less) ∙ item in
-    let was_open = open_before e past i n less is_live in
-    let it = until_here (is_run past w n last (open_of_item past i n known ∙ was_open)) known in
-    let stays = unmoved s past e i (number_started e.reply) legal refl (ap is_some it) in
-    item_run_is (e ∷ past) i (record { worker = w; number = n }) (item_stays e past i stays ∙ item_run_started past i (record { worker = w; number = n }) it) is_live
-
 pub runs_are_items : (s : Layout) (past : List Entry) (w : WorkerId) (n i : ℕ) → IsLegal s past → run past w ≡ Some n → item_at past n ≡ Some i → RunsItem past w n i
 unfolding last_start IsLegal
 runs_are_items s [] w n i legal h k = cc
@@ -145,8 +126,18 @@ runs_are_items s (e ∷ past) w n i legal h k =
     let r = run_is (e ∷ past) w n h in
     let is_live : is_open (e ∷ past) i n ≡ true = sym (open_of_item (e ∷ past) i n k) ∙ r.is_still_open in
     elim (last_start_cases e past w n r.last) [
-      | now by starts ↦ run_begins s past e w n i legal by starts k is_live
-      | before last ↦ run_goes_on s past e w n i legal last (started_older s past w n legal.2 last) k is_live (runs_are_items s past w n i legal.2)
+      | now by starts ↦
+          let st = starts_known s past e n legal starts in
+          let same = same_worker-true st.worker w (subst (λ (x : Who). same_who x (Worker w) ≡ true) st.by_worker by) in
+          let is_start = start_of_worker e w n (st.by_worker ∙ ap Worker same) starts in
+          let starts_it = starts_its_item e past (record { worker = w; number = n }) i i is_start (sym (item_at-older e past n st.older) ∙ k) ∙ eq-eqb i i refl in
+          item_run_is (e ∷ past) i (record { worker = w; number = n }) (item_starts e past i starts_it ∙ is_start) is_live
+      | before last ↦
+          let less = started_older s past w n legal.2 last in
+          let known = sym (item_at-older e past n less) ∙ k in
+          let it = runs_are_items s past w n i legal.2 (is_run past w n last (open_of_item past i n known ∙ open_before e past i n less is_live)) known in
+          let stays = item_stays e past i (unmoved s past e i (number_started e.reply) legal refl (ap is_some it)) in
+          item_run_is (e ∷ past) i (record { worker = w; number = n }) (stays ∙ item_run_started past i (record { worker = w; number = n }) it) is_live
     ]
 
 -- so two workers that have runs of one item are one, and so are their runs

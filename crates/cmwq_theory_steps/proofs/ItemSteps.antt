@@ -1,6 +1,6 @@
 -- The run of an item after one more entry, and whose run it is.
-use Rattle.cmwq_theory_steps.specs.Common.{nat_tests, ◌≡◌, ◌<◌, ℕ, Bool, true, false, not, ◌&&◌, List, [], ◌∷◌, length, Option, Some, None, refl, sym, ap, ◌∙◌, subst, arith, option_map, option_and_then, is_some, if◌then◌else◌, option_map_or, WorkerId, Who, Worker, Entry, Start, Layout, is_at, is_by, same_who, item_at, worker_of, number_started, number_finished, finishes, starts, is_started, is_open, run, has_run, item_start, item_run, start_in, starts_item, IsLegal}
-use Rattle.std.proofs.lemmas.Bool.{both_ways, or_right}
+use Rattle.cmwq_theory_steps.specs.Common.{nat_tests, ◌≡◌, ◌<◌, ℕ, Bool, true, false, List, [], ◌∷◌, length, Option, Some, None, refl, sym, ap, ◌∙◌, subst, arith, option_map, option_and_then, if◌then◌else◌, option_map_or, WorkerId, Who, Worker, Entry, Start, Layout, is_at, is_by, same_who, item_at, worker_of, number_started, number_finished, finishes, starts, is_started, run, has_run, item_start, item_run, start_in, starts_item, IsLegal}
+use Rattle.std.proofs.lemmas.Bool.{or_right}
 use Rattle.cmwq_theory_steps.specs.RunSteps.{run_after, ends_run}
 use Rattle.cmwq_theory_steps.proofs.Entries.{item_at-older, is_at-true}
 use Rattle.cmwq_theory_steps.proofs.ItemRuns.{same_worker-true, item_run_is, item_run_started, item_starts, item_stays, starts_known, same_worker_itself}
@@ -42,8 +42,9 @@ start_is s (e ∷ past) i start legal h = at (starts_item past e i) refl h (star
     at : (b : Bool) → starts_item past e i ≡ b → (if b then start_in e else item_start past i) ≡ Some start → (item_start past i ≡ Some start → IsStartOf past i start) → IsStartOf (e ∷ past) i start
     at true is h earlier =
         let st = starts_of past e i start is h in
+        let now = st.number in
         let k = starts_known s past e start.number legal st.number in
-        record { older = omega (arith, k.older); item = item_at-older e past start.number k.older ∙ st.item; started = let now = st.number in grind (arith, nat_tests) }
+        record { older = omega (arith, k.older); item = item_at-older e past start.number k.older ∙ st.item; started = grind (arith, nat_tests) }
     at false is h earlier =
         let st = earlier h in
         record { older = omega (arith, st.older); item = item_at-older e past start.number st.older ∙ st.item; started = or_right (starts start.number e) _ st.started }
@@ -60,15 +61,12 @@ item_left : (s : Layout) (past : List Entry) (e : Entry) (i : ℕ) → IsLegal s
 unfolding IsLegal
 item_left s past e i legal is = at (item_start past i) refl
   where
-    here : (start : Start) (b : Bool) → (if b && not (finishes start.number e) then Some start else None) ≡ (if ends_run e (if b then Some start else None) then None else (if b then Some start else None))
-    here start b = grind arith
-
     at : (o : Option Start) → item_start past i ≡ o → item_run (e ∷ past) i ≡ (if ends_run e (item_run past i) then None else item_run past i)
     at None h = let stays = item_stays e past i is in grind arith
     at (Some start) h =
         let st = start_is s past i start legal.2 h in
         let stays = item_stays e past i is ∙ h in
-        simp (stays, h, started_open_on s past e i start.number legal st.older st.started) (here start (is_open past i start.number))
+        simp (stays, h, started_open_on s past e i start.number legal st.older st.started) (grind arith)
 
 pub items_run_on : (s : Layout) (past : List Entry) (e : Entry) (i : ℕ) → IsLegal s (e ∷ past)
     → item_run (e ∷ past) i ≡ (if starts_item past e i then start_in e else if ends_run e (item_run past i) then None else item_run past i)
@@ -91,18 +89,13 @@ starter_idle s past e w n legal by h =
 run_keeps : (s : Layout) (past : List Entry) (e : Entry) (start : Start) → IsLegal s (e ∷ past) → finishes start.number e ≡ false → run past start.worker ≡ Some start.number → run (e ∷ past) start.worker ≡ Some start.number
 run_keeps s past e start legal survivors runs = workers_run_on s past e start.worker legal ∙ at (is_by (Worker start.worker) e) refl
   where
-    starting : (n : ℕ) → number_started e.reply ≡ Some n → is_by (Worker start.worker) e ≡ true → ⊥
-    starting n h by = both_ways (has_run past start.worker) (starter_idle s past e start.worker n legal by h) (ap is_some runs)
-
-    finishing : (n : ℕ) → number_finished e.reply ≡ Some n → is_by (Worker start.worker) e ≡ true → ⊥
-    finishing n h by =
-        let f = finishes_run s past e n legal h in
-        let its = subst (λ (v : WorkerId). run past v ≡ Some n) (by_this s past e f.worker start.worker f.by_worker by) f.is_run in
-        grind (arith, nat_tests)
-
     at : (b : Bool) → is_by (Worker start.worker) e ≡ b → (if b then run_after e.reply (run past start.worker) else run past start.worker) ≡ Some start.number
-    at true by = let begun = starting in let ended = finishing in grind arith
     at false by = runs
+    at true by =
+        let begun : (n : ℕ) → number_started e.reply ≡ Some n → has_run past start.worker ≡ false = λ n h. starter_idle s past e start.worker n legal by h in
+        let ended : (n : ℕ) → number_finished e.reply ≡ Some n → run past start.worker ≡ Some n
+        = λ n h. let f = finishes_run s past e n legal h in subst (λ (v : WorkerId). run past v ≡ Some n) (by_this s past e f.worker start.worker f.by_worker by) f.is_run in
+        grind (arith, nat_tests)
 
 -- a run that is left was there, and the entry doesn't finish it
 pub left_run : (e : Entry) (o : Option Start) (start : Start) → (if ends_run e o then None else o) ≡ Some start → (o ≡ Some start) × (finishes start.number e ≡ false)

@@ -1,5 +1,5 @@
 -- The unended tickets after one more entry, and which flushes it serves.
-use Rattle.cmwq_theory_steps.specs.Common.{◌≡◌, ◌<◌, ◌≤◌, ◌+◌, ◌==◌, ℕ, Bool, true, false, cond, ◌&&◌, ◌||◌, not, List, [], ◌∷◌, ◌++◌, length, filter, find, count_by, Option, Some, None, option_to_list, nat_lt, nat_le, refl, sym, ap, ap₂, ◌∙◌, subst, arith, if◌then◌else◌, option_or, AllByRecursion, list_any, eqb-true, eq-eqb, nat_tests, filter-append, sum_by-filter_both, Who, Caller, Call, Reply, Entry, Ticket, Layout, same_who, gives_ticket, ticket_in, tickets, is_end_of, is_done, ends, is_unended, unended_tickets, is_flush_of, is_held_by, is_ticket, is_older_flush, is_served_after, serving_from, IsLegal, All_map, All_each, count_by-none, find_none}
+use Rattle.cmwq_theory_steps.specs.Common.{◌≡◌, ◌<◌, ◌≤◌, ◌+◌, ◌==◌, ℕ, Bool, true, false, cond, ◌&&◌, ◌||◌, not, List, [], ◌∷◌, ◌++◌, length, filter, find, count_by, Option, Some, None, option_to_list, nat_lt, nat_le, refl, sym, ap, ap₂, ◌∙◌, subst, arith, if◌then◌else◌, option_or, AllByRecursion, list_any, eq-eqb, nat_tests, filter-append, sum_by-filter_both, Who, Caller, Call, Reply, Entry, Ticket, Layout, same_who, gives_ticket, ticket_in, tickets, is_end_of, is_done, ends, is_unended, unended_tickets, is_flush_of, is_held_by, is_ticket, is_older_flush, is_served_after, serving_from, IsLegal, All_map, All_each, count_by-none, find_none}
 use Rattle.cmwq_model.specs.declared.call.Call.TheVariants as call
 use Rattle.cmwq_model.specs.declared.reply.Reply.TheVariants as reply
 use Rattle.cmwq_theory_steps.specs.Histories.{one}
@@ -17,17 +17,11 @@ use Rattle.cmwq_lemmas.proofs.Truth.{and_false}
 
 -- ---- what is given is not ended yet
 
-given_number : (e : Entry) (n : ℕ) (t : Ticket) → ticket_in e n ≡ Some t → (t.number ≡ n) × (gives_ticket e.reply ≡ true)
-given_number e n t h = grind arith
-
 pub ticket_number : (e : Entry) (n : ℕ) (t : Ticket) → ticket_in e n ≡ Some t → t.number ≡ n
-ticket_number e n t h = (given_number e n t h).0
+ticket_number e n t h = grind arith
 
 pub is_done_reply : (r : Reply) → is_done r ≡ true → r ≡ reply.Done
 is_done_reply r h = grind arith
-
-end_number : (c : Call) (n m : ℕ) → c ≡ call.End n → is_end_of m c ≡ true → n ≡ m
-end_number c n m is h = grind (arith, nat_tests)
 
 -- what an entry ends is older than the entry
 ends_older : (s : Layout) (past : List Entry) (e : Entry) (t : Ticket) → IsLegal s (e ∷ past) → length past ≤ t.number → ends t e ≡ false
@@ -37,7 +31,8 @@ ends_older s past e t legal less = grind (arith, older)
     older end done =
         let r = done_reason s past e.who e.call e.reply (cause_of s past e legal) (is_done_reply e.reply done) in
         let k = ticket_is past e.who r.number r.ticket r.stands in
-        subst (λ n. n < length past) (k.number ∙ end_number e.call r.number t.number r.is_end end) k.given.older
+        let call = r.is_end in
+        subst (λ n. n < length past) (k.number ∙ grind (arith, nat_tests)) k.given.older
 
 not_ended_yet : (s : Layout) (past : List Entry) (t : Ticket) → IsLegal s past → length past ≤ t.number → list_any (ends t) past ≡ false
 unfolding IsLegal
@@ -154,7 +149,7 @@ begun_are_served s past e q t legal h =
       arith,
       count_by-same (is_older_flush q (length past)) (is_flush_of q) (unended_tickets past) (All_map (IsGiven past) _ (unended_tickets past) (λ u given. let older = given.older in grind (arith, nat_tests)) (unended_given past)),
       older_after s past e q (length past) legal (omega arith),
-      ap (λ o. one (passes (is_older_flush q (length past)) o)) (gives_no_end past e (given_number e (length past) t h).1),
+      ap (λ o. one (passes (is_older_flush q (length past)) o)) (gives_no_end past e (grind arith)),
     )
 
 -- ---- one flush moves up at most
@@ -166,16 +161,11 @@ all_fewer : (past : List Entry) (q : ℕ) → AllByRecursion (IsFewer past q) (u
 all_fewer past q = All_map _ (IsFewer past q) (unended_tickets past) (λ t fewer n flush less. omega (arith, fewer (is_older_flush q t.number) (is_older_flush q n) (λ u h. grind (arith, nat_tests)) (grind (arith, nat_tests)) (grind (arith, nat_tests)))) (count_by-fewer (unended_tickets past))
 
 -- what moves up is a flush with 15 older ones
-moving_counts : (past : List Entry) (e : Entry) (q : ℕ) (t : Ticket) → is_moving past e q t ≡ true → (is_flush_of q t ≡ true) × (count_by (is_older_flush q t.number) (unended_tickets past) ≡ 15)
-moving_counts past e q t h = let parts = and_parts _ _ h in (parts.0, eqb-true _ 15 (and_parts _ _ parts.1).1)
-
 moving_same : (past : List Entry) (e : Entry) (q : ℕ) (t u : Ticket) → IsFewer past q t → IsFewer past q u → is_moving past e q t ≡ true → is_moving past e q u ≡ true → t.number ≡ u.number
 moving_same past e q t u ft fu ht hu =
-    let mt = moving_counts past e q t ht in
-    let mu = moving_counts past e q u hu in
-    let later = ft u.number mt.0 in
-    let earlier = fu t.number mu.0 in
-    grind arith
+    let later = ft u.number in
+    let earlier = fu t.number in
+    grind (arith, nat_tests)
 
 pub one_moves_up : (past : List Entry) (e : Entry) (q : ℕ) → count_by (is_moving past e q) (unended_tickets past) ≤ 1
 one_moves_up past e q = at (find (is_moving past e q) (unended_tickets past)) refl
