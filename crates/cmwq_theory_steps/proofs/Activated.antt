@@ -27,7 +27,7 @@ pub next_holds : (s : Layout) (P : List Entry → Queueing → Type 0) → ((e :
     → ((past : List Entry) → AllByRecursion (P past) (queueings past)) → (past : List Entry) (p : PoolId) (x : Queueing) → next s past p ≡ Some x → IsNext s P past p x
 unfolding next worklist
 next_holds s P more all past p x found =
-    let Listed : Queueing → Type 0 = λ y. Found (P past) (is_listed s past p) y in
-    let listed = All_filter Listed (is_listed s past p) (became_active s past) (All_map (P past) (λ y. is_listed s past p y ≡ true → Listed y) (became_active s past) (λ y h passes. record { passes = passes; holds = h }) (activated_all s P more all past)) in
+    let Listed : Queueing → Type 0 = Found (P past) (is_listed s past p) in
+    let listed = All_filter Listed (is_listed s past p) (became_active s past) (All_map (P past) _ (became_active s past) (λ y h passes. record { passes = passes; holds = h }) (activated_all s P more all past)) in
     let f = find_holds Listed (is_startable past) (worklist s past p) x listed found in
     record { startable = f.passes; listed = f.holds.passes; holds = f.holds.holds }

@@ -69,23 +69,18 @@ module _ {s : Layout} {past : List Entry} {who : Who} {c : Call} where
   tested : (b : Bool) {x y : Reply} → (b ≡ true → Cause s past who c x) → (b ≡ false → Cause s past who c y) → Cause s past who c (if b then x else y)
   tested b {x} {y} = by_test (λ t. if t then x else y) b
 
-  -- for queue and delay, r where nothing forbids it
+  -- what queue, delay and modify ask first, and what last
+  called_cause : (i q : ℕ) {r : Reply} → (may_call past who ≡ true → is_gone past q ≡ false → is_cancelling past i ≡ false → Cause s past who c r)
+      → Cause s past who c (if not (may_call past who) then reply.Misuse else if is_gone past q then reply.Gone else if is_cancelling past i then reply.No else r)
+  called_cause i q next = tested (not (may_call past who)) (λ a. misuse who c) (λ a. tested (is_gone past q) (λ g. gone who c) (λ g. tested (is_cancelling past i) (λ b. no who c) (next (not-false _ a) g)))
+
+  free_cause : (i q t : ℕ) {r : Reply} → (runs_elsewhere past i q ≡ false → is_shut past who q t ≡ false → Cause s past who c r) → Cause s past who c (if runs_elsewhere past i q then reply.Foreign else if is_shut past who q t then reply.Draining else r)
+  free_cause i q t next = tested (runs_elsewhere past i q) (λ d. foreign who c) (λ d. tested (is_shut past who q t) (λ e. draining who c) (next d))
+
   queue_cause : (i q t : ℕ) {r : Reply} → (IsFree past who i q t → is_pending past i ≡ false → Cause s past who c r)
       → Cause s past who c (if not (may_call past who) then reply.Misuse else if is_gone past q then reply.Gone else if is_cancelling past i then reply.No else if is_pending past i then reply.No
       else if runs_elsewhere past i q then reply.Foreign else if is_shut past who q t then reply.Draining else r)
-  queue_cause i q t free =
-      tested (not (may_call past who)) (λ a. misuse who c) (λ a. tested (is_gone past q) (λ g. gone who c) (λ g. tested (is_cancelling past i) (λ b. no who c) (λ b. tested (is_pending past i) (λ p. no who c) (λ p.
-      tested (runs_elsewhere past i q) (λ d. foreign who c) (λ d. tested (is_shut past who q t) (λ e. draining who c) (λ e.
-      free (record { awake = not-false _ a; not_gone = g; not_cancelling = b; not_foreign = d; not_shut = e }) p))))))
-
-  -- and for modify
-  modify_cause : (i q t : ℕ) {r : Reply} → (IsFree past who i q t → Cause s past who c r)
-      → Cause s past who c (if not (may_call past who) then reply.Misuse else if is_gone past q then reply.Gone else if is_cancelling past i then reply.No
-      else if runs_elsewhere past i q then reply.Foreign else if is_shut past who q t then reply.Draining else r)
-  modify_cause i q t free =
-      tested (not (may_call past who)) (λ a. misuse who c) (λ a. tested (is_gone past q) (λ g. gone who c) (λ g. tested (is_cancelling past i) (λ b. no who c) (λ b.
-      tested (runs_elsewhere past i q) (λ d. foreign who c) (λ d. tested (is_shut past who q t) (λ e. draining who c) (λ e.
-      free (record { awake = not-false _ a; not_gone = g; not_cancelling = b; not_foreign = d; not_shut = e }))))))
+  queue_cause i q t free = called_cause i q (λ a g b. tested (is_pending past i) (λ p. no who c) (λ p. free_cause i q t (λ d e. free (record { awake = a; not_gone = g; not_cancelling = b; not_foreign = d; not_shut = e }) p)))
 
   -- by what is held, if anything
   by_held : {X : Type 0} (f : Option X → Reply) (o : Option X) → ((x : X) → o ≡ Some x → Cause s past who c (f (Some x))) → (o ≡ None → Cause s past who c (f None)) → Cause s past who c (f o)
@@ -99,8 +94,9 @@ unfolding answer wait_answer destroy_answer set_max_answer cancel_answer flush_i
 causes s past who (call.Queue i q c) = queue_cause i.0 q.0 0 (queued who i q c)
 causes s past who (call.Delay i q c t) = queue_cause i.0 q.0 t (λ free idle. tested (t == 0) (λ z. delayed_by_none who i q c t z free idle) (λ z. delayed who i q c t z free idle))
 causes s past who (call.Modify i q c t) =
-    modify_cause i.0 q.0 t (λ free. tested (is_pending past i.0) (λ p. tested (t == 0) (λ z. modified_again who i q c t z free p) (λ z. modified_rebooked who i q c t z free p))
-    (λ p. tested (t == 0) (λ z. modified_idle who i q c t z free p) (λ z. modified_booked who i q c t z free p)))
+    called_cause i.0 q.0 (λ a g b. free_cause i.0 q.0 t (λ d e. let free : IsFree past who i.0 q.0 t = record { awake = a; not_gone = g; not_cancelling = b; not_foreign = d; not_shut = e } in
+    tested (is_pending past i.0) (λ p. tested (t == 0) (λ z. modified_again who i q c t z free p) (λ z. modified_rebooked who i q c t z free p))
+    (λ p. tested (t == 0) (λ z. modified_idle who i q c t z free p) (λ z. modified_booked who i q c t z free p))))
 causes s past who (call.Cancel i) =
     tested (not (may_call past who)) (λ a. misuse who _) (λ a. by_held (λ o. taken_back_answer o (is_booked past i.0)) (unstarted_queueing past i.0) (cancelled who i)
     (λ o. by_test (taken_back_answer None) (is_booked past i.0) (unbooked who i o) (λ b. no who _)))

@@ -52,7 +52,7 @@ by_number past e n x found live same told number = by_test past e (has_number n)
 finished_reply : (r : Reply) (n : ℕ) → number_finished r ≡ Some n → r ≡ reply.Finished n
 finished_reply r n h = grind arith
 
--- and what it says of the item ends its unstarted queueing
+-- what is taken back or put anew ends the item's unstarted queueing, and nothing else ends any but what is finished
 told_by : (past : List Entry) (who : Who) (o : Option ℕ) (r : Reply) → number_finished r ≡ None → ended_by past who o r ≡ (if is_some (number_cancelled r) || replaces r then option_and_then (unstarted_queueing past) o else None)
 told_by past who o r h = grind arith
 
@@ -89,8 +89,7 @@ ends s past e None (Some n) o r legal hf hc ho hr =
 ends s past e None None (Some i) true legal hf hc ho hr =
     let told = told_by past e.who (item_of e) e.reply hf in
     by_test past e (is_unstarted past i) (λ x. grind (arith, nat_tests)) (omega (arith, few_pending s past i legal.2)) (grind arith) (grind arith)
-ends s past e None None None true legal hf hc ho hr = let told = told_by past e.who (item_of e) e.reply hf in ends_nothing past e (λ x. grind arith) (grind arith) (grind arith)
-ends s past e None None o false legal hf hc ho hr = let told = told_by past e.who (item_of e) e.reply hf in ends_nothing past e (λ x. grind arith) (grind arith) (grind arith)
+ends s past e None None o r legal hf hc ho hr = let told = told_by past e.who (item_of e) e.reply hf in ends_nothing past e (λ x. grind arith) (grind arith) (grind arith)
 
 -- ---- the laws
 

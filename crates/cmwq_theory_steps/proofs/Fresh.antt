@@ -1,5 +1,5 @@
 -- Numbers that replies speak of are those of older entries, so of a number that is still to come nothing was told.
-use Rattle.cmwq_theory_steps.specs.Common.{◌≡◌, ◌+◌, ◌<◌, ◌≤◌, ℕ, true, false, ◌||◌, List, [], ◌∷◌, length, Option, Some, None, nat_lt, refl, ap₂, subst, arith, lt-ltb, eqb-true, nat_tests, AllByRecursion, Entry, Queueing, Layout, is_at, number_started, number_finished, number_cancelled, is_started, is_finished, is_cancelled, is_open, queueings, is_live, still_open, unstarted_queueing, is_unstarted, IsLegal, All_map, All_filter}
+use Rattle.cmwq_theory_steps.specs.Common.{◌≡◌, ◌+◌, ◌<◌, ◌≤◌, ℕ, true, false, ◌||◌, List, [], ◌∷◌, length, Option, Some, nat_lt, refl, ap₂, subst, arith, lt-ltb, eqb-true, nat_tests, AllByRecursion, Entry, Queueing, Layout, is_at, number_started, number_finished, number_cancelled, is_started, is_finished, is_cancelled, is_open, queueings, is_live, still_open, unstarted_queueing, is_unstarted, IsLegal, All_map, All_filter}
 use Rattle.cmwq_theory_steps.proofs.Entries.{IsKnown, queueings_known}
 use Rattle.cmwq_theory_steps.proofs.Activated.{find_holds}
 use Rattle.cmwq_theory_steps.proofs.ItemRuns.{run_is, started_older, starts_known}
@@ -48,8 +48,7 @@ cancelled_older s past e n legal h =
 -- ---- of a number that is still to come nothing was told
 
 pub not_told : (o : Option ℕ) (n m : ℕ) → ((k : ℕ) → o ≡ Some k → k < m) → m ≤ n → is_at o n ≡ false
-not_told None n m h less = refl
-not_told (Some k) n m h less = let older = h k refl in grind (arith, nat_tests)
+not_told o n m h less = grind (arith, nat_tests)
 
 pub not_started_yet : (s : Layout) (past : List Entry) (n : ℕ) → IsLegal s past → length past ≤ n → is_started past n ≡ false
 unfolding IsLegal

@@ -1,5 +1,5 @@
 -- The unended tickets after one more entry, and which flushes it serves.
-use Rattle.cmwq_theory_steps.specs.Common.{◌≡◌, ◌<◌, ◌≤◌, ◌+◌, ◌==◌, ℕ, Bool, true, false, cond, ◌&&◌, ◌||◌, not, List, [], ◌∷◌, ◌++◌, length, filter, find, count_by, Option, Some, None, option_to_list, nat_lt, nat_le, refl, sym, ap, ap₂, ◌∙◌, subst, arith, if◌then◌else◌, option_or, AllByRecursion, list_any, eq-eqb, nat_tests, filter-append, sum_by-filter_both, Who, Caller, Call, Reply, Entry, Ticket, Layout, same_who, gives_ticket, ticket_in, tickets, is_end_of, is_done, ends, is_unended, unended_tickets, is_flush_of, is_held_by, is_ticket, is_older_flush, is_served_after, serving_from, IsLegal, All_map, All_each, count_by-none, find_none}
+use Rattle.cmwq_theory_steps.specs.Common.{◌≡◌, ◌<◌, ◌≤◌, ◌+◌, ◌==◌, ℕ, Bool, true, false, cond, ◌&&◌, ◌||◌, not, List, [], ◌∷◌, ◌++◌, length, filter, find, count_by, Option, Some, None, option_to_list, nat_lt, refl, sym, ap, ap₂, ◌∙◌, subst, arith, if◌then◌else◌, AllByRecursion, list_any, eq-eqb, nat_tests, filter-append, sum_by-filter_both, Who, Caller, Call, Reply, Entry, Ticket, Layout, same_who, gives_ticket, ticket_in, tickets, is_end_of, is_done, ends, is_unended, unended_tickets, is_flush_of, is_held_by, is_ticket, is_older_flush, serving_from, IsLegal, All_map, All_each, count_by-none, find_none}
 use Rattle.cmwq_model.specs.declared.call.Call.TheVariants as call
 use Rattle.cmwq_model.specs.declared.reply.Reply.TheVariants as reply
 use Rattle.cmwq_theory_steps.specs.Histories.{one}
@@ -105,7 +105,7 @@ tickets_go_on s past e p legal = omega (
 
 pub served_stay : (past : List Entry) (e : Entry) (q n b : ℕ) → serving_from past q n ≡ Some b → serving_from (e ∷ past) q n ≡ Some b
 unfolding serving_from
-served_stay past e q n b h = ap (λ o. option_or o (if nat_le n (length past) && is_served_after (e ∷ past) q n then Some (length past) else None)) h
+served_stay past e q n b h = grind arith
 
 -- of the tickets after the entry those older than n are those that were and aren't ended
 older_after : (s : Layout) (past : List Entry) (e : Entry) (q n : ℕ) → IsLegal s (e ∷ past) → n ≤ length past
@@ -140,17 +140,12 @@ pub begun_are_served : (s : Layout) (past : List Entry) (e : Entry) (q : ℕ) (t
     → serving_from (e ∷ past) q t.number ≡ (if nat_lt (count_by (is_flush_of q) (unended_tickets past)) 15 then Some (length past) else None)
 unfolding serving_from
 begun_are_served s past e q t legal h =
-    ap (serving_from (e ∷ past) q) (ticket_number e (length past) t h)
-    ∙ ap₂ (λ o b. option_or o (if b && is_served_after (e ∷ past) q (length past) then Some (length past) else None)) (not_served_yet past q (length past) (omega arith)) (let within : nat_le (length past) (length past) ≡ true = grind (arith, nat_tests) in within)
-    ∙ ap (λ n. if nat_lt n 15 then Some (length past) else None) count
-  where
-    count : count_by (is_older_flush q (length past)) (unended_tickets (e ∷ past)) ≡ count_by (is_flush_of q) (unended_tickets past)
-    count = omega (
-      arith,
-      count_by-same (is_older_flush q (length past)) (is_flush_of q) (unended_tickets past) (All_map (IsGiven past) _ (unended_tickets past) (λ u given. let older = given.older in grind (arith, nat_tests)) (unended_given past)),
-      older_after s past e q (length past) legal (omega arith),
-      ap (λ o. one (passes (is_older_flush q (length past)) o)) (gives_no_end past e (grind arith)),
-    )
+    let number = ticket_number e (length past) t h in
+    let not_yet = not_served_yet past q (length past) (omega arith) in
+    let none = gives_no_end past e (grind arith) in
+    let after = older_after s past e q (length past) legal (omega arith) in
+    let all = count_by-same (is_older_flush q (length past)) (is_flush_of q) (unended_tickets past) (All_map (IsGiven past) _ (unended_tickets past) (λ u given. let older = given.older in grind (arith, nat_tests)) (unended_given past)) in
+    grind (arith, nat_tests)
 
 -- ---- one flush moves up at most
 
@@ -160,7 +155,7 @@ IsFewer past q t = (n : ℕ) → is_flush_of q t ≡ true → t.number < n → c
 all_fewer : (past : List Entry) (q : ℕ) → AllByRecursion (IsFewer past q) (unended_tickets past)
 all_fewer past q = All_map _ (IsFewer past q) (unended_tickets past) (λ t fewer n flush less. omega (arith, fewer (is_older_flush q t.number) (is_older_flush q n) (λ u h. grind (arith, nat_tests)) (grind (arith, nat_tests)) (grind (arith, nat_tests)))) (count_by-fewer (unended_tickets past))
 
--- what moves up is a flush with 15 older ones
+-- what moves up has 15 older ones, so two such are one
 moving_same : (past : List Entry) (e : Entry) (q : ℕ) (t u : Ticket) → IsFewer past q t → IsFewer past q u → is_moving past e q t ≡ true → is_moving past e q u ≡ true → t.number ≡ u.number
 moving_same past e q t u ft fu ht hu =
     let later = ft u.number in
