@@ -1,5 +1,5 @@
 -- Numbers that replies speak of are those of older entries, so of a number that is still to come nothing was told.
-use Rattle.cmwq_theory_steps.specs.Common.{◌≡◌, ◌+◌, ◌<◌, ◌≤◌, ℕ, true, false, ◌||◌, List, [], ◌∷◌, length, Option, Some, nat_lt, refl, ap₂, subst, arith, lt-ltb, eqb-true, nat_tests, AllByRecursion, Entry, Queueing, Layout, is_at, number_started, number_finished, number_cancelled, is_started, is_finished, is_cancelled, is_open, queueings, is_live, still_open, unstarted_queueing, is_unstarted, IsLegal, All_map, All_filter}
+use Rattle.cmwq_theory_steps.specs.Common.{list_any, ◌≡◌, ◌+◌, ◌<◌, ◌≤◌, ℕ, true, false, ◌||◌, List, [], ◌∷◌, length, Option, Some, nat_lt, refl, ap₂, subst, arith, lt-ltb, eqb-true, nat_tests, AllByRecursion, Entry, Queueing, Layout, is_at, number_started, number_finished, number_cancelled, is_started, is_cancelled, is_open, queueings, is_live, still_open, unstarted_queueing, is_unstarted, IsLegal, All_map, All_filter}
 use Rattle.cmwq_theory_steps.proofs.Entries.{IsKnown, queueings_known}
 use Rattle.cmwq_theory_steps.proofs.Activated.{find_holds}
 use Rattle.cmwq_theory_steps.proofs.ItemRuns.{run_is, started_older, starts_known}
@@ -50,17 +50,14 @@ cancelled_older s past e n legal h =
 pub not_told : (o : Option ℕ) (n m : ℕ) → ((k : ℕ) → o ≡ Some k → k < m) → m ≤ n → is_at o n ≡ false
 not_told o n m h less = grind (arith, nat_tests)
 
-pub not_started_yet : (s : Layout) (past : List Entry) (n : ℕ) → IsLegal s past → length past ≤ n → is_started past n ≡ false
+never_told : (told : Entry → Option ℕ) → ((s : Layout) (past : List Entry) (e : Entry) (k : ℕ) → IsLegal s (e ∷ past) → told e ≡ Some k → k < length past) → (s : Layout) (past : List Entry) (n : ℕ) → IsLegal s past → length past ≤ n + 1
+    → list_any (λ e. is_at (told e) n) past ≡ false
 unfolding IsLegal
-not_started_yet s [] n legal less = refl
-not_started_yet s (e ∷ past) n legal less =
-    ap₂ (λ a b. a || b) (not_told (number_started e.reply) n (length past) (λ k h. (starts_known s past e k legal h).older) (omega arith)) (not_started_yet s past n legal.2 (omega arith))
+never_told told older s [] n legal less = refl
+never_told told older s (e ∷ past) n legal less = ap₂ (λ a b. a || b) (not_told (told e) n (length past) (λ k h. older s past e k legal h) (omega arith)) (never_told told older s past n legal.2 (omega arith))
 
-not_finished_yet : (s : Layout) (past : List Entry) (n : ℕ) → IsLegal s past → length past ≤ n + 1 → is_finished past n ≡ false
-unfolding IsLegal
-not_finished_yet s [] n legal less = refl
-not_finished_yet s (e ∷ past) n legal less =
-    ap₂ (λ a b. a || b) (not_told (number_finished e.reply) n (length past) (λ k h. finished_older s past e k legal h) (omega arith)) (not_finished_yet s past n legal.2 (omega arith))
+pub not_started_yet : (s : Layout) (past : List Entry) (n : ℕ) → IsLegal s past → length past ≤ n → is_started past n ≡ false
+not_started_yet s past n legal less = never_told (λ e. number_started e.reply) (λ s past e k legal h. (starts_known s past e k legal h).older) s past n legal (omega arith)
 
 not_cancelled_more : (s : Layout) (past : List Entry) (e : Entry) (i n : ℕ) → IsLegal s (e ∷ past) → length past ≤ n → is_cancelled past i n ≡ false → is_cancelled (e ∷ past) i n ≡ false
 unfolding is_cancelled
@@ -78,4 +75,4 @@ pub open_at_once : (s : Layout) (past : List Entry) (e : Entry) (i : ℕ) → Is
 unfolding IsLegal
 open_at_once s past e i legal =
     let young : nat_lt (length past) (length (e ∷ past)) ≡ true = lt-ltb (length past) (length (e ∷ past)) (omega arith) in
-    rw (young, not_finished_yet s (e ∷ past) (length past) legal (omega arith), not_cancelled_yet s (e ∷ past) i (length past) legal (omega arith)) refl
+    rw (young, never_told (λ e. number_finished e.reply) finished_older s (e ∷ past) (length past) legal (omega arith), not_cancelled_yet s (e ∷ past) i (length past) legal (omega arith)) refl

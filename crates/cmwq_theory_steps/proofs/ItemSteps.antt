@@ -57,23 +57,18 @@ item_begun s past e i legal is =
     let st = starts_of past e i some.0 is some.1 in
     item_run_is (e ∷ past) i some.0 (item_starts e past i is ∙ some.1) (started_open s past e i some.0.number legal st.number st.item) ∙ sym some.1
 
-item_left : (s : Layout) (past : List Entry) (e : Entry) (i : ℕ) → IsLegal s (e ∷ past) → starts_item past e i ≡ false → item_run (e ∷ past) i ≡ (if ends_run e (item_run past i) then None else item_run past i)
+pub items_run_on : (s : Layout) (past : List Entry) (e : Entry) (i : ℕ) → IsLegal s (e ∷ past)
+    → item_run (e ∷ past) i ≡ (if starts_item past e i then start_in e else if ends_run e (item_run past i) then None else item_run past i)
 unfolding IsLegal
-item_left s past e i legal is = at (item_start past i) refl
+items_run_on s past e i legal = at (starts_item past e i) (item_start past i) refl refl
   where
-    at : (o : Option Start) → item_start past i ≡ o → item_run (e ∷ past) i ≡ (if ends_run e (item_run past i) then None else item_run past i)
-    at None h = let stays = item_stays e past i is in grind arith
-    at (Some start) h =
+    at : (b : Bool) (o : Option Start) → starts_item past e i ≡ b → item_start past i ≡ o → item_run (e ∷ past) i ≡ (if b then start_in e else if ends_run e (item_run past i) then None else item_run past i)
+    at true o is h = item_begun s past e i legal is
+    at false None is h = let stays = item_stays e past i is in grind arith
+    at false (Some start) is h =
         let st = start_is s past i start legal.2 h in
         let stays = item_stays e past i is ∙ h in
         simp (stays, h, started_open_on s past e i start.number legal st.older st.started) (grind arith)
-
-pub items_run_on : (s : Layout) (past : List Entry) (e : Entry) (i : ℕ) → IsLegal s (e ∷ past)
-    → item_run (e ∷ past) i ≡ (if starts_item past e i then start_in e else if ends_run e (item_run past i) then None else item_run past i)
-items_run_on s past e i legal =
-    let begun : starts_item past e i ≡ true → item_run (e ∷ past) i ≡ start_in e = item_begun s past e i legal in
-    let left = item_left s past e i legal in
-    grind arith
 
 -- ---- the run of an item is that of its worker
 
