@@ -1,6 +1,6 @@
 -- What holds of all queueings of a history, and goes on to hold as it grows, holds of all that ever became active.
 use Rattle.cmwq_theory_steps.specs.Common.{◌≡◌, Bool, true, List, [], ◌∷◌, Some, find, AllByRecursion, PoolId, Entry, Queueing, Layout, queueings, became_active, newly_active, is_newly_active, worklist, is_listed, next, is_startable, All_map, All_append, All_filter}
-use Rattle.cmwq_lemmas.proofs.Passing.{all_found, all_kept}
+use Rattle.cmwq_theory_steps.proofs.Lemmas.{all_found, all_kept}
 
 pub activated_all : (s : Layout) (P : List Entry → Queueing → Type 0) → ((e : Entry) (past : List Entry) (x : Queueing) → P past x → P (e ∷ past) x)
     → ((past : List Entry) → AllByRecursion (P past) (queueings past)) → (past : List Entry) → AllByRecursion (P past) (became_active s past)

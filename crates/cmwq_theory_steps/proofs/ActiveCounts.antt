@@ -1,21 +1,17 @@
 -- How many are active on a queue and CPU after an entry, and what waits there.
-use Rattle.cmwq_theory_steps.specs.Common.{◌≡◌, ◌+◌, ◌-◌, ℕ, zero, suc, Bool, false, cond, not, ◌&&◌, List, [], ◌∷◌, filter, count_by, take, drop, option_to_list, refl, sym, ap, ap₂, ◌∙◌, arith, AllByRecursion, sum_by-filter_both, Entry, Layout, width, queueings, opening, still_open, is_below_max_active, is_active, is_newly_active, newly_active, IsLegal, All_each, count_by-none, count_by-filter, opening_number, stays_active}
+use Rattle.cmwq_theory_steps.specs.Common.{All_map, ◌≡◌, ◌+◌, ◌-◌, ℕ, zero, suc, Bool, false, cond, not, ◌&&◌, List, [], ◌∷◌, filter, count_by, take, drop, option_to_list, refl, sym, ap, ap₂, ◌∙◌, arith, AllByRecursion, sum_by-filter_both, Entry, Layout, width, queueings, opening, still_open, is_below_max_active, is_active, is_newly_active, newly_active, IsLegal, All_each, count_by-none, count_by-filter, opening_number, stays_active}
+use Rattle.cmwq_theory_steps.proofs.Lemmas.{and_false, count_append, count_by-same, drop_all, filter_all, filter_none, flip, none_kept}
 use Rattle.cmwq_theory_steps.specs.Histories.{one}
 use Rattle.cmwq_theory_steps.specs.Places.{is_on, open_on, active_count}
 use Rattle.cmwq_theory_steps.specs.Endings.{survives, is_ended, ending}
 use Rattle.cmwq_theory_steps.specs.Activations.{waits, stay_count}
 use Rattle.cmwq_theory_steps.specs.Waiting.{candidates, has_none, waiting_on, is_active_on, ends_active_on}
-use Rattle.cmwq_lemmas.proofs.Filters.{filter_none, count_by-same}
 use Rattle.cmwq_theory_steps.proofs.Fronts.{IsFront, front_filter, count_split}
 use Rattle.cmwq_theory_steps.proofs.Active.{on_each, fronts_below_max_active, not_active_yet, active_counted}
 use Rattle.cmwq_theory_steps.proofs.Promoted.{newly_of_open, newly_active_on, turn_filters}
 use Rattle.cmwq_theory_steps.proofs.Endings.{open_go_on}
 use Rattle.cmwq_theory_steps.proofs.Ended.{one_ends}
 use Rattle.cmwq_theory_steps.proofs.Waiting.{newly_are, waiting_goes_on}
-use Rattle.cmwq_lemmas.proofs.Truth.{flip, and_false}
-use Rattle.cmwq_lemmas.proofs.Lists.{All_map, count_append, filter_all}
-use Rattle.std.proofs.lemmas.List.{drop_all}
-use Rattle.cmwq_lemmas.proofs.Passing.{none_kept}
 use Rattle.cmwq_theory_steps.proofs.Options.{of_option, count_option}
 
 -- ---- where the first so many pass, the rest fail

@@ -1,9 +1,9 @@
 -- Why a call is answered as it is: each answer that changes anything, with what holds before it.
 use Rattle.cmwq_theory_steps.specs.Common.{◌≡◌, ◌+◌, ◌==◌, ℕ, Bool, true, false, not, ◌||◌, if◌then◌else◌, List, ◌∷◌, length, Option, Some, None, nat_lt, min, refl, sym, subst, CpuId, ItemId, QueueId, WorkerId, Who, Caller, Worker, Call, Reply, Entry, Booking, Queueing, Ticket, Layout, now, is_booked, standing, run, has_run, runs_awake, runs_asleep, unstarted_queueing, is_pending, is_item_open, runs_elsewhere, next, is_enlisted, runnable, enlisted_by, may_retire, is_cancelling, is_being_destroyed, is_gone, is_crowded, ticket_of, is_frozen, waits_for, answer, wait_answer, destroy_answer, set_max_answer, is_booked_on, may_call, is_shut, cancel_answer, taken_back_answer, first_due, fired_answer, flush_item_answer, is_held_back, flush_delayed_answer, cancel_sync_answer, taken_back_for, end_of_ticket, waiting_for, started_answer, start_of, queue_answer, modify_answer, take_answer, finished_answer, finish_answer, retire_answer, IsLegal, list_any}
+use Rattle.cmwq_theory_steps.proofs.Lemmas.{not-false, or_parts}
 use Rattle.cmwq_model.specs.declared.call.Call.TheVariants as call
 use Rattle.cmwq_model.specs.declared.reply.Reply.TheVariants as reply
 use Rattle.cmwq_theory_steps.proofs.Inversions.{answer_is}
-use Rattle.std.proofs.lemmas.Bool.{not-false, or_parts}
 
 -- what queue, delay and modify take for granted before they change anything
 pub record IsFree (past : List Entry) (who : Who) (i q t : ℕ) : Type 0 where

@@ -1,6 +1,6 @@
 -- The ticket that an entry ends stands, and waits for nothing.
 use Rattle.cmwq_theory_steps.specs.Common.{◌≡◌, ℕ, List, ◌∷◌, Some, None, sym, ap, ◌∙◌, subst, Entry, Ticket, Layout, entry_at, ticket_of, waits_for, IsLegal}
-use Rattle.std.proofs.lemmas.Option.{same_Some}
+use Rattle.cmwq_theory_steps.proofs.Lemmas.{same_Some}
 use Rattle.cmwq_theory_steps.specs.TicketSteps.{IsDone}
 use Rattle.cmwq_theory_steps.proofs.Causes.{cause_of}
 use Rattle.cmwq_theory_steps.proofs.Reasons.{done_reason}

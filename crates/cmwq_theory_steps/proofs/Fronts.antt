@@ -1,9 +1,6 @@
 -- Tests that a list passes up to a place and fails from there on.
 use Rattle.cmwq_theory_steps.specs.Common.{◌≡◌, ◌≤◌, ◌+◌, max, Bool, true, false, not, ◌&&◌, ◌||◌, List, [], ◌∷◌, ◌++◌, filter, count_by, take, refl, sym, ap₂, ◌∙◌, arith, AllByRecursion, All_map, All_both, All_append, count_by-cons, count_by-none}
-use Rattle.std.proofs.Common.{⊎_elim, add-one}
-use Rattle.cmwq_lemmas.proofs.Filters.{filter_none}
-use Rattle.cmwq_lemmas.proofs.Passing.{all_kept}
-use Rattle.std.proofs.lemmas.Bool.{or_parts, cases_Bool}
+use Rattle.cmwq_theory_steps.proofs.Lemmas.{add-one, all_kept, cases_Bool, filter_none, or_parts, ⊎_elim}
 
 module _ {X : Type 0} where
   -- the test passes a front of the list

@@ -1,6 +1,5 @@
 -- The run of an item after one more entry, and whose run it is.
-use Rattle.cmwq_theory_steps.specs.Common.{nat_tests, ◌≡◌, ◌<◌, ℕ, Bool, true, false, List, [], ◌∷◌, length, Option, Some, None, refl, sym, ap, ◌∙◌, subst, arith, option_map, option_and_then, if◌then◌else◌, option_map_or, WorkerId, Who, Worker, Entry, Start, Layout, is_at, is_by, same_who, item_at, worker_of, number_started, number_finished, finishes, starts, is_started, run, has_run, item_start, item_run, start_in, starts_item, IsLegal}
-use Rattle.std.proofs.lemmas.Bool.{or_right}
+use Rattle.cmwq_theory_steps.specs.Common.{or_right, nat_tests, ◌≡◌, ◌<◌, ℕ, Bool, true, false, List, [], ◌∷◌, length, Option, Some, None, refl, sym, ap, ◌∙◌, subst, arith, option_map, option_and_then, if◌then◌else◌, option_map_or, WorkerId, Who, Worker, Entry, Start, Layout, is_at, is_by, same_who, item_at, worker_of, number_started, number_finished, finishes, starts, is_started, run, has_run, item_start, item_run, start_in, starts_item, IsLegal}
 use Rattle.cmwq_theory_steps.specs.RunSteps.{run_after, ends_run}
 use Rattle.cmwq_theory_steps.proofs.Entries.{item_at-older, is_at-true}
 use Rattle.cmwq_theory_steps.proofs.ItemRuns.{same_worker-true, item_run_is, item_run_started, item_starts, item_stays, starts_known, same_worker_itself}

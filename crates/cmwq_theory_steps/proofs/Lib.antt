@@ -14,6 +14,7 @@ pub mod Growing
 pub mod Inversions
 pub mod ItemRuns
 pub mod ItemSteps
+pub mod Lemmas
 pub mod Limits
 pub mod Marks
 pub mod NewlyActive

@@ -1,11 +1,9 @@
 -- How many queueings are open at once.
 use Rattle.cmwq_theory_steps.specs.Common.{◌≡◌, ◌≤◌, ◌<◌, ◌+◌, ℕ, cond, List, [], ◌∷◌, length, length-append, filter, count_by, Some, option_to_list, refl, sym, ap, ◌∙◌, subst, arith, ◌*◌, is_some, AllByRecursion, length-filter_both, sum_by-filter_both, Entry, Queueing, Layout, is_started, queueings, still_open, opening, is_live, is_of, is_unstarted, has_not_started, IsLegal, All_append, count_by-filter}
+use Rattle.cmwq_theory_steps.proofs.Lemmas.{all_kept, flip, same_Some}
 use Rattle.cmwq_theory_steps.specs.Endings.{survives, is_ended, ending}
 use Rattle.cmwq_theory_steps.specs.Histories.{one}
 use Rattle.cmwq_theory_steps.specs.Pending.{is_run_of}
-use Rattle.std.proofs.lemmas.Option.{same_Some}
-use Rattle.cmwq_lemmas.proofs.Passing.{all_kept}
-use Rattle.cmwq_lemmas.proofs.Truth.{flip}
 use Rattle.cmwq_theory_steps.proofs.Options.{of_option, length_option}
 use Rattle.cmwq_theory_steps.proofs.OfEachKind.{no_longer}
 use Rattle.cmwq_theory_steps.proofs.Entries.{opening_item}

@@ -1,6 +1,6 @@
 -- The bits of items that an entry doesn't mark stay.
-use Rattle.cmwq_theory_steps.specs.Common.{arith, nat_tests, ◌≡◌, ◌+◌, ℕ, Bool, true, false, List, ◌∷◌, Option, Some, None, refl, ap, ap₂, ◌∙◌, if◌then◌else◌, option_or, Reply, Entry, Start, Layout, is_at, item_called, item_fired, item_of, item_at, is_of_item, number_started, number_finished, item_run, start_in, starts_item, IsLegal, bits}
-use Rattle.std.proofs.lemmas.Bool.{both_ways, false_from_ne_true}
+use Rattle.cmwq_theory_steps.specs.Common.{false_from_ne_true, arith, nat_tests, ◌≡◌, ◌+◌, ℕ, Bool, true, false, List, ◌∷◌, Option, Some, None, refl, ap, ap₂, ◌∙◌, if◌then◌else◌, option_or, Reply, Entry, Start, Layout, is_at, item_called, item_fired, item_of, item_at, is_of_item, number_started, number_finished, item_run, start_in, starts_item, IsLegal, bits}
+use Rattle.cmwq_theory_steps.proofs.Lemmas.{both_ways}
 use Rattle.cmwq_theory_steps.specs.RunSteps.{ends_run}
 use Rattle.cmwq_theory_steps.specs.Marks.{item_marked}
 use Rattle.cmwq_theory_steps.proofs.Entries.{is_at-true}

@@ -1,18 +1,15 @@
 -- The unended tickets after one more entry, and which flushes it serves.
 use Rattle.cmwq_theory_steps.specs.Common.{and_parts, ◌≡◌, ◌<◌, ◌≤◌, ◌+◌, ◌==◌, ℕ, Bool, true, false, cond, ◌&&◌, ◌||◌, not, List, [], ◌∷◌, ◌++◌, length, filter, find, count_by, Option, Some, None, option_to_list, nat_lt, refl, sym, ap, ap₂, ◌∙◌, subst, arith, if◌then◌else◌, AllByRecursion, list_any, eq-eqb, nat_tests, filter-append, sum_by-filter_both, Who, Caller, Call, Reply, Entry, Ticket, Layout, same_who, gives_ticket, ticket_in, tickets, is_end_of, is_done, ends, is_unended, unended_tickets, is_flush_of, is_held_by, is_ticket, is_older_flush, serving_from, IsLegal, All_map, All_each, count_by-none, find_none}
+use Rattle.cmwq_theory_steps.proofs.Lemmas.{and_false, count_append, count_by-fewer, count_by-same, count_by-wider, fewer_kept, filter_all, filter_none, filter_one, filter_same, filter_twice}
 use Rattle.cmwq_model.specs.declared.call.Call.TheVariants as call
 use Rattle.cmwq_model.specs.declared.reply.Reply.TheVariants as reply
 use Rattle.cmwq_theory_steps.specs.Histories.{one}
 use Rattle.cmwq_theory_steps.specs.TicketSteps.{passes, is_kept, ticket_asked, ticket_ended, is_ended_by, moves_up, is_moving}
-use Rattle.cmwq_lemmas.proofs.Filters.{filter_twice, filter_same, filter_one, filter_none, count_by-same, count_by-wider, count_by-fewer}
 use Rattle.cmwq_theory_steps.proofs.Activated.{find_holds}
 use Rattle.cmwq_theory_steps.proofs.Given.{IsGiven, tickets_given, unended_given, ticket_is}
 use Rattle.cmwq_theory_steps.proofs.Causes.{cause_of}
 use Rattle.cmwq_theory_steps.proofs.Reasons.{done_reason}
-use Rattle.cmwq_lemmas.proofs.Passing.{fewer_kept}
-use Rattle.cmwq_lemmas.proofs.Lists.{count_append, filter_all}
 use Rattle.cmwq_theory_steps.proofs.Options.{count_option, of_option}
-use Rattle.cmwq_lemmas.proofs.Truth.{and_false}
 
 -- ---- what is given is not ended yet
 
