@@ -24,7 +24,7 @@ abbrev pub number_of : Queueing → ℕ
 number_of x = x.number
 
 -- one queueing at most: that which the reply tells, with the number that it tells
-record Ends (past : List Entry) (e : Entry) : Type 0 where
+pub record Ends (past : List Entry) (e : Entry) : Type 0 where
   pub few : count_by (is_ended past e) (still_open past) ≤ 1
   pub told : ending past e ≡ ended_by past e.who (item_of e) e.reply
   pub number : option_map number_of (ending past e) ≡ number_ended past e
@@ -58,11 +58,11 @@ told_by past who o r h = grind arith
 back_not_anew : (r : Reply) (n : ℕ) → number_cancelled r ≡ Some n → replaces r ≡ false
 back_not_anew r n h = grind arith
 
-pub all_open_found : (past : List Entry) → AllByRecursion (IsFound past) (still_open past)
-all_open_found past = all_kept (IsFound past) (is_live past) (queueings past) (queueings_found past)
+pub found_open : (past : List Entry) → AllByRecursion (IsFound past) (still_open past)
+found_open past = all_kept (IsFound past) (is_live past) (queueings past) (queueings_found past)
 
-pub unstarted_found : (past : List Entry) (i : ℕ) (x : Queueing) → unstarted_queueing past i ≡ Some x → IsFound past x
-unstarted_found past i x h = (find_holds (IsFound past) (is_unstarted past i) (still_open past) x (all_open_found past) h).holds
+pub found_unstarted : (past : List Entry) (i : ℕ) (x : Queueing) → unstarted_queueing past i ≡ Some x → IsFound past x
+found_unstarted past i x h = (find_holds (IsFound past) (is_unstarted past i) (still_open past) x (found_open past) h).holds
 
 ends_nothing : (past : List Entry) (e : Entry) → ((x : Queueing) → is_ended past e x ≡ false) → ended_by past e.who (item_of e) e.reply ≡ None → number_ended past e ≡ None → Ends past e
 ends_nothing past e survives told number =
@@ -79,7 +79,7 @@ ends s past e (Some n) c o r legal hf hc ho hr =
     by_number past e n q.queueing q.found (active_live s past q.queueing q.active) (λ x. grind (arith, nat_tests)) told (grind arith)
 ends s past e None (Some n) o r legal hf hc ho hr =
     let f = takes_back_unstarted s past e n legal hc in
-    let found = subst (λ m. queueing_at past m ≡ Some f.queueing) f.number (unstarted_found past f.item f.queueing f.is_unstarted) in
+    let found = subst (λ m. queueing_at past m ≡ Some f.queueing) f.number (found_unstarted past f.item f.queueing f.is_unstarted) in
     let kept = back_not_anew e.reply n hc in
     let item : item_of e ≡ Some f.item = ap (λ a. option_or a (item_fired e.reply)) f.is_item in
     let unstarted = f.is_unstarted in
@@ -92,14 +92,11 @@ ends s past e None None o r legal hf hc ho hr = let told = told_by past e.who (i
 
 -- ---- the laws
 
-ends_of : (s : Layout) (past : List Entry) (e : Entry) → IsLegal s (e ∷ past) → Ends past e
+pub ends_of : (s : Layout) (past : List Entry) (e : Entry) → IsLegal s (e ∷ past) → Ends past e
 ends_of s past e legal = ends s past e (number_finished e.reply) (number_cancelled e.reply) (item_of e) (replaces e.reply) legal refl refl refl refl
 
 pub one_ends : (s : Layout) (past : List Entry) (e : Entry) → IsLegal s (e ∷ past) → filter (is_ended past e) (still_open past) ≡ option_to_list (ending past e)
 one_ends s past e legal = filter_one (is_ended past e) (still_open past) (ends_of s past e legal).few
 
-pub ends_which : (s : Layout) (past : List Entry) (e : Entry) → IsLegal s (e ∷ past) → option_map number_of (ending past e) ≡ number_ended past e
+pub ends_which : (s : Layout) (past : List Entry) (e : Entry) → IsLegal s (e ∷ past) → option_map (λ (x : Queueing). x.number) (ending past e) ≡ number_ended past e
 ends_which s past e legal = (ends_of s past e legal).number
-
-pub ends_as_told : (s : Layout) (past : List Entry) (e : Entry) → IsLegal s (e ∷ past) → ending past e ≡ ended_by past e.who (item_of e) e.reply
-ends_as_told s past e legal = (ends_of s past e legal).told

@@ -1,12 +1,12 @@
 -- The queueing that an entry ends, read off its reply, and an item's run as a queueing.
-use Rattle.cmwq_theory_steps.specs.Common.{◌≡◌, ℕ, List, Some, sym, ap, ◌∙◌, AllByRecursion, Entry, Queueing, Start, Layout, item_at, item_run, still_open, IsLegal}
-use Rattle.cmwq_theory_steps.specs.ItemQueueings.{IsRunOf}
+use Rattle.cmwq_theory_steps.specs.Common.{◌∷◌, item_of, unstarted_queueing, ◌≡◌, ℕ, List, Some, AllByRecursion, Entry, Queueing, Start, Layout, item_run, still_open, IsLegal}
+use Rattle.cmwq_theory_steps.specs.ItemQueueings.{IsRunOf, ended_by}
+use Rattle.cmwq_theory_steps.specs.Endings.{ending}
 use Rattle.cmwq_theory_steps.proofs.StartsListed.{IsFound}
 use Rattle.cmwq_theory_steps.proofs.RunsActive.{found_known, found_number}
 use Rattle.cmwq_theory_steps.proofs.ItemSteps.{items_are_run}
 use Rattle.cmwq_theory_steps.proofs.Pools.{runs_are_in_pools}
-pub use Rattle.cmwq_theory_steps.proofs.Ended.{ends_as_told, unstarted_found}
-use Rattle.cmwq_theory_steps.proofs.Ended.{all_open_found}
+use Rattle.cmwq_theory_steps.proofs.Ended.{ends_of, found_open, found_unstarted}
 
 -- ---- an item's run
 
@@ -16,13 +16,20 @@ runs_are_queueings s past legal i start h =
     let r = runs_are_in_pools s past start.worker start.number legal is.0 in
     let known = found_known past start.number r.queueing r.found in
     let number = found_number past start.number r.queueing r.found in
-    let item : Some r.queueing.item.0 ≡ Some i = sym known.item ∙ ap (item_at past) number ∙ is.1 in
-    record { queueing = r.queueing; found = r.found; live = r.live; item = cc; pool = r.pool }
+    record { queueing = r.queueing; found = r.found; live = r.live; item = cc (known.item, number, is.1); pool = r.pool }
 
 -- ---- queueings that are found
 
 pub open_found : (past : List Entry) → AllByRecursion (IsFound past) (still_open past)
-open_found past = all_open_found past
+open_found past = found_open past
+
+pub unstarted_found : (past : List Entry) (i : ℕ) (x : Queueing) → unstarted_queueing past i ≡ Some x → IsFound past x
+unstarted_found past i x h = found_unstarted past i x h
 
 pub same_by_number : (past : List Entry) (x y : Queueing) → IsFound past x → IsFound past y → x.number ≡ y.number → x ≡ y
 same_by_number past x y hx hy same = cc
+
+-- ---- the law
+
+pub ends_as_told : (s : Layout) (past : List Entry) (e : Entry) → IsLegal s (e ∷ past) → ending past e ≡ ended_by past e.who (item_of e) e.reply
+ends_as_told s past e legal = (ends_of s past e legal).told
