@@ -48,15 +48,9 @@ by_number : (past : List Entry) (e : Entry) (n : ℕ) (x : Queueing) → queuein
 by_number past e n x found live same told number = by_test past e (has_number n) same (few_numbered n (still_open past) (open_rise past)) (find-filter (has_number n) (is_live past) x (queueings past) found live ∙ sym told)
     (ap (option_map number_of) told ∙ ap Some (found_number past n x found) ∙ sym number)
 
-finished_reply : (r : Reply) (n : ℕ) → number_finished r ≡ Some n → r ≡ reply.Finished n
-finished_reply r n h = grind arith
-
 -- what is taken back or put anew ends the item's unstarted queueing, and nothing else ends any but what is finished
 told_by : (past : List Entry) (who : Who) (o : Option ℕ) (r : Reply) → number_finished r ≡ None → ended_by past who o r ≡ (if is_some (number_cancelled r) || replaces r then option_and_then (unstarted_queueing past) o else None)
 told_by past who o r h = grind arith
-
-back_not_anew : (r : Reply) (n : ℕ) → number_cancelled r ≡ Some n → replaces r ≡ false
-back_not_anew r n h = grind arith
 
 pub found_open : (past : List Entry) → AllByRecursion (IsFound past) (still_open past)
 found_open past = all_kept (IsFound past) (is_live past) (queueings past) (queueings_found past)
@@ -74,13 +68,13 @@ unfolding IsLegal
 ends s past e (Some n) c o r legal hf hc ho hr =
     let f = finishes_run s past e n legal hf in
     let q = run_is_active s past f.worker n legal.2 f.is_run in
-    let is = finished_reply e.reply n hf in
+    let is : e.reply ≡ reply.Finished n = grind arith in
     let told = ap₂ (λ (w : Who) (a : Reply). ended_by past w (item_of e) a) f.by_worker is ∙ ap (option_and_then (queueing_at past)) f.is_run ∙ q.found in
     by_number past e n q.queueing q.found (active_live s past q.queueing q.active) (λ x. grind (arith, nat_tests)) told (grind arith)
 ends s past e None (Some n) o r legal hf hc ho hr =
     let f = takes_back_unstarted s past e n legal hc in
     let found = subst (λ m. queueing_at past m ≡ Some f.queueing) f.number (found_unstarted past f.item f.queueing f.is_unstarted) in
-    let kept = back_not_anew e.reply n hc in
+    let kept : replaces e.reply ≡ false = grind arith in
     let item : item_of e ≡ Some f.item = ap (λ a. option_or a (item_fired e.reply)) f.is_item in
     let unstarted = f.is_unstarted in
     let told = told_by past e.who (item_of e) e.reply hf in

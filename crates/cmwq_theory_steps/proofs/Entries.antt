@@ -15,9 +15,6 @@ entry_at-newest e past =
 pub item_at-older : (e : Entry) (past : List Entry) (n : ℕ) → n < length past → item_at (e ∷ past) n ≡ item_at past n
 item_at-older e past n less = ap (option_and_then item_of) (entry_at-older e past n less)
 
-pub item_at-newest : (e : Entry) (past : List Entry) → item_at (e ∷ past) (length past) ≡ item_of e
-item_at-newest e past = ap (option_and_then item_of) (entry_at-newest e past)
-
 -- a queueing's item is that of its entry, which is older than the next
 pub record IsKnown (past : List Entry) (x : Queueing) : Type 0 where
   pub older : x.number < length past
@@ -32,7 +29,7 @@ opening_item e past x h = grind arith
 pub opening_known : (e : Entry) (past : List Entry) (x : Queueing) → opening past e ≡ Some x → IsKnown (e ∷ past) x
 opening_known e past x h =
     let number = opening_number past e x h in
-    record { older = omega arith; item = ap (item_at (e ∷ past)) number ∙ item_at-newest e past ∙ opening_item e past x h }
+    record { older = omega arith; item = ap (λ n. option_and_then item_of (entry_at (e ∷ past) n)) number ∙ ap (option_and_then item_of) (entry_at-newest e past) ∙ opening_item e past x h }
 
 pub queueings_known : (past : List Entry) → AllByRecursion (IsKnown past) (queueings past)
 unfolding queueings

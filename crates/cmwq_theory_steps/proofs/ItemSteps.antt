@@ -71,14 +71,8 @@ items_run_on s past e i legal = at (starts_item past e i) (item_start past i) re
 
 -- ---- the run of an item is that of its worker
 
-by_this : (s : Layout) (past : List Entry) (e : Entry) (v w : WorkerId) → e.who ≡ Worker v → is_by (Worker w) e ≡ true → v ≡ w
-by_this s past e v w who by = same_worker-true v w (subst (λ (x : Who). same_who x (Worker w) ≡ true) who by)
-
--- a worker that starts something had no run
-pub starter_idle : (s : Layout) (past : List Entry) (e : Entry) (w : WorkerId) (n : ℕ) → IsLegal s (e ∷ past) → is_by (Worker w) e ≡ true → number_started e.reply ≡ Some n → has_run past w ≡ false
-starter_idle s past e w n legal by h =
-    let st = starts_next s past e n legal h in
-    subst (λ (v : WorkerId). has_run past v ≡ false) (by_this s past e st.worker w st.by_worker by) st.idle
+by_this : (past : List Entry) (e : Entry) (v w : WorkerId) → e.who ≡ Worker v → is_by (Worker w) e ≡ true → v ≡ w
+by_this past e v w who by = same_worker-true v w (subst (λ (x : Who). same_who x (Worker w) ≡ true) who by)
 
 run_keeps : (s : Layout) (past : List Entry) (e : Entry) (start : Start) → IsLegal s (e ∷ past) → finishes start.number e ≡ false → run past start.worker ≡ Some start.number → run (e ∷ past) start.worker ≡ Some start.number
 run_keeps s past e start legal survivors runs = workers_run_on s past e start.worker legal ∙ at (is_by (Worker start.worker) e) refl
@@ -86,9 +80,10 @@ run_keeps s past e start legal survivors runs = workers_run_on s past e start.wo
     at : (b : Bool) → is_by (Worker start.worker) e ≡ b → (if b then run_after e.reply (run past start.worker) else run past start.worker) ≡ Some start.number
     at false by = runs
     at true by =
-        let begun : (n : ℕ) → number_started e.reply ≡ Some n → has_run past start.worker ≡ false = λ n h. starter_idle s past e start.worker n legal by h in
+        let begun : (n : ℕ) → number_started e.reply ≡ Some n → has_run past start.worker ≡ false
+        = λ n h. let st = starts_next s past e n legal h in subst (λ (v : WorkerId). has_run past v ≡ false) (by_this past e st.worker start.worker st.by_worker by) st.idle in
         let ended : (n : ℕ) → number_finished e.reply ≡ Some n → run past start.worker ≡ Some n
-        = λ n h. let f = finishes_run s past e n legal h in subst (λ (v : WorkerId). run past v ≡ Some n) (by_this s past e f.worker start.worker f.by_worker by) f.is_run in
+        = λ n h. let f = finishes_run s past e n legal h in subst (λ (v : WorkerId). run past v ≡ Some n) (by_this past e f.worker start.worker f.by_worker by) f.is_run in
         grind (arith, nat_tests)
 
 -- a run that is left was there, and the entry doesn't finish it

@@ -18,9 +18,6 @@ marks_own past e i h = let item = is_at-true (item_of e) i h in grind (arith, na
 pub no_item : (r : Reply) (n : ℕ) → number_started r ≡ Some n → item_fired r ≡ None
 no_item r n h = grind arith
 
-no_item_ended : (r : Reply) (n : ℕ) → number_finished r ≡ Some n → (item_fired r ≡ None) × (number_started r ≡ None)
-no_item_ended r n h = grind arith
-
 marks_started : (s : Layout) (past : List Entry) (e : Entry) (n i : ℕ) → IsLegal s (e ∷ past) → number_started e.reply ≡ Some n → item_at past n ≡ Some i → is_at (item_marked past e) i ≡ true
 marks_started s past e n i legal h item =
     let none = ap₂ option_or (ap item_called (starts_next s past e n legal h).is_take) (no_item e.reply n h) in
@@ -28,7 +25,7 @@ marks_started s past e n i legal h item =
 
 marks_finished : (s : Layout) (past : List Entry) (e : Entry) (n i : ℕ) → IsLegal s (e ∷ past) → number_finished e.reply ≡ Some n → item_at past n ≡ Some i → is_at (item_marked past e) i ≡ true
 marks_finished s past e n i legal h item =
-    let ended = no_item_ended e.reply n h in
+    let ended : (item_fired e.reply ≡ None) × (number_started e.reply ≡ None) = grind arith in
     let none = ap₂ option_or (ap item_called (finishes_run s past e n legal h).is_finish) ended.0 in
     grind (arith, nat_tests)
 

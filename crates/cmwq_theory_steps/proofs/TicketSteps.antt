@@ -1,5 +1,5 @@
 -- The unended tickets after one more entry, and which flushes it serves.
-use Rattle.cmwq_theory_steps.specs.Common.{and_parts, ◌≡◌, ◌<◌, ◌≤◌, ◌+◌, ◌==◌, ℕ, Bool, true, false, cond, ◌&&◌, ◌||◌, not, List, [], ◌∷◌, ◌++◌, length, filter, find, count_by, Option, Some, None, option_to_list, nat_lt, refl, sym, ap, ap₂, ◌∙◌, subst, arith, if◌then◌else◌, AllByRecursion, list_any, eq-eqb, nat_tests, filter-append, sum_by-filter_both, Who, Caller, Call, Reply, Entry, Ticket, Layout, same_who, gives_ticket, ticket_in, tickets, is_end_of, is_done, ends, is_unended, unended_tickets, is_flush_of, is_held_by, is_ticket, is_older_flush, serving_from, IsLegal, All_map, All_each, count_by-none, find_none}
+use Rattle.cmwq_theory_steps.specs.Common.{and_parts, ◌≡◌, ◌<◌, ◌≤◌, ◌+◌, ◌==◌, ℕ, Bool, true, false, cond, ◌&&◌, ◌||◌, not, List, [], ◌∷◌, ◌++◌, length, filter, find, count_by, Option, Some, None, option_to_list, nat_lt, refl, sym, ap, ap₂, ◌∙◌, subst, arith, if◌then◌else◌, AllByRecursion, list_any, eq-eqb, nat_tests, filter-append, sum_by-filter_both, Who, Caller, Call, Reply, Entry, Ticket, Layout, same_who, ticket_in, tickets, is_end_of, is_done, ends, is_unended, unended_tickets, is_flush_of, is_held_by, is_ticket, is_older_flush, serving_from, IsLegal, All_map, All_each, count_by-none, find_none}
 use Rattle.cmwq_theory_steps.proofs.Lemmas.{and_false, count_append, count_by-fewer, count_by-same, count_by-wider, fewer_kept, filter_all, filter_none, filter_one, filter_same, filter_twice}
 use Rattle.cmwq_model.specs.declared.call.Call.TheVariants as call
 use Rattle.cmwq_model.specs.declared.reply.Reply.TheVariants as reply
@@ -37,16 +37,14 @@ not_ended_yet s (e ∷ past) t legal less = ap₂ (λ a b. a || b) (ends_older s
 
 -- ---- the unended tickets
 
-given_unended : (s : Layout) (past : List Entry) (e : Entry) → IsLegal s (e ∷ past) → AllByRecursion (λ t. is_unended (e ∷ past) t ≡ true) (option_to_list (ticket_in e (length past)))
-unfolding IsLegal
-given_unended s past e legal = of_option _ (ticket_in e (length past)) (λ t h. let number = ticket_number e (length past) t h in ap₂ (λ a b. not (a || b)) (ends_older s past e t legal (omega arith)) (not_ended_yet s past t legal.2 (omega arith)))
-
 pub unended_go_on : (s : Layout) (past : List Entry) (e : Entry) → IsLegal s (e ∷ past) → unended_tickets (e ∷ past) ≡ filter (is_kept e) (unended_tickets past) ++ option_to_list (ticket_in e (length past))
-unfolding tickets
+unfolding tickets IsLegal
 unended_go_on s past e legal =
+    let not_yet : (t : Ticket) → ticket_in e (length past) ≡ Some t → is_unended (e ∷ past) t ≡ true
+    = λ t h. let number = ticket_number e (length past) t h in ap₂ (λ a b. not (a || b)) (ends_older s past e t legal (omega arith)) (not_ended_yet s past t legal.2 (omega arith)) in
     filter-append (is_unended (e ∷ past)) (tickets past) (option_to_list (ticket_in e (length past)))
     ∙ ap₂ (λ xs ys. xs ++ ys) (filter_same (is_unended (e ∷ past)) (λ t. is_unended past t && is_kept e t) (tickets past) (All_each _ (tickets past) (λ t. grind arith)) ∙ sym (filter_twice (is_kept e) (is_unended past) (tickets past)))
-    (filter_all (is_unended (e ∷ past)) (option_to_list (ticket_in e (length past))) (given_unended s past e legal))
+    (filter_all (is_unended (e ∷ past)) (option_to_list (ticket_in e (length past))) (of_option _ (ticket_in e (length past)) not_yet))
 
 -- ---- one ticket at most ends
 
@@ -129,16 +127,13 @@ unfolding serving_from
 not_served_yet [] q n less = refl
 not_served_yet (e ∷ past) q n less = grind (arith, nat_tests, not_served_yet past q n (omega arith))
 
-gives_no_end : (past : List Entry) (e : Entry) → gives_ticket e.reply ≡ true → ticket_ended past e ≡ None
-gives_no_end past e h = grind arith
-
 pub begun_are_served : (s : Layout) (past : List Entry) (e : Entry) (q : ℕ) (t : Ticket) → IsLegal s (e ∷ past) → ticket_in e (length past) ≡ Some t
     → serving_from (e ∷ past) q t.number ≡ (if nat_lt (count_by (is_flush_of q) (unended_tickets past)) 15 then Some (length past) else None)
 unfolding serving_from
 begun_are_served s past e q t legal h =
     let number = ticket_number e (length past) t h in
     let not_yet = not_served_yet past q (length past) (omega arith) in
-    let none = gives_no_end past e (grind arith) in
+    let none : ticket_ended past e ≡ None = grind arith in
     let after = older_after s past e q (length past) legal (omega arith) in
     let all = count_by-same (is_older_flush q (length past)) (is_flush_of q) (unended_tickets past) (All_map (IsGiven past) _ (unended_tickets past) (λ u given. let older = given.older in grind (arith, nat_tests)) (unended_given past)) in
     grind (arith, nat_tests)
