@@ -1,9 +1,5 @@
 -- What an option holds, as a list.
-use Rattle.std.proofs.Common.{◌≡◌, Bool, false, [], length, Option, Some, None, option_to_list, count_by, refl, arith}
-use Rattle.std.specs.List.{AllByRecursion}
-use Rattle.std.specs.Option.{option_map_or}
-use Rattle.std.specs.Prelude.{is_some}
-use Rattle.cmwq_lemmas.proofs.Lists.{count_by-cons}
+use Rattle.cmwq_theory_steps.specs.Common.{◌≡◌, Bool, false, [], length, Option, Some, None, option_to_list, count_by, refl, arith, AllByRecursion, option_map_or, is_some, count_by-cons}
 use Rattle.cmwq_theory_steps.specs.Histories.{one}
 
 module _ {X : Type 0} where
