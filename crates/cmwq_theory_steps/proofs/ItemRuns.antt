@@ -1,6 +1,6 @@
 -- On a legal history the run of a worker is the run of its item.
-use Rattle.cmwq_theory_steps.specs.Common.{nat_tests, ◌≡◌, ◌==◌, ◌<◌, ℕ, Bool, true, false, List, [], ◌∷◌, length, Option, Some, None, refl, sym, ap, ◌∙◌, subst, arith, is_some, if◌then◌else◌, option_map_or, eqb-true, eq-eqb, beq, WorkerId, Who, Worker, Entry, Start, Layout, is_by, same_worker, same_who, item_at, number_started, is_open, is_number_open, last_start, run, item_start, item_run, item_runs, start_in, starts_item, IsLegal, open_before}
-use Rattle.cmwq_theory_steps.proofs.Lemmas.{both_ways, cond_some, ne_eqb, not-true, option_and_then_some, same_Some}
+use Rattle.cmwq_theory_steps.specs.Common.{nat_tests, ◌≡◌, ◌==◌, ◌<◌, ℕ, Bool, true, false, List, [], ◌∷◌, length, Option, Some, None, refl, sym, ap, ◌∙◌, subst, arith, is_some, if◌then◌else◌, option_map_or, eq-eqb, beq, WorkerId, Who, Worker, Entry, Start, Layout, is_by, same_worker, same_who, item_at, number_started, is_open, is_number_open, last_start, run, item_start, item_run, item_runs, start_in, starts_item, IsLegal, open_before}
+use Rattle.cmwq_theory_steps.proofs.Lemmas.{cond_some, not-true, option_and_then_some, same_Some}
 use Rattle.cmwq_theory_steps.proofs.Entries.{IsKnown, known_more, queueings_known, item_at-older}
 use Rattle.cmwq_theory_steps.proofs.Activated.{next_holds}
 use Rattle.cmwq_theory_steps.proofs.Starts.{starts_next}
@@ -11,11 +11,7 @@ pub flags_same : (a b : Bool) → beq a b ≡ true → a ≡ b
 flags_same a b h = grind arith
 
 pub same_worker-true : (v w : WorkerId) → same_worker v w ≡ true → v ≡ w
-same_worker-true v w h =
-    let cpu : v.pool.cpu.0 ≡ w.pool.cpu.0 = eqb-true v.pool.cpu.0 w.pool.cpu.0 (grind arith) in
-    let high : v.pool.high ≡ w.pool.high = flags_same v.pool.high w.pool.high (grind arith) in
-    let index : v.index ≡ w.index = eqb-true v.index w.index (grind arith) in
-    λ i. record { pool = record { cpu = record { 0 = cpu i }; high = high i }; index = index i }
+same_worker-true v w h = grind (arith, nat_tests, flags_same)
 
 pub same_worker_itself : (w : WorkerId) → same_worker w w ≡ true
 same_worker_itself w = grind (arith, nat_tests)
@@ -113,7 +109,7 @@ unmoved s past e i None legal none runs = starts_no_item e past i (no_start e no
 unmoved s past e i (Some m) legal started runs =
     let k = starts_known s past e m legal started in
     let is = starts_its_item e past (record { worker = k.worker; number = m }) i k.item (start_of_worker e k.worker m k.by_worker started) k.is_item in
-    is ∙ ne_eqb k.item i (λ same. both_ways (item_runs past i) (subst (λ j. item_runs past j ≡ false) same k.has_none) runs)
+    grind (arith, nat_tests, k.has_none)
 
 abbrev RunsItem : List Entry → WorkerId → ℕ → ℕ → Type 0
 RunsItem past w n i = item_run past i ≡ Some (record { worker = w; number = n })
