@@ -1,5 +1,5 @@
 -- How many are active on a queue and CPU after an entry, and what waits there.
-use Rattle.cmwq_theory_steps.specs.Common.{All_map, ◌≡◌, ◌+◌, ◌-◌, ℕ, zero, suc, Bool, false, cond, not, ◌&&◌, List, [], ◌∷◌, filter, count_by, take, drop, option_to_list, refl, sym, ap, ap₂, ◌∙◌, arith, AllByRecursion, sum_by-filter_both, Entry, Layout, width, queueings, opening, still_open, is_below_max_active, is_active, is_newly_active, newly_active, IsLegal, All_each, count_by-none, count_by-filter, opening_number, stays_active}
+use Rattle.cmwq_theory_steps.specs.Common.{All_map, ◌≡◌, ◌+◌, ◌-◌, ℕ, zero, suc, Bool, false, cond, not, ◌&&◌, List, [], ◌∷◌, filter, count_by, take, drop, option_to_list, refl, sym, ap, ◌∙◌, arith, AllByRecursion, sum_by-filter_both, Entry, Layout, width, queueings, opening, still_open, is_below_max_active, is_active, is_newly_active, newly_active, IsLegal, All_each, count_by-none, count_by-filter, opening_number, stays_active}
 use Rattle.cmwq_theory_steps.proofs.Lemmas.{and_false, count_append, count_by-same, drop_all, filter_all, filter_none, flip, none_kept}
 use Rattle.cmwq_theory_steps.specs.Histories.{one}
 use Rattle.cmwq_theory_steps.specs.Places.{is_on, open_on, active_count}
@@ -40,21 +40,20 @@ waiting_on_goes_on s past e q c =
 
 -- ---- the count after an entry
 
--- those that were active and are open are active
-both_active : (s : Layout) (past : List Entry) (e : Entry) (q c : ℕ) → AllByRecursion (λ x. (is_active s (e ∷ past) x && is_active s past x) ≡ is_active s past x) (open_on (e ∷ past) q c)
-both_active s past e q c = on_each _ (e ∷ past) q c (All_each _ (queueings (e ∷ past)) (λ x live on. let stays = stays_active s past e x in grind arith))
-
-newly_counted : (s : Layout) (past : List Entry) (e : Entry) (q c : ℕ) → count_by (is_newly_active s past e) (open_on (e ∷ past) q c) ≡ count_by (is_on q c) (newly_active s past e)
-newly_counted s past e q c =
-    let newly = is_newly_active s past e in
-    sym (count_by-filter (λ x. is_on q c x && newly x) (is_on q c) newly (still_open (e ∷ past)) (λ x. refl))
-    ∙ count_by-filter (λ x. is_on q c x && newly x) newly (is_on q c) (still_open (e ∷ past)) (λ x. flip (is_on q c x) (newly x))
-    ∙ ap (count_by (is_on q c)) (sym (newly_of_open s past e))
-
 pub active_count_goes_on : (s : Layout) (past : List Entry) (e : Entry) (q c : ℕ) → active_count s (e ∷ past) q c ≡ stay_count s past e q c + count_by (is_on q c) (newly_active s past e)
 active_count_goes_on s past e q c =
-    sym (active_counted s (e ∷ past) q c) ∙ count_split (is_active s (e ∷ past)) (is_active s past) (open_on (e ∷ past) q c)
-    ∙ ap₂ (λ m n. m + n) (count_by-same _ (is_active s past) (open_on (e ∷ past) q c) (both_active s past e q c)) (newly_counted s past e q c)
+    let newly = is_newly_active s past e in
+    let stay : AllByRecursion (λ x. (is_active s (e ∷ past) x && is_active s past x) ≡ is_active s past x) (open_on (e ∷ past) q c)
+    = on_each _ (e ∷ past) q c (All_each _ (queueings (e ∷ past)) (λ x live on. let stays = stays_active s past e x in grind arith)) in
+    omega (
+      arith,
+      active_counted s (e ∷ past) q c,
+      count_split (is_active s (e ∷ past)) (is_active s past) (open_on (e ∷ past) q c),
+      count_by-same _ (is_active s past) (open_on (e ∷ past) q c) stay,
+      count_by-filter (λ x. is_on q c x && newly x) (is_on q c) newly (still_open (e ∷ past)) (λ x. refl),
+      count_by-filter (λ x. is_on q c x && newly x) newly (is_on q c) (still_open (e ∷ past)) (λ x. flip (is_on q c x) (newly x)),
+      ap (count_by (is_on q c)) (newly_of_open s past e),
+    )
 
 -- ---- those that stay active
 

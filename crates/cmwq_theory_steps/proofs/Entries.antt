@@ -26,17 +26,13 @@ known_more e past x h = record { older = omega (arith, h.older); item = item_at-
 pub opening_item : (e : Entry) (past : List Entry) (x : Queueing) → opening past e ≡ Some x → item_of e ≡ Some x.item.0
 opening_item e past x h = grind arith
 
-pub opening_known : (e : Entry) (past : List Entry) (x : Queueing) → opening past e ≡ Some x → IsKnown (e ∷ past) x
-opening_known e past x h =
-    let number = opening_number past e x h in
-    record { older = omega arith; item = ap (λ n. option_and_then item_of (entry_at (e ∷ past) n)) number ∙ ap (option_and_then item_of) (entry_at-newest e past) ∙ opening_item e past x h }
-
 pub queueings_known : (past : List Entry) → AllByRecursion (IsKnown past) (queueings past)
 unfolding queueings
 queueings_known [] = tt
 queueings_known (e ∷ past) =
-    All_append (IsKnown (e ∷ past)) (queueings past) (option_to_list (opening past e)) (All_map (IsKnown past) (IsKnown (e ∷ past)) (queueings past) (known_more e past) (queueings_known past))
-    (of_option (IsKnown (e ∷ past)) (opening past e) (opening_known e past))
+    let opened : (x : Queueing) → opening past e ≡ Some x → IsKnown (e ∷ past) x
+    = λ x h. let number = opening_number past e x h in record { older = omega arith; item = ap (item_at (e ∷ past)) number ∙ ap (option_and_then item_of) (entry_at-newest e past) ∙ opening_item e past x h } in
+    All_append (IsKnown (e ∷ past)) (queueings past) (option_to_list (opening past e)) (All_map (IsKnown past) (IsKnown (e ∷ past)) (queueings past) (known_more e past) (queueings_known past)) (of_option (IsKnown (e ∷ past)) (opening past e) opened)
 
 pub is_at-true : (o : Option ℕ) (n : ℕ) → is_at o n ≡ true → o ≡ Some n
 is_at-true o n h = grind (arith, nat_tests)

@@ -65,14 +65,13 @@ few_numbered (e ∷ past) n =
 few_unended : (past : List Entry) (n : ℕ) → count_by (has_number n) (unended_tickets past) ≤ 1
 few_unended past n = omega (arith, fewer_kept (has_number n) (is_unended past) (tickets past), few_numbered past n)
 
-one_asked : (past : List Entry) (who : Who) (n : ℕ) → count_by (is_ticket who n) (unended_tickets past) ≤ 1
-one_asked past who n = omega (arith, count_by-wider (is_ticket who n) (has_number n) (unended_tickets past) (All_each _ (unended_tickets past) (λ t h. (and_parts (has_number n t) (is_held_by who t) h).0)), few_unended past n)
-
 abbrev is_asked : Who → Call → Ticket → Bool
 is_asked who c t = same_who who (Caller t.caller) && is_end_of t.number c
 
 asked_is : (past : List Entry) (who : Who) (c : Call) → filter (is_asked who c) (unended_tickets past) ≡ option_to_list (ticket_asked past who c)
-asked_is past who (call.End n) = filter_same (is_asked who (call.End n)) (is_ticket who n) (unended_tickets past) (All_each _ (unended_tickets past) (λ t. grind (arith, nat_tests))) ∙ filter_one (is_ticket who n) (unended_tickets past) (one_asked past who n)
+asked_is past who (call.End n) =
+    filter_same (is_asked who (call.End n)) (is_ticket who n) (unended_tickets past) (All_each _ (unended_tickets past) (λ t. grind (arith, nat_tests)))
+    ∙ filter_one (is_ticket who n) (unended_tickets past) (omega (arith, count_by-wider (is_ticket who n) (has_number n) (unended_tickets past) (All_each _ (unended_tickets past) (λ t h. (and_parts (has_number n t) (is_held_by who t) h).0)), few_unended past n))
 asked_is past who c = filter_none (is_asked who c) (unended_tickets past) (All_each _ (unended_tickets past) (λ t. and_false (same_who who (Caller t.caller))))
 
 pub one_ticket_ends : (past : List Entry) (e : Entry) → filter (is_ended_by e) (unended_tickets past) ≡ option_to_list (ticket_ended past e)
