@@ -1,26 +1,21 @@
 -- What holds of all queueings of a history, and goes on to hold as it grows, holds of all that ever became active.
-use Rattle.cmwq_theory_steps.specs.Common.{◌≡◌, Bool, true, false, cond, List, [], ◌∷◌, Some, refl, find, AllByRecursion, PoolId, Entry, Queueing, Layout, queueings, became_active, newly_active, is_newly_active, worklist, is_listed, next, is_startable, All_map, All_append, All_filter}
+use Rattle.cmwq_theory_steps.specs.Common.{◌≡◌, Bool, true, List, [], ◌∷◌, Some, find, AllByRecursion, PoolId, Entry, Queueing, Layout, queueings, became_active, newly_active, is_newly_active, worklist, is_listed, next, is_startable, All_map, All_append, All_filter}
+use Rattle.cmwq_theory_steps.proofs.Lemmas.{all_found, all_kept}
 
 pub activated_all : (s : Layout) (P : List Entry → Queueing → Type 0) → ((e : Entry) (past : List Entry) (x : Queueing) → P past x → P (e ∷ past) x)
     → ((past : List Entry) → AllByRecursion (P past) (queueings past)) → (past : List Entry) → AllByRecursion (P past) (became_active s past)
 unfolding became_active
 activated_all s P more all [] = tt
 activated_all s P more all (e ∷ past) =
-    All_append (P (e ∷ past)) (became_active s past) (newly_active s past e) (All_map (P past) (P (e ∷ past)) (became_active s past) (more e past) (activated_all s P more all past))
-    (All_filter (P (e ∷ past)) (is_newly_active s past e) (queueings (e ∷ past)) (All_map (P (e ∷ past)) (λ x. is_newly_active s past e x ≡ true → P (e ∷ past) x) (queueings (e ∷ past)) (λ x h passes. h) (all (e ∷ past))))
+    All_append (P (e ∷ past)) (became_active s past) (newly_active s past e) (All_map (P past) (P (e ∷ past)) (became_active s past) (more e past) (activated_all s P more all past)) (all_kept (P (e ∷ past)) (is_newly_active s past e) (queueings (e ∷ past)) (all (e ∷ past)))
 
 -- what is found passes, and has what all have
 pub record Found {X : Type 0} (P : X → Type 0) (p : X → Bool) (x : X) : Type 0 where
   pub passes : p x ≡ true
   pub holds : P x
 
-find_here : {X : Type 0} (P : X → Type 0) (p : X → Bool) (xs : List X) (x y : X) (b : Bool) → p x ≡ b → P x → cond b (Some x) (find p xs) ≡ Some y → (find p xs ≡ Some y → Found P p y) → Found P p y
-find_here P p xs x y true passes h found later = let same : x ≡ y = cc in rw (← same) (record { passes = passes; holds = h })
-find_here P p xs x y false fails h found later = later found
-
 pub find_holds : {X : Type 0} (P : X → Type 0) (p : X → Bool) (xs : List X) (y : X) → AllByRecursion P xs → find p xs ≡ Some y → Found P p y
-find_holds P p [] y all found = cc
-find_holds P p (x ∷ xs) y all found = find_here P p xs x y (p x) refl all.0 found (find_holds P p xs y all.1)
+find_holds P p xs y all found = let k = all_found P p xs y all found in record { passes = k.1; holds = k.0 }
 
 -- the next of a pool is listed there, and its item has no run
 pub record IsNext (s : Layout) (P : List Entry → Queueing → Type 0) (past : List Entry) (p : PoolId) (x : Queueing) : Type 0 where
@@ -32,7 +27,7 @@ pub next_holds : (s : Layout) (P : List Entry → Queueing → Type 0) → ((e :
     → ((past : List Entry) → AllByRecursion (P past) (queueings past)) → (past : List Entry) (p : PoolId) (x : Queueing) → next s past p ≡ Some x → IsNext s P past p x
 unfolding next worklist
 next_holds s P more all past p x found =
-    let Listed : Queueing → Type 0 = λ y. Found (P past) (is_listed s past p) y in
-    let listed = All_filter Listed (is_listed s past p) (became_active s past) (All_map (P past) (λ y. is_listed s past p y ≡ true → Listed y) (became_active s past) (λ y h passes. record { passes = passes; holds = h }) (activated_all s P more all past)) in
+    let Listed : Queueing → Type 0 = Found (P past) (is_listed s past p) in
+    let listed = All_filter Listed (is_listed s past p) (became_active s past) (All_map (P past) _ (became_active s past) (λ y h passes. record { passes = passes; holds = h }) (activated_all s P more all past)) in
     let f = find_holds Listed (is_startable past) (worklist s past p) x listed found in
     record { startable = f.passes; listed = f.holds.passes; holds = f.holds.holds }

@@ -1,50 +1,33 @@
 -- The active queueings are the first of the open ones, as many as there were and are, or as are within the width.
-use Rattle.cmwq_theory_steps.specs.Common.{◌≡◌, ◌<◌, ◌≤◌, ◌-◌, ◌+◌, ℕ, suc, min, max, Bool, true, false, cond, ◌&&◌, ◌||◌, List, [], ◌∷◌, ◌++◌, length, filter, count_by, take, nat_lt, Option, Some, None, option_to_list, refl, sym, ap, ap₂, ◌∙◌, arith, zero-add, subst, ltb-true, le-ltb, nat_tests, length-take, filter-append, AllByRecursion, Entry, Queueing, Layout, width, queueings, opening, is_live, still_open, is_active, is_ahead, is_below_max_active, All_map, All_each, All_filter, count_by-filter, count_by-none, count_by-cons, IsBelow, queueings_below, open_rise, rising_filter, opening_number, open_before, active_go_on, not_live}
+use Rattle.cmwq_theory_steps.specs.Common.{◌≡◌, ◌≤◌, ◌-◌, ◌+◌, ℕ, suc, min, max, Bool, true, false, ◌&&◌, ◌||◌, List, [], ◌∷◌, ◌++◌, length, filter, count_by, take, nat_lt, option_to_list, refl, sym, ap, ap₂, ◌∙◌, arith, zero-add, subst, le-ltb, nat_tests, length-take, filter-append, AllByRecursion, Entry, Queueing, Layout, width, queueings, opening, is_live, still_open, is_active, is_ahead, is_below_max_active, All_map, All_each, All_filter, count_by-filter, count_by-none, IsBelow, queueings_below, open_rise, rising_filter, opening_number, open_before, active_go_on, not_live}
+use Rattle.cmwq_theory_steps.proofs.Lemmas.{add-one, all_kept, count_append, count_by-same, filter_same, filter_twice, flip, length-filter, take_all}
 use Rattle.cmwq_theory_steps.specs.Places.{is_on, open_on, active_ended, active_count}
-use Rattle.cmwq_lemmas.proofs.Filters.{filter_twice, filter_same, count_by-same}
 use Rattle.cmwq_theory_steps.proofs.Fronts.{IsFront, front_filter, front_append, front_same, front_or, front_taken, count_or, count_split}
 use Rattle.cmwq_theory_steps.proofs.Ranks.{is_below, Ranked, ranked_of}
+use Rattle.cmwq_theory_steps.proofs.Options.{of_option}
 
 -- ---- what is below max_active is a front, as long as the queue is wide
 
-first_of : (x : Queueing) (xs : List Queueing) (k w : ℕ) (b : Bool) → b ≡ nat_lt k w → cond b (x ∷ take (w - suc k) xs) (take (w - suc k) xs) ≡ take (w - k) (x ∷ xs)
-first_of x xs k w true h =
-    let less : k < w = ltb-true k w (sym h) in
-    let one_more : w - k ≡ suc (w - suc k) = omega arith in
-    rw one_more refl
-first_of x xs k w false h =
-    let none : w - k ≡ 0 = grind (arith, nat_tests) in
-    let none_more : w - suc k ≡ 0 = omega arith in
-    rw (none, none_more) refl
-
 -- the test passes those with fewer than w before them, where k stand before the list
 pub filter-ranked : (f : Queueing → Bool) (rank : Queueing → ℕ) (w k : ℕ) (xs : List Queueing) → AllByRecursion (λ x. f x ≡ nat_lt (rank x) w) xs → Ranked rank k xs → filter f xs ≡ take (w - k) xs
-filter-ranked f rank w k [] each h = sym take_nil
-  where
-    take_nil : take {A = Queueing} (w - k) [] ≡ []
-    take_nil = grind arith
-filter-ranked f rank w k (x ∷ xs) each h = ap (λ ys. cond (f x) (x ∷ ys) ys) (filter-ranked f rank w (suc k) xs each.1 h.1) ∙ first_of x xs k w (f x) (each.0 ∙ ap (λ n. nat_lt n w) h.0)
+filter-ranked f rank w k [] each h = sym (take_all (w - k) [] (omega arith))
+filter-ranked f rank w k (x ∷ xs) each h =
+    let more : take (w - suc k + 1) (x ∷ xs) ≡ x ∷ take (w - suc k) xs = rw add-one refl in
+    let nothing : take 0 (x ∷ xs) ≡ [] = refl in
+    let nothing_later : take 0 xs ≡ [] = refl in
+    grind (arith, nat_tests, filter-ranked f rank w (suc k) xs each.1 h.1, each.0, h.0)
 
 front-ranked : (f : Queueing → Bool) (rank : Queueing → ℕ) (w k : ℕ) (xs : List Queueing) → AllByRecursion (λ x. f x ≡ nat_lt (rank x) w) xs → Ranked rank k xs → IsFront f xs
 front-ranked f rank w k [] each h = tt
-front-ranked f rank w k (x ∷ xs) each h = ((λ none. beyond (suc k) xs (past none) each.1 h.1), front-ranked f rank w (suc k) xs each.1 h.1)
+front-ranked f rank w k (x ∷ xs) each h = ((λ none. beyond (suc k) xs (grind (arith, nat_tests, each.0, h.0)) each.1 h.1), front-ranked f rank w (suc k) xs each.1 h.1)
   where
-    past : f x ≡ false → w ≤ suc k
-    past none = let is : nat_lt k w ≡ false = sym (ap (λ n. nat_lt n w) h.0) ∙ sym each.0 ∙ none in grind (arith, nat_tests)
-
     beyond : (j : ℕ) (ys : List Queueing) → w ≤ j → AllByRecursion (λ y. f y ≡ nat_lt (rank y) w) ys → Ranked rank j ys → AllByRecursion (λ y. f y ≡ false) ys
     beyond j [] less same ranks = tt
     beyond j (y ∷ ys) less same ranks = (same.0 ∙ ap (λ n. nat_lt n w) ranks.0 ∙ le-ltb j w less, beyond (suc j) ys (omega arith) same.1 ranks.1)
 
 -- of what is on a queue and CPU, the older open ones there are those below it
-ahead_on : (q c : ℕ) (x y : Queueing) → is_on q c x ≡ true → is_ahead x y ≡ (is_on q c y && is_below x y)
-ahead_on q c x y h =
-    let queue : x.place.queue.0 ≡ q = grind (arith, nat_tests) in
-    let cpu : x.place.cpu.0 ≡ c = grind (arith, nat_tests) in
-    rw (queue, cpu) refl
-
 pub count_ahead : (past : List Entry) (q c : ℕ) (x : Queueing) → is_on q c x ≡ true → count_by (is_ahead x) (still_open past) ≡ count_by (is_below x) (open_on past q c)
-count_ahead past q c x on = count_by-filter (is_ahead x) (is_on q c) (is_below x) (still_open past) (λ y. ahead_on q c x y on)
+count_ahead past q c x on = count_by-filter (is_ahead x) (is_on q c) (is_below x) (still_open past) (λ y. grind (arith, nat_tests))
 
 pub open_ranked : (past : List Entry) (q c : ℕ) → Ranked (λ x. count_by (is_below x) (open_on past q c)) 0 (open_on past q c)
 open_ranked past q c = ranked_of (λ x. count_by (is_below x) (open_on past q c)) 0 (open_on past q c) (rising_filter (is_on q c) (still_open past) (open_rise past)) (All_each _ (open_on past q c) (λ x. sym (zero-add (count_by (is_below x) (open_on past q c)))))
@@ -54,31 +37,18 @@ pub on_each : (P : Queueing → Type 0) (past : List Entry) (q c : ℕ) → AllB
 on_each P past q c h = All_filter P (is_on q c) (still_open past) (All_filter (λ x. is_on q c x ≡ true → P x) (is_live past) (queueings past) h)
 
 pub ways : (s : Layout) (past : List Entry) (q c : ℕ) → AllByRecursion (λ x. is_below_max_active s past x ≡ nat_lt (count_by (is_below x) (open_on past q c)) (width s past q)) (open_on past q c)
-ways s past q c = on_each _ past q c (All_each _ (queueings past) one)
-  where
-    one : (x : Queueing) → is_live past x ≡ true → is_on q c x ≡ true → is_below_max_active s past x ≡ nat_lt (count_by (is_below x) (open_on past q c)) (width s past q)
-    one x live on =
-        let queue : x.place.queue.0 ≡ q = grind (arith, nat_tests) in
-        ap₂ (λ n w. nat_lt n w) (count_ahead past q c x on) (ap (width s past) queue)
+ways s past q c = on_each _ past q c (All_each _ (queueings past) (λ x live on. ap₂ (λ n w. nat_lt n w) (count_ahead past q c x on) (ap (width s past) (let queue : x.place.queue.0 ≡ q = grind (arith, nat_tests) in queue))))
 
 pub fronts_below_max_active : (s : Layout) (past : List Entry) (q c : ℕ) → IsFront (is_below_max_active s past) (open_on past q c)
 fronts_below_max_active s past q c = front-ranked (is_below_max_active s past) (λ x. count_by (is_below x) (open_on past q c)) (width s past q) 0 (open_on past q c) (ways s past q c) (open_ranked past q c)
 
 pub length-count : {X : Type 0} (f : X → Bool) (xs : List X) → count_by f xs ≡ length (filter f xs)
-length-count f [] = refl
-length-count f (x ∷ xs) = count_by-cons f x xs ∙ here (f x) (length-count f xs)
-  where
-    here : (b : Bool) → count_by f xs ≡ length (filter f xs) → cond b 1 0 + count_by f xs ≡ length (cond b (x ∷ filter f xs) (filter f xs))
-    here true h = omega arith
-    here false h = omega arith
+length-count f xs = sym (length-filter f xs)
 
 pub ways_counted : (s : Layout) (past : List Entry) (q c : ℕ) → count_by (is_below_max_active s past) (open_on past q c) ≡ min (length (open_on past q c)) (width s past q)
 ways_counted s past q c =
     let first = filter-ranked (is_below_max_active s past) (λ x. count_by (is_below x) (open_on past q c)) (width s past q) 0 (open_on past q c) (ways s past q c) (open_ranked past q c) in
-    length-count (is_below_max_active s past) (open_on past q c) ∙ ap length first ∙ length-take (width s past q - 0) (open_on past q c) ∙ sizes (width s past q) (length (open_on past q c))
-  where
-    sizes : (w n : ℕ) → min (w - 0) n ≡ min n w
-    sizes w n = grind arith
+    length-count (is_below_max_active s past) (open_on past q c) ∙ ap length first ∙ length-take (width s past q - 0) (open_on past q c) ∙ omega arith
 
 -- ---- what was active is a front of what is open after an entry
 
@@ -89,26 +59,17 @@ open_on_more past e q c =
     filter_twice (is_on q c) (is_live (e ∷ past)) (queueings past ++ option_to_list (opening past e))
     ∙ filter-append (λ x. is_live (e ∷ past) x && is_on q c x) (queueings past) (option_to_list (opening past e))
     ∙ ap (λ xs. xs ++ filter (λ x. is_live (e ∷ past) x && is_on q c x) (option_to_list (opening past e)))
-    (filter_same _ (λ x. (is_live past x && is_on q c x) && is_live (e ∷ past) x) (queueings past) (All_map (IsBelow (length past)) _ (queueings past) (λ x less. one (is_live past x) (is_live (e ∷ past) x) (is_on q c x) (open_before e past x.item.0 x.number less)) (queueings_below past))
+    (filter_same _ (λ x. (is_live past x && is_on q c x) && is_live (e ∷ past) x) (queueings past) (All_map (IsBelow (length past)) _ (queueings past) (λ x less. still (is_live past x) (is_live (e ∷ past) x) (is_on q c x) (open_before e past x.item.0 x.number less)) (queueings_below past))
     ∙ sym (filter_twice (is_live (e ∷ past)) (λ x. is_live past x && is_on q c x) (queueings past)) ∙ ap (filter (is_live (e ∷ past))) (sym (filter_twice (is_on q c) (is_live past) (queueings past))))
   where
-    one : (a b o : Bool) → (b ≡ true → a ≡ true) → (b && o) ≡ ((a && o) && b)
-    one true true true h = refl
-    one true true false h = refl
-    one false true o h = let bad : false ≡ true = h refl in cc
-    one true false true h = refl
-    one true false false h = refl
-    one false false o h = refl
+    still : (a b o : Bool) → (b ≡ true → a ≡ true) → (b && o) ≡ ((a && o) && b)
+    still a b o h = grind arith
 
 pub not_active_yet : (s : Layout) (past : List Entry) (x : Queueing) → x.number ≡ length past → is_active s past x ≡ false
 not_active_yet s past x number = not_live s past x (let young : nat_lt x.number (length past) ≡ false = grind (arith, nat_tests) in grind arith)
 
 opened_inactive : (s : Layout) (past : List Entry) (e : Entry) (f : Queueing → Bool) → AllByRecursion (λ x. is_active s past x ≡ false) (filter f (option_to_list (opening past e)))
-opened_inactive s past e f = All_filter _ f (option_to_list (opening past e)) (of (opening past e) refl)
-  where
-    of : (o : Option Queueing) → opening past e ≡ o → AllByRecursion (λ x. f x ≡ true → is_active s past x ≡ false) (option_to_list o)
-    of None is = tt
-    of (Some x) is = ((λ passes. not_active_yet s past x (opening_number past e x is)), tt)
+opened_inactive s past e f = all_kept _ f (option_to_list (opening past e)) (of_option _ (opening past e) (λ x is. not_active_yet s past x (opening_number past e x is)))
 
 pub kept_front : (s : Layout) (past : List Entry) (e : Entry) (q c : ℕ) → IsFront (is_active s past) (open_on past q c) → IsFront (is_active s past) (open_on (e ∷ past) q c)
 kept_front s past e q c h = subst (IsFront (is_active s past)) (sym (open_on_more past e q c))
@@ -116,23 +77,15 @@ kept_front s past e q c h = subst (IsFront (is_active s past)) (sym (open_on_mor
 
 kept_counted : (s : Layout) (past : List Entry) (e : Entry) (q c : ℕ) → count_by (is_active s past) (open_on (e ∷ past) q c) ≡ count_by (is_active s past) (open_on past q c) - active_ended s past e q c
 kept_counted s past e q c =
-    let all = ap (count_by (is_active s past)) (open_on_more past e q c) in
-    let split = count_append (is_active s past) (filter (is_live (e ∷ past)) (open_on past q c)) (filter (λ x. is_live (e ∷ past) x && is_on q c x) (option_to_list (opening past e))) in
-    let none = count_by-none (is_active s past) (filter (λ x. is_live (e ∷ past) x && is_on q c x) (option_to_list (opening past e))) (opened_inactive s past e _) in
-    let kept : count_by (λ x. is_active s past x && is_live (e ∷ past) x) (open_on past q c) ≡ count_by (is_active s past) (filter (is_live (e ∷ past)) (open_on past q c)) =
-    count_by-filter _ (is_live (e ∷ past)) (is_active s past) (open_on past q c) (λ x. turned (is_active s past x) (is_live (e ∷ past) x)) in
-    let parts = count_split (is_active s past) (is_live (e ∷ past)) (open_on past q c) in
-    omega arith
-  where
-    turned : (a b : Bool) → (a && b) ≡ (b && a)
-    turned true true = refl
-    turned true false = refl
-    turned false true = refl
-    turned false false = refl
-
-    count_append : (f : Queueing → Bool) (xs ys : List Queueing) → count_by f (xs ++ ys) ≡ count_by f xs + count_by f ys
-    count_append f [] ys = sym (zero-add (count_by f ys))
-    count_append f (x ∷ xs) ys = let here = count_by-cons f x (xs ++ ys) in let rest = count_append f xs ys in let left = count_by-cons f x xs in omega arith
+    let opened = filter (λ x. is_live (e ∷ past) x && is_on q c x) (option_to_list (opening past e)) in
+    omega (
+      arith,
+      ap (count_by (is_active s past)) (open_on_more past e q c),
+      count_append (is_active s past) (filter (is_live (e ∷ past)) (open_on past q c)) opened,
+      count_by-none (is_active s past) opened (opened_inactive s past e _),
+      count_by-filter _ (is_live (e ∷ past)) (is_active s past) (open_on past q c) (λ x. flip (is_active s past x) (is_live (e ∷ past) x)),
+      count_split (is_active s past) (is_live (e ∷ past)) (open_on past q c),
+    )
 
 -- ---- the law
 

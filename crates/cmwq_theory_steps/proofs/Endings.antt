@@ -1,23 +1,9 @@
 -- What is open after one more entry.
-use Rattle.cmwq_theory_steps.specs.Common.{◌≡◌, ◌<◌, ℕ, Bool, true, false, cond, ◌&&◌, ◌||◌, not, List, [], ◌∷◌, ◌++◌, length, filter, Option, Some, None, option_to_list, nat_lt, refl, sym, ap, ap₂, ◌∙◌, arith, lt-ltb, filter-append, Entry, Queueing, Layout, is_of_item, finishes, takes_back, replaces, is_started, is_finished, is_cancelled, is_open, queueings, is_live, still_open, opening, IsLegal, All_map, IsBelow, queueings_below, opening_number}
+use Rattle.cmwq_theory_steps.specs.Common.{◌≡◌, ◌<◌, ℕ, true, ◌&&◌, not, List, ◌∷◌, ◌++◌, length, filter, Some, option_to_list, nat_lt, sym, ap, ap₂, ◌∙◌, arith, lt-ltb, filter-append, Entry, Queueing, Layout, is_of_item, finishes, takes_back, replaces, is_started, is_cancelled, is_open, queueings, is_live, still_open, opening, IsLegal, All_map, IsBelow, queueings_below, opening_number}
+use Rattle.cmwq_theory_steps.proofs.Lemmas.{filter_all, filter_same, filter_twice}
 use Rattle.cmwq_theory_steps.specs.Endings.{survives}
-use Rattle.cmwq_lemmas.proofs.Filters.{filter_twice, filter_same}
+use Rattle.cmwq_theory_steps.proofs.Options.{of_option}
 use Rattle.cmwq_theory_steps.proofs.Fresh.{open_at_once}
-
-live_ended : (f a b t r : Bool) → (not (f || a) && not (b || t || r)) ≡ (not a && not b && (not f && not t && not r))
-live_ended true true b t r = refl
-live_ended true false true t r = refl
-live_ended true false false t r = refl
-live_ended false true b t r = refl
-live_ended false false true t r = refl
-live_ended false false false true r = refl
-live_ended false false false false r = refl
-
--- f, t: finished, cancelled by the entry; a, b: before it; r, i, u: it replaces, is of the item, which has started
-live_step : (f a b t r i u : Bool) → (not (f || a) && not (b || t || (r && i && true && not u))) ≡ (not a && not b && (not f && not t && not (r && i && not u)))
-live_step f a b t true true u = live_ended f a b t (not u)
-live_step f a b t true false u = live_ended f a b t false
-live_step f a b t false i u = live_ended f a b t false
 
 -- of a queueing of item i with number n
 pub open_step : (past : List Entry) (e : Entry) (i n : ℕ) → n < length past
@@ -25,8 +11,7 @@ pub open_step : (past : List Entry) (e : Entry) (i n : ℕ) → n < length past
 unfolding is_cancelled
 open_step past e i n less =
     let now : nat_lt n (length (e ∷ past)) ≡ true = lt-ltb n (length (e ∷ past)) (omega arith) in
-    let was : nat_lt n (length past) ≡ true = lt-ltb n (length past) less in
-    rw (now, was) (live_step (finishes n e) (is_finished past n) (is_cancelled past i n) (takes_back n e) (replaces e.reply) (is_of_item i e) (is_started past n))
+    rw (now, lt-ltb n (length past) less) (grind arith)
 
 pub live_goes_on : (past : List Entry) (e : Entry) (x : Queueing) → x.number < length past → is_live (e ∷ past) x ≡ (is_live past x && survives past e x)
 live_goes_on past e x less = open_step past e x.item.0 x.number less
@@ -34,13 +19,9 @@ live_goes_on past e x less = open_step past e x.item.0 x.number less
 pub opened_live : (s : Layout) (past : List Entry) (e : Entry) (x : Queueing) → IsLegal s (e ∷ past) → opening past e ≡ Some x → is_live (e ∷ past) x ≡ true
 opened_live s past e x legal h = ap (is_open (e ∷ past) x.item.0) (opening_number past e x h) ∙ open_at_once s past e x.item.0 legal
 
-opened_open : (s : Layout) (past : List Entry) (e : Entry) (o : Option Queueing) → IsLegal s (e ∷ past) → opening past e ≡ o → filter (is_live (e ∷ past)) (option_to_list o) ≡ option_to_list o
-opened_open s past e None legal h = refl
-opened_open s past e (Some x) legal h = ap (λ b. cond b (x ∷ []) []) (opened_live s past e x legal h)
-
 pub open_go_on : (s : Layout) (past : List Entry) (e : Entry) → IsLegal s (e ∷ past) → still_open (e ∷ past) ≡ filter (survives past e) (still_open past) ++ option_to_list (opening past e)
 unfolding queueings
 open_go_on s past e legal =
     filter-append (is_live (e ∷ past)) (queueings past) (option_to_list (opening past e))
     ∙ ap₂ (λ xs ys. xs ++ ys) (filter_same (is_live (e ∷ past)) (λ x. is_live past x && survives past e x) (queueings past) (All_map (IsBelow (length past)) _ (queueings past) (λ x less. live_goes_on past e x less) (queueings_below past))
-    ∙ sym (filter_twice (survives past e) (is_live past) (queueings past))) (opened_open s past e (opening past e) legal refl)
+    ∙ sym (filter_twice (survives past e) (is_live past) (queueings past))) (filter_all (is_live (e ∷ past)) (option_to_list (opening past e)) (of_option _ (opening past e) (λ x h. opened_live s past e x legal h)))

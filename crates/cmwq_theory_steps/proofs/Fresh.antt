@@ -1,5 +1,5 @@
 -- Numbers that replies speak of are those of older entries, so of a number that is still to come nothing was told.
-use Rattle.cmwq_theory_steps.specs.Common.{◌≡◌, ◌<◌, ◌≤◌, ℕ, true, false, ◌||◌, List, [], ◌∷◌, length, Option, Some, None, nat_lt, refl, ap₂, subst, arith, lt-ltb, le-ltb, eqb-true, nat_tests, AllByRecursion, Entry, Queueing, Layout, is_at, number_started, number_finished, number_cancelled, is_started, is_finished, is_cancelled, is_open, queueings, is_live, still_open, unstarted_queueing, is_unstarted, IsLegal, All_map, All_filter}
+use Rattle.cmwq_theory_steps.specs.Common.{is_finished, list_any, ◌≡◌, ◌+◌, ◌<◌, ◌≤◌, ℕ, true, false, ◌||◌, List, [], ◌∷◌, length, Option, Some, nat_lt, refl, ap₂, subst, arith, lt-ltb, eqb-true, nat_tests, AllByRecursion, Entry, Queueing, Layout, is_at, number_started, number_finished, number_cancelled, is_started, is_cancelled, is_open, queueings, is_live, still_open, unstarted_queueing, is_unstarted, IsLegal, All_map, All_filter}
 use Rattle.cmwq_theory_steps.proofs.Entries.{IsKnown, queueings_known}
 use Rattle.cmwq_theory_steps.proofs.Activated.{find_holds}
 use Rattle.cmwq_theory_steps.proofs.ItemRuns.{run_is, started_older, starts_known}
@@ -25,54 +25,34 @@ pub record IsOpenOne (past : List Entry) (x : Queueing) : Type 0 where
   pub live : is_live past x ≡ true
 
 pub open_known : (past : List Entry) → AllByRecursion (λ x. IsOpenOne past x) (still_open past)
-open_known past = All_filter (λ x. IsOpenOne past x) (is_live past) (queueings past) (All_map (IsKnown past) (λ x. is_live past x ≡ true → IsOpenOne past x) (queueings past) (λ x known live. record { known = known; live = live }) (queueings_known past))
+open_known past = All_filter (λ x. IsOpenOne past x) (is_live past) (queueings past) (All_map (IsKnown past) _ (queueings past) (λ x known live. record { known = known; live = live }) (queueings_known past))
 
 pub unstarted_is : (past : List Entry) (i : ℕ) (x : Queueing) → unstarted_queueing past i ≡ Some x → IsWaiting past i x
 unstarted_is past i x found =
     let f = find_holds (IsOpenOne past) (is_unstarted past i) (still_open past) x (open_known past) found in
     record { known = f.holds.known; live = f.holds.live; item = eqb-true x.item.0 i (grind arith); not_started = grind arith }
 
--- ---- so numbers that replies speak of are older
-
-pub finished_older : (s : Layout) (past : List Entry) (e : Entry) (n : ℕ) → IsLegal s (e ∷ past) → number_finished e.reply ≡ Some n → n < length past
-unfolding IsLegal
-finished_older s past e n legal h =
-    let f = finishes_run s past e n legal h in
-    started_older s past f.worker n legal.2 (run_is past f.worker n f.is_run).last
-
-pub cancelled_older : (s : Layout) (past : List Entry) (e : Entry) (n : ℕ) → IsLegal s (e ∷ past) → number_cancelled e.reply ≡ Some n → n < length past
-cancelled_older s past e n legal h =
-    let f = takes_back_unstarted s past e n legal h in
-    subst (λ k. k < length past) f.number (unstarted_is past f.item f.queueing f.is_unstarted).known.older
-
--- ---- of a number that is still to come nothing was told
+-- ---- numbers that replies speak of are older, so of a number that is still to come nothing was told
 
 pub not_told : (o : Option ℕ) (n m : ℕ) → ((k : ℕ) → o ≡ Some k → k < m) → m ≤ n → is_at o n ≡ false
-not_told None n m h less = refl
-not_told (Some k) n m h less = let older : k < m = h k refl in grind (arith, nat_tests)
+not_told o n m h less = grind (arith, nat_tests)
+
+never_told : (told : Entry → Option ℕ) → ((s : Layout) (past : List Entry) (e : Entry) (k : ℕ) → IsLegal s (e ∷ past) → told e ≡ Some k → k < length past) → (s : Layout) (past : List Entry) (n : ℕ) → IsLegal s past → length past ≤ n + 1
+    → list_any (λ e. is_at (told e) n) past ≡ false
+unfolding IsLegal
+never_told told older s [] n legal less = refl
+never_told told older s (e ∷ past) n legal less = ap₂ (λ a b. a || b) (not_told (told e) n (length past) (λ k h. older s past e k legal h) (omega arith)) (never_told told older s past n legal.2 (omega arith))
 
 pub not_started_yet : (s : Layout) (past : List Entry) (n : ℕ) → IsLegal s past → length past ≤ n → is_started past n ≡ false
-unfolding IsLegal
-not_started_yet s [] n legal less = refl
-not_started_yet s (e ∷ past) n legal less =
-    ap₂ (λ a b. a || b) (not_told (number_started e.reply) n (length past) (λ k h. (starts_known s past e k legal h).older) (omega arith)) (not_started_yet s past n legal.2 (omega arith))
-
-not_finished_more : (s : Layout) (past : List Entry) (e : Entry) (n : ℕ) → IsLegal s (e ∷ past) → length past ≤ n → is_finished past n ≡ false → is_finished (e ∷ past) n ≡ false
-not_finished_more s past e n legal less earlier = ap₂ (λ a b. a || b) (not_told (number_finished e.reply) n (length past) (λ k h. finished_older s past e k legal h) less) earlier
-
-not_finished_yet : (s : Layout) (past : List Entry) (n : ℕ) → IsLegal s past → length past ≤ n → is_finished past n ≡ false
-unfolding IsLegal
-not_finished_yet s [] n legal less = refl
-not_finished_yet s (e ∷ past) n legal less = not_finished_more s past e n legal (omega arith) (not_finished_yet s past n legal.2 (omega arith))
+not_started_yet s past n legal less = never_told (λ e. number_started e.reply) (λ s past e k legal h. (starts_known s past e k legal h).older) s past n legal (omega arith)
 
 not_cancelled_more : (s : Layout) (past : List Entry) (e : Entry) (i n : ℕ) → IsLegal s (e ∷ past) → length past ≤ n → is_cancelled past i n ≡ false → is_cancelled (e ∷ past) i n ≡ false
 unfolding is_cancelled
 not_cancelled_more s past e i n legal less earlier =
-    let here = not_told (number_cancelled e.reply) n (length past) (λ k h. cancelled_older s past e k legal h) less in
-    let too_young : nat_lt n (length past) ≡ false = le-ltb n (length past) less in
-    grind arith
+    let here = not_told (number_cancelled e.reply) n (length past) (λ k h. let f = takes_back_unstarted s past e k legal h in subst (λ m. m < length past) f.number (unstarted_is past f.item f.queueing f.is_unstarted).known.older) less in
+    grind (arith, nat_tests)
 
-not_cancelled_yet : (s : Layout) (past : List Entry) (i n : ℕ) → IsLegal s past → length past ≤ n → is_cancelled past i n ≡ false
+not_cancelled_yet : (s : Layout) (past : List Entry) (i n : ℕ) → IsLegal s past → length past ≤ n + 1 → is_cancelled past i n ≡ false
 unfolding IsLegal is_cancelled
 not_cancelled_yet s [] i n legal less = refl
 not_cancelled_yet s (e ∷ past) i n legal less = not_cancelled_more s past e i n legal (omega arith) (not_cancelled_yet s past i n legal.2 (omega arith))
@@ -82,6 +62,6 @@ pub open_at_once : (s : Layout) (past : List Entry) (e : Entry) (i : ℕ) → Is
 unfolding IsLegal
 open_at_once s past e i legal =
     let young : nat_lt (length past) (length (e ∷ past)) ≡ true = lt-ltb (length past) (length (e ∷ past)) (omega arith) in
-    let unfinished = not_finished_more s past e (length past) legal (omega arith) (not_finished_yet s past (length past) legal.2 (omega arith)) in
-    let uncancelled = not_cancelled_more s past e i (length past) legal (omega arith) (not_cancelled_yet s past i (length past) legal.2 (omega arith)) in
-    rw (young, unfinished, uncancelled) refl
+    let unfinished : is_finished (e ∷ past) (length past) ≡ false
+    = never_told (λ e. number_finished e.reply) (λ s past e n legal h. let f = finishes_run s past e n legal h in started_older s past f.worker n legal.2 (run_is past f.worker n f.is_run).last) s (e ∷ past) (length past) legal (omega arith) in
+    rw (young, unfinished, not_cancelled_yet s (e ∷ past) i (length past) legal (omega arith)) refl

@@ -1,6 +1,8 @@
 -- Tickets by their numbers: each was given by the entry with its number.
-use Rattle.cmwq_theory_steps.specs.Common.{◌≡◌, ◌<◌, ℕ, Bool, true, false, List, [], ◌∷◌, length, Option, Some, None, option_to_list, refl, sym, ap, ◌∙◌, arith, if◌then◌else◌, AllByRecursion, eqb-true, Who, Caller, Worker, Entry, Ticket, entry_at, tickets, unended_tickets, is_unended, ticket_in, ticket_for, gives_ticket, ticket_of, is_ticket, All_map, All_append, All_filter}
+use Rattle.cmwq_theory_steps.specs.Common.{◌≡◌, ◌<◌, ℕ, List, [], ◌∷◌, length, Some, option_to_list, ap, ◌∙◌, arith, AllByRecursion, eqb-true, Who, Entry, Ticket, entry_at, tickets, unended_tickets, is_unended, ticket_in, ticket_of, is_ticket, All_map, All_append}
+use Rattle.cmwq_theory_steps.proofs.Lemmas.{all_kept}
 use Rattle.cmwq_theory_steps.proofs.Activated.{find_holds}
+use Rattle.cmwq_theory_steps.proofs.Options.{of_option}
 use Rattle.cmwq_theory_steps.proofs.Entries.{entry_at-older, entry_at-newest}
 
 pub record IsGiven (past : List Entry) (t : Ticket) : Type 0 where
@@ -10,30 +12,22 @@ pub record IsGiven (past : List Entry) (t : Ticket) : Type 0 where
   pub call : begun.call ≡ t.call
 
 given_more : (e : Entry) (past : List Entry) (t : Ticket) → IsGiven past t → IsGiven (e ∷ past) t
-given_more e past t h =
-    record { begun = h.begun; older = let less : t.number < length past = h.older in omega arith; at = entry_at-older e past t.number h.older ∙ h.at; call = h.call }
+given_more e past t h = record { begun = h.begun; older = omega (arith, h.older); at = entry_at-older e past t.number h.older ∙ h.at; call = h.call }
 
-given_now : (e : Entry) (past : List Entry) (t : Ticket) (b : Bool) (who : Who) → (if b then ticket_for who e.call (length past) else None) ≡ Some t → IsGiven (e ∷ past) t
-given_now e past t false who h = cc
-given_now e past t true (Worker w) h = cc
-given_now e past t true (Caller c) h =
-    let is : record { caller = c; call = e.call; number = length past } ≡ t = cc in
-    let number : length past ≡ t.number = ap (λ (u : Ticket). u.number) is in
-    record { begun = e; older = omega arith; at = ap (entry_at (e ∷ past)) (sym number) ∙ entry_at-newest e past; call = ap (λ (u : Ticket). u.call) is }
-
-given_last : (e : Entry) (past : List Entry) (o : Option Ticket) → ((t : Ticket) → o ≡ Some t → IsGiven (e ∷ past) t) → AllByRecursion (IsGiven (e ∷ past)) (option_to_list o)
-given_last e past None h = tt
-given_last e past (Some t) h = (h t refl, tt)
+given_now : (e : Entry) (past : List Entry) (t : Ticket) → ticket_in e (length past) ≡ Some t → IsGiven (e ∷ past) t
+given_now e past t h =
+    let number : t.number ≡ length past = grind arith in
+    record { begun = e; older = omega arith; at = ap (entry_at (e ∷ past)) number ∙ entry_at-newest e past; call = grind arith }
 
 pub tickets_given : (past : List Entry) → AllByRecursion (IsGiven past) (tickets past)
 unfolding tickets
 tickets_given [] = tt
 tickets_given (e ∷ past) =
     All_append (IsGiven (e ∷ past)) (tickets past) (option_to_list (ticket_in e (length past))) (All_map (IsGiven past) (IsGiven (e ∷ past)) (tickets past) (given_more e past) (tickets_given past))
-    (given_last e past (ticket_in e (length past)) (λ t h. given_now e past t (gives_ticket e.reply) e.who h))
+    (of_option (IsGiven (e ∷ past)) (ticket_in e (length past)) (given_now e past))
 
 pub unended_given : (past : List Entry) → AllByRecursion (IsGiven past) (unended_tickets past)
-unended_given past = All_filter (IsGiven past) (is_unended past) (tickets past) (All_map (IsGiven past) (λ t. is_unended past t ≡ true → IsGiven past t) (tickets past) (λ t h stands. h) (tickets_given past))
+unended_given past = all_kept (IsGiven past) (is_unended past) (tickets past) (tickets_given past)
 
 -- the ticket that a caller has under a number is that of the entry with this number
 pub record IsTicketOf (past : List Entry) (n : ℕ) (t : Ticket) : Type 0 where

@@ -1,5 +1,6 @@
 -- On a legal history the run of a worker is the run of its item.
-use Rattle.cmwq_theory_steps.specs.Common.{◌≡◌, ◌==◌, ◌<◌, ℕ, Bool, true, false, not, ◌&&◌, List, [], ◌∷◌, length, Option, Some, None, refl, sym, ap, ap₂, ◌∙◌, subst, arith, option_map, option_and_then, is_some, if◌then◌else◌, option_map_or, eqb-true, eq-eqb, inl, inr, eqb_tells, beq, WorkerId, Who, Worker, Entry, Start, Layout, is_at, is_by, same_worker, same_who, item_at, worker_of, number_started, is_open, is_number_open, last_start, run, item_start, item_run, item_runs, start_in, starts_item, IsLegal, open_before}
+use Rattle.cmwq_theory_steps.specs.Common.{nat_tests, ◌≡◌, ◌==◌, ◌<◌, ℕ, Bool, true, false, List, [], ◌∷◌, length, Option, Some, None, refl, sym, ap, ◌∙◌, subst, arith, is_some, if◌then◌else◌, option_map_or, eq-eqb, beq, WorkerId, Who, Worker, Entry, Start, Layout, is_by, same_worker, same_who, item_at, number_started, is_open, is_number_open, last_start, run, item_start, item_run, item_runs, start_in, starts_item, IsLegal, open_before}
+use Rattle.cmwq_theory_steps.proofs.Lemmas.{cond_some, not-true, option_and_then_some, same_Some}
 use Rattle.cmwq_theory_steps.proofs.Entries.{IsKnown, known_more, queueings_known, item_at-older}
 use Rattle.cmwq_theory_steps.proofs.Activated.{next_holds}
 use Rattle.cmwq_theory_steps.proofs.Starts.{starts_next}
@@ -7,27 +8,13 @@ use Rattle.cmwq_theory_steps.proofs.Starts.{starts_next}
 -- ---- workers
 
 pub flags_same : (a b : Bool) → beq a b ≡ true → a ≡ b
-flags_same true true h = refl
-flags_same false false h = refl
-flags_same true false h = cc
-flags_same false true h = cc
+flags_same a b h = grind arith
 
 pub same_worker-true : (v w : WorkerId) → same_worker v w ≡ true → v ≡ w
-same_worker-true v w h =
-    let cpu : v.pool.cpu.0 ≡ w.pool.cpu.0 = eqb-true v.pool.cpu.0 w.pool.cpu.0 (grind arith) in
-    let high : v.pool.high ≡ w.pool.high = flags_same v.pool.high w.pool.high (grind arith) in
-    let index : v.index ≡ w.index = eqb-true v.index w.index (grind arith) in
-    λ i. record { pool = record { cpu = record { 0 = cpu i }; high = high i }; index = index i }
+same_worker-true v w h = grind (arith, nat_tests, flags_same)
 
 pub same_worker_itself : (w : WorkerId) → same_worker w w ≡ true
-same_worker_itself w = all _ _ _ (eq-eqb w.pool.cpu.0 w.pool.cpu.0 refl) (flag w.pool.high) (eq-eqb w.index w.index refl)
-  where
-    flag : (b : Bool) → beq b b ≡ true
-    flag true = refl
-    flag false = refl
-
-    all : (a b c : Bool) → a ≡ true → b ≡ true → c ≡ true → ((a && b) && c) ≡ true
-    all a b c ha hb hc = grind arith
+same_worker_itself w = grind (arith, nat_tests)
 
 -- ---- what a worker started last, and what it runs
 
@@ -35,35 +22,20 @@ pub data LastStart (e : Entry) (past : List Entry) (w : WorkerId) (n : ℕ) : Ty
   now : is_by (Worker w) e ≡ true → number_started e.reply ≡ Some n → LastStart e past w n
   before : last_start past w ≡ Some n → LastStart e past w n
 
-last_starts : (e : Entry) (past : List Entry) (w : WorkerId) (n : ℕ) (a : Bool) (o : Option ℕ) → is_by (Worker w) e ≡ a → number_started e.reply ≡ o
-    → (if a && is_some o then o else last_start past w) ≡ Some n → LastStart e past w n
-last_starts e past w n true (Some m) ha ho h = now ha (ho ∙ h)
-last_starts e past w n true None ha ho h = before h
-last_starts e past w n false o ha ho h = before h
-
 pub last_start_cases : (e : Entry) (past : List Entry) (w : WorkerId) (n : ℕ) → last_start (e ∷ past) w ≡ Some n → LastStart e past w n
 unfolding last_start
-last_start_cases e past w n h = last_starts e past w n (is_by (Worker w) e) (number_started e.reply) refl refl h
+last_start_cases e past w n h = grind (arith, now, before)
 
 pub record IsRunOf (past : List Entry) (w : WorkerId) (n : ℕ) : Type 0 where
   pub last : last_start past w ≡ Some n
   pub is_still_open : is_number_open past n ≡ true
 
-run_here : (past : List Entry) (w : WorkerId) (n m : ℕ) (b : Bool) → last_start past w ≡ Some m → is_number_open past m ≡ b → (if b then Some m else None) ≡ Some n → IsRunOf past w n
-run_here past w n m true last is_live h =
-    let same : m ≡ n = cc in
-    record { last = last ∙ ap Some same; is_still_open = ap (is_number_open past) (sym same) ∙ is_live }
-run_here past w n m false last is_live h = cc
-
-run_started : (past : List Entry) (w : WorkerId) (n : ℕ) (o : Option ℕ) → last_start past w ≡ o → option_and_then (λ m. if is_number_open past m then Some m else None) o ≡ Some n → IsRunOf past w n
-run_started past w n None last h = cc
-run_started past w n (Some m) last h = run_here past w n m (is_number_open past m) last refl h
-
 pub run_is : (past : List Entry) (w : WorkerId) (n : ℕ) → run past w ≡ Some n → IsRunOf past w n
-run_is past w n h = run_started past w n (last_start past w) refl h
+run_is past w n h = option_and_then_some (λ m. if is_number_open past m then Some m else None) (last_start past w) n h
+    (λ m last k. let c = cond_some (is_number_open past m) m n k in record { last = last ∙ ap Some c.1; is_still_open = ap (is_number_open past) (sym c.1) ∙ c.0 })
 
 pub is_run : (past : List Entry) (w : WorkerId) (n : ℕ) → last_start past w ≡ Some n → is_number_open past n ≡ true → run past w ≡ Some n
-is_run past w n last is_live = ap (option_and_then (λ m. if is_number_open past m then Some m else None)) last ∙ ap (λ b. if b then Some n else None) is_live
+is_run past w n last is_live = grind arith
 
 pub open_of_item : (past : List Entry) (i n : ℕ) → item_at past n ≡ Some i → is_number_open past n ≡ is_open past i n
 open_of_item past i n item = ap (λ o. option_map_or (λ j. is_open past j n) o false) item
@@ -71,42 +43,24 @@ open_of_item past i n item = ap (λ o. option_map_or (λ j. is_open past j n) o 
 -- ---- the run of an item
 
 pub item_run_is : (past : List Entry) (i : ℕ) (start : Start) → item_start past i ≡ Some start → is_open past i start.number ≡ true → item_run past i ≡ Some start
-item_run_is past i start last is_live =
-    ap (option_and_then (λ (st : Start). if is_open past i st.number then Some st else None)) last ∙ ap (λ b. if b then Some start else None) is_live
-
-item_started : (past : List Entry) (i : ℕ) (start : Start) (o : Option Start) → item_start past i ≡ o
-    → option_and_then (λ (st : Start). if is_open past i st.number then Some st else None) o ≡ Some start → item_start past i ≡ Some start
-item_started past i start None last h = cc
-item_started past i start (Some st) last h = last ∙ here (is_open past i st.number) h
-  where
-    here : (b : Bool) → (if b then Some st else None) ≡ Some start → Some st ≡ Some start
-    here true h = h
-    here false h = cc
+item_run_is past i start last is_live = grind arith
 
 pub item_run_started : (past : List Entry) (i : ℕ) (start : Start) → item_run past i ≡ Some start → item_start past i ≡ Some start
-item_run_started past i start h = item_started past i start (item_start past i) refl h
+item_run_started past i start h = grind arith
 
 -- ---- an entry that starts a queueing, and one that starts none
 
-abbrev start_with : Option ℕ → WorkerId → Option Start
-start_with o v = option_map (λ k. record { worker = v; number = k }) o
-
 pub start_of_worker : (e : Entry) (w : WorkerId) (n : ℕ) → e.who ≡ Worker w → number_started e.reply ≡ Some n → start_in e ≡ Some (record { worker = w; number = n })
-start_of_worker e w n who number = ap₂ (λ (x : Who) (o : Option ℕ). option_and_then (start_with o) (worker_of x)) who number
-
-by_nobody : (o : Option WorkerId) → option_and_then (start_with None) o ≡ None
-by_nobody None = refl
-by_nobody (Some v) = refl
+start_of_worker e w n who number = grind arith
 
 pub no_start : (e : Entry) → number_started e.reply ≡ None → start_in e ≡ None
-no_start e none = ap (λ (o : Option ℕ). option_and_then (start_with o) (worker_of e.who)) none ∙ by_nobody (worker_of e.who)
+no_start e none = grind arith
 
 pub starts_its_item : (e : Entry) (past : List Entry) (start : Start) (i j : ℕ) → start_in e ≡ Some start → item_at past start.number ≡ Some j → starts_item past e i ≡ (j == i)
-starts_its_item e past start i j is item =
-    ap (λ (o : Option Start). option_map_or (λ (st : Start). is_at (item_at past st.number) i) o false) is ∙ ap (λ o. is_at o i) item
+starts_its_item e past start i j is item = grind arith
 
 pub starts_no_item : (e : Entry) (past : List Entry) (i : ℕ) → start_in e ≡ None → starts_item past e i ≡ false
-starts_no_item e past i none = ap (λ (o : Option Start). option_map_or (λ (st : Start). is_at (item_at past st.number) i) o false) none
+starts_no_item e past i none = grind arith
 
 pub item_starts : (e : Entry) (past : List Entry) (i : ℕ) → starts_item past e i ≡ true → item_start (e ∷ past) i ≡ start_in e
 unfolding item_start
@@ -136,19 +90,15 @@ starts_known s past e n legal started =
       by_worker = st.by_worker;
       older = subst (λ k. k < length past) st.number found.holds.older;
       is_item = ap (item_at past) (sym st.number) ∙ found.holds.item;
-      has_none = not_true (item_runs past st.queueing.item.0) found.startable;
+      has_none = not-true (item_runs past st.queueing.item.0) found.startable;
     }
-  where
-    not_true : (b : Bool) → not b ≡ true → b ≡ false
-    not_true true h = cc
-    not_true false h = refl
 
 pub started_older : (s : Layout) (past : List Entry) (w : WorkerId) (n : ℕ) → IsLegal s past → last_start past w ≡ Some n → n < length past
 unfolding last_start IsLegal
 started_older s [] w n legal h = cc
 started_older s (e ∷ past) w n legal h = elim (last_start_cases e past w n h) [
-  | now by starts ↦ let less : n < length past = (starts_known s past e n legal starts).older in omega arith
-  | before last ↦ let less : n < length past = started_older s past w n legal.2 last in omega arith
+  | now by starts ↦ omega (arith, (starts_known s past e n legal starts).older)
+  | before last ↦ omega (arith, started_older s past w n legal.2 last)
 ]
 
 -- ---- the law
@@ -159,35 +109,10 @@ unmoved s past e i None legal none runs = starts_no_item e past i (no_start e no
 unmoved s past e i (Some m) legal started runs =
     let k = starts_known s past e m legal started in
     let is = starts_its_item e past (record { worker = k.worker; number = m }) i k.item (start_of_worker e k.worker m k.by_worker started) k.is_item in
-    is ∙ differs k.item k.has_none
-  where
-    differs : (j : ℕ) → item_runs past j ≡ false → (j == i) ≡ false
-    differs j none = elim (eqb_tells j i) [
-      | inl same ↦ let both : item_runs past i ≡ false = subst (λ k. item_runs past k ≡ false) same.1 none in cc
-      | inr other ↦ other.0
-    ]
+    grind (arith, nat_tests, k.has_none)
 
 abbrev RunsItem : List Entry → WorkerId → ℕ → ℕ → Type 0
 RunsItem past w n i = item_run past i ≡ Some (record { worker = w; number = n })
-
-run_begins : (s : Layout) (past : List Entry) (e : Entry) (w : WorkerId) (n i : ℕ) → IsLegal s (e ∷ past) → is_by (Worker w) e ≡ true → number_started e.reply ≡ Some n
-    → item_at (e ∷ past) n ≡ Some i → is_open (e ∷ past) i n ≡ true → RunsItem (e ∷ past) w n i
-run_begins s past e w n i legal by starts item is_live =
-    let k = starts_known s past e n legal starts in
-    let same : k.worker ≡ w = same_worker-true k.worker w (subst (λ (x : Who). same_who x (Worker w) ≡ true) k.by_worker by) in
-    let is_start = start_of_worker e w n (k.by_worker ∙ ap Worker same) starts in
-    let known : item_at past n ≡ Some i = sym (item_at-older e past n k.older) ∙ item in
-    let starts_it = starts_its_item e past (record { worker = w; number = n }) i i is_start known ∙ eq-eqb i i refl in
-    item_run_is (e ∷ past) i (record { worker = w; number = n }) (item_starts e past i starts_it ∙ is_start) is_live
-
-run_goes_on : (s : Layout) (past : List Entry) (e : Entry) (w : WorkerId) (n i : ℕ) → IsLegal s (e ∷ past) → last_start past w ≡ Some n → n < length past
-    → item_at (e ∷ past) n ≡ Some i → is_open (e ∷ past) i n ≡ true → (run past w ≡ Some n → item_at past n ≡ Some i → RunsItem past w n i) → RunsItem (e ∷ past) w n i
-run_goes_on s past e w n i legal last less item is_live until_here =
-    let known : item_at past n ≡ Some i = sym (item_at-older e past n less) ∙ item in
-    let was_open = open_before e past i n less is_live in
-    let it = until_here (is_run past w n last (open_of_item past i n known ∙ was_open)) known in
-    let stays = unmoved s past e i (number_started e.reply) legal refl (ap is_some it) in
-    item_run_is (e ∷ past) i (record { worker = w; number = n }) (item_stays e past i stays ∙ item_run_started past i (record { worker = w; number = n }) it) is_live
 
 pub runs_are_items : (s : Layout) (past : List Entry) (w : WorkerId) (n i : ℕ) → IsLegal s past → run past w ≡ Some n → item_at past n ≡ Some i → RunsItem past w n i
 unfolding last_start IsLegal
@@ -196,17 +121,23 @@ runs_are_items s (e ∷ past) w n i legal h k =
     let r = run_is (e ∷ past) w n h in
     let is_live : is_open (e ∷ past) i n ≡ true = sym (open_of_item (e ∷ past) i n k) ∙ r.is_still_open in
     elim (last_start_cases e past w n r.last) [
-      | now by starts ↦ run_begins s past e w n i legal by starts k is_live
-      | before last ↦ run_goes_on s past e w n i legal last (started_older s past w n legal.2 last) k is_live (runs_are_items s past w n i legal.2)
+      | now by starts ↦
+          let st = starts_known s past e n legal starts in
+          let same = same_worker-true st.worker w (subst (λ (x : Who). same_who x (Worker w) ≡ true) st.by_worker by) in
+          let is_start = start_of_worker e w n (st.by_worker ∙ ap Worker same) starts in
+          let starts_it = starts_its_item e past (record { worker = w; number = n }) i i is_start (sym (item_at-older e past n st.older) ∙ k) ∙ eq-eqb i i refl in
+          item_run_is (e ∷ past) i (record { worker = w; number = n }) (item_starts e past i starts_it ∙ is_start) is_live
+      | before last ↦
+          let less = started_older s past w n legal.2 last in
+          let known = sym (item_at-older e past n less) ∙ k in
+          let it = runs_are_items s past w n i legal.2 (is_run past w n last (open_of_item past i n known ∙ open_before e past i n less is_live)) known in
+          let stays = item_stays e past i (unmoved s past e i (number_started e.reply) legal refl (ap is_some it)) in
+          item_run_is (e ∷ past) i (record { worker = w; number = n }) (stays ∙ item_run_started past i (record { worker = w; number = n }) it) is_live
     ]
 
 -- so two workers that have runs of one item are one, and so are their runs
 pub one_worker : (s : Layout) (past : List Entry) (v w : WorkerId) (n m i : ℕ) → IsLegal s past → run past v ≡ Some n → run past w ≡ Some m → item_at past n ≡ Some i → item_at past m ≡ Some i
     → (v ≡ w) × (n ≡ m)
 one_worker s past v w n m i legal hv hw kn km =
-    let same : Some (record { worker = v; number = n }) ≡ Some (record { worker = w; number = m }) = sym (runs_are_items s past v n i legal hv kn) ∙ runs_are_items s past w m i legal hw km in
-    let starts = some_same (record { worker = v; number = n }) (record { worker = w; number = m }) same in
+    let starts = same_Some _ _ (sym (runs_are_items s past v n i legal hv kn) ∙ runs_are_items s past w m i legal hw km) in
     (ap (λ (st : Start). st.worker) starts, ap (λ (st : Start). st.number) starts)
-  where
-    some_same : (a b : Start) → Some a ≡ Some b → a ≡ b
-    some_same a b h = cc

@@ -1,6 +1,5 @@
 -- The run of an item after one more entry, and whose run it is.
-use Rattle.cmwq_theory_steps.specs.Common.{◌≡◌, ◌<◌, ℕ, Bool, true, false, not, ◌&&◌, List, [], ◌∷◌, length, Option, Some, None, refl, sym, ap, ◌∙◌, subst, arith, option_map, option_and_then, is_some, if◌then◌else◌, option_map_or, eq-eqb, WorkerId, Who, Caller, Worker, Reply, Entry, Start, Layout, is_at, is_by, same_who, item_at, worker_of, number_started, number_finished, finishes, starts, is_started, is_open, run, has_run, item_start, item_run, start_in, starts_item, IsLegal}
-use Rattle.cmwq_model.specs.declared.reply.Reply.TheVariants as reply
+use Rattle.cmwq_theory_steps.specs.Common.{or_right, nat_tests, ◌≡◌, ◌<◌, ℕ, Bool, true, false, List, [], ◌∷◌, length, Option, Some, None, refl, sym, ap, ◌∙◌, subst, arith, option_map, option_and_then, if◌then◌else◌, option_map_or, WorkerId, Who, Worker, Entry, Start, Layout, is_at, is_by, same_who, item_at, worker_of, number_started, number_finished, finishes, starts, is_started, run, has_run, item_start, item_run, start_in, starts_item, IsLegal}
 use Rattle.cmwq_theory_steps.specs.RunSteps.{run_after, ends_run}
 use Rattle.cmwq_theory_steps.proofs.Entries.{item_at-older, is_at-true}
 use Rattle.cmwq_theory_steps.proofs.ItemRuns.{same_worker-true, item_run_is, item_run_started, item_starts, item_stays, starts_known, same_worker_itself}
@@ -15,27 +14,16 @@ pub record StartsOf (past : List Entry) (e : Entry) (i : ℕ) (start : Start) : 
   pub number : number_started e.reply ≡ Some start.number
   pub item : item_at past start.number ≡ Some i
 
-start_parts : (who : Who) (o : Option ℕ) (start : Start) → option_and_then (λ w. option_map (λ n. record { worker = w; number = n }) o) (worker_of who) ≡ Some start → (who ≡ Worker start.worker) × (o ≡ Some start.number)
-start_parts (Worker w) (Some n) start h = let is : record { worker = w; number = n } ≡ start = cc in (ap (λ (st : Start). Worker st.worker) is, ap (λ (st : Start). Some st.number) is)
-start_parts who o start h = cc
-
 pub starts_of : (past : List Entry) (e : Entry) (i : ℕ) (start : Start) → starts_item past e i ≡ true → start_in e ≡ Some start → StartsOf past e i start
-starts_of past e i start h is =
-    let parts = start_parts e.who (number_started e.reply) start is in
-    let item : is_at (item_at past start.number) i ≡ true = sym (ap (λ (o : Option Start). option_map_or (λ (st : Start). is_at (item_at past st.number) i) o false) is) ∙ h in
-    record { by_worker = parts.0; number = parts.1; item = is_at-true (item_at past start.number) i item }
+starts_of past e i start h is = record { by_worker = grind arith; number = grind arith; item = is_at-true (item_at past start.number) i (grind arith) }
 
 -- where nothing is started, nothing of the item is
 pub none_started : (who : Who) (past : List Entry) (i : ℕ) (o : Option ℕ) → o ≡ None
     → option_map_or (λ (start : Start). is_at (item_at past start.number) i) (option_and_then (λ w. option_map (λ n. record { worker = w; number = n }) o) (worker_of who)) false ≡ false
-none_started (Caller c) past i o h = refl
-none_started (Worker w) past i o h = ap (λ k. option_map_or (λ (start : Start). is_at (item_at past start.number) i) (option_map (λ n. record { worker = w; number = n }) k) false) h
+none_started who past i o h = grind arith
 
 pub starts_some : (past : List Entry) (e : Entry) (i : ℕ) (o : Option Start) → start_in e ≡ o → starts_item past e i ≡ true → (start : Start) × (start_in e ≡ Some start)
-starts_some past e i None is h =
-    let none : starts_item past e i ≡ false = ap (λ (o : Option Start). option_map_or (λ (st : Start). is_at (item_at past st.number) i) o false) is in
-    let bad : true ≡ false = sym h ∙ none in
-    cc
+starts_some past e i None is h = absurd (grind arith)
 starts_some past e i (Some start) is h = (start, is)
 
 -- ---- the last start of an item is older, of the item, and started
@@ -50,25 +38,17 @@ unfolding item_start IsLegal
 start_is s [] i start legal h = cc
 start_is s (e ∷ past) i start legal h = at (starts_item past e i) refl h (start_is s past i start legal.2)
   where
-    more : (b : Bool) → (b ≡ true) → is_started past start.number ≡ true → is_started (e ∷ past) start.number ≡ true
-    more b h k = grind arith
-
     at : (b : Bool) → starts_item past e i ≡ b → (if b then start_in e else item_start past i) ≡ Some start → (item_start past i ≡ Some start → IsStartOf past i start) → IsStartOf (e ∷ past) i start
     at true is h earlier =
         let st = starts_of past e i start is h in
+        let now = st.number in
         let k = starts_known s past e start.number legal st.number in
-        let less : start.number < length past = k.older in
-        record { older = omega arith; item = item_at-older e past start.number k.older ∙ st.item; started = let here : starts start.number e ≡ true = ap (λ o. is_at o start.number) st.number ∙ eq-eqb start.number start.number refl in grind arith }
+        record { older = omega (arith, k.older); item = item_at-older e past start.number k.older ∙ st.item; started = grind (arith, nat_tests) }
     at false is h earlier =
         let st = earlier h in
-        let less : start.number < length past = st.older in
-        let was : is_started past start.number ≡ true = st.started in
-        record { older = omega arith; item = item_at-older e past start.number st.older ∙ st.item; started = grind arith }
+        record { older = omega (arith, st.older); item = item_at-older e past start.number st.older ∙ st.item; started = or_right (starts start.number e) _ st.started }
 
 -- ---- the run of an item after one more entry
-
-abbrev run_if_open : List Entry → ℕ → Option Start → Option Start
-run_if_open past i o = option_and_then (λ (start : Start). if is_open past i start.number then Some start else None) o
 
 pub item_begun : (s : Layout) (past : List Entry) (e : Entry) (i : ℕ) → IsLegal s (e ∷ past) → starts_item past e i ≡ true → item_run (e ∷ past) i ≡ start_in e
 item_begun s past e i legal is =
@@ -76,93 +56,49 @@ item_begun s past e i legal is =
     let st = starts_of past e i some.0 is some.1 in
     item_run_is (e ∷ past) i some.0 (item_starts e past i is ∙ some.1) (started_open s past e i some.0.number legal st.number st.item) ∙ sym some.1
 
-item_left : (s : Layout) (past : List Entry) (e : Entry) (i : ℕ) → IsLegal s (e ∷ past) → starts_item past e i ≡ false → item_run (e ∷ past) i ≡ (if ends_run e (item_run past i) then None else item_run past i)
-unfolding IsLegal
-item_left s past e i legal is = ap (run_if_open (e ∷ past) i) (item_stays e past i is) ∙ at (item_start past i) refl
-  where
-    here : (start : Start) (b : Bool) → (if b && not (finishes start.number e) then Some start else None) ≡ (if ends_run e (if b then Some start else None) then None else (if b then Some start else None))
-    here start false = refl
-    here start true = flip (finishes start.number e)
-      where
-        flip : (f : Bool) → (if not f then Some start else None) ≡ (if f then None else Some start)
-        flip true = refl
-        flip false = refl
-
-    at : (o : Option Start) → item_start past i ≡ o → run_if_open (e ∷ past) i o ≡ (if ends_run e (run_if_open past i o) then None else run_if_open past i o)
-    at None h = refl
-    at (Some start) h =
-        let st = start_is s past i start legal.2 h in
-        ap (λ b. if b then Some start else None) (started_open_on s past e i start.number legal st.older st.started) ∙ here start (is_open past i start.number)
-
 pub items_run_on : (s : Layout) (past : List Entry) (e : Entry) (i : ℕ) → IsLegal s (e ∷ past)
     → item_run (e ∷ past) i ≡ (if starts_item past e i then start_in e else if ends_run e (item_run past i) then None else item_run past i)
-items_run_on s past e i legal = at (starts_item past e i) refl
+unfolding IsLegal
+items_run_on s past e i legal = at (starts_item past e i) (item_start past i) refl refl
   where
-    at : (b : Bool) → starts_item past e i ≡ b → item_run (e ∷ past) i ≡ (if b then start_in e else if ends_run e (item_run past i) then None else item_run past i)
-    at true h = item_begun s past e i legal h
-    at false h = item_left s past e i legal h
+    at : (b : Bool) (o : Option Start) → starts_item past e i ≡ b → item_start past i ≡ o → item_run (e ∷ past) i ≡ (if b then start_in e else if ends_run e (item_run past i) then None else item_run past i)
+    at true o is h = item_begun s past e i legal is
+    at false None is h = let stays = item_stays e past i is in grind arith
+    at false (Some start) is h =
+        let st = start_is s past i start legal.2 h in
+        let stays = item_stays e past i is ∙ h in
+        simp (stays, h, started_open_on s past e i start.number legal st.older st.started) (grind arith)
 
 -- ---- the run of an item is that of its worker
 
-by_this : (s : Layout) (past : List Entry) (e : Entry) (v w : WorkerId) → e.who ≡ Worker v → is_by (Worker w) e ≡ true → v ≡ w
-by_this s past e v w who by = same_worker-true v w (subst (λ (x : Who). same_who x (Worker w) ≡ true) who by)
-
--- a worker that starts something had no run
-pub starter_idle : (s : Layout) (past : List Entry) (e : Entry) (w : WorkerId) (n : ℕ) → IsLegal s (e ∷ past) → is_by (Worker w) e ≡ true → number_started e.reply ≡ Some n → has_run past w ≡ false
-starter_idle s past e w n legal by h =
-    let st = starts_next s past e n legal h in
-    subst (λ (v : WorkerId). has_run past v ≡ false) (by_this s past e st.worker w st.by_worker by) st.idle
+by_this : (past : List Entry) (e : Entry) (v w : WorkerId) → e.who ≡ Worker v → is_by (Worker w) e ≡ true → v ≡ w
+by_this past e v w who by = same_worker-true v w (subst (λ (x : Who). same_who x (Worker w) ≡ true) who by)
 
 run_keeps : (s : Layout) (past : List Entry) (e : Entry) (start : Start) → IsLegal s (e ∷ past) → finishes start.number e ≡ false → run past start.worker ≡ Some start.number → run (e ∷ past) start.worker ≡ Some start.number
 run_keeps s past e start legal survivors runs = workers_run_on s past e start.worker legal ∙ at (is_by (Worker start.worker) e) refl
   where
-    starting : (n : ℕ) → number_started e.reply ≡ Some n → is_by (Worker start.worker) e ≡ true → ⊥
-    starting n h by = let idle = starter_idle s past e start.worker n legal by h in let has : has_run past start.worker ≡ true = ap is_some runs in let bad : true ≡ false = sym has ∙ idle in cc
-
-    finishing : (n : ℕ) → number_finished e.reply ≡ Some n → is_by (Worker start.worker) e ≡ true → ⊥
-    finishing n h by =
-        let f = finishes_run s past e n legal h in
-        let its : run past start.worker ≡ Some n = subst (λ (v : WorkerId). run past v ≡ Some n) (by_this s past e f.worker start.worker f.by_worker by) f.is_run in
-        let number : Some n ≡ Some start.number = sym its ∙ runs in
-        let ends : finishes start.number e ≡ true = ap (λ o. is_at o start.number) (h ∙ number) ∙ eq-eqb start.number start.number refl in
-        let bad : true ≡ false = sym ends ∙ survivors in
-        cc
-
-    after : (r : Reply) → e.reply ≡ r → is_by (Worker start.worker) e ≡ true → run_after r (run past start.worker) ≡ Some start.number
-    after (reply.Started m) h by = absurd (starting m (ap number_started h) by)
-    after (reply.StartedEnlist m x) h by = absurd (starting m (ap number_started h) by)
-    after (reply.Finished m) h by = absurd (finishing m (ap number_finished h) by)
-    after r h by = runs
-
     at : (b : Bool) → is_by (Worker start.worker) e ≡ b → (if b then run_after e.reply (run past start.worker) else run past start.worker) ≡ Some start.number
-    at true by = after e.reply refl by
     at false by = runs
+    at true by =
+        let begun : (n : ℕ) → number_started e.reply ≡ Some n → has_run past start.worker ≡ false
+        = λ n h. let st = starts_next s past e n legal h in subst (λ (v : WorkerId). has_run past v ≡ false) (by_this past e st.worker start.worker st.by_worker by) st.idle in
+        let ended : (n : ℕ) → number_finished e.reply ≡ Some n → run past start.worker ≡ Some n
+        = λ n h. let f = finishes_run s past e n legal h in subst (λ (v : WorkerId). run past v ≡ Some n) (by_this past e f.worker start.worker f.by_worker by) f.is_run in
+        grind (arith, nat_tests)
 
 -- a run that is left was there, and the entry doesn't finish it
 pub left_run : (e : Entry) (o : Option Start) (start : Start) → (if ends_run e o then None else o) ≡ Some start → (o ≡ Some start) × (finishes start.number e ≡ false)
-left_run e None start h = cc
-left_run e (Some st) start h = at (finishes st.number e) refl h
-  where
-    at : (b : Bool) → finishes st.number e ≡ b → (if b then None else Some st) ≡ Some start → (Some st ≡ Some start) × (finishes start.number e ≡ false)
-    at true is h = cc
-    at false is h = let same : st ≡ start = cc in (h, subst (λ (x : Start). finishes x.number e ≡ false) same is)
+left_run e o start h = grind arith
 
 pub runs_its_item : (s : Layout) (past : List Entry) (i : ℕ) (start : Start) → IsLegal s past → item_run past i ≡ Some start → run past start.worker ≡ Some start.number
 unfolding IsLegal item_start
 runs_its_item s [] i start legal h = cc
 runs_its_item s (e ∷ past) i start legal h = at (starts_item past e i) refl (sym (items_run_on s past e i legal) ∙ h) (runs_its_item s past i start legal.2)
   where
-    begun : starts_item past e i ≡ true → start_in e ≡ Some start → run (e ∷ past) start.worker ≡ Some start.number
-    begun is h =
-        let st = starts_of past e i start is h in
-        run_begun s past e start.worker start.number legal (ap (λ (x : Who). same_who x (Worker start.worker)) st.by_worker ∙ same_worker_itself start.worker) st.number
-
     at : (b : Bool) → starts_item past e i ≡ b → (if b then start_in e else if ends_run e (item_run past i) then None else item_run past i) ≡ Some start
         → (item_run past i ≡ Some start → run past start.worker ≡ Some start.number) → run (e ∷ past) start.worker ≡ Some start.number
-    at true is h earlier = begun is h
-    at false is h earlier =
-        let was = left_run e (item_run past i) start h in
-        run_keeps s past e start legal was.1 (earlier was.0)
+    at true is h earlier = let st = starts_of past e i start is h in run_begun s past e start.worker start.number legal (ap (λ (x : Who). same_who x (Worker start.worker)) st.by_worker ∙ same_worker_itself start.worker) st.number
+    at false is h earlier = let was = left_run e (item_run past i) start h in run_keeps s past e start legal was.1 (earlier was.0)
 
 pub items_are_run : (s : Layout) (past : List Entry) (i : ℕ) (start : Start) → IsLegal s past → item_run past i ≡ Some start → (run past start.worker ≡ Some start.number) × (item_at past start.number ≡ Some i)
 items_are_run s past i start legal h = (runs_its_item s past i start legal h, (start_is s past i start legal (item_run_started past i start h)).item)

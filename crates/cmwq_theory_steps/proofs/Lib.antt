@@ -14,12 +14,13 @@ pub mod Growing
 pub mod Inversions
 pub mod ItemRuns
 pub mod ItemSteps
+pub mod Lemmas
 pub mod Limits
 pub mod Marks
-pub mod ModifyCases
 pub mod NewlyActive
 pub mod OfEachKind
 pub mod OneRun
+pub mod Options
 pub mod Order
 pub mod OwedFrozen
 pub mod OwedItems

@@ -2,9 +2,4 @@ use Rattle.cmwq_theory_steps.proofs.Growing.{fronts_are_legal, older_are_legal, 
 use Rattle.cmwq_theory_steps.proofs.histories.histories_grow.Goals as goal
 
 pub returns : goal.returns
-returns c = record {
-  fronts_are_legal = fronts_are_legal;
-  older_are_legal = older_are_legal;
-  one_more_is_newest = one_more_is_newest;
-  longer_begin_with_older = longer_begin_with_older;
-}
+returns c = assumption (fronts_are_legal, older_are_legal, one_more_is_newest, longer_begin_with_older)

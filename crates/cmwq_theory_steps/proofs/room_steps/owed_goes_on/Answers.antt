@@ -7,14 +7,4 @@ use Rattle.cmwq_theory_steps.proofs.Owing.{owed_goes_on, nothing_owed}
 use Rattle.cmwq_theory_steps.proofs.room_steps.owed_goes_on.Goals as goal
 
 pub returns : goal.returns
-returns c = record {
-  waiting_are_counted = waiting_counted;
-  runs_are_counted = runs_counted;
-  sleepers_are_counted = sleepers_counted;
-  booked_are_counted = booked_counted;
-  tickets_are_counted = tickets_counted;
-  promised_need_no_more = promised_need_no_more;
-  frozen_is_counted = frozen_counted;
-  owed_goes_on = owed_goes_on;
-  nothing_owed_at_first = nothing_owed;
-}
+returns c = assumption (waiting_counted, runs_counted, sleepers_counted, booked_counted, tickets_counted, promised_need_no_more, frozen_counted, owed_goes_on, nothing_owed)

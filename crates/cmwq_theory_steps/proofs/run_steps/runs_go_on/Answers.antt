@@ -3,8 +3,4 @@ use Rattle.cmwq_theory_steps.proofs.ItemSteps.{items_run_on, items_are_run}
 use Rattle.cmwq_theory_steps.proofs.run_steps.runs_go_on.Goals as goal
 
 pub returns : goal.returns
-returns c = record {
-  workers_run_on = workers_run_on;
-  items_run_on = items_run_on;
-  items_are_run_by_their_workers = items_are_run;
-}
+returns c = assumption (workers_run_on, items_run_on, items_are_run)

@@ -3,14 +3,4 @@ use Rattle.cmwq_theory_steps.proofs.Marks.{others_stay}
 use Rattle.cmwq_theory_steps.proofs.state_steps.states_go_on.Goals as goal
 
 pub returns : goal.returns
-returns c = record {
-  sleepers_go_on = sleepers_go_on;
-  enlisted_go_on = enlisted_go_on;
-  bookings_go_on = bookings_go_on;
-  time_goes_on = time_goes_on;
-  serials_go_on = serials_go_on;
-  entries_book_as_asked = books_as_asked;
-  entries_open_as_asked = opens_as_asked;
-  others_stay = others_stay;
-  serials_rise = serials_rise;
-}
+returns c = assumption (sleepers_go_on, enlisted_go_on, bookings_go_on, time_goes_on, serials_go_on, books_as_asked, opens_as_asked, others_stay, serials_rise)

@@ -2,12 +2,4 @@ use Rattle.cmwq_theory_steps.proofs.TicketSteps.{unended_go_on, one_ticket_ends,
 use Rattle.cmwq_theory_steps.proofs.ticket_steps.tickets_go_on.Goals as goal
 
 pub returns : goal.returns
-returns c = record {
-  unended_go_on = unended_go_on;
-  one_ticket_ends = one_ticket_ends;
-  served_stay = served_stay;
-  begun_are_served = begun_are_served;
-  overflowed_move_up = overflowed_move_up;
-  one_moves_up = one_moves_up;
-  tickets_go_on = tickets_go_on;
-}
+returns c = assumption (unended_go_on, one_ticket_ends, served_stay, begun_are_served, overflowed_move_up, one_moves_up, tickets_go_on)

@@ -5,13 +5,4 @@ use Rattle.cmwq_theory_steps.proofs.Active.{active_counted}
 use Rattle.cmwq_theory_steps.proofs.waiting_steps.waiting_goes_on.Goals as goal
 
 pub returns : goal.returns
-returns c = record {
-  candidates_are = candidates_are;
-  candidates_below_max_active = newly_are;
-  waiting_goes_on = waiting_goes_on;
-  way_by_picked = way_by_picked;
-  waiting_on_goes_on = waiting_on_goes_on;
-  active_are_counted = active_counted;
-  active_counts_go_on = active_count_goes_on;
-  stays_are_counted = stays_counted;
-}
+returns c = assumption (candidates_are, newly_are, waiting_goes_on, way_by_picked, waiting_on_goes_on, active_counted, active_count_goes_on, stays_counted)
