@@ -4,6 +4,8 @@ use Rattle.cmwq_model.specs.declared.reply.Reply.TheVariants as reply
 use Rattle.cmwq_theory_steps.specs.Endings.{survives}
 use Rattle.cmwq_theory_steps.specs.RunSteps.{ends_run}
 use Rattle.cmwq_theory_steps.specs.Pools.{IsRunIn}
+use Rattle.std.proofs.lemmas.Bool.{and_parts, not-false}
+use Rattle.std.proofs.lemmas.Option.{same_Some}
 use Rattle.cmwq_theory_steps.proofs.RunsActive.{run_is_active, found_known}
 use Rattle.cmwq_theory_steps.proofs.Activated.{find_holds}
 use Rattle.cmwq_theory_steps.proofs.Entries.{is_at-true}
@@ -104,12 +106,9 @@ unstarted_came s past e i x legal h =
     let f = find_holds (λ y. is_unstarted (e ∷ past) i y ≡ true → Came past e i y) (is_unstarted (e ∷ past) i) (still_open (e ∷ past)) x (subst (AllByRecursion (λ y. is_unstarted (e ∷ past) i y ≡ true → Came past e i y)) (sym (open_go_on s past e legal)) all) h in
     f.holds f.passes
   where
-    was : (y : Queueing) → is_unstarted (e ∷ past) i y ≡ true → is_unstarted past i y ≡ true
-    was y h = grind arith
-
     all : AllByRecursion (λ y. is_unstarted (e ∷ past) i y ≡ true → Came past e i y) (filter (survives past e) (still_open past) ++ option_to_list (opening past e))
     all = All_append _ (filter (survives past e) (still_open past)) (option_to_list (opening past e))
-        (All_filter _ (survives past e) (still_open past) (All_map (λ y. is_unstarted past i y ≡ true → unstarted_queueing past i ≡ Some y) _ (still_open past) (λ y alone survivors new. earlier (alone (was y new))) (unstarted_alone s past i legal.2)))
+        (All_filter _ (survives past e) (still_open past) (All_map (λ y. is_unstarted past i y ≡ true → unstarted_queueing past i ≡ Some y) _ (still_open past) (λ y alone survivors new. earlier (alone (grind arith))) (unstarted_alone s past i legal.2)))
         (All_map (Came past e i) _ (option_to_list (opening past e)) (λ y came new. came) (came_here past e i (opening past e) refl))
 
 -- ---- where an item runs, it is queued and booked
@@ -119,11 +118,7 @@ record KeepsTogether (past : List Entry) (i : ℕ) (start : Start) : Type 0 wher
   queued : (x : Queueing) → unstarted_queueing past i ≡ Some x → (queue_of past start.number ≡ Some x.place.queue.0) × (x.place.cpu ≡ start.worker.pool.cpu)
 
 not_elsewhere : (past : List Entry) (i q : ℕ) (start : Start) → item_run past i ≡ Some start → runs_elsewhere past i q ≡ false → queue_of past start.number ≡ Some q
-not_elsewhere past i q start runs h = is_at-true (queue_of past start.number) q (flip _ (sym (ap (λ (o : Option Start). option_map_or (λ (st : Start). not (is_at (queue_of past st.number) q)) o false) runs) ∙ h))
-  where
-    flip : (b : Bool) → not b ≡ false → b ≡ true
-    flip true h = refl
-    flip false h = cc
+not_elsewhere past i q start runs h = is_at-true (queue_of past start.number) q (not-false _ (sym (ap (λ (o : Option Start). option_map_or (λ (st : Start). not (is_at (queue_of past st.number) q)) o false) runs) ∙ h))
 
 queue_of-older : (e : Entry) (past : List Entry) (n q : ℕ) → queue_of past n ≡ Some q → queue_of (e ∷ past) n ≡ Some q
 queue_of-older e past n q h = at (queueing_at past n) refl h
@@ -143,15 +138,12 @@ unfolding IsLegal
 started_was s past e i n legal h item =
     let st = starts_listed s past e n legal (ap (λ o. is_at o n) h ∙ eq-eqb n n refl) in
     let known = found_known past n st.queueing st.found in
-    let same : st.queueing.item.0 ≡ i = some_same _ _ (sym known.item ∙ ap (item_at past) st.number ∙ item) in
+    let same = same_Some st.queueing.item.0 i (sym known.item ∙ ap (item_at past) st.number ∙ item) in
     let live = listed_live s past st.worker.pool st.queueing st.listed in
     let new : is_started past st.queueing.number ≡ false = grind arith in
     let waits : is_unstarted past i st.queueing ≡ true = ap₂ (λ a b. a && not b) (eq-eqb st.queueing.item.0 i same) new in
     let found = find_holds (λ x. is_live past x ≡ true → is_unstarted past i x ≡ true → unstarted_queueing past i ≡ Some x) (has_number n) (queueings past) st.queueing (All_unfilter _ (is_live past) (queueings past) (unstarted_alone s past i legal.2)) st.found in
     (st.queueing, found.holds live waits, st.number)
-  where
-    some_same : (a b : ℕ) → Some a ≡ Some b → a ≡ b
-    some_same a b h = cc
 
 begun_together : (s : Layout) (past : List Entry) (e : Entry) (i : ℕ) (start : Start) → IsLegal s (e ∷ past) → starts_item past e i ≡ true → start_in e ≡ Some start → KeepsTogether (e ∷ past) i start
 unfolding IsLegal
@@ -187,11 +179,8 @@ left_together s past e i start legal runs kept = record {
   queued = λ x h. let q = queues x h (unstarted_came s past e i x legal h) in (queue_of-older e past start.number x.place.queue.0 q.0, q.1);
 }
   where
-    of_item : (settles e.reply && is_of_item i e) ≡ true → is_of_item i e ≡ true
-    of_item h = grind arith
-
     books : (a : Bool) → (settles e.reply && is_of_item i e) ≡ a → (b : Booking) → booking (e ∷ past) i ≡ Some b → queue_of past start.number ≡ Some b.place.queue.0
-    books true ha b h = not_elsewhere past i b.place.queue.0 start runs (booked_at s past e.who e.call e.reply i (length past) b (cause_of s past e legal) (of_item ha) (sym (booking_after past e i true ha) ∙ h)).not_foreign
+    books true ha b h = not_elsewhere past i b.place.queue.0 start runs (booked_at s past e.who e.call e.reply i (length past) b (cause_of s past e legal) (and_parts (settles e.reply) (is_of_item i e) ha).1 (sym (booking_after past e i true ha) ∙ h)).not_foreign
     books false ha b h = kept.booked b (sym (booking_after past e i false ha) ∙ h)
 
     from_queue : (x : Queueing) → QueueFrom past i x.place.queue.0 → queue_of past start.number ≡ Some x.place.queue.0
@@ -223,9 +212,6 @@ pub queued_where_it_runs : (s : Layout) (past : List Entry) (i : ℕ) (start : S
 queued_where_it_runs s past i start x legal runs h =
     let q = (together s past i start legal runs).queued x h in
     let r = runs_are_in_pools s past start.worker start.number legal (runs_its_item s past i start legal runs) in
-    let queue : r.queueing.place.queue.0 ≡ x.place.queue.0 = some_same _ _ (sym (ap (option_map (λ (y : Queueing). y.place.queue.0)) r.found) ∙ q.0) in
+    let queue = same_Some r.queueing.place.queue.0 x.place.queue.0 (sym (ap (option_map (λ (y : Queueing). y.place.queue.0)) r.found) ∙ q.0) in
     let high : (queue_at s x.place.queue.0).high ≡ start.worker.pool.high = ap (λ n. (queue_at s n).high) (sym queue) ∙ ap (λ (p : PoolId). p.high) r.pool in
     λ i. record { cpu = q.1 i; high = high i }
-  where
-    some_same : (a b : ℕ) → Some a ≡ Some b → a ≡ b
-    some_same a b h = cc

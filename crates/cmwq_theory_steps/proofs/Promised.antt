@@ -1,5 +1,5 @@
 -- Room: the replies that are promised need no more than the history did before, so they are never refused.
-use Rattle.cmwq_theory_steps.specs.Common.{◌≡◌, ◌≤◌, ◌+◌, ℕ, Bool, true, false, not, ◌&&◌, List, ◌∷◌, length, Option, Some, None, refl, ap, ap₂, ◌∙◌, subst, arith, ◌*◌, option_map, option_and_then, is_some, option_or, option_map_or, Who, Call, Reply, Entry, Queueing, Layout, item_called, item_fired, settles, due_in, booking_of, booked_by, is_booked, number_started, number_finished, number_cancelled, is_started, opens, opening, gives_ticket, is_done, IsLegal, has_not_started, owed, room_needed, none}
+use Rattle.cmwq_theory_steps.specs.Common.{◌≡◌, ◌≤◌, ◌+◌, ℕ, true, false, not, ◌&&◌, List, ◌∷◌, length, Option, Some, None, refl, ap, ap₂, ◌∙◌, subst, arith, ◌*◌, option_map, option_and_then, is_some, option_or, option_map_or, Who, Call, Reply, Entry, Queueing, Layout, item_called, item_fired, settles, due_in, booking_of, booked_by, is_booked, number_started, number_finished, number_cancelled, is_started, opens, opening, gives_ticket, is_done, IsLegal, has_not_started, room_needed, none}
 use Rattle.cmwq_model.specs.declared.reply.Reply.TheVariants as reply
 use Rattle.cmwq_theory_steps.specs.Endings.{ending, number_replaced}
 use Rattle.cmwq_theory_steps.specs.Histories.{one}
@@ -10,10 +10,7 @@ use Rattle.cmwq_theory_steps.proofs.Fresh.{takes_back_unstarted, unstarted_is}
 use Rattle.cmwq_theory_steps.proofs.Standing.{due_own}
 use Rattle.cmwq_theory_steps.proofs.Pending.{opening_opens}
 use Rattle.cmwq_theory_steps.proofs.Ended.{ends_which}
-use Rattle.cmwq_theory_steps.proofs.OwedSteps.{runs_counted, sleepers_counted}
-use Rattle.cmwq_theory_steps.proofs.OwedItems.{tickets_counted, booked_counted}
-use Rattle.cmwq_theory_steps.proofs.OwedWaiting.{waiting_counted}
-use Rattle.cmwq_theory_steps.proofs.OwedFrozen.{frozen_counted}
+use Rattle.cmwq_theory_steps.proofs.Owing.{owed_goes_on}
 
 -- ---- what a promised reply gives back is at least what it takes, and its own entry
 
@@ -37,18 +34,14 @@ opened_most past e = at (opening past e) refl
   where
     at : (o : Option Queueing) → opening past e ≡ o → one (is_some o) ≤ one (opens e.reply)
     at None h = omega arith
-    at (Some x) h = let same : one (opens e.reply) ≡ 1 = ap one (opening_opens past e x h) in omega arith
+    at (Some x) h = omega (arith, ap one (opening_opens past e x h))
 
 booked_most : (e : Entry) (n : ℕ) → one (is_some (booking_of e n)) ≤ one (is_some (due_in e.reply))
 booked_most e n = at (due_in e.reply)
   where
-    few : (b : Bool) → one b ≤ 1
-    few true = omega arith
-    few false = omega arith
-
     at : (o : Option ℕ) → one (is_some (option_and_then (booked_by e.call n) o)) ≤ one (is_some o)
     at None = omega arith
-    at (Some d) = few (is_some (booked_by e.call n d))
+    at (Some d) = grind arith
 
 -- what is cancelled had not started
 cancelled_unstarted : (s : Layout) (past : List Entry) (e : Entry) (n : ℕ) → IsLegal s (e ∷ past) → number_cancelled e.reply ≡ Some n → ends_unstarted past e ≡ true
@@ -84,14 +77,7 @@ settled_pays : (s : Layout) (past : List Entry) (e : Entry) → IsLegal s (e ∷
 settled_pays s past e legal h k = ap₂ (λ a b. one (a && b)) k (was_booked s past e.who e.call e.reply (cause_of s past e legal) h k)
 
 pub promised_need_no_more : (s : Layout) (past : List Entry) (e : Entry) → IsLegal s (e ∷ past) → is_promised e.reply ≡ true → room_needed s (e ∷ past) ≤ room_needed s past
-unfolding owed
 promised_need_no_more s past e legal h =
     let pays = weight e.reply (one (is_some (opening past e))) (one (is_some (booking_of e (length past)))) (one (ends_unstarted past e)) (one (settles_booked past e))
     (opened_most past e) (booked_most e (length past)) (cancelled_pays s past e legal) (settled_pays s past e legal h) h in
-    let waiting = waiting_counted s past e legal in
-    let runs = runs_counted s past e legal in
-    let sleepers = sleepers_counted s past e legal in
-    let booked = booked_counted s past e legal in
-    let tickets = tickets_counted s past e legal in
-    let frozen = frozen_counted s past e legal in
-    omega arith
+    omega (arith, owed_goes_on s past e legal)

@@ -1,5 +1,5 @@
 -- Entries that are refused change nothing.
-use Rattle.cmwq_theory_steps.specs.Common.{◌≡◌, ◌<◌, ◌+◌, ℕ, Bool, true, false, cond, not, ◌&&◌, ◌||◌, List, [], ◌∷◌, ◌++◌, length, filter, find, count_by, Option, Some, None, option_to_list, append-nil, nat_lt, refl, sym, ap, ap₂, ◌∙◌, subst, arith, option_map, option_and_then, is_some, if◌then◌else◌, option_map_or, AllByRecursion, nat_tests, PoolId, WorkerId, Who, Caller, Worker, Call, Reply, Entry, Queueing, Start, Ticket, Layout, is_at, is_by, is_of_item, item_of, ticks_told, now, settles, due_in, booking, booked_by, number_started, number_finished, number_cancelled, replaces, is_started, run, item_run, is_asleep, asleep_after, start_in, queueings, is_of, opens, opening, is_live, still_open, is_unstarted, unstarted_queueing, queued_at, place_wanted, run_queue, is_frozen, is_ahead, is_below_max_active, is_active, newly_active, worklist, next, is_startable, is_enlisted, index_enlisted, is_in_pool, is_retired, unended_tickets, gives_ticket, ticket_for, ticket_in, is_end_of, is_done, is_gone, ends_destroy, IsLegal, bits, owed, answer, keeps_widths, All_map, All_each, active_go_on, active_live, frozen_same, max_same, width_same, open_below}
+use Rattle.cmwq_theory_steps.specs.Common.{◌≡◌, ◌<◌, ◌+◌, ℕ, Bool, true, false, not, ◌&&◌, ◌||◌, List, [], ◌∷◌, ◌++◌, length, filter, find, count_by, Option, Some, None, option_to_list, append-nil, nat_lt, refl, sym, ap, ap₂, ◌∙◌, subst, arith, option_map, option_and_then, is_some, if◌then◌else◌, option_map_or, nat_tests, PoolId, WorkerId, Who, Caller, Worker, Call, Reply, Entry, Queueing, Start, Ticket, Layout, is_at, is_by, is_of_item, item_of, ticks_told, now, settles, due_in, booking, booked_by, number_started, number_finished, number_cancelled, replaces, is_started, run, item_run, is_asleep, asleep_after, start_in, queueings, is_of, opens, opening, is_live, still_open, is_unstarted, unstarted_queueing, queued_at, place_wanted, run_queue, is_frozen, is_ahead, is_below_max_active, is_active, newly_active, worklist, next, is_startable, is_enlisted, index_enlisted, is_in_pool, is_retired, unended_tickets, gives_ticket, ticket_for, ticket_in, is_end_of, is_done, is_gone, ends_destroy, IsLegal, bits, owed, answer, keeps_widths, All_map, All_each, active_go_on, active_live, frozen_same, max_same, width_same, open_below}
 use Rattle.cmwq_model.specs.declared.call.Call.TheVariants as call
 use Rattle.cmwq_model.specs.declared.reply.Reply.TheVariants as reply
 use Rattle.cmwq_theory_steps.specs.Histories.{one}
@@ -25,7 +25,8 @@ use Rattle.cmwq_theory_steps.proofs.ItemSteps.{none_started, items_run_on}
 use Rattle.cmwq_theory_steps.proofs.Queued.{run_queues_go_on}
 use Rattle.cmwq_theory_steps.proofs.TicketSteps.{unended_go_on}
 use Rattle.cmwq_theory_steps.proofs.Owing.{owed_goes_on}
-use Rattle.cmwq_lemmas.proofs.Truth.{and_true, or_true, or_false}
+use Rattle.cmwq_lemmas.proofs.Lists.{filter_all}
+use Rattle.cmwq_lemmas.proofs.Truth.{and_false, and_true, or_true, or_false, same_bools}
 use Rattle.std.proofs.lemmas.Bool.{true≢false}
 
 -- ---- what such a reply doesn't say
@@ -94,10 +95,6 @@ refusals_do_nothing s past e legal h = does_nothing s past e legal (says_nothing
 -- ---- lists
 
 module _ {X : Type 0} where
-  filter_all : (p : X → Bool) (xs : List X) → AllByRecursion (λ x. p x ≡ true) xs → filter p xs ≡ xs
-  filter_all p [] h = refl
-  filter_all p (x ∷ xs) h = ap₂ (λ b ys. cond b (x ∷ ys) ys) h.0 (filter_all p xs h.1)
-
   nothing_more : (p : X → Bool) (xs ys : List X) → ((x : X) → p x ≡ true) → ys ≡ [] → filter p xs ++ ys ≡ xs
   nothing_more p xs ys all none = ap₂ (λ a b. a ++ b) (filter_all p xs (All_each _ xs all)) none ∙ append-nil xs
 
@@ -122,20 +119,10 @@ way_active s [] x live way = let none : nat_lt x.number 0 ≡ false = grind (ari
 way_active s (e ∷ past) x live way = active_go_on s past e x ∙ ap₂ (λ a b. a && (is_active s past x || b)) live way ∙ or_true (is_active s past x)
 
 same_active : (s : Layout) (past : List Entry) (e : Entry) → IsLegal s (e ∷ past) → SaysNothing e.reply → opening past e ≡ None → (x : Queueing) → x.number < length past → is_active s (e ∷ past) x ≡ is_active s past x
-same_active s past e legal q none x less = active_go_on s past e x ∙ ap₂ (λ a b. a && (is_active s past x || b)) live way ∙ at (is_live past x) (is_active s past x) (is_below_max_active s past x) refl refl refl
-  where
-    live : is_live (e ∷ past) x ≡ is_live past x
-    live = live_goes_on past e x less ∙ ap (λ b. is_live past x && b) (survivors past e q x) ∙ and_true (is_live past x)
-
-    way : is_below_max_active s (e ∷ past) x ≡ is_below_max_active s past x
-    way = ap₂ nat_lt (ap (count_by (is_ahead x)) (same_open s past e legal q none)) (width_same s past e x.place.queue.0 q.widths)
-
-    at : (l a w : Bool) → is_live past x ≡ l → is_active s past x ≡ a → is_below_max_active s past x ≡ w → (l && (a || w)) ≡ a
-    at true true w hl ha hw = refl
-    at true false true hl ha hw = let yes = way_active s past x hl hw in let bad : false ≡ true = sym ha ∙ yes in cc
-    at true false false hl ha hw = refl
-    at false true w hl ha hw = let yes = active_live s past x ha in let bad : false ≡ true = sym hl ∙ yes in cc
-    at false false w hl ha hw = refl
+same_active s past e legal q none x less =
+    let live : is_live (e ∷ past) x ≡ is_live past x = live_goes_on past e x less ∙ ap (λ b. is_live past x && b) (survivors past e q x) ∙ and_true (is_live past x) in
+    let way : is_below_max_active s (e ∷ past) x ≡ is_below_max_active s past x = ap₂ nat_lt (ap (count_by (is_ahead x)) (same_open s past e legal q none)) (width_same s past e x.place.queue.0 q.widths) in
+    active_go_on s past e x ∙ ap₂ (λ a b. a && (is_active s past x || b)) live way ∙ same_bools _ _ (λ h. grind (arith, way_active s past x)) (λ h. grind (arith, active_live s past x h))
 
 same_waiting : (s : Layout) (past : List Entry) (e : Entry) → IsLegal s (e ∷ past) → SaysNothing e.reply → opening past e ≡ None → waiting s (e ∷ past) ≡ waiting s past
 same_waiting s past e legal q none = ap (filter (waits s (e ∷ past))) (same_open s past e legal q none)
@@ -187,13 +174,7 @@ same_asleep past e w q = either (is_by (Worker w) e) (asleep_after e.reply (is_a
 
 same_enlisted : (past : List Entry) (e : Entry) (w : WorkerId) → SaysNothing e.reply → is_enlisted (e ∷ past) w ≡ is_enlisted past w
 unfolding is_enlisted
-same_enlisted past e w q = ap₂ (λ o b. (is_in_pool w.pool e.who && is_at o w.index) || (not (is_by (Worker w) e && b) && is_enlisted past w)) q.enlisted q.retired ∙ at (is_in_pool w.pool e.who) (is_by (Worker w) e) (is_enlisted past w)
-  where
-    at : (a b c : Bool) → ((a && false) || (not (b && false) && c)) ≡ c
-    at true true c = refl
-    at true false c = refl
-    at false true c = refl
-    at false false c = refl
+same_enlisted past e w q = ap₂ (λ o b. (is_in_pool w.pool e.who && is_at o w.index) || (not (is_by (Worker w) e && b) && is_enlisted past w)) q.enlisted q.retired ∙ simp and_false refl
 
 -- ---- items, tickets, time and room
 
@@ -207,13 +188,8 @@ same_bits s past e i legal q none = ap₂ (λ a b. (if a then 1 else 0) + (if b 
 same_unended : (s : Layout) (past : List Entry) (e : Entry) → IsLegal s (e ∷ past) → SaysNothing e.reply → ticket_in e (length past) ≡ None → unended_tickets (e ∷ past) ≡ unended_tickets past
 same_unended s past e legal q none = unended_go_on s past e legal ∙ nothing_more (is_kept e) (unended_tickets past) (option_to_list (ticket_in e (length past))) kept (ap option_to_list none)
   where
-    at : (a b : Bool) → not (a && b && false) ≡ true
-    at true true = refl
-    at true false = refl
-    at false b = refl
-
     kept : (t : Ticket) → is_kept e t ≡ true
-    kept t = ap (λ b. not (is_by (Caller t.caller) e && is_end_of t.number e.call && b)) q.done ∙ at (is_by (Caller t.caller) e) (is_end_of t.number e.call)
+    kept t = ap (λ b. not (is_by (Caller t.caller) e && is_end_of t.number e.call && b)) q.done ∙ ap not (and_false _)
 
 same_gone : (past : List Entry) (e : Entry) (a : ℕ) → SaysNothing e.reply → is_gone (e ∷ past) a ≡ is_gone past a
 unfolding is_gone
@@ -231,7 +207,7 @@ no_ticks s past who c h = refl
 
 same_time : (s : Layout) (past : List Entry) (e : Entry) → IsLegal s (e ∷ past) → is_refusal e.reply ≡ true → now (e ∷ past) ≡ now past
 unfolding now
-same_time s past e legal h = let none = no_ticks s past e.who e.call (subst (λ r. is_refusal r ≡ true) (answer_is s past e legal) h) in omega arith
+same_time s past e legal h = omega (arith, no_ticks s past e.who e.call (subst (λ r. is_refusal r ≡ true) (answer_is s past e legal) h))
 
 same_owed : (s : Layout) (past : List Entry) (e : Entry) → IsLegal s (e ∷ past) → SaysNothing e.reply → DoesNothing s past e → owed s (e ∷ past) ≡ owed s past
 same_owed s past e legal q d =

@@ -46,19 +46,14 @@ record IsOwn (past : List Entry) (b : Booking) : Type 0 where
 own_here : (e : Entry) (past : List Entry) (b : Booking) → booking_of e (length past) ≡ Some b → IsOwn (e ∷ past) b
 own_here e past b h =
     let m = made e (length past) b (due_in e.reply) refl h in
-    let number : b.number ≡ length past = m.number in
-    record { older = omega arith; own = λ stood. booking_after past e b.item.0 true (ap₂ (λ a b. a && b) m.settled m.item) ∙ h }
+    record { older = omega (arith, m.number); own = λ stood. booking_after past e b.item.0 true (ap₂ (λ a b. a && b) m.settled m.item) ∙ h }
 
 own_more : (e : Entry) (past : List Entry) (b : Booking) → IsOwn past b → IsOwn (e ∷ past) b
-own_more e past b k = record { older = let less : b.number < length past = k.older in omega arith; own = own (settles e.reply && is_of_item b.item.0 e) refl }
+own_more e past b k = record { older = omega (arith, k.older); own = own (settles e.reply && is_of_item b.item.0 e) refl }
   where
     other : (o : Option Booking) → booking_of e (length past) ≡ o → is_at (option_map number_booked o) b.number ≡ true → ⊥
     other None is h = cc
-    other (Some a) is h =
-        let number : a.number ≡ length past = (made e (length past) a (due_in e.reply) refl is).number in
-        let same : a.number ≡ b.number = eqb-true a.number b.number h in
-        let less : b.number < length past = k.older in
-        absurd (omega arith)
+    other (Some a) is h = absurd (omega (arith, (made e (length past) a (due_in e.reply) refl is).number, eqb-true a.number b.number h, k.older))
 
     own : (a : Bool) → (settles e.reply && is_of_item b.item.0 e) ≡ a → stands (e ∷ past) b ≡ true → booking (e ∷ past) b.item.0 ≡ Some b
     own true ha stood = absurd (other (booking_of e (length past)) refl (sym (ap (λ o. is_at (option_map number_booked o) b.number) (booking_after past e b.item.0 true ha)) ∙ stood))

@@ -37,10 +37,10 @@ pub serials_rise : SerialsRise
 serials_rise past e = (own, others)
   where
     own : serial_of (e ∷ past) e.who ≡ serial_of past e.who + 1
-    own = let one_more : one (is_by e.who e) ≡ 1 = ap one (same_who_itself e.who) in let step = serials_go_on past e e.who in omega arith
+    own = omega (arith, ap one (same_who_itself e.who), serials_go_on past e e.who)
 
     others : (who : Who) → same_who e.who who ≡ false → serial_of (e ∷ past) who ≡ serial_of past who
-    others who other = let none : one (is_by who e) ≡ 0 = ap one other in let step = serials_go_on past e who in omega arith
+    others who other = omega (arith, ap one other, serials_go_on past e who)
 
 -- ---- what is booked
 

@@ -9,42 +9,22 @@ use Rattle.cmwq_theory_steps.specs.ItemQueueings.{still_unstarted, of_item}
 use Rattle.cmwq_theory_steps.proofs.Activated.{find_holds, next_holds}
 use Rattle.cmwq_theory_steps.proofs.StartsListed.{IsFound, queueings_found, queueing_at-older}
 use Rattle.cmwq_theory_steps.proofs.Pools.{unstarted_alone}
-use Rattle.cmwq_lemmas.proofs.Truth.{flip}
 
 -- ---- the unstarted queueing of an item after an entry
 
 kept_one : (past : List Entry) (e : Entry) (o : Option Queueing) → filter (λ x. survives past e x && not (starts x.number e)) (option_to_list o) ≡ option_to_list (still_unstarted past e o)
 kept_one past e None = refl
-kept_one past e (Some x) = either (survives past e x && not (starts x.number e))
-  where
-    either : (b : Bool) → cond b (x ∷ []) [] ≡ option_to_list (cond b (Some x) None)
-    either true = refl
-    either false = refl
+kept_one past e (Some x) = grind arith
 
 opened_one : (past : List Entry) (e : Entry) (i : ℕ) (o : Option Queueing) → AllByRecursion (λ x. is_started (e ∷ past) x.number ≡ false) (option_to_list o) → filter (is_unstarted (e ∷ past) i) (option_to_list o) ≡ option_to_list (of_item i o)
 opened_one past e i None h = refl
-opened_one past e i (Some x) h = ap (λ b. cond ((x.item.0 == i) && not b) (x ∷ []) []) h.0 ∙ either (x.item.0 == i)
-  where
-    either : (b : Bool) → cond (b && not false) (x ∷ []) [] ≡ option_to_list (cond b (Some x) None)
-    either true = refl
-    either false = refl
+opened_one past e i (Some x) h = ap (λ b. cond ((x.item.0 == i) && not b) (x ∷ []) []) h.0 ∙ grind arith
 
 both : (u a b : Option Queueing) → option_to_list u ≡ option_to_list a ++ option_to_list b → u ≡ option_or a b
-both None None None h = refl
-both None None (Some y) h = cc
-both None (Some x) None h = cc
-both None (Some x) (Some y) h = cc
-both (Some z) None None h = cc
-both (Some z) None (Some y) h = cc
-both (Some z) (Some x) None h = cc
-both (Some z) (Some x) (Some y) h = cc
+both u a b h = grind arith
 
 kept_or_not : (p u t v : Bool) → (p && (u && not (t || v))) ≡ ((u && not v) && (p && not t))
-kept_or_not true true true v = grind arith
-kept_or_not true true false true = refl
-kept_or_not true true false false = refl
-kept_or_not true false t v = refl
-kept_or_not false u t v = flip false (u && not v) ∙ grind arith
+kept_or_not p u t v = grind arith
 
 pub unstarted_goes_on : (s : Layout) (past : List Entry) (e : Entry) (i : ℕ) → IsLegal s (e ∷ past) → unstarted_queueing (e ∷ past) i ≡ option_or (still_unstarted past e (unstarted_queueing past i)) (of_item i (opening past e))
 unfolding IsLegal

@@ -1,5 +1,6 @@
 -- What is below max_active, told by what became active so far: so one pass over what waits finds what becomes active.
-use Rattle.cmwq_theory_steps.specs.Common.{◌≡◌, ℕ, zero, suc, ◌+◌, ◌-◌, ◌<◌, Bool, true, false, ◌&&◌, List, [], ◌∷◌, ◌++◌, length, filter, take, count_by, cond, nat_lt, refl, sym, ap, ap₂, ◌∙◌, subst, arith, AllByRecursion, filter-append, eq-eqb, nat_tests, Entry, Queueing, Layout, still_open, width, is_below_max_active, IsRising, All_filter, All_map, rising_filter, open_rise}
+use Rattle.cmwq_theory_steps.specs.Common.{◌≡◌, ℕ, zero, suc, ◌+◌, ◌-◌, ◌<◌, Bool, true, ◌&&◌, List, [], ◌∷◌, ◌++◌, length, filter, take, count_by, cond, nat_lt, refl, sym, ap, ap₂, ◌∙◌, subst, arith, AllByRecursion, filter-append, eq-eqb, nat_tests, Entry, Queueing, Layout, still_open, width, is_below_max_active, IsRising, rising_filter, open_rise}
+use Rattle.cmwq_lemmas.proofs.Passing.{all_kept}
 use Rattle.cmwq_theory_steps.specs.Places.{is_on, open_on}
 use Rattle.cmwq_theory_steps.specs.Activations.{waits, stay_count}
 use Rattle.cmwq_theory_steps.proofs.Active.{length-count}
@@ -11,43 +12,13 @@ use Rattle.cmwq_theory_steps.proofs.Promoted.{turn_filters}
 -- a rising list, and each front of a filter of it
 later_only : (h : Queueing → Bool) (x : Queueing) (xs zs : List Queueing) → AllByRecursion (λ y. x.number < y.number) xs → filter h xs ≡ x ∷ zs → ⊥
 later_only h x xs zs later is =
-    let all = All_filter (λ y. x.number < y.number) h xs (All_map (λ y. x.number < y.number) _ xs (λ y less _. less) later) in
-    let first = subst (AllByRecursion (λ y. x.number < y.number)) is all in
-    let less : x.number < x.number = first.0 in omega arith
-
-no_cons : (x : Queueing) (xs : List Queueing) → x ∷ xs ≡ [] → ⊥
-no_cons x xs h = cc
-
-tail_same : (x y : Queueing) (xs ys : List Queueing) → x ∷ xs ≡ y ∷ ys → xs ≡ ys
-tail_same x y xs ys h = cc
-
-some_less : (d : ℕ) → nat_lt 0 (suc d) ≡ true
-some_less d = grind (arith, nat_tests)
-
-both_more : (k d : ℕ) → nat_lt (suc k) (suc d) ≡ nat_lt k d
-both_more k d = grind (arith, nat_tests)
+    omega (arith, (subst (AllByRecursion (λ y. x.number < y.number)) is (all_kept (λ y. x.number < y.number) h xs later)).0)
 
 front_below_max_active : (h : Queueing → Bool) (d : ℕ) (D : List Queueing) (x : Queueing) (R : List Queueing) → IsRising (D ++ x ∷ R) → filter h (D ++ x ∷ R) ≡ take d (D ++ x ∷ R) → h x ≡ nat_lt (length (filter h D)) d
-front_below_max_active h zero [] x R rising is = at (h x) refl is
-  where
-    at : (b : Bool) → h x ≡ b → cond b (x ∷ filter h R) (filter h R) ≡ [] → h x ≡ false
-    at true e k = absurd (no_cons x (filter h R) k)
-    at false e k = e
-front_below_max_active h (suc d) [] x R rising is = at (h x) refl is ∙ sym (some_less d)
-  where
-    at : (b : Bool) → h x ≡ b → cond b (x ∷ filter h R) (filter h R) ≡ x ∷ take d R → h x ≡ true
-    at true e k = e
-    at false e k = absurd (later_only h x R (take d R) rising.0 k)
-front_below_max_active h zero (y ∷ D) x R rising is = at (h y) refl (front_below_max_active h zero D x R rising.1) is
-  where
-    at : (b : Bool) → h y ≡ b → (filter h (D ++ x ∷ R) ≡ [] → h x ≡ nat_lt (length (filter h D)) 0) → cond b (y ∷ filter h (D ++ x ∷ R)) (filter h (D ++ x ∷ R)) ≡ [] → h x ≡ nat_lt (length (cond (h y) (y ∷ filter h D) (filter h D))) 0
-    at true e on k = absurd (no_cons y (filter h (D ++ x ∷ R)) k)
-    at false e on k = on k ∙ ap (λ b. nat_lt (length (cond b (y ∷ filter h D) (filter h D))) 0) (sym e)
-front_below_max_active h (suc d) (y ∷ D) x R rising is = at (h y) refl (front_below_max_active h d D x R rising.1) is
-  where
-    at : (b : Bool) → h y ≡ b → (filter h (D ++ x ∷ R) ≡ take d (D ++ x ∷ R) → h x ≡ nat_lt (length (filter h D)) d) → cond b (y ∷ filter h (D ++ x ∷ R)) (filter h (D ++ x ∷ R)) ≡ y ∷ take d (D ++ x ∷ R) → h x ≡ nat_lt (length (cond (h y) (y ∷ filter h D) (filter h D))) (suc d)
-    at true e on k = on (tail_same y y (filter h (D ++ x ∷ R)) (take d (D ++ x ∷ R)) k) ∙ (sym (both_more (length (filter h D)) d) ∙ ap (λ b. nat_lt (length (cond b (y ∷ filter h D) (filter h D))) (suc d)) (sym e))
-    at false e on k = absurd (later_only h y (D ++ x ∷ R) (take d (D ++ x ∷ R)) rising.0 k)
+front_below_max_active h zero [] x R rising is = grind arith
+front_below_max_active h (suc d) [] x R rising is = grind (arith, nat_tests, later_only h x R (take d R) rising.0)
+front_below_max_active h zero (y ∷ D) x R rising is = grind (arith, nat_tests, front_below_max_active h zero D x R rising.1)
+front_below_max_active h (suc d) (y ∷ D) x R rising is = grind (arith, nat_tests, later_only h y (D ++ x ∷ R) (take d (D ++ x ∷ R)) rising.0, front_below_max_active h d D x R rising.1)
 
 less_more : (k stay w : ℕ) → nat_lt k (w - stay) ≡ nat_lt (stay + k) w
 less_more k stay w = grind (arith, nat_tests)

@@ -1,36 +1,13 @@
 -- A pool's worklist has all that belongs there, and nothing else.
-use Rattle.cmwq_theory_steps.specs.Common.{◌≡◌, Bool, true, false, cond, List, [], ◌∷◌, ◌++◌, length, filter, Option, Some, None, option_to_list, refl, subst, arith, Contains, AllByRecursion, Contains-append_left, Contains-append_right, All-from_recursion, PoolId, Entry, Queueing, Layout, queueings, opening, is_active, is_newly_active, newly_active, became_active, is_listed, worklist, All_map, All_both, All_append, All_filter, opening_number, active_older}
+use Rattle.cmwq_theory_steps.specs.Common.{◌≡◌, Bool, true, false, List, [], ◌∷◌, ◌++◌, length, filter, Option, Some, None, option_to_list, refl, arith, Contains, AllByRecursion, Contains-append_left, Contains-append_right, PoolId, Entry, Queueing, Layout, queueings, opening, is_active, is_newly_active, newly_active, became_active, is_listed, worklist, All_map, All_both, All_append, All_filter, opening_number, active_older}
 use Rattle.cmwq_theory_steps.specs.Order.{IsWorklist}
+use Rattle.cmwq_lemmas.proofs.Members.{all_in, contained_in, filter_in, in_contained}
 use Rattle.cmwq_theory_steps.proofs.Activated.{activated_all}
 use Rattle.cmwq_theory_steps.proofs.Order.{activated_in_order, in_order_filter}
 
-module _ {X : Type 0} where
-  contains_head : (x : X) (xs : List X) → Contains (x ∷ xs) x
-  contains_head x xs = (0, omega arith, refl)
-
-  contains_tail : (x y : X) (xs : List X) → Contains xs y → Contains (x ∷ xs) y
-  contains_tail x y xs h = Contains-append_right (x ∷ []) xs y h
-
-  all_contained : (xs : List X) → AllByRecursion (Contains xs) xs
-  all_contained [] = tt
-  all_contained (x ∷ xs) = (contains_head x xs, All_map (Contains xs) (Contains (x ∷ xs)) xs (λ y h. contains_tail x y xs h) (all_contained xs))
-
-  of_contained : (P : X → Type 0) (xs : List X) (x : X) → AllByRecursion P xs → Contains xs x → P x
-  of_contained P xs x h c = subst P c.2 (All-from_recursion P xs h c.0 x c.1)
-
-  kept_here : (x : X) (xs : List X) (b : Bool) → b ≡ true → Contains (cond b (x ∷ xs) xs) x
-  kept_here x xs true h = contains_head x xs
-  kept_here x xs false h = cc
-
-  kept_later : (x y : X) (xs : List X) (b : Bool) → Contains xs y → Contains (cond b (x ∷ xs) xs) y
-  kept_later x y xs true h = contains_tail x y xs h
-  kept_later x y xs false h = h
-
-  -- each element that passes is in the filtered list
-  filter_contains : (p : X → Bool) (xs : List X) → AllByRecursion (λ x. p x ≡ true → Contains (filter p xs) x) xs
-  filter_contains p [] = tt
-  filter_contains p (x ∷ xs) =
-      (kept_here x (filter p xs) (p x), All_map (λ y. p y ≡ true → Contains (filter p xs) y) (λ y. p y ≡ true → Contains (filter p (x ∷ xs)) y) xs (λ y h passes. kept_later x y (filter p xs) (p x) (h passes)) (filter_contains p xs))
+-- each element that passes is in the filtered list
+filter_contains : {X : Type 0} (p : X → Bool) (xs : List X) → AllByRecursion (λ x. p x ≡ true → Contains (filter p xs) x) xs
+filter_contains p xs = all_in _ xs (λ x there passes. in_contained (filter p xs) x (filter_in p xs x there passes))
 
 -- ---- what is active became active
 
@@ -63,11 +40,10 @@ pub worklist_is : (s : Layout) (past : List Entry) (p : PoolId) → IsWorklist s
 unfolding worklist
 worklist_is s past p = record {
   all_stand = All_map (λ x. is_active s past x ≡ true → Contains (became_active s past) x) (λ x. is_listed s past p x ≡ true → Contains (worklist s past p) x) (queueings past)
-      (λ x h listed. of_contained (λ y. is_listed s past p y ≡ true → Contains (filter (is_listed s past p) (became_active s past)) y) (became_active s past) x
-      (filter_contains (is_listed s past p) (became_active s past)) (h (grind arith)) listed)
+      (λ x h listed. in_contained (worklist s past p) x (filter_in (is_listed s past p) (became_active s past) x (contained_in (became_active s past) x (h (grind arith))) listed))
       (activated_has s past);
   no_others = All_filter (λ x. Contains (queueings past) x × (is_listed s past p x ≡ true)) (is_listed s past p) (became_active s past)
       (All_map (Contains (queueings past)) (λ x. is_listed s past p x ≡ true → Contains (queueings past) x × (is_listed s past p x ≡ true)) (became_active s past) (λ x h listed. (h, listed))
-      (activated_all s (λ h. Contains (queueings h)) contained_more (λ h. all_contained (queueings h)) past));
+      (activated_all s (λ h. Contains (queueings h)) contained_more (λ h. all_in (Contains (queueings h)) (queueings h) (in_contained (queueings h))) past));
   in_order = in_order_filter s past (is_listed s past p) (became_active s past) (activated_in_order s past);
 }
