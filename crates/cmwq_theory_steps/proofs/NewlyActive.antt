@@ -1,11 +1,12 @@
 -- What one more entry makes active: the first behind the width where an active one ends, and what it opens where it is below max_active.
-use Rattle.cmwq_theory_steps.specs.Common.{◌≡◌, ◌<◌, ◌≤◌, ◌+◌, ◌==◌, ℕ, Bool, true, false, cond, not, ◌&&◌, ◌||◌, List, [], ◌∷◌, ◌++◌, length, filter, count_by, Option, Some, None, option_to_list, append-nil, nat_lt, refl, sym, ap, ap₂, ◌∙◌, subst, arith, slice_get, if◌then◌else◌, AllByRecursion, ltb-true, ltb-false, eqb-true, nat_tests, filter-append, sum_by-filter_both, Entry, Queueing, Reply, Layout, is_at, is_of_item, number_finished, number_cancelled, replaces, is_started, width, queueings, opens, opening, is_live, still_open, is_ahead, is_below_max_active, is_active, newly_active, IsLegal, keeps_widths, All_map, All_both, All_each, All_filter, All_unfilter, count_by-cons, opening_number, active_go_on, width_same, open_below}
+use Rattle.cmwq_theory_steps.specs.Common.{option_map_or, ◌≡◌, ◌<◌, ◌≤◌, ◌+◌, ◌==◌, ℕ, Bool, true, false, cond, not, ◌&&◌, ◌||◌, List, [], ◌∷◌, ◌++◌, length, filter, count_by, Option, Some, None, option_to_list, append-nil, nat_lt, refl, sym, ap, ap₂, ◌∙◌, subst, arith, slice_get, if◌then◌else◌, AllByRecursion, ltb-true, ltb-false, eqb-true, nat_tests, filter-append, sum_by-filter_both, Entry, Queueing, Reply, Layout, number_finished, number_cancelled, replaces, width, queueings, opens, opening, is_live, still_open, is_ahead, is_below_max_active, is_active, newly_active, IsLegal, keeps_widths, All_map, All_both, All_each, All_filter, All_unfilter, count_by-cons, opening_number, active_go_on, width_same, open_below}
 use Rattle.cmwq_model.specs.declared.reply.Reply.TheVariants as reply
 use Rattle.cmwq_theory_steps.specs.Endings.{survives, is_ended, ending}
 use Rattle.cmwq_theory_steps.specs.Activations.{waits, is_of_same_pwq, beside, behind_width, is_below_max_active_at_once}
-use Rattle.std.proofs.lemmas.Bool.{and_from, and_parts, not-true, true_from_ne_false}
+use Rattle.std.proofs.lemmas.Bool.{and_from, and_parts, both_ways, not-true, true_from_ne_false}
 use Rattle.cmwq_lemmas.proofs.Lists.{count_append}
-use Rattle.cmwq_lemmas.proofs.Truth.{and_true, same_bools}
+use Rattle.cmwq_lemmas.proofs.Truth.{and_false, and_true, same_bools}
+use Rattle.cmwq_theory_steps.proofs.PendingSteps.{none_opened}
 use Rattle.cmwq_lemmas.proofs.Filters.{filter_twice, filter_same, filter_none, count_by-same, count_by-wider}
 use Rattle.cmwq_theory_steps.proofs.Ranks.{is_below, one_ranked}
 use Rattle.cmwq_theory_steps.proofs.Active.{count_ahead, open_ranked, not_active_yet}
@@ -57,40 +58,31 @@ newly_parts s past e legal =
     of None is = refl
     of (Some x) is = ap (λ b. cond b (x ∷ []) []) (ap (λ b. is_below_max_active s (e ∷ past) x && not b) (not_active_yet s past x (opening_number past e x is)) ∙ and_true _)
 
--- where nothing ends and no width changes, nothing that was open becomes active
-none_moves : (s : Layout) (past : List Entry) (e : Entry) → IsLegal s (e ∷ past) → keeps_widths e.reply ≡ true → ending past e ≡ None → filter (λ x. survives past e x && (is_below_max_active s (e ∷ past) x && waits s past x)) (still_open past) ≡ []
-none_moves s past e legal keeps none = filter_none _ (still_open past) (All_both (λ x. x.number < length past) _ _ (still_open past) one (open_below past) (waiting_behind s past))
+-- where the entry ends the queueing of o, if any: what is behind that, with exactly as many ahead as the queue is wide
+abbrev moves_up : Layout → List Entry → Entry → Option Queueing → Queueing → Bool
+moves_up s past e o x = survives past e x && (option_map_or (is_ahead x) o false && (count_by (is_ahead x) (still_open past) == width s past x.place.queue.0))
+
+count_ending : (s : Layout) (past : List Entry) (e : Entry) (x : Queueing) (o : Option Queueing) → IsLegal s (e ∷ past) → ending past e ≡ o → count_by (is_ahead x) (still_open past) ≡ survivors_ahead past e x + cond (option_map_or (is_ahead x) o false) 1 0
+count_ending s past e x o legal is = ahead_before s past e x legal ∙ ap (λ n. survivors_ahead past e x + n) (ap (λ p. count_by (is_ahead x) (option_to_list p)) is ∙ counted o)
   where
-    one : (x : Queueing) → x.number < length past → (waits s past x ≡ true → width s past x.place.queue.0 ≤ count_by (is_ahead x) (still_open past)) → (survives past e x && (is_below_max_active s (e ∷ past) x && waits s past x)) ≡ false
-    one x less behind =
-        let zero : count_by (is_ahead x) (option_to_list (ending past e)) ≡ 0 = ap (λ o. count_by (is_ahead x) (option_to_list o)) none in
-        let before = ahead_before s past e x legal in
-        let after = ahead_after s past e x legal (omega arith) in
-        let same = width_same s past e x.place.queue.0 keeps in
-        grind (arith, nat_tests)
-
--- where y ends: what is behind y, with exactly as many ahead as the queue is wide
-abbrev moves_up : Layout → List Entry → Entry → Queueing → Queueing → Bool
-moves_up s past e y x = survives past e x && (is_ahead x y && (count_by (is_ahead x) (still_open past) == width s past x.place.queue.0))
-
-count_ending : (s : Layout) (past : List Entry) (e : Entry) (x y : Queueing) → IsLegal s (e ∷ past) → ending past e ≡ Some y → count_by (is_ahead x) (still_open past) ≡ survivors_ahead past e x + cond (is_ahead x y) 1 0
-count_ending s past e x y legal is =
-    ahead_before s past e x legal ∙ ap (λ o. survivors_ahead past e x + count_by (is_ahead x) (option_to_list o)) is ∙ omega (arith, count_by-cons (is_ahead x) y [])
+    counted : (o : Option Queueing) → count_by (is_ahead x) (option_to_list o) ≡ cond (option_map_or (is_ahead x) o false) 1 0
+    counted None = refl
+    counted (Some y) = omega (arith, count_by-cons (is_ahead x) y [])
 
 -- what waits and moves up is what moves up of what waits
-moves_waiting : (s : Layout) (past : List Entry) (e : Entry) (y : Queueing) → IsLegal s (e ∷ past) → keeps_widths e.reply ≡ true → ending past e ≡ Some y
-    → filter (λ x. survives past e x && (is_below_max_active s (e ∷ past) x && waits s past x)) (still_open past) ≡ filter (waits s past) (filter (moves_up s past e y) (still_open past))
-moves_waiting s past e y legal keeps is = filter_same _ (λ x. moves_up s past e y x && waits s past x) (still_open past) (All_both (λ x. x.number < length past) _ _ (still_open past) one (open_below past) (waiting_behind s past))
-    ∙ sym (filter_twice (waits s past) (moves_up s past e y) (still_open past))
+moves_waiting : (s : Layout) (past : List Entry) (e : Entry) (o : Option Queueing) → IsLegal s (e ∷ past) → keeps_widths e.reply ≡ true → ending past e ≡ o
+    → filter (λ x. survives past e x && (is_below_max_active s (e ∷ past) x && waits s past x)) (still_open past) ≡ filter (waits s past) (filter (moves_up s past e o) (still_open past))
+moves_waiting s past e o legal keeps is = filter_same _ (λ x. moves_up s past e o x && waits s past x) (still_open past) (All_both (λ x. x.number < length past) _ _ (still_open past) one (open_below past) (waiting_behind s past))
+    ∙ sym (filter_twice (waits s past) (moves_up s past e o) (still_open past))
   where
     at : (a c p : Bool) (m n w : ℕ) → n ≡ m + cond c 1 0 → (p ≡ true → w ≤ n) → (a && (nat_lt m w && p)) ≡ ((a && (c && (n == w))) && p)
     at a c p m n w h k = grind (arith, nat_tests)
 
     one : (x : Queueing) → x.number < length past → (waits s past x ≡ true → width s past x.place.queue.0 ≤ count_by (is_ahead x) (still_open past))
-        → (survives past e x && (is_below_max_active s (e ∷ past) x && waits s past x)) ≡ (moves_up s past e y x && waits s past x)
+        → (survives past e x && (is_below_max_active s (e ∷ past) x && waits s past x)) ≡ (moves_up s past e o x && waits s past x)
     one x less behind =
         ap₂ (λ m w. survives past e x && (nat_lt m w && waits s past x)) (ahead_after s past e x legal (omega arith)) (width_same s past e x.place.queue.0 keeps)
-        ∙ at (survives past e x) (is_ahead x y) (waits s past x) (survivors_ahead past e x) (count_by (is_ahead x) (still_open past)) (width s past x.place.queue.0) (count_ending s past e x y legal is) behind
+        ∙ at (survives past e x) (option_map_or (is_ahead x) o false) (waits s past x) (survivors_ahead past e x) (count_by (is_ahead x) (still_open past)) (width s past x.place.queue.0) (count_ending s past e x o legal is) behind
 
 -- ---- that is the one behind the width, if y is active
 
@@ -117,13 +109,13 @@ apart : (x y : Queueing) → is_of_same_pwq y x ≡ false → is_ahead x y ≡ f
 apart x y h = grind (arith, nat_tests)
 
 moves_active : (s : Layout) (past : List Entry) (e : Entry) (x y : Queueing) → (is_ended past e x ≡ true → x.number ≡ y.number) → count_by (is_ahead y) (still_open past) < width s past y.place.queue.0
-    → moves_up s past e y x ≡ (is_of_same_pwq y x && (count_by (is_below x) (beside past y) == width s past y.place.queue.0))
+    → moves_up s past e (Some y) x ≡ (is_of_same_pwq y x && (count_by (is_below x) (beside past y) == width s past y.place.queue.0))
 moves_active s past e x y alone within = at (is_of_same_pwq y x) refl
   where
     rest : is_of_same_pwq y x ≡ true → (survives past e x && (is_ahead x y && (count_by (is_ahead x) (still_open past) == width s past y.place.queue.0))) ≡ (count_by (is_ahead x) (still_open past) == width s past y.place.queue.0)
     rest on = same_bools _ _ (λ h. (and_parts _ _ (and_parts _ _ h).1).1) (λ h. let both = stands_behind past e x y (width s past y.place.queue.0) alone within on (eqb-true _ _ h) in and_from _ _ both.0 (and_from _ _ both.1 h))
 
-    at : (b : Bool) → is_of_same_pwq y x ≡ b → moves_up s past e y x ≡ (b && (count_by (is_below x) (beside past y) == width s past y.place.queue.0))
+    at : (b : Bool) → is_of_same_pwq y x ≡ b → moves_up s past e (Some y) x ≡ (b && (count_by (is_below x) (beside past y) == width s past y.place.queue.0))
     at false on = grind (arith, apart x y on)
     at true on =
         let queue : x.place.queue.0 ≡ y.place.queue.0 = grind (arith, nat_tests) in
@@ -131,40 +123,44 @@ moves_active s past e x y alone within = at (is_of_same_pwq y x) refl
         ∙ ap (λ n. n == width s past y.place.queue.0) (count_ahead past y.place.queue.0 y.place.cpu.0 x on)
 
 promotes_active : (s : Layout) (past : List Entry) (e : Entry) (y : Queueing) → IsLegal s (e ∷ past) → ending past e ≡ Some y → count_by (is_ahead y) (still_open past) < width s past y.place.queue.0
-    → filter (moves_up s past e y) (still_open past) ≡ option_to_list (slice_get (beside past y) (width s past y.place.queue.0))
+    → filter (moves_up s past e (Some y)) (still_open past) ≡ option_to_list (slice_get (beside past y) (width s past y.place.queue.0))
 promotes_active s past e y legal is within =
-    filter_same (moves_up s past e y) (λ x. is_of_same_pwq y x && (count_by (is_below x) (beside past y) == width s past y.place.queue.0)) (still_open past)
+    filter_same (moves_up s past e (Some y)) (λ x. is_of_same_pwq y x && (count_by (is_below x) (beside past y) == width s past y.place.queue.0)) (still_open past)
     (All_map (λ x. is_ended past e x ≡ true → x.number ≡ y.number) _ (still_open past) (λ x alone. moves_active s past e x y alone within) (ended_number s past e y legal is))
     ∙ sym (filter_twice (λ x. count_by (is_below x) (beside past y) == width s past y.place.queue.0) (is_of_same_pwq y) (still_open past))
     ∙ one_ranked (λ x. count_by (is_below x) (beside past y)) 0 (width s past y.place.queue.0) (width s past y.place.queue.0) (beside past y) (omega arith) (open_ranked past y.place.queue.0 y.place.cpu.0)
 
 -- where y isn't active, what is behind it has more ahead than the queue is wide
-moves_none : (s : Layout) (past : List Entry) (e : Entry) (x y : Queueing) → IsLegal s (e ∷ past) → ending past e ≡ Some y → width s past y.place.queue.0 ≤ count_by (is_ahead y) (still_open past) → moves_up s past e y x ≡ false
+moves_none : (s : Layout) (past : List Entry) (e : Entry) (x y : Queueing) → IsLegal s (e ∷ past) → ending past e ≡ Some y → width s past y.place.queue.0 ≤ count_by (is_ahead y) (still_open past) → moves_up s past e (Some y) x ≡ false
 moves_none s past e x y legal is beyond =
     let rise = ahead_rise y x (filter (survives past e) (still_open past)) in
-    let count = count_ending s past e x y legal is in
-    let own = count_ending s past e y y legal is in
+    let count = count_ending s past e x (Some y) legal is in
+    let own = count_ending s past e y (Some y) legal is in
     grind (arith, nat_tests)
 
-promotes : (s : Layout) (past : List Entry) (e : Entry) (y : Queueing) → IsLegal s (e ∷ past) → ending past e ≡ Some y → filter (moves_up s past e y) (still_open past) ≡ option_to_list (behind_width s past (Some y))
-promotes s past e y legal is = at (is_below_max_active s past y) refl
+promotes : (s : Layout) (past : List Entry) (e : Entry) (o : Option Queueing) → IsLegal s (e ∷ past) → ending past e ≡ o → filter (moves_up s past e o) (still_open past) ≡ option_to_list (behind_width s past o)
+promotes s past e None legal is = filter_none (moves_up s past e None) (still_open past) (All_each _ (still_open past) (λ x. and_false (survives past e x)))
+promotes s past e (Some y) legal is = at (is_below_max_active s past y) refl
   where
-    at : (b : Bool) → is_below_max_active s past y ≡ b → filter (moves_up s past e y) (still_open past) ≡ option_to_list (if b then slice_get (beside past y) (width s past y.place.queue.0) else None)
+    at : (b : Bool) → is_below_max_active s past y ≡ b → filter (moves_up s past e (Some y)) (still_open past) ≡ option_to_list (if b then slice_get (beside past y) (width s past y.place.queue.0) else None)
     at true h = promotes_active s past e y legal is (ltb-true _ _ h)
-    at false h = filter_none (moves_up s past e y) (still_open past) (All_each _ (still_open past) (λ x. moves_none s past e x y legal is (ltb-false _ _ h)))
+    at false h = filter_none (moves_up s past e (Some y)) (still_open past) (All_each _ (still_open past) (λ x. moves_none s past e x y legal is (ltb-false _ _ h)))
 
 newly_promoted : (s : Layout) (past : List Entry) (e : Entry) (o : Option Queueing) → IsLegal s (e ∷ past) → keeps_widths e.reply ≡ true → ending past e ≡ o
     → filter (λ x. survives past e x && (is_below_max_active s (e ∷ past) x && waits s past x)) (still_open past) ≡ filter (waits s past) (option_to_list (behind_width s past o))
-newly_promoted s past e None legal keeps is = none_moves s past e legal keeps is
-newly_promoted s past e (Some y) legal keeps is = moves_waiting s past e y legal keeps is ∙ ap (filter (waits s past)) (promotes s past e y legal is)
+newly_promoted s past e o legal keeps is = moves_waiting s past e o legal keeps is ∙ ap (filter (waits s past)) (promotes s past e o legal is)
 
 -- ---- what is opened
 
+-- where a width changes nothing ends, and nothing is opened
+widened_quiet : (r : Reply) → keeps_widths r ≡ false → (number_finished r ≡ None) × (number_cancelled r ≡ None) × (replaces r ≡ false) × (opens r ≡ false)
+widened_quiet (reply.Width n) h = (refl, refl, refl, refl)
+widened_quiet reply.Frozen h = (refl, refl, refl, refl)
+widened_quiet reply.Thawed h = (refl, refl, refl, refl)
+widened_quiet r h = cc
+
 opens_keep : (r : Reply) → opens r ≡ true → keeps_widths r ≡ true
-opens_keep (reply.Width n) h = cc
-opens_keep reply.Frozen h = cc
-opens_keep reply.Thawed h = cc
-opens_keep r h = refl
+opens_keep r h = true_from_ne_false _ (λ widened. both_ways _ (widened_quiet r widened).3 h)
 
 opened_way : (s : Layout) (past : List Entry) (e : Entry) (x : Queueing) → IsLegal s (e ∷ past) → opening past e ≡ Some x → is_below_max_active s (e ∷ past) x ≡ is_below_max_active_at_once s past e x
 opened_way s past e x legal is =
@@ -189,21 +185,11 @@ pub newly_active_are : (s : Layout) (past : List Entry) (e : Entry) → IsLegal 
 newly_active_are s past e legal keeps =
     newly_parts s past e legal ∙ ap₂ (λ xs ys. xs ++ ys) (newly_promoted s past e (ending past e) legal keeps refl) (newly_opened s past e (opening past e) legal refl)
 
--- ---- where a width changes nothing ends, and nothing is opened
-
-spares_all : (past : List Entry) (e : Entry) (x : Queueing) (r : Reply) → e.reply ≡ r → keeps_widths r ≡ false → survives past e x ≡ true
-spares_all past e x (reply.Width n) is h = ap (λ r. not (is_at (number_finished r) x.number) && not (is_at (number_cancelled r) x.number) && not (replaces r && is_of_item x.item.0 e && not (is_started past x.number))) is
-spares_all past e x reply.Frozen is h = ap (λ r. not (is_at (number_finished r) x.number) && not (is_at (number_cancelled r) x.number) && not (replaces r && is_of_item x.item.0 e && not (is_started past x.number))) is
-spares_all past e x reply.Thawed is h = ap (λ r. not (is_at (number_finished r) x.number) && not (is_at (number_cancelled r) x.number) && not (replaces r && is_of_item x.item.0 e && not (is_started past x.number))) is
-spares_all past e x r is h = cc
-
-opens_none : (past : List Entry) (e : Entry) (o : Option Queueing) → opening past e ≡ o → keeps_widths e.reply ≡ false → o ≡ None
-opens_none past e None is h = refl
-opens_none past e (Some x) is h = let bad : true ≡ false = sym (opens_keep e.reply (opening_opens past e x is)) ∙ h in cc
-
 pub widened_make_active : (s : Layout) (past : List Entry) (e : Entry) → IsLegal s (e ∷ past) → keeps_widths e.reply ≡ false → newly_active s past e ≡ filter (λ x. is_below_max_active s (e ∷ past) x && waits s past x) (still_open past)
 widened_make_active s past e legal h =
+    let k = widened_quiet e.reply h in
+    let spared : (x : Queueing) → survives past e x ≡ true = λ x. rw (k.0, k.1, k.2) refl in
     newly_parts s past e legal
-    ∙ ap₂ (λ xs ys. xs ++ ys) (filter_same _ _ (still_open past) (All_each _ (still_open past) (λ x. ap (λ b. b && (is_below_max_active s (e ∷ past) x && waits s past x)) (spares_all past e x e.reply refl h))))
-    (ap (λ o. filter (is_below_max_active s (e ∷ past)) (option_to_list o)) (opens_none past e (opening past e) refl h))
+    ∙ ap₂ (λ xs ys. xs ++ ys) (filter_same _ _ (still_open past) (All_each _ (still_open past) (λ x. ap (λ b. b && (is_below_max_active s (e ∷ past) x && waits s past x)) (spared x))))
+    (ap (λ o. filter (is_below_max_active s (e ∷ past)) (option_to_list o)) (none_opened past e k.3))
     ∙ append-nil _

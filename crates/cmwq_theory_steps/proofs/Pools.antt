@@ -1,5 +1,5 @@
 -- Runs, queueings and bookings of one item keep together: on one queue, and in one pool.
-use Rattle.cmwq_theory_steps.specs.Common.{◌≡◌, ◌==◌, ℕ, Bool, true, false, not, ◌&&◌, List, [], ◌∷◌, ◌++◌, length, filter, Option, Some, None, option_to_list, refl, sym, ap, ap₂, ◌∙◌, subst, arith, option_map, option_and_then, is_some, if◌then◌else◌, option_or, option_map_or, AllByRecursion, eq-eqb, eqb-true, CpuId, PoolId, WorkerId, Who, Call, Reply, Entry, Booking, Place, Queueing, Start, Layout, pool_at, queue_at, is_at, same_pool, item_called, item_fired, is_of_item, item_at, settles, due_in, booked_by, booking, number_started, starts, is_started, run, item_start, item_run, start_in, starts_item, queueings, queueing_at, queue_of, has_number, is_live, still_open, opening, opens, queued_at, place_wanted, cpu_for, is_unstarted, unstarted_queueing, runs_elsewhere, IsLegal, All_map, All_unfilter, All_append, All_filter, active_live, listed_live}
+use Rattle.cmwq_theory_steps.specs.Common.{◌≡◌, ◌==◌, ℕ, Bool, true, false, not, ◌&&◌, List, [], ◌∷◌, ◌++◌, length, filter, Option, Some, None, option_to_list, refl, sym, ap, ap₂, ◌∙◌, subst, arith, option_map, option_and_then, is_some, if◌then◌else◌, option_or, option_map_or, AllByRecursion, eq-eqb, eqb-true, CpuId, PoolId, WorkerId, Who, Call, Reply, Entry, Booking, Place, Queueing, Start, Layout, pool_at, queue_at, is_at, same_pool, item_called, item_fired, is_of_item, item_at, settles, due_in, booked_by, booking, number_started, starts, is_started, run, item_start, item_run, start_in, starts_item, queueings, queue_of, has_number, is_live, still_open, opening, opens, queued_at, place_wanted, cpu_for, is_unstarted, unstarted_queueing, runs_elsewhere, IsLegal, All_map, All_unfilter, All_append, All_filter, active_live, listed_live}
 use Rattle.cmwq_model.specs.declared.reply.Reply.TheVariants as reply
 use Rattle.cmwq_theory_steps.specs.Endings.{survives}
 use Rattle.cmwq_theory_steps.specs.RunSteps.{ends_run}
@@ -76,15 +76,10 @@ opened_at s past who c r x other h = cc
 abbrev pub booking_in : Call → Reply → ℕ → Option Booking
 booking_in c r n = option_and_then (booked_by c n) (due_in r)
 
-record BookedAt (past : List Entry) (i : ℕ) (b : Booking) : Type 0 where
-  not_foreign : runs_elsewhere past i b.place.queue.0 ≡ false
+booked_as : (past : List Entry) (i j : ℕ) (a b : Booking) → runs_elsewhere past j a.place.queue.0 ≡ false → (j == i) ≡ true → Some a ≡ Some b → runs_elsewhere past i b.place.queue.0 ≡ false
+booked_as past i j a b free is h = ap₂ (λ k (x : Booking). runs_elsewhere past k x.place.queue.0) (sym (eqb-true j i is)) (sym (same_Some a b h)) ∙ free
 
-booked_as : (past : List Entry) (i j : ℕ) (a b : Booking) → runs_elsewhere past j a.place.queue.0 ≡ false → (j == i) ≡ true → Some a ≡ Some b → BookedAt past i b
-booked_as past i j a b free is h =
-    let same : a ≡ b = cc in
-    record { not_foreign = subst (λ (x : Booking). runs_elsewhere past i x.place.queue.0 ≡ false) same (subst (λ k. runs_elsewhere past k a.place.queue.0 ≡ false) (eqb-true j i is) free) }
-
-booked_at : (s : Layout) (past : List Entry) (who : Who) (c : Call) (r : Reply) (i n : ℕ) (b : Booking) → Cause s past who c r → is_at (option_or (item_called c) (item_fired r)) i ≡ true → booking_in c r n ≡ Some b → BookedAt past i b
+booked_at : (s : Layout) (past : List Entry) (who : Who) (c : Call) (r : Reply) (i n : ℕ) (b : Booking) → Cause s past who c r → is_at (option_or (item_called c) (item_fired r)) i ≡ true → booking_in c r n ≡ Some b → runs_elsewhere past i b.place.queue.0 ≡ false
 booked_at s past who c r i n b (cause.delayed w j q d t some free idle) is h = booked_as past i j.0 _ b free.not_foreign is h
 booked_at s past who c r i n b (cause.modified_booked w j q d t some free idle) is h = booked_as past i j.0 _ b free.not_foreign is h
 booked_at s past who c r i n b (cause.modified_rebooked w j q d t some free was) is h = booked_as past i j.0 _ b free.not_foreign is h
@@ -121,11 +116,7 @@ not_elsewhere : (past : List Entry) (i q : ℕ) (start : Start) → item_run pas
 not_elsewhere past i q start runs h = is_at-true (queue_of past start.number) q (not-false _ (sym (ap (λ (o : Option Start). option_map_or (λ (st : Start). not (is_at (queue_of past st.number) q)) o false) runs) ∙ h))
 
 queue_of-older : (e : Entry) (past : List Entry) (n q : ℕ) → queue_of past n ≡ Some q → queue_of (e ∷ past) n ≡ Some q
-queue_of-older e past n q h = at (queueing_at past n) refl h
-  where
-    at : (o : Option Queueing) → queueing_at past n ≡ o → option_map (λ (x : Queueing). x.place.queue.0) o ≡ Some q → queue_of (e ∷ past) n ≡ Some q
-    at None is h = cc
-    at (Some x) is h = ap (option_map (λ (x : Queueing). x.place.queue.0)) (queueing_at-older e past n x is) ∙ h
+queue_of-older e past n q h = grind (arith, queueing_at-older e past n)
 
 -- an entry that starts the item's queueing leaves it neither booked nor queued
 starting_quiet : (r : Reply) (n : ℕ) → number_started r ≡ Some n → (settles r ≡ false) × (opens r ≡ false)
@@ -180,7 +171,7 @@ left_together s past e i start legal runs kept = record {
 }
   where
     books : (a : Bool) → (settles e.reply && is_of_item i e) ≡ a → (b : Booking) → booking (e ∷ past) i ≡ Some b → queue_of past start.number ≡ Some b.place.queue.0
-    books true ha b h = not_elsewhere past i b.place.queue.0 start runs (booked_at s past e.who e.call e.reply i (length past) b (cause_of s past e legal) (and_parts (settles e.reply) (is_of_item i e) ha).1 (sym (booking_after past e i true ha) ∙ h)).not_foreign
+    books true ha b h = not_elsewhere past i b.place.queue.0 start runs (booked_at s past e.who e.call e.reply i (length past) b (cause_of s past e legal) (and_parts (settles e.reply) (is_of_item i e) ha).1 (sym (booking_after past e i true ha) ∙ h))
     books false ha b h = kept.booked b (sym (booking_after past e i false ha) ∙ h)
 
     from_queue : (x : Queueing) → QueueFrom past i x.place.queue.0 → queue_of past start.number ≡ Some x.place.queue.0

@@ -1,5 +1,5 @@
 -- What workers and items run after one more entry.
-use Rattle.cmwq_theory_steps.specs.Common.{◌≡◌, ◌<◌, ℕ, Bool, true, false, not, ◌&&◌, ◌||◌, List, [], ◌∷◌, length, Option, Some, None, refl, sym, ap, ap₂, ◌∙◌, subst, option_and_then, is_some, if◌then◌else◌, option_map_or, eq-eqb, WorkerId, Who, Worker, Reply, Entry, Layout, is_at, is_by, same_who, item_at, is_of_item, number_started, number_finished, number_cancelled, starts, finishes, takes_back, replaces, is_started, is_open, is_number_open, last_start, run, IsLegal, listed_live}
+use Rattle.cmwq_theory_steps.specs.Common.{option_or, ◌≡◌, ◌<◌, ℕ, Bool, true, false, not, ◌&&◌, ◌||◌, List, [], ◌∷◌, length, Option, Some, None, refl, sym, ap, ap₂, ◌∙◌, subst, option_and_then, is_some, if◌then◌else◌, option_map_or, eq-eqb, WorkerId, Who, Worker, Reply, Entry, Layout, is_at, is_by, same_who, item_at, is_of_item, number_started, number_finished, number_cancelled, starts, finishes, takes_back, replaces, is_started, is_open, is_number_open, last_start, run, IsLegal, listed_live}
 use Rattle.cmwq_model.specs.declared.reply.Reply.TheVariants as reply
 use Rattle.std.proofs.lemmas.Bool.{both_ways, false_from_ne_true, or_right}
 use Rattle.std.proofs.lemmas.Option.{same_Some}
@@ -101,31 +101,21 @@ number_item past n h = at (item_at past n) refl h
     at None item h = cc
     at (Some i) item h = (i, item)
 
+run_after_is : (r : Reply) (start finish o : Option ℕ) → number_started r ≡ start → number_finished r ≡ finish → run_after r o ≡ option_or start (if is_some finish then None else o)
+run_after_is (reply.Finished m) start finish o hs hf = ap₂ (λ a b. option_or a (if is_some b then None else o)) hs hf
+run_after_is r start finish o hs hf = ap₂ (λ a b. option_or a (if is_some b then None else o)) hs hf
+
 run_goes : (s : Layout) (past : List Entry) (e : Entry) (w : WorkerId) (by : Bool) (start finish : Option ℕ) → IsLegal s (e ∷ past) → is_by (Worker w) e ≡ by → number_started e.reply ≡ start → number_finished e.reply ≡ finish
     → run (e ∷ past) w ≡ (if by then run_after e.reply (run past w) else run past w)
 unfolding IsLegal
-run_goes s past e w true (Some n) f legal hb hs hf = run_begun s past e w n legal hb hs ∙ sym (after e.reply hs)
-  where
-    after : (r : Reply) → number_started r ≡ Some n → run_after r (run past w) ≡ Some n
-    after (reply.Started m) h = h
-    after (reply.StartedEnlist m x) h = h
-    after r h = cc
+run_goes s past e w true (Some n) f legal hb hs hf = run_begun s past e w n legal hb hs ∙ sym (run_after_is e.reply _ _ _ hs hf)
 run_goes s past e w true None None legal hb hs hf =
-    run_left s past e w legal (no_last_start past e w (ap₂ (λ a o. a && is_some o) hb hs)) (λ n runs. ap (λ o. is_at o n) hf) ∙ sym (after e.reply hs hf)
-  where
-    after : (r : Reply) → number_started r ≡ None → number_finished r ≡ None → run_after r (run past w) ≡ run past w
-    after (reply.Started m) h k = cc
-    after (reply.StartedEnlist m x) h k = cc
-    after (reply.Finished m) h k = cc
-    after r h k = refl
+    run_left s past e w legal (no_last_start past e w (ap₂ (λ a o. a && is_some o) hb hs)) (λ n runs. ap (λ o. is_at o n) hf) ∙ sym (run_after_is e.reply _ _ _ hs hf)
 run_goes s past e w true None (Some m) legal hb hs hf =
     let f = finishes_run s past e m legal hf in
     let same : f.worker ≡ w = same_worker-true f.worker w (subst (λ (x : Who). same_who x (Worker w) ≡ true) f.by_worker hb) in
-    run_ended s past e w m legal (no_last_start past e w (ap₂ (λ a o. a && is_some o) hb hs)) (subst (λ (v : WorkerId). run past v ≡ Some m) same f.is_run) (ap (λ o. is_at o m) hf ∙ eq-eqb m m refl) ∙ sym (after e.reply hf)
-  where
-    after : (r : Reply) → number_finished r ≡ Some m → run_after r (run past w) ≡ None
-    after (reply.Finished k) h = refl
-    after r h = cc
+    run_ended s past e w m legal (no_last_start past e w (ap₂ (λ a o. a && is_some o) hb hs)) (subst (λ (v : WorkerId). run past v ≡ Some m) same f.is_run) (ap (λ o. is_at o m) hf ∙ eq-eqb m m refl)
+    ∙ sym (run_after_is e.reply _ _ _ hs hf)
 run_goes s past e w false o f legal hb hs hf = run_left s past e w legal (no_last_start past e w (ap (λ a. a && is_some (number_started e.reply)) hb)) (λ n runs. false_from_ne_true _ (λ ends.
     let f = finishes_run s past e n legal (is_at-true (number_finished e.reply) n ends) in
     let item = number_item past n (run_is past w n runs).is_still_open in
