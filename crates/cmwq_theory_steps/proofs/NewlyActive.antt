@@ -155,9 +155,7 @@ newly_promoted s past e o legal keeps is = moves_waiting s past e o legal keeps 
 -- where a width changes nothing ends, and nothing is opened
 widened_quiet : (r : Reply) → keeps_widths r ≡ false → (number_finished r ≡ None) × (number_cancelled r ≡ None) × (replaces r ≡ false) × (opens r ≡ false)
 widened_quiet (reply.Width n) h = (refl, refl, refl, refl)
-widened_quiet reply.Frozen h = (refl, refl, refl, refl)
-widened_quiet reply.Thawed h = (refl, refl, refl, refl)
-widened_quiet r h = cc
+widened_quiet r h = grind arith
 
 opens_keep : (r : Reply) → opens r ≡ true → keeps_widths r ≡ true
 opens_keep r h = true_from_ne_false _ (λ widened. both_ways _ (widened_quiet r widened).3 h)

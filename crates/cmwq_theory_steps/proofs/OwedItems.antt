@@ -44,11 +44,9 @@ item_within s who c i fit is = ltb-true i s.items (numbered c (and_parts (may_ma
   where
     numbered : (c : Call) → has_numbers s c ≡ true → item_called c ≡ Some i → nat_lt i s.items ≡ true
     numbered (call.Queue j q p) h is = grind arith
-    numbered (call.Delay j q p t) h is = grind arith
-    numbered (call.Modify j q p t) h is = grind arith
-    numbered c h is = cc
+    numbered c h is = grind arith
 
-booked_within : (s : Layout) (past : List Entry) (i : ℕ) (b : Booking) → IsLegal s past → booking past i ≡ Some b → i < s.items
+pub booked_within : (s : Layout) (past : List Entry) (i : ℕ) (b : Booking) → IsLegal s past → booking past i ≡ Some b → i < s.items
 unfolding booking IsLegal
 booked_within s [] i b legal h = cc
 booked_within s (e ∷ past) i b legal h = at (settles e.reply && is_of_item i e) refl h (booked_within s past i b legal.2)

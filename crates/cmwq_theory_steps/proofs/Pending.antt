@@ -37,17 +37,11 @@ settling s past who c r i other h k = cc
 
 pub opens_settles : (r : Reply) → opens r ≡ true → settles r ≡ true
 opens_settles (reply.Yes k) h = refl
-opens_settles (reply.Again k) h = refl
-opens_settles (reply.Fired i k) h = refl
-opens_settles (reply.TicketQueued k) h = refl
-opens_settles r h = cc
+opens_settles r h = grind arith
 
 opens_undue : (r : Reply) → opens r ≡ true → due_in r ≡ None
 opens_undue (reply.Yes k) h = refl
-opens_undue (reply.Again k) h = refl
-opens_undue (reply.Fired i k) h = refl
-opens_undue (reply.TicketQueued k) h = refl
-opens_undue r h = cc
+opens_undue r h = grind arith
 
 pub opening_opens : (past : List Entry) (e : Entry) (x : Queueing) → opening past e ≡ Some x → opens e.reply ≡ true
 opening_opens past e x h = grind arith

@@ -32,8 +32,7 @@ told_apart n m b same back = same_bools (n == m) b (λ h. back (eqb-true n m h))
 
 unbooked_else : (r : Reply) → settles r ≡ true → opens r ≡ false → due_in r ≡ None → unbooks r ≡ true
 unbooked_else reply.Unbooked h o d = refl
-unbooked_else (reply.TicketUnbooked k) h o d = refl
-unbooked_else r h o d = cc
+unbooked_else r h o d = grind arith
 
 own_item : (i j : ℕ) (e : Entry) → item_of e ≡ Some j → is_of_item i e ≡ true → j ≡ i
 own_item i j e is h = eqb-true j i (sym (ap (λ o. is_at o i) is) ∙ h)
@@ -84,8 +83,7 @@ not_finished s past e n legal new = false_from_ne_true _ (λ ends.
 
 replacing_settles : (r : Reply) → replaces r ≡ true → settles r ≡ true
 replacing_settles (reply.Again k) h = refl
-replacing_settles (reply.Rebooked d) h = refl
-replacing_settles r h = cc
+replacing_settles r h = grind arith
 
 not_replaced : (e : Entry) (i : ℕ) (u : Bool) → is_settled e i ≡ false → (replaces e.reply && is_of_item i e && not u) ≡ false
 not_replaced e i u other = grind (arith, replacing_settles e.reply)

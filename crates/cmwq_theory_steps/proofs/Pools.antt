@@ -121,8 +121,7 @@ queue_of-older e past n q h = grind (arith, queueing_at-older e past n)
 -- an entry that starts the item's queueing leaves it neither booked nor queued
 starting_quiet : (r : Reply) (n : ℕ) → number_started r ≡ Some n → (settles r ≡ false) × (opens r ≡ false)
 starting_quiet (reply.Started m) n h = (refl, refl)
-starting_quiet (reply.StartedEnlist m x) n h = (refl, refl)
-starting_quiet r n h = cc
+starting_quiet r n h = grind arith
 
 pub started_was : (s : Layout) (past : List Entry) (e : Entry) (i n : ℕ) → IsLegal s (e ∷ past) → number_started e.reply ≡ Some n → item_at past n ≡ Some i → (y : Queueing) × (unstarted_queueing past i ≡ Some y) × (y.number ≡ n)
 unfolding IsLegal

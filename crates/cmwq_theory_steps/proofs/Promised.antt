@@ -1,5 +1,5 @@
 -- Room: the replies that are promised need no more than the history did before, so they are never refused.
-use Rattle.cmwq_theory_steps.specs.Common.{◌≡◌, ◌≤◌, ◌+◌, ℕ, true, false, not, ◌&&◌, List, ◌∷◌, length, Option, Some, None, refl, ap, ap₂, ◌∙◌, subst, arith, ◌*◌, option_map, option_and_then, is_some, option_or, option_map_or, Who, Call, Reply, Entry, Queueing, Layout, item_called, item_fired, settles, due_in, booking_of, booked_by, is_booked, number_started, number_finished, number_cancelled, is_started, opens, opening, gives_ticket, is_done, IsLegal, has_not_started, room_needed, none}
+use Rattle.cmwq_theory_steps.specs.Common.{◌≡◌, ◌≤◌, ◌+◌, ℕ, true, false, not, ◌&&◌, List, ◌∷◌, length, Option, Some, None, refl, ap, ap₂, ◌∙◌, subst, arith, ◌*◌, option_map, option_and_then, is_some, option_or, option_map_or, Who, Call, Reply, Entry, Queueing, Layout, item_called, item_fired, settles, due_in, booking_of, booked_by, is_booked, number_started, number_finished, number_cancelled, is_started, opens, opening, gives_ticket, is_done, IsLegal, has_not_started, room_needed}
 use Rattle.cmwq_model.specs.declared.reply.Reply.TheVariants as reply
 use Rattle.cmwq_theory_steps.specs.Endings.{ending, number_replaced}
 use Rattle.cmwq_theory_steps.specs.Histories.{one}
@@ -17,17 +17,7 @@ use Rattle.cmwq_theory_steps.proofs.Owing.{owed_goes_on}
 weight : (r : Reply) (op bk eu ub : ℕ) → op ≤ one (opens r) → bk ≤ one (is_some (due_in r)) → (is_some (number_cancelled r) ≡ true → eu ≡ 1) → (settles r ≡ true → ub ≡ 1) → is_promised r ≡ true
     → 1 + 2 * op + one (is_some (number_started r)) + one (is_slept r) + 3 * bk + one (gives_ticket r) + one (is_frozen_now r) ≤ 2 * one (is_some (number_started r)) + 2 * eu + one (is_some (number_finished r)) + one (is_woke r) + 3 * ub + one (is_done r) + one (is_thawed_now r)
 weight (reply.Started n) op bk eu ub ho hb he hu h = omega arith
-weight (reply.StartedEnlist n x) op bk eu ub ho hb he hu h = omega arith
-weight (reply.Finished n) op bk eu ub ho hb he hu h = omega arith
-weight reply.Woke op bk eu ub ho hb he hu h = omega arith
-weight (reply.Fired i k) op bk eu ub ho hb he hu h = let pays = hu refl in omega arith
-weight (reply.Cancelled n) op bk eu ub ho hb he hu h = let pays = he refl in omega arith
-weight reply.Unbooked op bk eu ub ho hb he hu h = let pays = hu refl in omega arith
-weight reply.Done op bk eu ub ho hb he hu h = omega arith
-weight (reply.TicketCancelled k n) op bk eu ub ho hb he hu h = let pays = he refl in omega arith
-weight (reply.TicketUnbooked k) op bk eu ub ho hb he hu h = let pays = hu refl in omega arith
-weight reply.Thawed op bk eu ub ho hb he hu h = omega arith
-weight r op bk eu ub ho hb he hu h = cc
+weight r op bk eu ub ho hb he hu h = grind arith
 
 opened_most : (past : List Entry) (e : Entry) → one (is_some (opening past e)) ≤ one (opens e.reply)
 opened_most past e = at (opening past e) refl
@@ -49,8 +39,7 @@ cancelled_unstarted s past e n legal h = at (ending past e) (ends_which s past e
   where
     which : (r : Reply) → number_cancelled r ≡ Some n → option_or (number_finished r) (option_or (number_cancelled r) (number_replaced past e)) ≡ Some n
     which (reply.Cancelled m) h = h
-    which (reply.TicketCancelled k m) h = h
-    which r h = cc
+    which r h = grind arith
 
     new : is_started past n ≡ false
     new = let k = takes_back_unstarted s past e n legal h in subst (λ m. is_started past m ≡ false) k.number (unstarted_is past k.item k.queueing k.is_unstarted).not_started

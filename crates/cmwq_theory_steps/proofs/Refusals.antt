@@ -54,18 +54,7 @@ record SaysNothing (r : Reply) : Type 0 where
 
 says_nothing : (r : Reply) → is_refusal r ≡ true → SaysNothing r
 says_nothing reply.Misuse h = record { opens_none = refl; settles_none = refl; due = refl; replaces_none = refl; started = refl; finished = refl; cancelled = refl; gives = refl; done = refl; widths = refl; frozen = refl; thawed = refl; slept = refl; woke = refl; enlisted = refl; retired = refl; asleep = λ b. refl; runs = λ o. refl; queues = λ past o. refl }
-says_nothing reply.No h = record { opens_none = refl; settles_none = refl; due = refl; replaces_none = refl; started = refl; finished = refl; cancelled = refl; gives = refl; done = refl; widths = refl; frozen = refl; thawed = refl; slept = refl; woke = refl; enlisted = refl; retired = refl; asleep = λ b. refl; runs = λ o. refl; queues = λ past o. refl }
-says_nothing reply.Foreign h = record { opens_none = refl; settles_none = refl; due = refl; replaces_none = refl; started = refl; finished = refl; cancelled = refl; gives = refl; done = refl; widths = refl; frozen = refl; thawed = refl; slept = refl; woke = refl; enlisted = refl; retired = refl; asleep = λ b. refl; runs = λ o. refl; queues = λ past o. refl }
-says_nothing reply.Draining h = record { opens_none = refl; settles_none = refl; due = refl; replaces_none = refl; started = refl; finished = refl; cancelled = refl; gives = refl; done = refl; widths = refl; frozen = refl; thawed = refl; slept = refl; woke = refl; enlisted = refl; retired = refl; asleep = λ b. refl; runs = λ o. refl; queues = λ past o. refl }
-says_nothing reply.Nothing h = record { opens_none = refl; settles_none = refl; due = refl; replaces_none = refl; started = refl; finished = refl; cancelled = refl; gives = refl; done = refl; widths = refl; frozen = refl; thawed = refl; slept = refl; woke = refl; enlisted = refl; retired = refl; asleep = λ b. refl; runs = λ o. refl; queues = λ past o. refl }
-says_nothing reply.Idle h = record { opens_none = refl; settles_none = refl; due = refl; replaces_none = refl; started = refl; finished = refl; cancelled = refl; gives = refl; done = refl; widths = refl; frozen = refl; thawed = refl; slept = refl; woke = refl; enlisted = refl; retired = refl; asleep = λ b. refl; runs = λ o. refl; queues = λ past o. refl }
-says_nothing reply.Crowded h = record { opens_none = refl; settles_none = refl; due = refl; replaces_none = refl; started = refl; finished = refl; cancelled = refl; gives = refl; done = refl; widths = refl; frozen = refl; thawed = refl; slept = refl; woke = refl; enlisted = refl; retired = refl; asleep = λ b. refl; runs = λ o. refl; queues = λ past o. refl }
-says_nothing (reply.Waiting n) h = record { opens_none = refl; settles_none = refl; due = refl; replaces_none = refl; started = refl; finished = refl; cancelled = refl; gives = refl; done = refl; widths = refl; frozen = refl; thawed = refl; slept = refl; woke = refl; enlisted = refl; retired = refl; asleep = λ b. refl; runs = λ o. refl; queues = λ past o. refl }
-says_nothing reply.Held h = record { opens_none = refl; settles_none = refl; due = refl; replaces_none = refl; started = refl; finished = refl; cancelled = refl; gives = refl; done = refl; widths = refl; frozen = refl; thawed = refl; slept = refl; woke = refl; enlisted = refl; retired = refl; asleep = λ b. refl; runs = λ o. refl; queues = λ past o. refl }
-says_nothing reply.Kept h = record { opens_none = refl; settles_none = refl; due = refl; replaces_none = refl; started = refl; finished = refl; cancelled = refl; gives = refl; done = refl; widths = refl; frozen = refl; thawed = refl; slept = refl; woke = refl; enlisted = refl; retired = refl; asleep = λ b. refl; runs = λ o. refl; queues = λ past o. refl }
-says_nothing reply.Gone h = record { opens_none = refl; settles_none = refl; due = refl; replaces_none = refl; started = refl; finished = refl; cancelled = refl; gives = refl; done = refl; widths = refl; frozen = refl; thawed = refl; slept = refl; woke = refl; enlisted = refl; retired = refl; asleep = λ b. refl; runs = λ o. refl; queues = λ past o. refl }
-says_nothing reply.Timers h = record { opens_none = refl; settles_none = refl; due = refl; replaces_none = refl; started = refl; finished = refl; cancelled = refl; gives = refl; done = refl; widths = refl; frozen = refl; thawed = refl; slept = refl; woke = refl; enlisted = refl; retired = refl; asleep = λ b. refl; runs = λ o. refl; queues = λ past o. refl }
-says_nothing r h = absurd (true≢false (sym h))
+says_nothing r h = grind arith
 
 -- ---- so the entry does nothing
 

@@ -1,5 +1,5 @@
 -- What workers and items run after one more entry.
-use Rattle.cmwq_theory_steps.specs.Common.{option_or, ◌≡◌, ◌<◌, ℕ, Bool, true, false, not, ◌&&◌, ◌||◌, List, [], ◌∷◌, length, Option, Some, None, refl, sym, ap, ap₂, ◌∙◌, subst, option_and_then, is_some, if◌then◌else◌, option_map_or, eq-eqb, WorkerId, Who, Worker, Reply, Entry, Layout, is_at, is_by, same_who, item_at, is_of_item, number_started, number_finished, number_cancelled, starts, finishes, takes_back, replaces, is_started, is_open, is_number_open, last_start, run, IsLegal, listed_live}
+use Rattle.cmwq_theory_steps.specs.Common.{arith, option_or, ◌≡◌, ◌<◌, ℕ, Bool, true, false, not, ◌&&◌, ◌||◌, List, [], ◌∷◌, length, Option, Some, None, refl, sym, ap, ap₂, ◌∙◌, subst, option_and_then, is_some, if◌then◌else◌, option_map_or, eq-eqb, WorkerId, Who, Worker, Reply, Entry, Layout, is_at, is_by, same_who, item_at, is_of_item, number_started, number_finished, number_cancelled, starts, finishes, takes_back, replaces, is_started, is_open, is_number_open, last_start, run, IsLegal, listed_live}
 use Rattle.cmwq_model.specs.declared.reply.Reply.TheVariants as reply
 use Rattle.std.proofs.lemmas.Bool.{both_ways, false_from_ne_true, or_right}
 use Rattle.std.proofs.lemmas.Option.{same_Some}
@@ -28,8 +28,7 @@ started_open_on s past e i n legal less started =
 -- what an entry starts is open after it
 pub no_end : (r : Reply) (n : ℕ) → number_started r ≡ Some n → (number_finished r ≡ None) × (number_cancelled r ≡ None) × (replaces r ≡ false)
 no_end (reply.Started m) n h = (refl, refl, refl)
-no_end (reply.StartedEnlist m x) n h = (refl, refl, refl)
-no_end r n h = cc
+no_end r n h = grind arith
 
 pub started_open : (s : Layout) (past : List Entry) (e : Entry) (i n : ℕ) → IsLegal s (e ∷ past) → number_started e.reply ≡ Some n → item_at past n ≡ Some i → is_open (e ∷ past) i n ≡ true
 started_open s past e i n legal h item =

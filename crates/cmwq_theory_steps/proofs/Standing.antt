@@ -20,17 +20,15 @@ record IsMade (e : Entry) (n : ℕ) (b : Booking) : Type 0 where
 
 pub due_settles : (r : Reply) (d : ℕ) → due_in r ≡ Some d → settles r ≡ true
 due_settles (reply.Booked d) k h = refl
-due_settles (reply.Rebooked d) k h = refl
-due_settles r k h = cc
+due_settles r k h = grind arith
 
 pub record IsFor (c : Call) (n : ℕ) (b : Booking) : Type 0 where
   pub number : b.number ≡ n
   pub item : item_called c ≡ Some b.item.0
 
 pub made_for : (c : Call) (n d : ℕ) (b : Booking) → booked_by c n d ≡ Some b → IsFor c n b
-made_for (call.Delay i q p t) n d b h = let is : record { item = i; place = record { queue = q; cpu = p }; due = d; number = n } ≡ b = cc in record { number = sym (ap (λ (x : Booking). x.number) is); item = ap (λ (x : Booking). Some x.item.0) is }
-made_for (call.Modify i q p t) n d b h = let is : record { item = i; place = record { queue = q; cpu = p }; due = d; number = n } ≡ b = cc in record { number = sym (ap (λ (x : Booking). x.number) is); item = ap (λ (x : Booking). Some x.item.0) is }
-made_for c n d b h = cc
+made_for (call.Delay i q p t) n d b h = grind arith
+made_for c n d b h = grind arith
 
 made : (e : Entry) (n : ℕ) (b : Booking) (o : Option ℕ) → due_in e.reply ≡ o → option_and_then (booked_by e.call n) o ≡ Some b → IsMade e n b
 made e n b None is h = cc
