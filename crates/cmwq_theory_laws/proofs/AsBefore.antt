@@ -1,11 +1,12 @@
 -- Where widths don't change, what is active is what was active before widths could change.
-use Rattle.cmwq_theory_laws.specs.Common.{◌≡◌, ◌<◌, ℕ, Bool, true, false, not, ◌&&◌, ◌||◌, List, [], ◌∷◌, ◌++◌, length, filter, find, count_by, Option, Some, None, option_to_list, nat_lt, refl, sym, ap, ap₂, ◌∙◌, arith, subst, ◌+◌, ◌==◌, if◌then◌else◌, option_map_or, AllByRecursion, ltb-true, lt-ltb, nat_tests, PoolId, Who, Caller, Worker, Call, Reply, Entry, Queueing, Ticket, Layout, first_width, is_freezable, pool_at, same_pool, serial_of, now, is_started, width, max_active, is_frozen, frozen_after, sets_max, width_told, has_run, queueings, is_live, still_open, is_pending, runs_elsewhere, is_ahead, is_below_max_active, is_active, is_newly_active, is_listed, became_active, worklist, next, is_startable, is_enlisted, gives_ticket, ticket_for, ticket_in, tickets, is_done, is_unended, unended_tickets, destroys, is_destroy_of, is_cancelling, is_crowded, is_ticket, ticket_of, ends_destroy, is_gone, may_call, is_shut, queue_answer, modify_answer, wait_answer, answer, take_answer, start_of, IsLegal, entry_for, find_holds, All_map, All_append, All_filter, All_each, filter_same, active_go_on, Cause, causes}
+use Rattle.cmwq_theory_laws.specs.Common.{and-false, ◌≡◌, ◌<◌, ℕ, Bool, true, false, not, ◌&&◌, ◌||◌, List, [], ◌∷◌, ◌++◌, length, filter, find, count_by, Option, Some, None, option_to_list, nat_lt, refl, sym, ap, ap₂, ◌∙◌, arith, subst, if◌then◌else◌, option_map_or, AllByRecursion, ltb-true, lt-ltb, nat_tests, PoolId, Who, Caller, Worker, Call, Reply, Entry, Queueing, Ticket, Layout, first_width, is_freezable, pool_at, same_pool, serial_of, is_started, width, max_active, is_frozen, frozen_after, sets_max, width_told, has_run, queueings, is_live, still_open, is_ahead, is_below_max_active, is_active, is_newly_active, is_listed, became_active, worklist, next, is_startable, is_enlisted, gives_ticket, ticket_for, ticket_in, tickets, is_done, is_unended, unended_tickets, destroys, is_destroy_of, is_ticket, ticket_of, ends_destroy, is_gone, queue_answer, modify_answer, wait_answer, answer, take_answer, start_of, IsLegal, entry_for, find_holds, All_map, All_append, All_each, filter_same, active_go_on, Cause, causes}
 use Rattle.cmwq_model.specs.declared.call.Call.TheVariants as call
 use Rattle.cmwq_model.specs.declared.reply.Reply.TheVariants as reply
 use Rattle.cmwq_theory_laws.specs.FirstWidths.{queue_before, modify_before, wait_before, is_first, is_newly_first, ever_first, is_listed_before, next_before, HasFirstWidths, is_old, take_before, answer_before, entry_before, IsLegalBefore}
 use Rattle.cmwq_theory_steps.proofs.Causes as cause
 use Rattle.cmwq_theory_steps.proofs.Inversions.{answer_is}
 use Rattle.cmwq_theory_active.proofs.Ahead.{fewer_ahead}
+use Rattle.cmwq_lemmas.proofs.Passing.{all_kept}
 
 -- ---- with the layout's widths
 
@@ -25,11 +26,8 @@ goes_on_as_before s past e x wide was is =
     is ∙ ap₂ (λ a w. is_live (e ∷ past) x && (a || nat_lt (count_by (is_ahead x) (still_open (e ∷ past))) w)) was wide
     ∙ ap (λ b. is_live (e ∷ past) x && b) (at (is_first s past x) refl)
   where
-    older : is_first s past x ≡ true → x.number < length past
-    older h = ltb-true x.number (length past) (grind arith)
-
     at : (b : Bool) → is_first s past x ≡ b → (b || nat_lt (count_by (is_ahead x) (still_open (e ∷ past))) (first_width s x.place.queue.0)) ≡ nat_lt (count_by (is_ahead x) (still_open (e ∷ past))) (first_width s x.place.queue.0)
-    at true h = sym (stays_first s past e x (older h) h)
+    at true h = sym (stays_first s past e x (ltb-true x.number (length past) (grind arith)) h)
     at false h = refl
 
 none_first : (s : Layout) (x : Queueing) → is_active s [] x ≡ is_first s [] x
@@ -86,11 +84,7 @@ max_kept s (e ∷ past) q h = ap (λ b. option_map_or (λ n. n) (if b then width
 
 width_kept : (s : Layout) (past : List Entry) (q : ℕ) → AreOld past → AreKept past → width s past q ≡ first_width s q
 unfolding width
-width_kept s past q old kept = ap (λ b. if is_freezable s q && b then 0 else max_active s past q) (never_frozen past kept) ∙ open_to (is_freezable s q) ∙ max_kept s past q old
-  where
-    open_to : (b : Bool) → (if b && false then 0 else max_active s past q) ≡ max_active s past q
-    open_to true = refl
-    open_to false = refl
+width_kept s past q old kept = ap (λ b. if is_freezable s q && b then 0 else max_active s past q) (never_frozen past kept) ∙ ap (λ b. if b then 0 else max_active s past q) (and-false (is_freezable s q)) ∙ max_kept s past q old
 
 widths_kept : (s : Layout) (past : List Entry) → AreOld past → AreKept past → HasFirstWidths s past
 widths_kept s [] old kept = tt
@@ -107,18 +101,14 @@ next_as_before s past p wide =
 
 -- ---- no queue is gone
 
-not_destroyed : (q : ℕ) (who : Who) (c : Call) (n : ℕ) → destroys q c ≡ false → AllByRecursion (λ t. is_destroy_of q t ≡ false) (option_to_list (ticket_for who c n))
-not_destroyed q (Caller d) c n h = (h, tt)
-not_destroyed q (Worker w) c n h = tt
-
-none_given : (q : ℕ) (e : Entry) (n : ℕ) (b : Bool) → destroys q e.call ≡ false → AllByRecursion (λ t. is_destroy_of q t ≡ false) (option_to_list (if b then ticket_for e.who e.call n else None))
-none_given q e n true h = not_destroyed q e.who e.call n h
-none_given q e n false h = tt
+none_given : (q n : ℕ) (who : Who) (c : Call) (b : Bool) → destroys q c ≡ false → AllByRecursion (λ t. is_destroy_of q t ≡ false) (option_to_list (if b then ticket_for who c n else None))
+none_given q n (Caller d) c true h = (h, tt)
+none_given q n who c b h = grind arith
 
 no_destroys : (past : List Entry) (q : ℕ) → AllByRecursion (λ e. destroys q e.call ≡ false) past → AllByRecursion (λ t. is_destroy_of q t ≡ false) (tickets past)
 unfolding tickets
 no_destroys [] q h = tt
-no_destroys (e ∷ past) q h = All_append (λ t. is_destroy_of q t ≡ false) (tickets past) (option_to_list (ticket_in e (length past))) (no_destroys past q h.1) (none_given q e (length past) (gives_ticket e.reply) h.0)
+no_destroys (e ∷ past) q h = All_append (λ t. is_destroy_of q t ≡ false) (tickets past) (option_to_list (ticket_in e (length past))) (no_destroys past q h.1) (none_given q (length past) e.who e.call (gives_ticket e.reply) h.0)
 
 no_end : (past : List Entry) (q : ℕ) (who : Who) (c : Call) → AllByRecursion (λ t. is_destroy_of q t ≡ false) (tickets past) → ends_destroy past q who c ≡ false
 no_end past q who (call.End n) all = at (ticket_of past who n) refl
@@ -126,17 +116,13 @@ no_end past q who (call.End n) all = at (ticket_of past who n) refl
     at : (o : Option Ticket) → ticket_of past who n ≡ o → option_map_or (is_destroy_of q) o false ≡ false
     at None h = refl
     at (Some t) h = (find_holds (λ u. is_destroy_of q u ≡ false) (is_ticket who n) (unended_tickets past) t
-        (All_filter (λ u. is_destroy_of q u ≡ false) (is_unended past) (tickets past) (All_map (λ u. is_destroy_of q u ≡ false) _ (tickets past) (λ u is stands. is) all)) h).holds
+        (all_kept (λ u. is_destroy_of q u ≡ false) (is_unended past) (tickets past) all) h).holds
 no_end past q who c all = refl
 
 pub none_gone : (past : List Entry) (q : ℕ) → AllByRecursion (λ e. destroys q e.call ≡ false) past → is_gone past q ≡ false
 unfolding is_gone
 none_gone [] q h = refl
-none_gone (e ∷ past) q h = ap₂ (λ a b. a || (is_done e.reply && b)) (none_gone past q h.1) (no_end past q e.who e.call (no_destroys past q h.1)) ∙ neither (is_done e.reply)
-  where
-    neither : (b : Bool) → (false || (b && false)) ≡ false
-    neither true = refl
-    neither false = refl
+none_gone (e ∷ past) q h = ap₂ (λ a b. a || (is_done e.reply && b)) (none_gone past q h.1) (no_end past q e.who e.call (no_destroys past q h.1)) ∙ and-false (is_done e.reply)
 
 old_destroys : (q : ℕ) (c : Call) → is_old c ≡ true → destroys q c ≡ false
 old_destroys q (call.Destroy r) h = cc
@@ -149,35 +135,15 @@ old_none_gone past q old = none_gone past q (All_map (λ e. is_old e.call ≡ tr
 
 queue_as_before : (past : List Entry) (who : Who) (i q t : ℕ) → is_gone past q ≡ false → queue_answer past who i q t ≡ queue_before past who i q t
 unfolding queue_answer queue_before
-queue_as_before past who i q t none = ap
-    (λ b.
-    if not (may_call past who) then reply.Misuse
-    else if b then reply.Gone
-    else if is_cancelling past i then reply.No
-    else if is_pending past i then reply.No
-    else if runs_elsewhere past i q then reply.Foreign
-    else if is_shut past who q t then reply.Draining
-    else if t == 0 then reply.Yes (length past)
-    else reply.Booked (now past + t))
-    none
+queue_as_before past who i q t none = rw none refl
 
 modify_as_before : (past : List Entry) (who : Who) (i q t : ℕ) → is_gone past q ≡ false → modify_answer past who i q t ≡ modify_before past who i q t
 unfolding modify_answer modify_before
-modify_as_before past who i q t none = ap
-    (λ b.
-    if not (may_call past who) then reply.Misuse
-    else if b then reply.Gone
-    else if is_cancelling past i then reply.No
-    else if runs_elsewhere past i q then reply.Foreign
-    else if is_shut past who q t then reply.Draining
-    else if is_pending past i then (if t == 0 then reply.Again (length past) else reply.Rebooked (now past + t))
-    else if t == 0 then reply.Yes (length past)
-    else reply.Booked (now past + t))
-    none
+modify_as_before past who i q t none = rw none refl
 
 wait_as_before : (past : List Entry) (who : Who) (q : ℕ) → is_gone past q ≡ false → wait_answer past who q ≡ wait_before past who
 unfolding wait_answer wait_before
-wait_as_before past who q none = ap (λ b. if b then reply.Gone else if is_crowded past who then reply.Crowded else reply.Ticket (length past)) none
+wait_as_before past who q none = rw none refl
 
 answer_as_before : (s : Layout) (past : List Entry) (who : Who) (c : Call) → HasFirstWidths s past → ((q : ℕ) → is_gone past q ≡ false) → answer s past who c ≡ answer_before s past who c
 unfolding answer take_answer take_before

@@ -1,5 +1,5 @@
 -- Illegal histories that break the laws of legal ones, by computation.
-use Rattle.cmwq_theory_laws.specs.Common.{◌≡◌, ◌≤◌, true, false, [], ◌∷◌, refl, ap, arith, WorkerId, booking, is_cancelled, last_start, item_start, queueings, is_active, became_active, width, max_active, is_gone, tickets, active_count, IsDistinct}
+use Rattle.cmwq_theory_laws.specs.Common.{◌≡◌, ◌≤◌, [], ◌∷◌, refl, ap, arith, WorkerId, booking, is_cancelled, last_start, item_start, queueings, is_active, became_active, width, max_active, is_gone, tickets, active_count, IsDistinct}
 use Rattle.cmwq_theory_laws.specs.Illegal.{worker_of_pool_zero, GoneButOpen, worker_of_pool_zero, RunInTwoWorkers, StartedTwice, StartedUnqueued, RunBeyondMaxActive, EndedEarly, Unsettled}
 use Rattle.std.proofs.lemmas.Bool.{false≢true, true≢false}
 

@@ -1,19 +1,14 @@
 -- Where the end of a cancel_sync is answered done, its item neither is pending nor runs after that.
-use Rattle.cmwq_theory_laws.specs.Common.{◌≡◌, ℕ, Bool, true, false, cond, ◌&&◌, ◌||◌, List, [], ◌∷◌, find, Option, Some, None, refl, ap, ◌∙◌, sym, option_map, is_some, if◌then◌else◌, list_any, or_right, eq-eqb, Entry, Start, Layout, entry_at, is_of_item, settles, number_started, item_run, item_runs, starts_item, start_in, is_pending, unended_tickets, is_ticket, is_cancelling, cancels_sync, is_cancel_sync_of, waits_for, IsLegal, IsDone, no_start, starts_no_item, items_run_on, ends_ticket, ready_call, ended_call}
+use Rattle.cmwq_theory_laws.specs.Common.{arith, ◌≡◌, ℕ, Bool, true, false, ◌&&◌, List, [], ◌∷◌, find, Option, Some, None, refl, ap, ◌∙◌, sym, option_map, is_some, if◌then◌else◌, list_any, eq-eqb, Entry, Start, Layout, entry_at, is_of_item, settles, number_started, item_run, item_runs, starts_item, start_in, is_pending, unended_tickets, is_ticket, is_cancelling, cancels_sync, is_cancel_sync_of, waits_for, IsLegal, IsDone, no_start, starts_no_item, items_run_on, ends_ticket, ready_call, ended_call}
 use Rattle.cmwq_model.specs.declared.call.Call.TheVariants as call
 use Rattle.cmwq_theory_laws.specs.Headline.{CancelsSettle}
 use Rattle.cmwq_theory_steps.specs.RunSteps.{ends_run}
 use Rattle.cmwq_theory_laws.proofs.Cancelling.{cancelling_idle, stays_idle}
 
-module _ {X : Type 0} where
-  any_here : (p q : X → Bool) (x y : X) (xs : List X) (b : Bool) → cond b (Some y) (find p xs) ≡ Some x → q x ≡ true → (find p xs ≡ Some x → list_any q xs ≡ true) → (q y || list_any q xs) ≡ true
-  any_here p q x y xs true found passes later = let same : y ≡ x = cc in ap (λ z. q z || list_any q xs) same ∙ ap (λ b. b || list_any q xs) passes
-  any_here p q x y xs false found passes later = or_right (q y) (list_any q xs) (later found)
-
-  -- what is found is there
-  pub any_found : (p q : X → Bool) (x : X) (xs : List X) → find p xs ≡ Some x → q x ≡ true → list_any q xs ≡ true
-  any_found p q x [] found passes = cc
-  any_found p q x (y ∷ xs) found passes = any_here p q x y xs (p y) found passes (λ rest. any_found p q x xs rest passes)
+-- what is found is there
+pub any_found : {X : Type 0} (p q : X → Bool) (x : X) (xs : List X) → find p xs ≡ Some x → q x ≡ true → list_any q xs ≡ true
+any_found p q x [] found passes = cc
+any_found p q x (y ∷ xs) found passes = grind (arith, any_found p q x xs)
 
 -- the cancel_sync whose end is answered done was unended until then
 was_cancelling : (s : Layout) (past : List Entry) (e : Entry) (t i : ℕ) (begun : Entry) → IsLegal s (e ∷ past) → IsDone e t → entry_at past t ≡ Some begun → begun.call ≡ call.CancelSync (record { 0 = i }) → is_cancelling past i ≡ true
