@@ -95,18 +95,12 @@ ended_number s past e y legal is = All_unfilter (λ x. x.number ≡ y.number) (i
 ahead_rise : (x y : Queueing) (xs : List Queueing) → is_of_same_pwq y x ≡ true → x.number ≤ y.number → count_by (is_ahead x) xs ≤ count_by (is_ahead y) xs
 ahead_rise x y xs on less = count_by-wider (is_ahead x) (is_ahead y) xs (All_each _ xs (λ z h. grind (arith, nat_tests)))
 
-is_behind : (x y : Queueing) → is_of_same_pwq y x ≡ true → y.number < x.number → is_ahead x y ≡ true
-is_behind x y on less = grind (arith, nat_tests)
-
 -- where as many as the queue is wide stand ahead of x, and fewer ahead of y, x is behind y and isn't ended with it
 stands_behind : (past : List Entry) (e : Entry) (x y : Queueing) (w : ℕ) → (is_ended past e x ≡ true → x.number ≡ y.number) → count_by (is_ahead y) (still_open past) < w → is_of_same_pwq y x ≡ true → count_by (is_ahead x) (still_open past) ≡ w
     → (survives past e x ≡ true) × (is_ahead x y ≡ true)
 stands_behind past e x y w alone within on count =
     let less : y.number < x.number = grind (arith, ahead_rise x y (still_open past) on) in
-    (true_from_ne_false _ (λ ended. let same = alone (ap not ended) in absurd (omega arith)), is_behind x y on less)
-
-apart : (x y : Queueing) → is_of_same_pwq y x ≡ false → is_ahead x y ≡ false
-apart x y h = grind (arith, nat_tests)
+    (true_from_ne_false _ (λ ended. let same = alone (ap not ended) in absurd (omega arith)), grind (arith, nat_tests))
 
 moves_active : (s : Layout) (past : List Entry) (e : Entry) (x y : Queueing) → (is_ended past e x ≡ true → x.number ≡ y.number) → count_by (is_ahead y) (still_open past) < width s past y.place.queue.0
     → moves_up s past e (Some y) x ≡ (is_of_same_pwq y x && (count_by (is_below x) (beside past y) == width s past y.place.queue.0))
@@ -116,7 +110,7 @@ moves_active s past e x y alone within = at (is_of_same_pwq y x) refl
     rest on = same_bools _ _ (λ h. (and_parts _ _ (and_parts _ _ h).1).1) (λ h. let both = stands_behind past e x y (width s past y.place.queue.0) alone within on (eqb-true _ _ h) in and_from _ _ both.0 (and_from _ _ both.1 h))
 
     at : (b : Bool) → is_of_same_pwq y x ≡ b → moves_up s past e (Some y) x ≡ (b && (count_by (is_below x) (beside past y) == width s past y.place.queue.0))
-    at false on = grind (arith, apart x y on)
+    at false on = grind (arith, nat_tests)
     at true on =
         let queue : x.place.queue.0 ≡ y.place.queue.0 = grind (arith, nat_tests) in
         ap (λ q. survives past e x && (is_ahead x y && (count_by (is_ahead x) (still_open past) == width s past q))) queue ∙ rest on
@@ -146,10 +140,6 @@ promotes s past e (Some y) legal is = at (is_below_max_active s past y) refl
     at true h = promotes_active s past e y legal is (ltb-true _ _ h)
     at false h = filter_none (moves_up s past e (Some y)) (still_open past) (All_each _ (still_open past) (λ x. moves_none s past e x y legal is (ltb-false _ _ h)))
 
-newly_promoted : (s : Layout) (past : List Entry) (e : Entry) (o : Option Queueing) → IsLegal s (e ∷ past) → keeps_widths e.reply ≡ true → ending past e ≡ o
-    → filter (λ x. survives past e x && (is_below_max_active s (e ∷ past) x && waits s past x)) (still_open past) ≡ filter (waits s past) (option_to_list (behind_width s past o))
-newly_promoted s past e o legal keeps is = moves_waiting s past e o legal keeps is ∙ ap (filter (waits s past)) (promotes s past e o legal is)
-
 -- ---- what is opened
 
 -- where a width changes nothing ends, and nothing is opened
@@ -157,14 +147,11 @@ widened_quiet : (r : Reply) → keeps_widths r ≡ false → (number_finished r 
 widened_quiet (reply.Width n) h = (refl, refl, refl, refl)
 widened_quiet r h = grind arith
 
-opens_keep : (r : Reply) → opens r ≡ true → keeps_widths r ≡ true
-opens_keep r h = true_from_ne_false _ (λ widened. both_ways _ (widened_quiet r widened).3 h)
-
 opened_way : (s : Layout) (past : List Entry) (e : Entry) (x : Queueing) → IsLegal s (e ∷ past) → opening past e ≡ Some x → is_below_max_active s (e ∷ past) x ≡ is_below_max_active_at_once s past e x
 opened_way s past e x legal is =
     let number : x.number ≡ length past = opening_number past e x is in
     ap₂ nat_lt (ahead_after s past e x legal (omega arith) ∙ count_by-same (is_ahead x) (is_of_same_pwq x) (filter (survives past e) (still_open past)) all_ahead)
-    (width_same s past e x.place.queue.0 (opens_keep e.reply (opening_opens past e x is)))
+    (width_same s past e x.place.queue.0 (true_from_ne_false _ (λ widened. both_ways _ (widened_quiet e.reply widened).3 (opening_opens past e x is))))
   where
     all_ahead : AllByRecursion (λ y. is_ahead x y ≡ is_of_same_pwq x y) (filter (survives past e) (still_open past))
     all_ahead = All_filter _ (survives past e) (still_open past) (All_map _ _ (still_open past) (λ y less survivors. grind (arith, nat_tests, opening_number past e x is)) (open_below past))
@@ -181,7 +168,7 @@ newly_opened s past e (Some x) legal is = ap (λ b. cond b (x ∷ []) []) (opene
 pub newly_active_are : (s : Layout) (past : List Entry) (e : Entry) → IsLegal s (e ∷ past) → keeps_widths e.reply ≡ true
     → newly_active s past e ≡ filter (waits s past) (option_to_list (behind_width s past (ending past e))) ++ filter (is_below_max_active_at_once s past e) (option_to_list (opening past e))
 newly_active_are s past e legal keeps =
-    newly_parts s past e legal ∙ ap₂ (λ xs ys. xs ++ ys) (newly_promoted s past e (ending past e) legal keeps refl) (newly_opened s past e (opening past e) legal refl)
+    newly_parts s past e legal ∙ ap₂ (λ xs ys. xs ++ ys) (moves_waiting s past e (ending past e) legal keeps refl ∙ ap (filter (waits s past)) (promotes s past e (ending past e) legal refl)) (newly_opened s past e (opening past e) legal refl)
 
 pub widened_make_active : (s : Layout) (past : List Entry) (e : Entry) → IsLegal s (e ∷ past) → keeps_widths e.reply ≡ false → newly_active s past e ≡ filter (λ x. is_below_max_active s (e ∷ past) x && waits s past x) (still_open past)
 widened_make_active s past e legal h =

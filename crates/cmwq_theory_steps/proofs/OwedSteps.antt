@@ -35,9 +35,6 @@ own_counted s past e f g w legal who others =
     let within = worker_within s w e.call (subst (λ x. IsTrue (fits s x e.call)) who (legal_fits s past e legal)) in
     count_point (is_worker w) f g (f w) (g w) (workers s) (worker_once s w within.cpu within.index) (λ v h. ap f (same_worker-true v w h)) (λ v h. ap g (same_worker-true v w h)) (λ v h. others v (ap (λ x. same_who x (Worker v)) who ∙ same_swap w v h))
 
-none_counted : (s : Layout) (e : Entry) (f g : WorkerId → Bool) (d : CallerId) → e.who ≡ Caller d → ChangesOwn e f g → count_by g (workers s) ≡ count_by f (workers s)
-none_counted s e f g d who others = count_by-same g f (workers s) (All_each _ (workers s) (λ v. sym (others v (ap (λ x. same_who x (Worker v)) who))))
-
 -- a caller's entry starts, finishes, puts to sleep and wakes nothing
 record IsNoWorkers (r : Reply) : Type 0 where
   started : number_started r ≡ None
@@ -71,7 +68,8 @@ counted_on : (s : Layout) (past : List Entry) (e : Entry) (f g : WorkerId → Bo
     → (IsNoWorkers e.reply → (a ≡ false) × (b ≡ false)) → ((w : WorkerId) → Cause s past (Worker w) e.call e.reply → is_by (Worker w) e ≡ true → one (g w) + one a ≡ one (f w) + one b) → count_by g (workers s) + one a ≡ count_by f (workers s) + one b
 counted_on s past e f g a b (Caller d) legal who others quiet own =
     let k = quiet (callers_reply s past e.call e.reply d (subst (λ x. Cause s past x e.call e.reply) who (cause_of s past e legal))) in
-    omega (arith, none_counted s e f g d who others, ap one (k.0 ∙ sym k.1))
+    let same = count_by-same g f (workers s) (All_each _ (workers s) (λ v. sym (others v (ap (λ x. same_who x (Worker v)) who)))) in
+    omega (arith, ap one (k.0 ∙ sym k.1))
 counted_on s past e f g a b (Worker w) legal who others quiet own =
     omega (arith, own_counted s past e f g w legal who others, own w (subst (λ x. Cause s past x e.call e.reply) who (cause_of s past e legal)) (by_itself e w who))
 
@@ -91,15 +89,10 @@ runs_counted s past e legal =
 abbrev sleeps_after : List Entry → WorkerId → Reply → Bool
 sleeps_after past w r = has_after past w r && asleep_after r (is_asleep past w)
 
-asleep_on : (past : List Entry) (e : Entry) (w : WorkerId) (b : Bool) → is_by (Worker w) e ≡ b → is_asleep (e ∷ past) w ≡ (if b then asleep_after e.reply (is_asleep past w) else is_asleep past w)
+sleeps_on : (s : Layout) (past : List Entry) (e : Entry) (w : WorkerId) (b : Bool) → IsLegal s (e ∷ past) → is_by (Worker w) e ≡ b → runs_asleep (e ∷ past) w ≡ (if b then sleeps_after past w e.reply else runs_asleep past w)
 unfolding is_asleep
-asleep_on past e w b h = ap (λ c. if c then asleep_after e.reply (is_asleep past w) else is_asleep past w) h
-
-sleeps_on : (s : Layout) (past : List Entry) (e : Entry) (w : WorkerId) → IsLegal s (e ∷ past) → is_by (Worker w) e ≡ true → runs_asleep (e ∷ past) w ≡ sleeps_after past w e.reply
-sleeps_on s past e w legal h = ap₂ (λ a b. a && b) (has_run_on s past e w true legal h) (asleep_on past e w true h)
-
-sleeps_left : (s : Layout) (past : List Entry) (e : Entry) (w : WorkerId) → IsLegal s (e ∷ past) → is_by (Worker w) e ≡ false → runs_asleep past w ≡ runs_asleep (e ∷ past) w
-sleeps_left s past e w legal h = sym (ap₂ (λ a b. a && b) (has_run_on s past e w false legal h) (asleep_on past e w false h))
+sleeps_on s past e w true legal h = ap₂ (λ a c. a && (if c then asleep_after e.reply (is_asleep past w) else is_asleep past w)) (has_run_on s past e w true legal h) h
+sleeps_on s past e w false legal h = ap₂ (λ a c. a && (if c then asleep_after e.reply (is_asleep past w) else is_asleep past w)) (has_run_on s past e w false legal h) h
 
 sleepers_balance : (s : Layout) (past : List Entry) (c : Call) (r : Reply) (w : WorkerId) → Cause s past (Worker w) c r → one (sleeps_after past w r) + one (is_woke r) ≡ one (runs_asleep past w) + one (is_slept r)
 sleepers_balance s past c r w (cause.starts v x enlisted idle found clear none) = ap (λ b. one (b && is_asleep past w) + 0) (sym idle)
@@ -111,5 +104,5 @@ sleepers_balance s past c r w other = refl
 
 pub sleepers_counted : (s : Layout) (past : List Entry) (e : Entry) → IsLegal s (e ∷ past) → sleeper_count s (e ∷ past) + one (is_woke e.reply) ≡ sleeper_count s past + one (is_slept e.reply)
 sleepers_counted s past e legal =
-    counted_on s past e (runs_asleep past) (runs_asleep (e ∷ past)) _ _ e.who legal refl (λ v other. sleeps_left s past e v legal other) (λ k. (k.woke, k.slept))
-    (λ w c own. ap (λ b. one b + one (is_woke e.reply)) (sleeps_on s past e w legal own) ∙ sleepers_balance s past e.call e.reply w c)
+    counted_on s past e (runs_asleep past) (runs_asleep (e ∷ past)) _ _ e.who legal refl (λ v other. sym (sleeps_on s past e v false legal other)) (λ k. (k.woke, k.slept))
+    (λ w c own. ap (λ b. one b + one (is_woke e.reply)) (sleeps_on s past e w true legal own) ∙ sleepers_balance s past e.call e.reply w c)

@@ -3,7 +3,6 @@ use Rattle.cmwq_theory_steps.specs.Common.{arith, ◌≡◌, ◌+◌, ◌==◌, 
 use Rattle.cmwq_model.specs.declared.reply.Reply.TheVariants as reply
 use Rattle.cmwq_theory_steps.specs.Reasons.{TakesBack, unbooks}
 use Rattle.cmwq_theory_steps.specs.RunSteps.{ends_run}
-use Rattle.cmwq_theory_steps.specs.Activations.{is_left}
 use Rattle.cmwq_theory_steps.specs.ItemQueueings.{still_unstarted, of_item}
 use Rattle.cmwq_theory_steps.specs.Queued.{is_settled, makes_pending, is_taken_back, pending_after, runs_after}
 use Rattle.cmwq_theory_steps.proofs.Entries.{is_at-true, opening_item}
@@ -85,9 +84,6 @@ replacing_settles : (r : Reply) → replaces r ≡ true → settles r ≡ true
 replacing_settles (reply.Again k) h = refl
 replacing_settles r h = grind arith
 
-not_replaced : (e : Entry) (i : ℕ) (u : Bool) → is_settled e i ≡ false → (replaces e.reply && is_of_item i e && not u) ≡ false
-not_replaced e i u other = grind (arith, replacing_settles e.reply)
-
 taken_back_is : (s : Layout) (past : List Entry) (e : Entry) (i : ℕ) (x : Queueing) → IsLegal s (e ∷ past) → unstarted_queueing past i ≡ Some x → takes_back x.number e ≡ is_taken_back e i
 taken_back_is s past e i x legal u = at (number_cancelled e.reply) refl
   where
@@ -132,21 +128,15 @@ starts_is s past e i x legal u = at (number_started e.reply) refl
             let w = unstarted_is past i x u in
             ap (λ o. is_at o i) (ap (item_at past) number ∙ w.known.item) ∙ eq-eqb x.item.0 i w.item
 
-left_is : (f t r st ti tb : Bool) → f ≡ false → r ≡ false → t ≡ tb → st ≡ ti → ((not f && not t && not r) && not st) ≡ (not ti && not tb)
-left_is f t r st ti tb hf hr ht hs = grind arith
-
 other_pending : (s : Layout) (past : List Entry) (e : Entry) (i : ℕ) → IsLegal s (e ∷ past) → is_settled e i ≡ false → is_pending (e ∷ past) i ≡ (is_pending past i && not (starts_item past e i) && not (is_taken_back e i))
 unfolding IsLegal
 other_pending s past e i legal other =
     ap₂ (λ a b. a || b) (ap is_some (booking_after past e i false other)) (ap is_some (unstarted_goes_on s past e i legal ∙ ap (option_or (still_unstarted past e (unstarted_queueing past i))) (opened_other past e i (opening past e) other refl)))
     ∙ at (unstarted_queueing past i) refl
   where
-    either : (b : Bool) (x : Queueing) → is_some (option_or (cond b (Some x) None) None) ≡ b
-    either true x = refl
-    either false x = refl
-
-    not_booked : (x : Queueing) → unstarted_queueing past i ≡ Some x → is_booked past i ≡ false
-    not_booked x u = false_from_ne_true _ (λ h. let none = booked_or_unstarted s past i legal.2 h in cc)
+    left : (f t r st ti tb bk : Bool) (x : Queueing) → f ≡ false → (r ≡ true → ⊥) → t ≡ tb → st ≡ ti → (bk ≡ true → ⊥)
+        → (bk || is_some (option_or (cond ((not f && not t && not r) && not st) (Some x) None) None)) ≡ ((bk || true) && not ti && not tb)
+    left f t r st ti tb bk x hf hr ht hs hb = grind arith
 
     not_begun : unstarted_queueing past i ≡ None → starts_item past e i ≡ false
     not_begun u = false_from_ne_true _ (λ h.
@@ -167,11 +157,9 @@ other_pending s past e i legal other =
     at None u = grind (arith, not_begun u, not_back u)
     at (Some x) u =
         let w = unstarted_is past i x u in
-        let left : is_left past e x ≡ (not (starts_item past e i) && not (is_taken_back e i)) =
-        left_is (finishes x.number e) (takes_back x.number e) (replaces e.reply && is_of_item x.item.0 e && not (is_started past x.number)) (starts x.number e) (starts_item past e i) (is_taken_back e i)
-        (not_finished s past e x.number legal w.not_started) (subst (λ j. (replaces e.reply && is_of_item j e && not (is_started past x.number)) ≡ false) (sym w.item) (not_replaced e i (is_started past x.number) other))
-        (taken_back_is s past e i x legal u) (starts_is s past e i x legal u) in
-        ap₂ (λ a b. a || b) (not_booked x u) (either (is_left past e x) x ∙ left) ∙ sym (ap (λ a. (a || true) && not (starts_item past e i) && not (is_taken_back e i)) (not_booked x u))
+        left (finishes x.number e) (takes_back x.number e) (replaces e.reply && is_of_item x.item.0 e && not (is_started past x.number)) (starts x.number e) (starts_item past e i) (is_taken_back e i) (is_booked past i) x
+        (not_finished s past e x.number legal w.not_started) (λ anew. let its = ap (λ j. is_of_item j e) w.item in grind (arith, replacing_settles e.reply)) (taken_back_is s past e i x legal u) (starts_is s past e i x legal u)
+        (λ booked. let none = booked_or_unstarted s past i legal.2 booked in cc)
 
 pub pending_goes_on : (s : Layout) (past : List Entry) (e : Entry) → IsLegal s (e ∷ past) → (i : ℕ) → is_pending (e ∷ past) i ≡ pending_after past e i
 pending_goes_on s past e legal i = at (is_settled e i) refl
@@ -185,12 +173,9 @@ pending_goes_on s past e legal i = at (is_settled e i) refl
 pub item_runs_go_on : (s : Layout) (past : List Entry) (e : Entry) → IsLegal s (e ∷ past) → (i : ℕ) → item_runs (e ∷ past) i ≡ runs_after past e i
 item_runs_go_on s past e legal i = ap is_some (items_run_on s past e i legal) ∙ at (starts_item past e i) refl
   where
-    ended : (b : Bool) (o : Option Start) → is_some (if b then None else o) ≡ (is_some o && not b)
-    ended b o = grind arith
-
     at : (b : Bool) → starts_item past e i ≡ b → is_some (if b then start_in e else if ends_run e (item_run past i) then None else item_run past i) ≡ (b || (item_runs past i && not (ends_run e (item_run past i))))
     at true h = let start = starts_some past e i (start_in e) refl h in ap is_some start.1
-    at false h = ended (ends_run e (item_run past i)) (item_run past i)
+    at false h = grind arith
 
 pub bits_go_on : (s : Layout) (past : List Entry) (e : Entry) → IsLegal s (e ∷ past) → (i : ℕ) → bits (e ∷ past) i ≡ (if pending_after past e i then 1 else 0) + (if runs_after past e i then 2 else 0)
 bits_go_on s past e legal i = ap₂ (λ a b. (if a then 1 else 0) + (if b then 2 else 0)) (pending_goes_on s past e legal i) (item_runs_go_on s past e legal i)

@@ -48,12 +48,9 @@ cancelled_unstarted s past e n legal h = at (ending past e) (ends_which s past e
     at None k = cc
     at (Some x) k = let same : x.number ≡ n = cc in ap not (ap (is_started past) same ∙ new)
 
-some_number : (o : Option ℕ) → is_some o ≡ true → (n : ℕ) × (o ≡ Some n)
-some_number None h = cc
-some_number (Some n) h = (n, refl)
-
-cancelled_pays : (s : Layout) (past : List Entry) (e : Entry) → IsLegal s (e ∷ past) → is_some (number_cancelled e.reply) ≡ true → one (ends_unstarted past e) ≡ 1
-cancelled_pays s past e legal h = let n = some_number (number_cancelled e.reply) h in ap one (cancelled_unstarted s past e n.0 legal n.1)
+cancelled_pays : (s : Layout) (past : List Entry) (e : Entry) (o : Option ℕ) → IsLegal s (e ∷ past) → number_cancelled e.reply ≡ o → is_some o ≡ true → one (ends_unstarted past e) ≡ 1
+cancelled_pays s past e None legal is h = cc
+cancelled_pays s past e (Some n) legal is h = ap one (cancelled_unstarted s past e n legal is)
 
 -- what a promised reply settles was booked
 was_booked : (s : Layout) (past : List Entry) (who : Who) (c : Call) (r : Reply) → Cause s past who c r → is_promised r ≡ true → settles r ≡ true → option_map_or (is_booked past) (option_or (item_called c) (item_fired r)) false ≡ true
@@ -62,11 +59,8 @@ was_booked s past who c r (cause.fires w b due) h k = ap is_some (due_own past b
 was_booked s past who c r (cause.sync_unbooked w i free none was) h k = was
 was_booked s past who c r other h k = cc
 
-settled_pays : (s : Layout) (past : List Entry) (e : Entry) → IsLegal s (e ∷ past) → is_promised e.reply ≡ true → settles e.reply ≡ true → one (settles_booked past e) ≡ 1
-settled_pays s past e legal h k = ap₂ (λ a b. one (a && b)) k (was_booked s past e.who e.call e.reply (cause_of s past e legal) h k)
-
 pub promised_need_no_more : (s : Layout) (past : List Entry) (e : Entry) → IsLegal s (e ∷ past) → is_promised e.reply ≡ true → room_needed s (e ∷ past) ≤ room_needed s past
 promised_need_no_more s past e legal h =
     let pays = weight e.reply (one (is_some (opening past e))) (one (is_some (booking_of e (length past)))) (one (ends_unstarted past e)) (one (settles_booked past e))
-    (opened_most past e) (booked_most e (length past)) (cancelled_pays s past e legal) (settled_pays s past e legal h) h in
+    (opened_most past e) (booked_most e (length past)) (cancelled_pays s past e _ legal refl) (λ k. ap₂ (λ a b. one (a && b)) k (was_booked s past e.who e.call e.reply (cause_of s past e legal) h k)) h in
     omega (arith, owed_goes_on s past e legal)

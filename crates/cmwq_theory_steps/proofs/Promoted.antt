@@ -35,9 +35,6 @@ module _ (f g : Queueing → Bool) (rank : Queueing → ℕ) (w : ℕ) where
 pub newly_is : (s : Layout) (past : List Entry) (e : Entry) (x : Queueing) → is_live (e ∷ past) x ≡ true → is_newly_active s past e x ≡ (is_below_max_active s (e ∷ past) x && not (is_active s past x))
 newly_is s past e x live = grind (arith, active_go_on s past e x)
 
-newly_on : (s : Layout) (past : List Entry) (e : Entry) (q c : ℕ) → AllByRecursion (λ x. is_newly_active s past e x ≡ (is_below_max_active s (e ∷ past) x && not (is_active s past x))) (open_on (e ∷ past) q c)
-newly_on s past e q c = on_each _ (e ∷ past) q c (All_each _ (queueings (e ∷ past)) (λ x live on. newly_is s past e x live))
-
 -- what is newly active is open
 pub newly_of_open : (s : Layout) (past : List Entry) (e : Entry) → newly_active s past e ≡ filter (is_newly_active s past e) (still_open (e ∷ past))
 newly_of_open s past e = filter_same _ _ (queueings (e ∷ past)) (All_each _ (queueings (e ∷ past)) (λ x. grind (arith, not_live s (e ∷ past) x))) ∙ sym (filter_twice (is_newly_active s past e) (is_live (e ∷ past)) (queueings (e ∷ past)))
@@ -51,7 +48,7 @@ pub newly_active_on : (s : Layout) (past : List Entry) (e : Entry) (q c : ℕ)
 newly_active_on s past e q c =
     let none : width s (e ∷ past) q - (0 + stay_count s past e q c) ≡ width s (e ∷ past) q - stay_count s past e q c = omega arith in
     ap (filter (is_on q c)) (newly_of_open s past e) ∙ turn_filters (is_on q c) (is_newly_active s past e) (still_open (e ∷ past))
-    ∙ filter_same _ _ (open_on (e ∷ past) q c) (newly_on s past e q c)
+    ∙ filter_same _ _ (open_on (e ∷ past) q c) (on_each _ (e ∷ past) q c (All_each _ (queueings (e ∷ past)) (λ x live on. newly_is s past e x live)))
     ∙ behind_front (is_active s past) (is_below_max_active s (e ∷ past)) (λ x. count_by (is_below x) (open_on (e ∷ past) q c)) (width s (e ∷ past) q) 0 (open_on (e ∷ past) q c)
     (kept_front s past e q c (first_active s past q c).front) (ways s (e ∷ past) q c) (open_ranked (e ∷ past) q c)
     ∙ ap (λ n. take n (filter (waits s past) (open_on (e ∷ past) q c))) none

@@ -9,9 +9,6 @@ use Rattle.cmwq_theory_steps.proofs.Causes as cause
 
 -- ---- workers
 
-none_holds : (n : ℕ) → nat_lt 0 n ≡ false → n ≡ 0
-none_holds n h = omega (arith, ltb-false 0 n h)
-
 next_started : (s : Layout) (past : List Entry) (w : WorkerId) (x : Queueing) (r : Reply) (n : ℕ) → is_enlisted past w ≡ true → has_run past w ≡ false → next s past w.pool ≡ Some x → nat_lt 0 (runnable s past w.pool) ≡ false → Some x.number ≡ Some n
     → index_enlisted r ≡ enlisted_by s past w → StartsNext s past (Worker w) call.Take r n
 next_started s past w x r n enlisted idle found clear same index = record {
@@ -22,7 +19,7 @@ next_started s past w x r n enlisted idle found clear same index = record {
   enlisted = enlisted;
   idle = idle;
   is_next = found;
-  is_clear = none_holds _ clear;
+  is_clear = omega (arith, ltb-false 0 (runnable s past w.pool) clear);
   number = same_Some x.number n same;
   enlists = index;
 }

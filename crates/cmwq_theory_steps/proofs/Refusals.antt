@@ -4,7 +4,7 @@ use Rattle.cmwq_model.specs.declared.call.Call.TheVariants as call
 use Rattle.cmwq_model.specs.declared.reply.Reply.TheVariants as reply
 use Rattle.cmwq_theory_steps.specs.Histories.{one}
 use Rattle.cmwq_theory_steps.specs.Places.{is_on, active_count}
-use Rattle.cmwq_theory_steps.specs.Endings.{survives, ending, number_ended}
+use Rattle.cmwq_theory_steps.specs.Endings.{survives, ending}
 use Rattle.cmwq_theory_steps.specs.Activations.{is_left, is_in, waits, behind_width, is_below_max_active_at_once}
 use Rattle.cmwq_theory_steps.specs.TicketSteps.{ticket_asked, is_kept}
 use Rattle.cmwq_theory_steps.specs.RoomSteps.{is_slept, is_woke, is_frozen_now, is_thawed_now, paid, taken_on}
@@ -62,12 +62,9 @@ pub none_mapped : (o : Option Queueing) → option_map (λ (x : Queueing). x.num
 none_mapped None h = refl
 none_mapped (Some x) h = cc
 
-nobody_ended : (past : List Entry) (e : Entry) → SaysNothing e.reply → number_ended past e ≡ None
-nobody_ended past e q = rw (q.finished, q.cancelled, q.replaces_none) refl
-
 does_nothing : (s : Layout) (past : List Entry) (e : Entry) → IsLegal s (e ∷ past) → SaysNothing e.reply → DoesNothing s past e
 does_nothing s past e legal q =
-    let none = none_mapped (ending past e) (ends_which s past e legal ∙ nobody_ended past e q) in
+    let none = none_mapped (ending past e) (ends_which s past e legal ∙ rw (q.finished, q.cancelled, q.replaces_none) refl) in
     let shut : opening past e ≡ None = ap (λ b. if b then option_and_then (λ i. option_map (queued_at past i) (place_wanted past e.call i)) (item_of e) else None) q.opens_none in
     record {
       ended = none;
@@ -151,16 +148,6 @@ unfolding next
 same_next s past e p legal q none = ap (find (is_startable (e ∷ past))) (same_worklist s past e p legal q none)
     ∙ find_same (is_startable (e ∷ past)) (is_startable past) (worklist s past p) (All_each _ (worklist s past p) (λ x. ap (λ o. not (is_some o)) (same_item_run s past e x.item.0 legal q)))
 
-same_run : (s : Layout) (past : List Entry) (e : Entry) (w : WorkerId) → IsLegal s (e ∷ past) → SaysNothing e.reply → run (e ∷ past) w ≡ run past w
-same_run s past e w legal q = workers_run_on s past e w legal ∙ either (is_by (Worker w) e) (run_after e.reply (run past w)) (run past w) (q.runs (run past w))
-
-same_run_queue : (s : Layout) (past : List Entry) (e : Entry) (w : WorkerId) → IsLegal s (e ∷ past) → SaysNothing e.reply → run_queue (e ∷ past) w ≡ run_queue past w
-same_run_queue s past e w legal q = run_queues_go_on s past e legal w ∙ either (is_by (Worker w) e) (run_queue_after past e.reply (run_queue past w)) (run_queue past w) (q.queues past (run_queue past w))
-
-same_asleep : (past : List Entry) (e : Entry) (w : WorkerId) → SaysNothing e.reply → is_asleep (e ∷ past) w ≡ is_asleep past w
-unfolding is_asleep
-same_asleep past e w q = either (is_by (Worker w) e) (asleep_after e.reply (is_asleep past w)) (is_asleep past w) (q.asleep (is_asleep past w))
-
 same_enlisted : (past : List Entry) (e : Entry) (w : WorkerId) → SaysNothing e.reply → is_enlisted (e ∷ past) w ≡ is_enlisted past w
 unfolding is_enlisted
 same_enlisted past e w q = ap₂ (λ o b. (is_in_pool w.pool e.who && is_at o w.index) || (not (is_by (Worker w) e && b) && is_enlisted past w)) q.enlisted q.retired ∙ simp and_false refl
@@ -180,14 +167,6 @@ same_unended s past e legal q none = unended_go_on s past e legal ∙ nothing_mo
     kept : (t : Ticket) → is_kept e t ≡ true
     kept t = ap (λ b. not (is_by (Caller t.caller) e && is_end_of t.number e.call && b)) q.done ∙ ap not (and_false _)
 
-same_gone : (past : List Entry) (e : Entry) (a : ℕ) → SaysNothing e.reply → is_gone (e ∷ past) a ≡ is_gone past a
-unfolding is_gone
-same_gone past e a q = ap (λ b. is_gone past a || (b && ends_destroy past a e.who e.call)) q.done ∙ or_false (is_gone past a)
-
-same_frozen : (past : List Entry) (e : Entry) → SaysNothing e.reply → is_frozen (e ∷ past) ≡ is_frozen past
-unfolding is_frozen
-same_frozen past e q = frozen_same e.reply (is_frozen past) q.widths
-
 -- a tick is never refused
 no_ticks : (s : Layout) (past : List Entry) (who : Who) (c : Call) → is_refusal (answer s past who c) ≡ true → ticks_told c ≡ 0
 unfolding answer
@@ -206,6 +185,7 @@ same_owed s past e legal q d =
     omega arith
 
 pub refusals_change_nothing : (s : Layout) (past : List Entry) (e : Entry) → IsLegal s (e ∷ past) → is_refusal e.reply ≡ true → ChangesNothing s past e
+unfolding is_asleep is_gone is_frozen
 refusals_change_nothing s past e legal h =
     let q = says_nothing e.reply h in
     let d = does_nothing s past e legal q in
@@ -221,13 +201,13 @@ refusals_change_nothing s past e legal h =
       booking = λ i. same_booking past e i q;
       bits = λ i. same_bits s past e i legal q d.opened;
       item_run = λ i. same_item_run s past e i legal q;
-      run = λ w. same_run s past e w legal q;
-      run_queue = λ w. same_run_queue s past e w legal q;
-      asleep = λ w. same_asleep past e w q;
+      run = λ w. workers_run_on s past e w legal ∙ either (is_by (Worker w) e) (run_after e.reply (run past w)) (run past w) (q.runs (run past w));
+      run_queue = λ w. run_queues_go_on s past e legal w ∙ either (is_by (Worker w) e) (run_queue_after past e.reply (run_queue past w)) (run_queue past w) (q.queues past (run_queue past w));
+      asleep = λ w. either (is_by (Worker w) e) (asleep_after e.reply (is_asleep past w)) (is_asleep past w) (q.asleep (is_asleep past w));
       enlisted = λ w. same_enlisted past e w q;
       unended = same_unended s past e legal q d.given;
-      gone = λ a. same_gone past e a q;
-      frozen = same_frozen past e q;
+      gone = λ a. ap (λ b. is_gone past a || (b && ends_destroy past a e.who e.call)) q.done ∙ or_false (is_gone past a);
+      frozen = frozen_same e.reply (is_frozen past) q.widths;
       max_active = λ a. max_same s past e a q.widths;
       width = λ a. width_same s past e a q.widths;
       time = same_time s past e legal h;

@@ -1,5 +1,5 @@
 -- What is kept of workers, items, time and serials after one more entry.
-use Rattle.cmwq_theory_steps.specs.Common.{booked_by, item_of, ◌≡◌, ◌+◌, ℕ, true, false, List, ◌∷◌, length, Option, Some, None, refl, ap, ap₂, ◌∙◌, arith, option_map, option_and_then, is_some, if◌then◌else◌, option_or, ItemId, Who, Caller, Worker, Call, Reply, Entry, Booking, Place, Layout, item_called, item_fired, is_by, now, due_in, booking, is_booked, is_asleep, is_enlisted, opens, place_called, place_wanted, queued_at, IsLegal, same_who, serial_of, count_by-cons, eq-eqb}
+use Rattle.cmwq_theory_steps.specs.Common.{booked_by, item_of, ◌≡◌, ℕ, true, List, ◌∷◌, length, Option, Some, None, refl, ap, ap₂, ◌∙◌, arith, option_map, option_and_then, is_some, if◌then◌else◌, option_or, ItemId, Who, Caller, Worker, Call, Reply, Entry, Booking, Place, Layout, item_called, item_fired, is_by, now, due_in, booking, is_booked, is_asleep, is_enlisted, opens, place_called, place_wanted, queued_at, IsLegal, same_who, count_by-cons, eq-eqb}
 use Rattle.cmwq_theory_steps.specs.StateSteps.{SleepersGoOn, EnlistedGoOn, BookingsGoOn, TimeGoesOn, SerialsGoOn, SerialsRise, BooksAsAsked, OpensAsAsked}
 use Rattle.std.proofs.lemmas.Option.{same_Some}
 use Rattle.cmwq_theory_steps.proofs.Standing.{due_own}
@@ -34,13 +34,7 @@ same_who_itself (Caller c) = eq-eqb c.0 c.0 refl
 same_who_itself (Worker w) = same_worker_itself w
 
 pub serials_rise : SerialsRise
-serials_rise past e = (own, others)
-  where
-    own : serial_of (e ∷ past) e.who ≡ serial_of past e.who + 1
-    own = omega (arith, ap one (same_who_itself e.who), serials_go_on past e e.who)
-
-    others : (who : Who) → same_who e.who who ≡ false → serial_of (e ∷ past) who ≡ serial_of past who
-    others who other = omega (arith, ap one other, serials_go_on past e who)
+serials_rise past e = (omega (arith, ap one (same_who_itself e.who), serials_go_on past e e.who), λ who other. omega (arith, ap one other, serials_go_on past e who))
 
 -- ---- what is booked
 

@@ -30,10 +30,7 @@ newly_are s past e =
     (All_map (λ x. is_live (e ∷ past) x ≡ true) _ (still_open (e ∷ past)) (λ x live. newly_is s past e x live ∙ flip (is_below_max_active s (e ∷ past) x) (waits s past x)) (all_live (e ∷ past)))
     ∙ sym (filter_twice (is_below_max_active s (e ∷ past)) (waits s past) (still_open (e ∷ past))))
 
-still_waits : (s : Layout) (past : List Entry) (e : Entry) (x : Queueing) → is_live (e ∷ past) x ≡ true → waits s (e ∷ past) x ≡ (waits s past x && has_none s (e ∷ past) x)
-still_waits s past e x live = grind (arith, active_go_on s past e x)
-
 pub waiting_goes_on : (s : Layout) (past : List Entry) (e : Entry) → waiting s (e ∷ past) ≡ filter (has_none s (e ∷ past)) (candidates s past e)
 waiting_goes_on s past e =
-    filter_same (waits s (e ∷ past)) (λ x. waits s past x && has_none s (e ∷ past) x) (still_open (e ∷ past)) (All_map (λ x. is_live (e ∷ past) x ≡ true) _ (still_open (e ∷ past)) (λ x live. still_waits s past e x live) (all_live (e ∷ past)))
+    filter_same (waits s (e ∷ past)) (λ x. waits s past x && has_none s (e ∷ past) x) (still_open (e ∷ past)) (All_map (λ x. is_live (e ∷ past) x ≡ true) _ (still_open (e ∷ past)) (λ x live. grind (arith, active_go_on s past e x)) (all_live (e ∷ past)))
     ∙ sym (filter_twice (has_none s (e ∷ past)) (waits s past) (still_open (e ∷ past)))

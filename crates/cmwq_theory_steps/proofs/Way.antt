@@ -1,5 +1,6 @@
 -- What is below max_active, told by what became active so far: so one pass over what waits finds what becomes active.
-use Rattle.cmwq_theory_steps.specs.Common.{◌≡◌, ℕ, zero, suc, ◌+◌, ◌-◌, ◌<◌, Bool, true, ◌&&◌, List, [], ◌∷◌, ◌++◌, length, filter, take, count_by, cond, nat_lt, refl, sym, ap, ap₂, ◌∙◌, subst, arith, AllByRecursion, filter-append, eq-eqb, nat_tests, Entry, Queueing, Layout, still_open, width, is_below_max_active, IsRising, rising_filter, open_rise}
+use Rattle.cmwq_theory_steps.specs.Common.{◌≡◌, ℕ, zero, suc, ◌+◌, ◌-◌, ◌<◌, Bool, List, [], ◌∷◌, ◌++◌, length, filter, take, count_by, cond, nat_lt, refl, sym, ap, ◌∙◌, subst, arith, AllByRecursion, filter-append, eq-eqb, nat_tests, Entry, Queueing, Layout, still_open, width, is_below_max_active, IsRising, rising_filter, open_rise}
+use Rattle.std.proofs.lemmas.Bool.{and_from}
 use Rattle.cmwq_lemmas.proofs.Passing.{all_kept}
 use Rattle.cmwq_theory_steps.specs.Places.{is_on, open_on}
 use Rattle.cmwq_theory_steps.specs.Activations.{waits, stay_count}
@@ -20,12 +21,6 @@ front_below_max_active h (suc d) [] x R rising is = grind (arith, nat_tests, lat
 front_below_max_active h zero (y ∷ D) x R rising is = grind (arith, nat_tests, front_below_max_active h zero D x R rising.1)
 front_below_max_active h (suc d) (y ∷ D) x R rising is = grind (arith, nat_tests, later_only h y (D ++ x ∷ R) (take d (D ++ x ∷ R)) rising.0, front_below_max_active h d D x R rising.1)
 
-less_more : (k stay w : ℕ) → nat_lt k (w - stay) ≡ nat_lt (stay + k) w
-less_more k stay w = grind (arith, nat_tests)
-
-on_itself : (x : Queueing) → is_on x.place.queue.0 x.place.cpu.0 x ≡ true
-on_itself x = ap₂ (λ a b. a && b) (eq-eqb x.place.queue.0 x.place.queue.0 refl) (eq-eqb x.place.cpu.0 x.place.cpu.0 refl)
-
 -- a queueing that waits is below max_active exactly where fewer than the width are active on its pool workqueue, counting those that became active before it in this pass
 pub way_by_picked : (s : Layout) (past : List Entry) (e : Entry) (done : List Queueing) (x : Queueing) (rest : List Queueing) → candidates s past e ≡ done ++ x ∷ rest
     → is_below_max_active s (e ∷ past) x ≡ nat_lt (stay_count s past e x.place.queue.0 x.place.cpu.0 + count_by (is_on x.place.queue.0 x.place.cpu.0) (filter (is_below_max_active s (e ∷ past)) done)) (width s (e ∷ past) x.place.queue.0)
@@ -36,11 +31,11 @@ way_by_picked s past e done x rest split =
     let stay = stay_count s past e q c in
     let w = width s (e ∷ past) q in
     let parts : filter on (candidates s past e) ≡ filter on done ++ x ∷ filter on rest =
-    ap (filter on) split ∙ (filter-append on done (x ∷ rest) ∙ ap (λ b. filter on done ++ cond b (x ∷ filter on rest) (filter on rest)) (on_itself x)) in
+    ap (filter on) split ∙ (filter-append on done (x ∷ rest) ∙ ap (λ b. filter on done ++ cond b (x ∷ filter on rest) (filter on rest)) (and_from _ _ (eq-eqb q q refl) (eq-eqb c c refl))) in
     let turned : filter (waits s past) (open_on (e ∷ past) q c) ≡ filter on (candidates s past e) = turn_filters (waits s past) on (still_open (e ∷ past)) in
     let same : filter h (filter on (candidates s past e)) ≡ take (w - stay) (filter on (candidates s past e)) =
     turn_filters h on (candidates s past e) ∙ (ap (filter on) (sym (newly_are s past e)) ∙ (newly_active_on s past e q c ∙ ap (take (w - stay)) turned)) in
     let rises : IsRising (filter on done ++ x ∷ filter on rest) = subst IsRising parts (rising_filter on (candidates s past e) (rising_filter (waits s past) (still_open (e ∷ past)) (open_rise (e ∷ past)))) in
     let here = front_below_max_active h (w - stay) (filter on done) x (filter on rest) rises (subst (λ v. filter h v ≡ take (w - stay) v) parts same) in
     let counted : length (filter h (filter on done)) ≡ count_by on (filter h done) = ap length (turn_filters h on done) ∙ sym (length-count on (filter h done)) in
-    here ∙ (ap (λ k. nat_lt k (w - stay)) counted ∙ less_more (count_by on (filter h done)) stay w)
+    here ∙ (ap (λ k. nat_lt k (w - stay)) counted ∙ grind (arith, nat_tests))

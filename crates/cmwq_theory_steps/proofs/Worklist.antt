@@ -1,13 +1,9 @@
 -- A pool's worklist has all that belongs there, and nothing else.
-use Rattle.cmwq_theory_steps.specs.Common.{◌≡◌, Bool, true, false, List, [], ◌∷◌, ◌++◌, length, filter, Option, Some, None, option_to_list, refl, arith, Contains, AllByRecursion, Contains-append_left, Contains-append_right, PoolId, Entry, Queueing, Layout, queueings, opening, is_active, is_newly_active, newly_active, became_active, is_listed, worklist, All_map, All_both, All_append, All_filter, opening_number, active_older}
+use Rattle.cmwq_theory_steps.specs.Common.{◌≡◌, Bool, true, false, List, [], ◌∷◌, ◌++◌, length, Option, Some, None, option_to_list, refl, arith, Contains, AllByRecursion, Contains-append_left, Contains-append_right, PoolId, Entry, Queueing, Layout, queueings, opening, is_active, is_newly_active, newly_active, became_active, is_listed, worklist, All_map, All_both, All_append, All_filter, opening_number, active_older}
 use Rattle.cmwq_theory_steps.specs.Order.{IsWorklist}
 use Rattle.cmwq_lemmas.proofs.Members.{all_in, contained_in, filter_in, in_contained}
 use Rattle.cmwq_theory_steps.proofs.Activated.{activated_all}
 use Rattle.cmwq_theory_steps.proofs.Order.{activated_in_order, in_order_filter}
-
--- each element that passes is in the filtered list
-filter_contains : {X : Type 0} (p : X → Bool) (xs : List X) → AllByRecursion (λ x. p x ≡ true → Contains (filter p xs) x) xs
-filter_contains p xs = all_in _ xs (λ x there passes. in_contained (filter p xs) x (filter_in p xs x there passes))
 
 -- ---- what is active became active
 
@@ -28,22 +24,18 @@ activated_has s (e ∷ past) =
     (λ x. is_active s (e ∷ past) x ≡ true → Contains (became_active s (e ∷ past)) x) (queueings (e ∷ past))
     (λ x was newly active. active_here s past e x (is_active s past x) refl was newly active)
     (All_append (λ x. is_active s past x ≡ true → Contains (became_active s past) x) (queueings past) (option_to_list (opening past e)) (activated_has s past) (opening_inactive s past (opening past e) (opening_number past e)))
-    (filter_contains (is_newly_active s past e) (queueings (e ∷ past)))
+    (all_in _ (queueings (e ∷ past)) (λ x there newly. in_contained (newly_active s past e) x (filter_in (is_newly_active s past e) (queueings (e ∷ past)) x there newly)))
 
 -- ---- the worklist
 
-contained_more : (e : Entry) (past : List Entry) (x : Queueing) → Contains (queueings past) x → Contains (queueings (e ∷ past)) x
-unfolding queueings
-contained_more e past x h = Contains-append_left (queueings past) (option_to_list (opening past e)) x h
-
 pub worklist_is : (s : Layout) (past : List Entry) (p : PoolId) → IsWorklist s past p (worklist s past p)
-unfolding worklist
+unfolding worklist queueings
 worklist_is s past p = record {
   all_stand = All_map (λ x. is_active s past x ≡ true → Contains (became_active s past) x) (λ x. is_listed s past p x ≡ true → Contains (worklist s past p) x) (queueings past)
       (λ x h listed. in_contained (worklist s past p) x (filter_in (is_listed s past p) (became_active s past) x (contained_in (became_active s past) x (h (grind arith))) listed))
       (activated_has s past);
   no_others = All_filter (λ x. Contains (queueings past) x × (is_listed s past p x ≡ true)) (is_listed s past p) (became_active s past)
       (All_map (Contains (queueings past)) (λ x. is_listed s past p x ≡ true → Contains (queueings past) x × (is_listed s past p x ≡ true)) (became_active s past) (λ x h listed. (h, listed))
-      (activated_all s (λ h. Contains (queueings h)) contained_more (λ h. all_in (Contains (queueings h)) (queueings h) (in_contained (queueings h))) past));
+      (activated_all s (λ h. Contains (queueings h)) (λ e past x. Contains-append_left (queueings past) (option_to_list (opening past e)) x) (λ h. all_in (Contains (queueings h)) (queueings h) (in_contained (queueings h))) past));
   in_order = in_order_filter s past (is_listed s past p) (became_active s past) (activated_in_order s past);
 }

@@ -81,10 +81,7 @@ active_step s past e x less since =
     (λ both. let k = and_parts (is_active s past x) (survives past e x) both in stays_active s past e x k.0 (live ∙ and_from _ _ (active_live s past x k.0) k.1))
 
 listed_step : (s : Layout) (past : List Entry) (e : Entry) (p : PoolId) (x : Queueing) → x.number < length past → HasSince s past x → is_listed s (e ∷ past) p x ≡ (is_listed s past p x && is_left past e x)
-listed_step s past e p x less since = ap (λ b. b && not (is_started (e ∷ past) x.number) && is_in s p x) (active_step s past e x less since) ∙ arranged (is_active s past x) (survives past e x) (starts x.number e) (is_started past x.number) (is_in s p x)
-  where
-    arranged : (a b c d f : Bool) → (a && b && not (c || d) && f) ≡ (a && not d && f && (b && not c))
-    arranged a b c d f = grind arith
+listed_step s past e p x less since = ap (λ b. b && not (is_started (e ∷ past) x.number) && is_in s p x) (active_step s past e x less since) ∙ grind arith
 
 -- ---- the worklist
 
@@ -100,10 +97,7 @@ worklists_go_on s past e p legal =
     ∙ sym (filter_twice (is_left past e) (is_listed s past p) (became_active s past)))
     (filter_same (is_listed s (e ∷ past) p) (is_in s p) (newly_active s past e)
     (All_both (λ x. is_active s (e ∷ past) x ≡ true) (λ x. is_started (e ∷ past) x.number ≡ false) (λ x. is_listed s (e ∷ past) p x ≡ is_in s p x) (newly_active s past e)
-    (λ x active none. ap₂ (λ a b. a && not b && is_in s p x) active none) all_active (newly_unstarted s past e legal)))
-  where
-    all_active : AllByRecursion (λ x. is_active s (e ∷ past) x ≡ true) (newly_active s past e)
-    all_active = All_filter (λ x. is_active s (e ∷ past) x ≡ true) (is_newly_active s past e) (queueings (e ∷ past)) (All_each _ (queueings (e ∷ past)) (λ x newly. grind arith))
+    (λ x active none. ap₂ (λ a b. a && not b && is_in s p x) active none) (All_filter _ (is_newly_active s past e) (queueings (e ∷ past)) (All_each _ (queueings (e ∷ past)) (λ x newly. grind arith))) (newly_unstarted s past e legal)))
 
 -- ---- only active queueings are started
 
