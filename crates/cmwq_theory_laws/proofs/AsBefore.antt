@@ -1,5 +1,5 @@
 -- Where widths don't change, what is active is what was active before widths could change.
-use Rattle.cmwq_theory_laws.specs.Common.{and-false, ◌≡◌, ◌<◌, ℕ, Bool, true, false, not, ◌&&◌, ◌||◌, List, [], ◌∷◌, ◌++◌, length, filter, find, count_by, Option, Some, None, option_to_list, nat_lt, refl, sym, ap, ap₂, ◌∙◌, arith, subst, if◌then◌else◌, option_map_or, AllByRecursion, ltb-true, lt-ltb, nat_tests, PoolId, Who, Caller, Worker, Call, Reply, Entry, Queueing, Ticket, Layout, first_width, is_freezable, pool_at, same_pool, serial_of, is_started, width, max_active, is_frozen, frozen_after, sets_max, width_told, has_run, queueings, is_live, still_open, is_ahead, is_below_max_active, is_active, is_newly_active, is_listed, became_active, worklist, next, is_startable, is_enlisted, gives_ticket, ticket_for, ticket_in, tickets, is_done, is_unended, unended_tickets, destroys, is_destroy_of, is_ticket, ticket_of, ends_destroy, is_gone, queue_answer, modify_answer, wait_answer, answer, take_answer, start_of, IsLegal, entry_for, find_holds, All_map, All_append, All_each, filter_same, active_go_on, Cause, causes}
+use Rattle.cmwq_theory_laws.specs.Common.{and-false, ◌≡◌, ℕ, Bool, true, false, not, ◌&&◌, ◌||◌, List, [], ◌∷◌, ◌++◌, length, filter, find, count_by, Option, Some, None, option_to_list, nat_lt, refl, sym, ap, ap₂, ◌∙◌, arith, subst, if◌then◌else◌, option_map_or, AllByRecursion, ltb-true, lt-ltb, nat_tests, PoolId, Who, Caller, Worker, Call, Reply, Entry, Queueing, Ticket, Layout, first_width, is_freezable, pool_at, same_pool, serial_of, is_started, width, max_active, is_frozen, frozen_after, sets_max, width_told, queueings, is_live, still_open, is_ahead, is_below_max_active, is_active, is_newly_active, is_listed, became_active, worklist, next, is_startable, gives_ticket, ticket_for, ticket_in, tickets, is_done, is_unended, unended_tickets, destroys, is_destroy_of, is_ticket, ticket_of, ends_destroy, is_gone, queue_answer, modify_answer, wait_answer, answer, take_answer, IsLegal, entry_for, find_holds, All_map, All_append, All_each, filter_same, active_go_on, Cause, causes}
 use Rattle.cmwq_model.specs.declared.call.Call.TheVariants as call
 use Rattle.cmwq_model.specs.declared.reply.Reply.TheVariants as reply
 use Rattle.cmwq_theory_laws.specs.FirstWidths.{queue_before, modify_before, wait_before, is_first, is_newly_first, ever_first, is_listed_before, next_before, HasFirstWidths, is_old, take_before, answer_before, entry_before, IsLegalBefore}
@@ -11,12 +11,6 @@ use Rattle.cmwq_lemmas.proofs.Passing.{all_kept}
 -- ---- with the layout's widths
 
 -- what was first and is open is first
-stays_first : (s : Layout) (past : List Entry) (e : Entry) (x : Queueing) → x.number < length past → is_first s past x ≡ true → nat_lt (count_by (is_ahead x) (still_open (e ∷ past))) (first_width s x.place.queue.0) ≡ true
-stays_first s past e x older first =
-    let less : count_by (is_ahead x) (still_open past) < first_width s x.place.queue.0 = ltb-true _ _ (grind arith) in
-    let fewer = fewer_ahead past e x older in
-    lt-ltb _ _ (omega arith)
-
 abbrev IsAsBefore : Layout → List Entry → Queueing → Type 0
 IsAsBefore s past x = is_active s past x ≡ is_first s past x
 
@@ -27,16 +21,15 @@ goes_on_as_before s past e x wide was is =
     ∙ ap (λ b. is_live (e ∷ past) x && b) (at (is_first s past x) refl)
   where
     at : (b : Bool) → is_first s past x ≡ b → (b || nat_lt (count_by (is_ahead x) (still_open (e ∷ past))) (first_width s x.place.queue.0)) ≡ nat_lt (count_by (is_ahead x) (still_open (e ∷ past))) (first_width s x.place.queue.0)
-    at true h = sym (stays_first s past e x (ltb-true x.number (length past) (grind arith)) h)
+    at true h =
+        let less = ltb-true (count_by (is_ahead x) (still_open past)) (first_width s x.place.queue.0) (grind arith) in
+        sym (lt-ltb _ _ (omega (arith, fewer_ahead past e x (ltb-true x.number (length past) (grind arith)))))
     at false h = refl
-
-none_first : (s : Layout) (x : Queueing) → is_active s [] x ≡ is_first s [] x
-unfolding is_active
-none_first s x = let none : nat_lt x.number 0 ≡ false = grind (arith, nat_tests) in rw none refl
 
 -- of any queueing
 pub active_as_before : (s : Layout) (past : List Entry) (x : Queueing) → HasFirstWidths s past → IsAsBefore s past x
-active_as_before s [] x wide = none_first s x
+unfolding is_active
+active_as_before s [] x wide = grind (arith, nat_tests)
 active_as_before s (e ∷ past) x wide = goes_on_as_before s past e x (wide.0 x.place.queue.0) (active_as_before s past x wide.1) (active_go_on s past e x)
 
 -- the lists of what became active, too
@@ -94,10 +87,8 @@ widths_kept s (e ∷ past) old kept = ((λ q. width_kept s (e ∷ past) q old ke
 next_as_before : (s : Layout) (past : List Entry) (p : PoolId) → HasFirstWidths s past → next s past p ≡ next_before s past p
 unfolding next worklist next_before
 next_as_before s past p wide =
+    let listed = All_each _ (became_active s past) (λ x. ap (λ b. b && not (is_started past x.number) && same_pool (pool_at s x.place) p) (active_as_before s past x wide)) in
     ap (find (is_startable past)) (filter_same (is_listed s past p) (is_listed_before s past p) (became_active s past) listed ∙ ap (filter (is_listed_before s past p)) (activated_as_before s past wide))
-  where
-    listed : AllByRecursion (λ x. is_listed s past p x ≡ is_listed_before s past p x) (became_active s past)
-    listed = All_each _ (became_active s past) (λ x. ap (λ b. b && not (is_started past x.number) && same_pool (pool_at s x.place) p) (active_as_before s past x wide))
 
 -- ---- no queue is gone
 
@@ -133,26 +124,14 @@ old_none_gone past q old = none_gone past q (All_map (λ e. is_old e.call ≡ tr
 
 -- ---- each answer to such a call is as it was
 
-queue_as_before : (past : List Entry) (who : Who) (i q t : ℕ) → is_gone past q ≡ false → queue_answer past who i q t ≡ queue_before past who i q t
-unfolding queue_answer queue_before
-queue_as_before past who i q t none = rw none refl
-
-modify_as_before : (past : List Entry) (who : Who) (i q t : ℕ) → is_gone past q ≡ false → modify_answer past who i q t ≡ modify_before past who i q t
-unfolding modify_answer modify_before
-modify_as_before past who i q t none = rw none refl
-
-wait_as_before : (past : List Entry) (who : Who) (q : ℕ) → is_gone past q ≡ false → wait_answer past who q ≡ wait_before past who
-unfolding wait_answer wait_before
-wait_as_before past who q none = rw none refl
-
 answer_as_before : (s : Layout) (past : List Entry) (who : Who) (c : Call) → HasFirstWidths s past → ((q : ℕ) → is_gone past q ≡ false) → answer s past who c ≡ answer_before s past who c
-unfolding answer take_answer take_before
-answer_as_before s past who (call.Queue i q c) wide none = queue_as_before past who i.0 q.0 0 (none q.0)
-answer_as_before s past who (call.Delay i q c t) wide none = queue_as_before past who i.0 q.0 t (none q.0)
-answer_as_before s past who (call.Modify i q c t) wide none = modify_as_before past who i.0 q.0 t (none q.0)
-answer_as_before s past who (call.Flush q) wide none = wait_as_before past who q.0 (none q.0)
-answer_as_before s past who (call.Drain q) wide none = wait_as_before past who q.0 (none q.0)
-answer_as_before s past (Worker w) call.Take wide none = ap (λ o. if not (is_enlisted past w) || has_run past w then reply.Misuse else start_of s past w o) (next_as_before s past w.pool wide)
+unfolding answer take_answer take_before queue_answer queue_before modify_answer modify_before wait_answer wait_before
+answer_as_before s past who (call.Queue i q c) wide none = rw (none q.0) refl
+answer_as_before s past who (call.Delay i q c t) wide none = rw (none q.0) refl
+answer_as_before s past who (call.Modify i q c t) wide none = rw (none q.0) refl
+answer_as_before s past who (call.Flush q) wide none = rw (none q.0) refl
+answer_as_before s past who (call.Drain q) wide none = rw (none q.0) refl
+answer_as_before s past (Worker w) call.Take wide none = rw (next_as_before s past w.pool wide) refl
 answer_as_before s past (Caller c) call.Take wide none = refl
 answer_as_before s past (Worker w) c wide none = refl
 answer_as_before s past (Caller d) c wide none = refl
@@ -162,13 +141,10 @@ unfolding keeps_reply
 kept_by_cause s past who c r (cause.freezes w free) h = cc
 kept_by_cause s past who c r other h = refl
 
-kept_answer : (s : Layout) (past : List Entry) (who : Who) (c : Call) → is_old c ≡ true → keeps_reply (answer s past who c) ≡ true
-kept_answer s past who c h = kept_by_cause s past who c (answer s past who c) (causes s past who c) h
-
 legal_kept : (s : Layout) (past : List Entry) → AreOld past → IsLegal s past → AreKept past
 unfolding IsLegal
 legal_kept s [] old legal = tt
-legal_kept s (e ∷ past) old legal = (subst (λ r. keeps_reply r ≡ true) (sym (answer_is s past e legal)) (kept_answer s past e.who e.call old.0), legal_kept s past old.1 legal.2)
+legal_kept s (e ∷ past) old legal = (subst (λ r. keeps_reply r ≡ true) (sym (answer_is s past e legal)) (kept_by_cause s past e.who e.call (answer s past e.who e.call) (causes s past e.who e.call) old.0), legal_kept s past old.1 legal.2)
 
 entry_as_before : (s : Layout) (past : List Entry) (who : Who) (c : Call) → HasFirstWidths s past → ((q : ℕ) → is_gone past q ≡ false) → entry_for s past who c ≡ entry_before s past who c
 entry_as_before s past who c wide none = ap (λ r. record { who = who; serial = serial_of past who; call = c; reply = r }) (answer_as_before s past who c wide none)

@@ -9,20 +9,15 @@ use Rattle.cmwq_theory_steps.specs.TicketSteps.{is_kept}
 use Rattle.cmwq_theory_steps.proofs.TicketSteps.{unended_go_on}
 use Rattle.cmwq_theory_steps.proofs.PendingSteps.{none_opened}
 
--- ---- not pending, as a count
-
 not_booked : (past : List Entry) (i : ℕ) → is_pending past i ≡ false → is_booked past i ≡ false
 not_booked past i h = (or_parts (is_booked past i) (is_some (unstarted_queueing past i)) h).0
-
-none_pending : (past : List Entry) (i : ℕ) → is_pending past i ≡ false → pending_count past i ≡ 0
-none_pending past i h = grind (arith, none_unstarted past i (not_idle past i h), not_booked past i h)
 
 pending_none : (past : List Entry) (i : ℕ) → pending_count past i ≤ 0 → is_pending past i ≡ false
 pending_none past i h = or_from _ _ (grind arith) (ap is_some (none_found (is_unstarted past i) (still_open past) (count_none (is_unstarted past i) (still_open past) (omega arith))))
 
 -- an entry that doesn't settle the item leaves it idle
 pub stays_idle : (s : Layout) (past : List Entry) (e : Entry) (i : ℕ) → IsLegal s (e ∷ past) → (settles e.reply && is_of_item i e) ≡ false → is_pending past i ≡ false → is_pending (e ∷ past) i ≡ false
-stays_idle s past e i legal other idle = pending_none (e ∷ past) i (omega (arith, none_pending past i idle, no_more_pending s past e i legal other))
+stays_idle s past e i legal other idle = pending_none (e ∷ past) i (grind (arith, none_unstarted past i (not_idle past i idle), not_booked past i idle, no_more_pending s past e i legal other))
 
 -- ---- nothing settles an idle item that is being cancelled
 

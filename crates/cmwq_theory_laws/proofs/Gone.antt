@@ -90,8 +90,6 @@ none_more_open s past e q legal gone none empty = stays_empty s past e q legal e
         let same = same_Some x (queued_at past k.item k.place) (sym is ∙ k.opened) in
         (ap (λ (y : Queueing). y.place.queue.0 == q) same ∙ opens_on s past e.who e.call e.reply k.item q k.place (cause_of s past e legal) shown k.is_place gone none, tt)
 
--- ---- a queue that is being destroyed drains
-
 destroy_drains : (q : ℕ) (c : Call) → destroys q c ≡ true → drains q c ≡ true
 destroy_drains q (call.Destroy k) h = h
 destroy_drains q c h = cc
@@ -99,9 +97,6 @@ destroy_drains q c h = cc
 any_more : {X : Type 0} (p r : X → Bool) (xs : List X) → ((x : X) → p x ≡ true → r x ≡ true) → list_any p xs ≡ true → list_any r xs ≡ true
 any_more p r [] more h = cc
 any_more p r (x ∷ xs) more h = grind (arith, more x, any_more p r xs more)
-
-destroyed_drains : (past : List Entry) (q : ℕ) → is_being_destroyed past q ≡ true → is_draining past q ≡ true
-destroyed_drains past q h = any_more (is_destroy_of q) (is_drain_of q) (unended_tickets past) (λ t is. destroy_drains q t.call is) h
 
 -- ---- a booking is one of those that stand
 
@@ -150,7 +145,7 @@ left_none past e q quiet none i b h = none i b (sym (booking_after past e i fals
 
 destroying_step : (s : Layout) (past : List Entry) (e : Entry) (q : ℕ) → IsLegal s (e ∷ past) → IsEmptied past q → is_being_destroyed (e ∷ past) q ≡ true → NoneBooked (e ∷ past) q
 destroying_step s past e q legal before h = elim (unended_kind s past e (destroys q) legal h) [
-  | inl held ↦ none_more_booked s past e q legal (or_left (is_draining past q) (is_gone past q) (destroyed_drains past q held)) (before.destroying held)
+  | inl held ↦ none_more_booked s past e q legal (or_left (is_draining past q) (is_gone past q) (any_more (is_destroy_of q) (is_drain_of q) (unended_tickets past) (λ t. destroy_drains q t.call) held)) (before.destroying held)
   | inr begins ↦ let k = begun_none s past e.who e.call e.reply q (cause_of s past e legal) begins.0 begins.1 in left_none past e q k.1 k.0
 ]
 

@@ -1,5 +1,5 @@
 -- Where the end of a cancel_sync is answered done, its item neither is pending nor runs after that.
-use Rattle.cmwq_theory_laws.specs.Common.{arith, ◌≡◌, ℕ, Bool, true, false, ◌&&◌, List, [], ◌∷◌, find, Option, Some, None, refl, ap, ◌∙◌, sym, option_map, is_some, if◌then◌else◌, list_any, eq-eqb, Entry, Start, Layout, entry_at, is_of_item, settles, number_started, item_run, item_runs, starts_item, start_in, is_pending, unended_tickets, is_ticket, is_cancelling, cancels_sync, is_cancel_sync_of, waits_for, IsLegal, IsDone, no_start, starts_no_item, items_run_on, ends_ticket, ready_call, ended_call}
+use Rattle.cmwq_theory_laws.specs.Common.{arith, ◌≡◌, ℕ, Bool, true, false, ◌&&◌, List, [], ◌∷◌, find, Option, Some, None, refl, ap, ◌∙◌, sym, option_map, is_some, if◌then◌else◌, list_any, eq-eqb, Entry, Start, Layout, entry_at, is_of_item, settles, number_started, item_run, item_runs, start_in, is_pending, unended_tickets, is_ticket, is_cancelling, cancels_sync, is_cancel_sync_of, waits_for, IsLegal, IsDone, no_start, starts_no_item, items_run_on, ends_ticket, ready_call, ended_call}
 use Rattle.cmwq_model.specs.declared.call.Call.TheVariants as call
 use Rattle.cmwq_theory_laws.specs.Headline.{CancelsSettle}
 use Rattle.cmwq_theory_steps.specs.RunSteps.{ends_run}
@@ -17,10 +17,6 @@ was_cancelling s past e t i begun legal done at cancels =
     let is = ended_call s past e t begun legal done at ∙ cancels in
     any_found (is_ticket e.who t) (is_cancel_sync_of i) ends.ticket (unended_tickets past) ends.found (ap (cancels_sync i) is ∙ eq-eqb i i refl)
 
-no_run : (o : Option Start) → option_map (λ (start : Start). start.number) o ≡ None → o ≡ None
-no_run None h = refl
-no_run (Some start) h = cc
-
 pub cancels_settle : (s : Layout) (past : List Entry) → IsLegal s past → CancelsSettle past
 unfolding IsLegal
 cancels_settle s [] legal = tt
@@ -30,8 +26,12 @@ cancels_settle s (e ∷ past) legal = ((λ t i begun done at cancels. (idle t i 
     idle t i begun done at cancels =
         stays_idle s past e i legal (ap (λ r. settles r && is_of_item i e) done.1) (cancelling_idle s past i legal.2 (was_cancelling s past e t i begun legal done at cancels))
 
+    stays : (o : Option Start) → option_map (λ (start : Start). start.number) o ≡ None → is_some (if ends_run e o then None else o) ≡ false
+    stays None h = refl
+    stays (Some start) h = cc
+
     stopped : (t i : ℕ) (begun : Entry) → IsDone e t → entry_at past t ≡ Some begun → begun.call ≡ call.CancelSync (record { 0 = i }) → item_runs (e ∷ past) i ≡ false
     stopped t i begun done at cancels =
-        let none = no_run (item_run past i) (sym (ap (waits_for past t) cancels) ∙ ready_call s past e t begun legal done at) in
-        let starts_none : starts_item past e i ≡ false = starts_no_item e past i (no_start e (ap number_started done.1)) in
-        ap is_some (items_run_on s past e i legal ∙ ap (λ b. if b then start_in e else if ends_run e (item_run past i) then None else item_run past i) starts_none ∙ ap (λ o. if ends_run e o then None else o) none)
+        let none = sym (ap (waits_for past t) cancels) ∙ ready_call s past e t begun legal done at in
+        let starts_none = starts_no_item e past i (no_start e (ap number_started done.1)) in
+        ap is_some (items_run_on s past e i legal ∙ ap (λ b. if b then start_in e else if ends_run e (item_run past i) then None else item_run past i) starts_none) ∙ stays (item_run past i) none

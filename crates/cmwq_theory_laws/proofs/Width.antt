@@ -1,7 +1,8 @@
 -- No more workers of a CPU have runs of a queue than are active there: their runs are different numbers of active queueings.
-use Rattle.cmwq_theory_laws.specs.Common.{All_map, ◌≡◌, ◌≤◌, ◌==◌, ℕ, true, false, List, [], ◌∷◌, length, map, filter, find, Option, Some, None, refl, sym, ap, ◌∙◌, subst, arith, option_and_then, option_map, option_map_or, AllByRecursion, IsDistinct, eqb-true, nat_tests, length-take, length-map, WorkerId, Entry, Queueing, Layout, pool_at, is_at, same_pool, same_worker, item_at, run, queueings, queueing_at, queue_of, run_queue, has_number, is_live, still_open, is_active, IsLegal, is_on, open_on, active_count, All_both, active_are_first, active_live, one_worker, is_at-true, find-filter, same_worker_itself}
+use Rattle.cmwq_theory_laws.specs.Common.{All_map, ◌≡◌, ◌≤◌, ◌==◌, ℕ, true, false, List, [], ◌∷◌, length, map, filter, find, Option, Some, None, refl, sym, ap, ◌∙◌, subst, arith, option_and_then, option_map, option_map_or, AllByRecursion, IsDistinct, eqb-true, nat_tests, length-take, length-map, WorkerId, Entry, Queueing, Layout, pool_at, is_at, same_pool, same_worker, item_at, run, queueings, queue_of, run_queue, has_number, is_live, still_open, is_active, IsLegal, is_on, open_on, active_count, All_both, active_are_first, active_live, one_worker, is_at-true, find-filter, same_worker_itself}
 use Rattle.std.proofs.Common.{⊎_elim}
-use Rattle.std.proofs.lemmas.Bool.{both_ways, false_from_ne_true, or_cases}
+use Rattle.std.proofs.lemmas.Bool.{and_parts, both_ways, false_from_ne_true, or_cases}
+use Rattle.std.proofs.lemmas.Option.{same_Some}
 use Rattle.std.specs.Set.{is_member}
 use Rattle.std.proofs.lemmas.Cmp.{nat_eq_equiv}
 use Rattle.std.proofs.lemmas.Map.Made.{length-le_from_is_member}
@@ -37,7 +38,7 @@ runs_at : (s : Layout) (past : List Entry) (q c : ℕ) (w : WorkerId) (n : ℕ) 
 runs_at s past q c w n legal runs queue cpu =
     let r = run_is_active s past w n legal runs in
     let is : run_number past w ≡ n = ap (λ o. option_map_or (λ n. n) o 0) runs in
-    let on_queue : r.queueing.place.queue.0 ≡ q = place_is r.queueing r.found in
+    let on_queue = same_Some r.queueing.place.queue.0 q (sym (ap (option_map (λ (y : Queueing). y.place.queue.0)) r.found) ∙ queue) in
     let on : is_on q c r.queueing ≡ true = on_place s past q c w r.queueing on_queue r.pool cpu in
     let found = find-filter (has_number n) (is_active s past) r.queueing (open_on past q c)
     (find-filter (has_number n) (is_on q c) r.queueing (still_open past)
@@ -48,22 +49,13 @@ runs_at s past q c w n legal runs queue cpu =
       found = subst (λ m. find (has_number m) (filter (is_active s past) (open_on past q c)) ≡ Some r.queueing) (sym is) found;
       item = ap (item_at past) (is ∙ sym (found_number past n r.queueing r.found)) ∙ (found_known past n r.queueing r.found).item;
     }
-  where
-    place_is : (x : Queueing) → queueing_at past n ≡ Some x → x.place.queue.0 ≡ q
-    place_is x found = let is : Some x.place.queue.0 ≡ Some q = sym (ap (option_map (λ (y : Queueing). y.place.queue.0)) found) ∙ queue in cc
 
 runs_on : (s : Layout) (past : List Entry) (q c : ℕ) (w : WorkerId) → IsLegal s past → runs_queue_on past q c w ≡ true → RunsOn s past q c w
 runs_on s past q c w legal h = at (run past w) refl
   where
-    queue : is_at (run_queue past w) q ≡ true
-    queue = grind arith
-
-    cpu : (w.pool.cpu.0 == c) ≡ true
-    cpu = grind arith
-
     at : (o : Option ℕ) → run past w ≡ o → RunsOn s past q c w
-    at None runs = let none : is_at (run_queue past w) q ≡ false = ap (λ o. is_at (option_and_then (queue_of past) o) q) runs in cc
-    at (Some n) runs = runs_at s past q c w n legal runs (sym (ap (option_and_then (queue_of past)) runs) ∙ is_at-true (run_queue past w) q queue) cpu
+    at None runs = absurd (both_ways _ (ap (λ o. is_at (option_and_then (queue_of past) o) q) runs) (and_parts _ _ h).0)
+    at (Some n) runs = runs_at s past q c w n legal runs (sym (ap (option_and_then (queue_of past)) runs) ∙ is_at-true (run_queue past w) q (and_parts _ _ h).0) (and_parts _ _ h).1
 
 -- ---- different workers have different runs
 

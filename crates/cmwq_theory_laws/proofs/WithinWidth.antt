@@ -1,5 +1,5 @@
 -- Where an entry makes a queueing active, no more than the width are active there after it.
-use Rattle.cmwq_theory_laws.specs.Common.{◌≡◌, ◌≤◌, ℕ, min, max, true, false, ◌||◌, List, [], ◌∷◌, count_by, ◌∙◌, arith, nat_tests, AllByRecursion, Entry, Queueing, Layout, width, queueings, is_live, still_open, is_active, is_below_max_active, is_newly_active, is_on, open_on, OfEachEntry, All_map, All_filter, All_unfilter, count_by-same, active_go_on, kept_front, fronts_below_max_active, ways_counted, active_on, first_active}
+use Rattle.cmwq_theory_laws.specs.Common.{◌≡◌, ◌≤◌, ℕ, true, false, ◌||◌, List, [], ◌∷◌, count_by, ◌∙◌, arith, nat_tests, AllByRecursion, Entry, Queueing, Layout, width, queueings, is_live, still_open, is_active, is_below_max_active, is_newly_active, is_on, open_on, OfEachEntry, All_map, All_filter, All_unfilter, count_by-same, active_go_on, kept_front, fronts_below_max_active, ways_counted, active_on, first_active}
 use Rattle.cmwq_theory_laws.specs.Headline.{WithinWidthAfter}
 use Rattle.cmwq_theory_steps.proofs.Fronts.{front_less, count_or}
 
@@ -17,10 +17,7 @@ few_on s past e p =
     let both = count_by-same (is_active s (e ∷ past)) (λ x. is_active s past x || is_below_max_active s (e ∷ past) x) (open_on (e ∷ past) p.0 p.1) (active_on s past e p.0 p.1) ∙ count_or (is_active s past) (is_below_max_active s (e ∷ past)) (open_on (e ∷ past) p.0 p.1) kept way in
     let counted = ways_counted s (e ∷ past) p.0 p.1 in
     All_unfilter _ (is_on p.0 p.1) (still_open (e ∷ past)) (All_map _ (λ x. is_active s past x ≡ false → is_below_max_active s (e ∷ past) x ≡ true → count_by (is_active s (e ∷ past)) (open_on (e ∷ past) p.0 p.1) ≤ width s (e ∷ past) p.0) (open_on (e ∷ past) p.0 p.1)
-    (λ x less fails passes. within _ _ _ _ _ both (less fails passes) counted) (front_less (is_active s past) (is_below_max_active s (e ∷ past)) (open_on (e ∷ past) p.0 p.1) kept way))
-  where
-    within : (k a b l w : ℕ) → k ≡ max a b → a ≤ b → b ≡ min l w → k ≤ w
-    within k a b l w is less counted = grind arith
+    (λ x less fails passes. grind (arith, both, less fails passes, counted)) (front_less (is_active s past) (is_below_max_active s (e ∷ past)) (open_on (e ∷ past) p.0 p.1) kept way))
 
 few_after : (s : Layout) (past : List Entry) (e : Entry) → WithinWidthAfter s past e
 few_after s past e = All_filter _ (is_newly_active s past e) (queueings (e ∷ past)) (All_map _ _ (queueings (e ∷ past)) one (All_unfilter _ (is_live (e ∷ past)) (queueings (e ∷ past)) (all_for (FewOn s past e) (still_open (e ∷ past)) (few_on s past e))))
