@@ -1,16 +1,13 @@
 -- Where widths don't change, what is active is what was active before widths could change.
-use Rattle.cmwq_theory_laws.specs.Common.{and-false, ◌≡◌, ℕ, Bool, true, false, not, ◌&&◌, ◌||◌, List, [], ◌∷◌, ◌++◌, length, filter, find, count_by, Option, Some, None, option_to_list, nat_lt, refl, sym, ap, ap₂, ◌∙◌, arith, subst, if◌then◌else◌, option_map_or, AllByRecursion, ltb-true, lt-ltb, nat_tests, PoolId, Who, Caller, Worker, Call, Reply, Entry, Queueing, Ticket, Layout, first_width, is_freezable, pool_at, same_pool, serial_of, is_started, width, max_active, is_frozen, frozen_after, sets_max, width_told, queueings, is_live, still_open, is_ahead, is_below_max_active, is_active, is_newly_active, is_listed, became_active, worklist, next, is_startable, gives_ticket, ticket_for, ticket_in, tickets, is_done, is_unended, unended_tickets, destroys, is_destroy_of, is_ticket, ticket_of, ends_destroy, is_gone, queue_answer, modify_answer, wait_answer, answer, take_answer, IsLegal, entry_for, find_holds, All_map, All_append, All_each, filter_same, active_go_on, Cause, causes}
+use Rattle.cmwq_theory_laws.specs.Common.{cause_of, and-false, ◌≡◌, ℕ, Bool, true, false, not, ◌&&◌, ◌||◌, List, [], ◌∷◌, ◌++◌, length, filter, find, count_by, Option, Some, None, option_to_list, nat_lt, refl, sym, ap, ap₂, ◌∙◌, arith, if◌then◌else◌, option_map_or, AllByRecursion, ltb-true, lt-ltb, nat_tests, PoolId, Who, Caller, Worker, Call, Reply, Entry, Queueing, Ticket, Layout, first_width, is_freezable, pool_at, same_pool, serial_of, is_started, width, max_active, is_frozen, frozen_after, sets_max, width_told, queueings, is_live, still_open, is_ahead, is_below_max_active, is_active, is_newly_active, is_listed, became_active, worklist, next, is_startable, gives_ticket, ticket_for, ticket_in, tickets, is_done, is_unended, unended_tickets, destroys, is_destroy_of, is_ticket, ticket_of, ends_destroy, is_gone, queue_answer, modify_answer, wait_answer, answer, take_answer, IsLegal, entry_for, find_holds, All_map, All_append, All_each, filter_same, active_go_on, Cause}
 use Rattle.cmwq_model.specs.declared.call.Call.TheVariants as call
-use Rattle.cmwq_model.specs.declared.reply.Reply.TheVariants as reply
 use Rattle.cmwq_theory_laws.specs.FirstWidths.{queue_before, modify_before, wait_before, is_first, is_newly_first, ever_first, is_listed_before, next_before, HasFirstWidths, is_old, take_before, answer_before, entry_before, IsLegalBefore}
 use Rattle.cmwq_theory_steps.proofs.Causes as cause
-use Rattle.cmwq_theory_steps.proofs.Inversions.{answer_is}
 use Rattle.cmwq_theory_active.proofs.Ahead.{fewer_ahead}
 use Rattle.cmwq_lemmas.proofs.Passing.{all_kept}
 
 -- ---- with the layout's widths
 
--- what was first and is open is first
 abbrev IsAsBefore : Layout → List Entry → Queueing → Type 0
 IsAsBefore s past x = is_active s past x ≡ is_first s past x
 
@@ -44,17 +41,6 @@ all_as_before s past wide = ((λ x. active_as_before s past x wide), activated_a
 
 -- ---- histories without the new calls
 
--- what they are answered leaves the widths as they are
-keeps_reply : Reply → Bool
-keeps_reply reply.Frozen = false
-keeps_reply r = true
-
-frozen_kept : (r : Reply) (b : Bool) → keeps_reply r ≡ true → b ≡ false → frozen_after r b ≡ false
-unfolding keeps_reply
-frozen_kept reply.Frozen b h was = cc
-frozen_kept reply.Thawed b h was = refl
-frozen_kept r b h was = was
-
 unset : (e : Entry) (q : ℕ) (c : Call) → is_old c ≡ true → sets_max c q ≡ false
 unset e q (call.SetMax r n) h = cc
 unset e q c h = refl
@@ -62,13 +48,14 @@ unset e q c h = refl
 abbrev AreOld : List Entry → Type 0
 AreOld past = AllByRecursion (λ e. is_old e.call ≡ true) past
 
+-- what they are answered freezes nothing
 abbrev AreKept : List Entry → Type 0
-AreKept past = AllByRecursion (λ e. keeps_reply e.reply ≡ true) past
+AreKept past = AllByRecursion (λ e. frozen_after e.reply false ≡ false) past
 
 never_frozen : (past : List Entry) → AreKept past → is_frozen past ≡ false
 unfolding is_frozen
 never_frozen [] h = refl
-never_frozen (e ∷ past) h = frozen_kept e.reply (is_frozen past) h.0 (never_frozen past h.1)
+never_frozen (e ∷ past) h = ap (frozen_after e.reply) (never_frozen past h.1) ∙ h.0
 
 max_kept : (s : Layout) (past : List Entry) (q : ℕ) → AreOld past → max_active s past q ≡ first_width s q
 unfolding max_active
@@ -132,34 +119,22 @@ answer_as_before s past who (call.Modify i q c t) wide none = rw (none q.0) refl
 answer_as_before s past who (call.Flush q) wide none = rw (none q.0) refl
 answer_as_before s past who (call.Drain q) wide none = rw (none q.0) refl
 answer_as_before s past (Worker w) call.Take wide none = rw (next_as_before s past w.pool wide) refl
-answer_as_before s past (Caller c) call.Take wide none = refl
-answer_as_before s past (Worker w) c wide none = refl
-answer_as_before s past (Caller d) c wide none = refl
+answer_as_before s past who c wide none = refl
 
-kept_by_cause : (s : Layout) (past : List Entry) (who : Who) (c : Call) (r : Reply) → Cause s past who c r → is_old c ≡ true → keeps_reply r ≡ true
-unfolding keeps_reply
+kept_by_cause : (s : Layout) (past : List Entry) (who : Who) (c : Call) (r : Reply) → Cause s past who c r → is_old c ≡ true → frozen_after r false ≡ false
 kept_by_cause s past who c r (cause.freezes w free) h = cc
 kept_by_cause s past who c r other h = refl
 
 legal_kept : (s : Layout) (past : List Entry) → AreOld past → IsLegal s past → AreKept past
 unfolding IsLegal
 legal_kept s [] old legal = tt
-legal_kept s (e ∷ past) old legal = (subst (λ r. keeps_reply r ≡ true) (sym (answer_is s past e legal)) (kept_by_cause s past e.who e.call (answer s past e.who e.call) (causes s past e.who e.call) old.0), legal_kept s past old.1 legal.2)
-
-entry_as_before : (s : Layout) (past : List Entry) (who : Who) (c : Call) → HasFirstWidths s past → ((q : ℕ) → is_gone past q ≡ false) → entry_for s past who c ≡ entry_before s past who c
-entry_as_before s past who c wide none = ap (λ r. record { who = who; serial = serial_of past who; call = c; reply = r }) (answer_as_before s past who c wide none)
-
-legal_before : (s : Layout) (past : List Entry) → AreOld past → IsLegal s past → IsLegalBefore s past
-unfolding IsLegal IsLegalBefore
-legal_before s [] old legal = tt
-legal_before s (e ∷ past) old legal = (legal.0, legal.1 ∙ entry_as_before s past e.who e.call (widths_kept s past old.1 (legal_kept s past old.1 legal.2)) (λ q. old_none_gone past q old.1), legal_before s past old.1 legal.2)
-
-legal_after : (s : Layout) (past : List Entry) → AreOld past → IsLegalBefore s past → IsLegal s past
-unfolding IsLegal IsLegalBefore
-legal_after s [] old legal = tt
-legal_after s (e ∷ past) old legal =
-    let earlier = legal_after s past old.1 legal.2 in
-    (legal.0, legal.1 ∙ sym (entry_as_before s past e.who e.call (widths_kept s past old.1 (legal_kept s past old.1 earlier)) (λ q. old_none_gone past q old.1)), earlier)
+legal_kept s (e ∷ past) old legal = (kept_by_cause s past e.who e.call e.reply (cause_of s past e legal) old.0, legal_kept s past old.1 legal.2)
 
 pub legal_as_before : (s : Layout) (past : List Entry) → AreOld past → (IsLegal s past → IsLegalBefore s past) × (IsLegalBefore s past → IsLegal s past)
-legal_as_before s past old = ((λ h. legal_before s past old h), (λ h. legal_after s past old h))
+unfolding IsLegal IsLegalBefore
+legal_as_before s [] old = ((λ h. tt), (λ h. tt))
+legal_as_before s (e ∷ past) old =
+    let earlier = legal_as_before s past old.1 in
+    let same : IsLegal s past → entry_for s past e.who e.call ≡ entry_before s past e.who e.call = λ legal. ap (λ r. record { who = e.who; serial = serial_of past e.who; call = e.call; reply = r })
+    (answer_as_before s past e.who e.call (widths_kept s past old.1 (legal_kept s past old.1 legal)) (λ q. old_none_gone past q old.1)) in
+    ((λ h. (h.0, h.1 ∙ same h.2, earlier.0 h.2)), (λ h. (h.0, h.1 ∙ sym (same (earlier.1 h.2)), earlier.1 h.2)))

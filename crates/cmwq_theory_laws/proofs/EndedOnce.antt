@@ -1,6 +1,7 @@
 -- What was cancelled was never started, and what is finished was started.
-use Rattle.cmwq_theory_laws.specs.Common.{◌≡◌, ℕ, Bool, true, false, ◌&&◌, ◌||◌, List, [], ◌∷◌, length, Option, Some, None, option_to_list, refl, ap, ◌∙◌, arith, AllByRecursion, and-false, or_right, Entry, Queueing, Layout, starts, finishes, number_started, number_finished, is_started, is_finished, is_cancelled, is_open, queueings, opening, IsLegal, All_map, All_both, All_append, opening_number, IsKnown, queueings_known, is_at-true, run_is, finishes_run, open_at_once}
-use Rattle.std.proofs.lemmas.Bool.{and_right}
+use Rattle.cmwq_theory_laws.specs.Common.{◌≡◌, ℕ, Bool, true, false, ◌&&◌, List, [], ◌∷◌, length, Option, Some, None, option_to_list, refl, ap, ◌∙◌, arith, AllByRecursion, and-false, or_right, Entry, Queueing, Layout, starts, finishes, number_started, number_finished, is_started, is_finished, is_cancelled, is_open, queueings, opening, IsLegal, All_map, All_both, All_append, opening_number, IsKnown, queueings_known, is_at-true, run_is, finishes_run, open_at_once}
+use Rattle.std.proofs.Common.{⊎_elim}
+use Rattle.std.proofs.lemmas.Bool.{and_right, or_cases}
 use Rattle.cmwq_theory_laws.specs.Sanity.{is_ended_twice, is_started_cancelled}
 use Rattle.cmwq_theory_steps.proofs.RunSteps.{started_not_cancelled, started_open, last_started}
 
@@ -39,13 +40,9 @@ cancelled_never_start s (e ∷ past) legal =
 pub finished_started : (s : Layout) (past : List Entry) (n : ℕ) → IsLegal s past → is_finished past n ≡ true → is_started past n ≡ true
 unfolding IsLegal
 finished_started s [] n legal h = cc
-finished_started s (e ∷ past) n legal h = here (finishes n e) refl h (finished_started s past n legal.2)
-  where
-    here : (b : Bool) → finishes n e ≡ b → (b || is_finished past n) ≡ true → (is_finished past n ≡ true → is_started past n ≡ true) → is_started (e ∷ past) n ≡ true
-    here true hb k earlier =
-        let f = finishes_run s past e n legal (is_at-true (number_finished e.reply) n hb) in
-        or_right (starts n e) (is_started past n) (last_started past f.worker n (run_is past f.worker n f.is_run).last)
-    here false hb k earlier = or_right (starts n e) (is_started past n) (earlier k)
+finished_started s (e ∷ past) n legal h = or_right (starts n e) (is_started past n) (⊎_elim (λ now.
+    let f = finishes_run s past e n legal (is_at-true (number_finished e.reply) n now) in last_started past f.worker n (run_is past f.worker n f.is_run).last)
+    (λ was. finished_started s past n legal.2 was) (or_cases (finishes n e) (is_finished past n) h))
 
 pub queueings_end_once : (s : Layout) (past : List Entry) → IsLegal s past → AllByRecursion (λ x. is_ended_twice past x ≡ false) (queueings past)
 queueings_end_once s past legal = All_map (λ x. is_started_cancelled past x ≡ false) _ (queueings past) (λ x h. grind (arith, finished_started s past x.number legal)) (cancelled_never_start s past legal)

@@ -50,17 +50,10 @@ reserve_there s past w y h = at (list_any (is_other_idle past w) (indices s)) h
 
 -- ---- the reply that an entry gets
 
--- the ticks that a call asks for
-abbrev ticks_asked : Call → ℕ
-ticks_asked (call.Delay i q c t) = t
-ticks_asked (call.Modify i q c t) = t
-ticks_asked (call.Tick t) = t
-ticks_asked c = 0
-
 record Limits (s : Layout) (most : ℕ) (past : List Entry) (c : Call) : Type 0 where
   long : length past ≤ most
   soon : now past + ticks_told c ≤ most_time
-  ticks : ticks_asked c ≤ greatest
+  asked : IsCall most c
   few_items : s.items ≤ most_items
   few_workers : s.workers ≤ most_workers
 
@@ -78,7 +71,7 @@ replies_in_range s m past who c r legal l (cause.sync_cancelled w i x free u) = 
 replies_in_range s m past who c r legal l (cause.starts w x en idle begins clear none) = omega (arith, next_older s past w x begins, l.long)
 replies_in_range s m past who c r legal l (cause.enlists w x y en idle begins clear by) = (omega (arith, next_older s past w x begins, l.long), omega (arith, reserve_there s past w y by, l.few_workers))
 replies_in_range s m past who c r legal l (cause.finishes w n awake runs) = omega (arith, run_older s past w n legal runs, l.long)
-replies_in_range s m past who c r legal l other = omega (arith, l.long, l.soon, l.ticks)
+replies_in_range s m past who c r legal l other = omega arith
 
 -- ---- the laws
 
@@ -88,12 +81,6 @@ entries_fit s past e legal = ap₂ (λ a b. a && b) (legal_fits s past e legal) 
 
 pub serial_most : (past : List Entry) (who : Who) → serial_of past who ≤ length past
 serial_most past who = count_by-le-length (is_by who) past
-
-asked_most : (m : ℕ) (c : Call) → IsCall m c → ticks_asked c ≤ greatest
-asked_most m (call.Delay i q c t) h = h.1
-asked_most m (call.Modify i q c t) h = h.1
-asked_most m (call.Tick t) h = h
-asked_most m c h = omega arith
 
 told_most : (m : ℕ) (c : Call) → IsCall m c → ticks_told c ≤ greatest
 told_most m (call.Tick t) h = h
@@ -113,7 +100,7 @@ entry_in_range s m past e inside legal long soon own = record {
   reply = replies_in_range s m past e.who e.call e.reply legal.2 (record {
     long = long;
     soon = soon;
-    ticks = asked_most m e.call own.1;
+    asked = own.1;
     few_items = (limits_of s inside).items.1;
     few_workers = (limits_of s inside).workers.1;
   }) (cause_of s past e legal);
