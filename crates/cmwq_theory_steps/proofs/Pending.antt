@@ -1,5 +1,5 @@
 -- An item has one unstarted queueing at most, and none while it is booked.
-use Rattle.cmwq_theory_steps.specs.Common.{◌≡◌, ◌==◌, ◌≤◌, ◌+◌, ℕ, Bool, true, false, cond, ◌&&◌, List, [], ◌∷◌, length, filter, count_by, Option, Some, None, option_to_list, refl, sym, ap, ◌∙◌, subst, arith, option_and_then, is_some, option_or, eqb-true, inl, inr, eqb_tells, Who, Call, Reply, Entry, Queueing, Layout, is_at, item_called, item_fired, is_of_item, settles, due_in, booking, booking_of, booked_by, is_booked, replaces, still_open, opening, opens, queueings, is_unstarted, unstarted_queueing, is_pending, IsLegal, All_each, count_by-cons, count_by-none, count_by-filter, find_none}
+use Rattle.cmwq_theory_steps.specs.Common.{Place, item_of, place_called, ◌≡◌, ◌==◌, ◌≤◌, ◌+◌, ℕ, Bool, true, false, cond, ◌&&◌, List, [], ◌∷◌, length, filter, count_by, Option, Some, None, option_to_list, refl, sym, ap, ◌∙◌, subst, arith, option_and_then, is_some, option_or, eqb-true, inl, inr, eqb_tells, Who, Call, Reply, Entry, Queueing, Layout, is_at, item_called, item_fired, is_of_item, settles, due_in, booking, booking_of, booked_by, is_booked, replaces, still_open, opening, opens, queueings, is_unstarted, unstarted_queueing, is_pending, IsLegal, All_each, count_by-cons, count_by-none, count_by-filter, find_none}
 use Rattle.cmwq_model.specs.declared.reply.Reply.TheVariants as reply
 use Rattle.cmwq_theory_steps.specs.Endings.{survives}
 use Rattle.std.proofs.lemmas.Bool.{and_parts}
@@ -8,32 +8,35 @@ use Rattle.cmwq_lemmas.proofs.Filters.{count_by-wider, count_none, none_found, f
 use Rattle.cmwq_theory_steps.proofs.Entries.{opening_item}
 use Rattle.cmwq_theory_steps.proofs.Endings.{open_go_on}
 use Rattle.cmwq_theory_steps.proofs.Standing.{booking_after, due_own}
-use Rattle.cmwq_theory_steps.proofs.Causes.{Cause, cause_of}
+use Rattle.cmwq_theory_steps.proofs.Causes.{Cause, IsFree, cause_of}
 use Rattle.cmwq_theory_steps.proofs.Causes as cause
 
 -- ---- what an entry settles of an item
 
-data Settling (past : List Entry) (r : Reply) (i : ℕ) : Type 0 where
-  idle : is_pending past i ≡ false → Settling past r i
-  anew : replaces r ≡ true → Settling past r i
-  booked : is_booked past i ≡ true → Settling past r i
+-- what an entry settles is asked for where the item is free, or was booked
+pub data Settling (past : List Entry) (who : Who) (c : Call) (r : Reply) : Type 0 where
+  called : (i t : ℕ) (p : Place) → item_called c ≡ Some i → place_called c ≡ Some p → IsFree past who i p.queue.0 t → is_pending past i ≡ replaces r → (t == 0) ≡ opens r → Settling past who c r
+  booked : (i : ℕ) → option_or (item_called c) (item_fired r) ≡ Some i → place_called c ≡ None → is_booked past i ≡ true → due_in r ≡ None → Settling past who c r
 
 pub of_item : (P : ℕ → Type 0) (i j : ℕ) → (j == i) ≡ true → P j → P i
 of_item P i j h p = subst P (eqb-true j i h) p
 
-settling : (s : Layout) (past : List Entry) (who : Who) (c : Call) (r : Reply) (i : ℕ) → Cause s past who c r → settles r ≡ true → is_at (option_or (item_called c) (item_fired r)) i ≡ true → Settling past r i
-settling s past who c r i (cause.queued w j q d free none) h k = idle (of_item (λ m. is_pending past m ≡ false) i j.0 k none)
-settling s past who c r i (cause.delayed_by_none w j q d t zero free none) h k = idle (of_item (λ m. is_pending past m ≡ false) i j.0 k none)
-settling s past who c r i (cause.delayed w j q d t some free none) h k = idle (of_item (λ m. is_pending past m ≡ false) i j.0 k none)
-settling s past who c r i (cause.modified_idle w j q d t zero free none) h k = idle (of_item (λ m. is_pending past m ≡ false) i j.0 k none)
-settling s past who c r i (cause.modified_booked w j q d t some free none) h k = idle (of_item (λ m. is_pending past m ≡ false) i j.0 k none)
-settling s past who c r i (cause.modified_again w j q d t zero free some) h k = anew refl
-settling s past who c r i (cause.modified_rebooked w j q d t some free was) h k = anew refl
-settling s past who c r i (cause.unbooked w j none was) h k = booked (of_item (λ m. is_booked past m ≡ true) i j.0 k was)
-settling s past who c r i (cause.fires w b due) h k = booked (of_item (λ m. is_booked past m ≡ true) i b.item.0 k (ap is_some (due_own past b due)))
-settling s past who c r i (cause.delayed_queued w j free shut was) h k = booked (of_item (λ m. is_booked past m ≡ true) i j.0 k was)
-settling s past who c r i (cause.sync_unbooked w j free none was) h k = booked (of_item (λ m. is_booked past m ≡ true) i j.0 k was)
-settling s past who c r i other h k = cc
+pub settling : (s : Layout) (past : List Entry) (who : Who) (c : Call) (r : Reply) → Cause s past who c r → settles r ≡ true → Settling past who c r
+settling s past who c r (cause.queued w i q d free none) h = called i.0 0 (record { queue = q; cpu = d }) refl refl free none refl
+settling s past who c r (cause.delayed_by_none w i q d t zero free none) h = called i.0 t (record { queue = q; cpu = d }) refl refl free none zero
+settling s past who c r (cause.delayed w i q d t some free none) h = called i.0 t (record { queue = q; cpu = d }) refl refl free none some
+settling s past who c r (cause.modified_idle w i q d t zero free none) h = called i.0 t (record { queue = q; cpu = d }) refl refl free none zero
+settling s past who c r (cause.modified_again w i q d t zero free was) h = called i.0 t (record { queue = q; cpu = d }) refl refl free was zero
+settling s past who c r (cause.modified_booked w i q d t some free none) h = called i.0 t (record { queue = q; cpu = d }) refl refl free none some
+settling s past who c r (cause.modified_rebooked w i q d t some free was) h = called i.0 t (record { queue = q; cpu = d }) refl refl free was some
+settling s past who c r (cause.unbooked w i none was) h = booked i.0 refl refl was refl
+settling s past who c r (cause.fires w b due) h = booked b.item.0 refl refl (ap is_some (due_own past b due)) refl
+settling s past who c r (cause.delayed_queued w i free shut was) h = booked i.0 refl refl was refl
+settling s past who c r (cause.sync_unbooked w i free none was) h = booked i.0 refl refl was refl
+settling s past who c r other h = cc
+
+pub own_item : (i j : ℕ) (e : Entry) → item_of e ≡ Some j → is_of_item i e ≡ true → j ≡ i
+own_item i j e is h = eqb-true j i (sym (ap (λ o. is_at o i) is) ∙ h)
 
 pub opens_settles : (r : Reply) → opens r ≡ true → settles r ≡ true
 opens_settles (reply.Yes k) h = refl
@@ -81,10 +84,13 @@ not_idle past i h = grind arith
 abbrev pub pending_count : List Entry → ℕ → ℕ
 pending_count past i = count_by (is_unstarted past i) (still_open past) + cond (is_booked past i) 1 0
 
-none_waiting : (s : Layout) (past : List Entry) (e : Entry) (i : ℕ) → is_of_item i e ≡ true → pending_count past i ≤ 1 → Settling past e.reply i → count_by (waiting_now past e i) (still_open past) ≡ 0
-none_waiting s past e i is few (idle none) = omega (arith, none_unstarted past i (not_idle past i none), waiting_was past e i)
-none_waiting s past e i is few (anew replacing) = none_anew past e i replacing is
-none_waiting s past e i is few (booked was) = grind (arith, waiting_was past e i)
+none_waiting : (s : Layout) (past : List Entry) (e : Entry) (i : ℕ) → is_of_item i e ≡ true → pending_count past i ≤ 1 → Settling past e.who e.call e.reply → count_by (waiting_now past e i) (still_open past) ≡ 0
+none_waiting s past e i is few (called j t p item place free pending opening) =
+    let own = ap (is_pending past) (sym (own_item i j e (ap (λ o. option_or o (item_fired e.reply)) item) is)) ∙ pending in
+    grind (arith, waiting_was past e i, none_unstarted past i, not_idle past i, none_anew past e i)
+none_waiting s past e i is few (booked j item place was due) =
+    let own = ap (is_booked past) (sym (own_item i j e item is)) ∙ was in
+    grind (arith, waiting_was past e i)
 
 -- what is opened isn't booked
 opened_or_booked : (past : List Entry) (e : Entry) (i : ℕ) (o : Option Queueing) → opening past e ≡ o → count_by (is_unstarted (e ∷ past) i) (option_to_list o) + cond (is_some (booking_of e (length past))) 1 0 ≤ 1
@@ -104,7 +110,7 @@ opened_elsewhere past e i (Some x) h other =
 few_settled : (s : Layout) (past : List Entry) (e : Entry) (i : ℕ) → IsLegal s (e ∷ past) → (settles e.reply && is_of_item i e) ≡ true → pending_count past i ≤ 1 → pending_count (e ∷ past) i ≤ 1
 few_settled s past e i legal both few =
     let k = and_parts (settles e.reply) (is_of_item i e) both in
-    let zero = none_waiting s past e i k.1 few (settling s past e.who e.call e.reply i (cause_of s past e legal) k.0 k.1) in
+    let zero = none_waiting s past e i k.1 few (settling s past e.who e.call e.reply (cause_of s past e legal) k.0) in
     subst (λ b. count_by (is_unstarted (e ∷ past) i) (still_open (e ∷ past)) + cond b 1 0 ≤ 1) (sym (ap is_some (booking_after past e i true both)))
     (omega (arith, opened_or_booked past e i (opening past e) refl, unstarted_count s past e i legal))
 

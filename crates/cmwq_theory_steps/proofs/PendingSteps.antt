@@ -13,7 +13,7 @@ use Rattle.cmwq_theory_steps.proofs.Fresh.{finishes_run, takes_back_unstarted, u
 use Rattle.cmwq_theory_steps.proofs.ItemRuns.{run_is}
 use Rattle.cmwq_theory_steps.proofs.RunSteps.{last_started}
 use Rattle.cmwq_theory_steps.proofs.ItemSteps.{none_started, starts_of, starts_some, items_run_on}
-use Rattle.cmwq_theory_steps.proofs.Pending.{opening_opens, opens_settles, booked_or_unstarted}
+use Rattle.cmwq_theory_steps.proofs.Pending.{own_item, opening_opens, opens_settles, booked_or_unstarted}
 use Rattle.cmwq_theory_steps.proofs.Pools.{started_was}
 use Rattle.cmwq_theory_steps.proofs.StateSteps.{opens_as_asked, books_as_asked}
 use Rattle.cmwq_theory_steps.proofs.Unstarted.{unstarted_goes_on}
@@ -32,9 +32,6 @@ told_apart n m b same back = same_bools (n == m) b (λ h. back (eqb-true n m h))
 unbooked_else : (r : Reply) → settles r ≡ true → opens r ≡ false → due_in r ≡ None → unbooks r ≡ true
 unbooked_else reply.Unbooked h o d = refl
 unbooked_else r h o d = grind arith
-
-own_item : (i j : ℕ) (e : Entry) → item_of e ≡ Some j → is_of_item i e ≡ true → j ≡ i
-own_item i j e is h = eqb-true j i (sym (ap (λ o. is_at o i) is) ∙ h)
 
 opened_own : (s : Layout) (past : List Entry) (e : Entry) (i : ℕ) → IsLegal s (e ∷ past) → opens e.reply ≡ true → is_of_item i e ≡ true → is_some (of_item i (opening past e)) ≡ true
 opened_own s past e i legal h own =
