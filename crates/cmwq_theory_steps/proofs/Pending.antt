@@ -15,24 +15,24 @@ use Rattle.cmwq_theory_steps.proofs.Causes as cause
 
 -- what an entry settles is asked for where the item is free, or was booked
 pub data Settling (past : List Entry) (who : Who) (c : Call) (r : Reply) : Type 0 where
-  called : (i t : ℕ) (p : Place) → item_called c ≡ Some i → place_called c ≡ Some p → IsFree past who i p.queue.0 t → is_pending past i ≡ replaces r → (t == 0) ≡ opens r → Settling past who c r
-  booked : (i : ℕ) → option_or (item_called c) (item_fired r) ≡ Some i → place_called c ≡ None → is_booked past i ≡ true → due_in r ≡ None → Settling past who c r
+  of_call : (i t : ℕ) (p : Place) → item_called c ≡ Some i → place_called c ≡ Some p → IsFree past who i p.queue.0 t → is_pending past i ≡ replaces r → (t == 0) ≡ opens r → Settling past who c r
+  of_booking : (i : ℕ) → option_or (item_called c) (item_fired r) ≡ Some i → place_called c ≡ None → is_booked past i ≡ true → due_in r ≡ None → Settling past who c r
 
 pub of_item : (P : ℕ → Type 0) (i j : ℕ) → (j == i) ≡ true → P j → P i
 of_item P i j h p = subst P (eqb-true j i h) p
 
 pub settling : (s : Layout) (past : List Entry) (who : Who) (c : Call) (r : Reply) → Cause s past who c r → settles r ≡ true → Settling past who c r
-settling s past who c r (cause.queued w i q d free none) h = called i.0 0 (record { queue = q; cpu = d }) refl refl free none refl
-settling s past who c r (cause.delayed_by_none w i q d t zero free none) h = called i.0 t (record { queue = q; cpu = d }) refl refl free none zero
-settling s past who c r (cause.delayed w i q d t some free none) h = called i.0 t (record { queue = q; cpu = d }) refl refl free none some
-settling s past who c r (cause.modified_idle w i q d t zero free none) h = called i.0 t (record { queue = q; cpu = d }) refl refl free none zero
-settling s past who c r (cause.modified_again w i q d t zero free was) h = called i.0 t (record { queue = q; cpu = d }) refl refl free was zero
-settling s past who c r (cause.modified_booked w i q d t some free none) h = called i.0 t (record { queue = q; cpu = d }) refl refl free none some
-settling s past who c r (cause.modified_rebooked w i q d t some free was) h = called i.0 t (record { queue = q; cpu = d }) refl refl free was some
-settling s past who c r (cause.unbooked w i none was) h = booked i.0 refl refl was refl
-settling s past who c r (cause.fires w b due) h = booked b.item.0 refl refl (ap is_some (due_own past b due)) refl
-settling s past who c r (cause.delayed_queued w i free shut was) h = booked i.0 refl refl was refl
-settling s past who c r (cause.sync_unbooked w i free none was) h = booked i.0 refl refl was refl
+settling s past who c r (cause.queued w i q d free none) h = of_call i.0 0 (record { queue = q; cpu = d }) refl refl free none refl
+settling s past who c r (cause.delayed_by_none w i q d t zero free none) h = of_call i.0 t (record { queue = q; cpu = d }) refl refl free none zero
+settling s past who c r (cause.delayed w i q d t some free none) h = of_call i.0 t (record { queue = q; cpu = d }) refl refl free none some
+settling s past who c r (cause.modified_idle w i q d t zero free none) h = of_call i.0 t (record { queue = q; cpu = d }) refl refl free none zero
+settling s past who c r (cause.modified_again w i q d t zero free was) h = of_call i.0 t (record { queue = q; cpu = d }) refl refl free was zero
+settling s past who c r (cause.modified_booked w i q d t some free none) h = of_call i.0 t (record { queue = q; cpu = d }) refl refl free none some
+settling s past who c r (cause.modified_rebooked w i q d t some free was) h = of_call i.0 t (record { queue = q; cpu = d }) refl refl free was some
+settling s past who c r (cause.unbooked w i none was) h = of_booking i.0 refl refl was refl
+settling s past who c r (cause.fires w b due) h = of_booking b.item.0 refl refl (ap is_some (due_own past b due)) refl
+settling s past who c r (cause.delayed_queued w i free shut was) h = of_booking i.0 refl refl was refl
+settling s past who c r (cause.sync_unbooked w i free none was) h = of_booking i.0 refl refl was refl
 settling s past who c r other h = cc
 
 pub own_item : (i j : ℕ) (e : Entry) → item_of e ≡ Some j → is_of_item i e ≡ true → j ≡ i
@@ -42,7 +42,7 @@ pub opens_settles : (r : Reply) → opens r ≡ true → settles r ≡ true
 opens_settles (reply.Yes k) h = refl
 opens_settles r h = grind arith
 
-opens_undue : (r : Reply) → opens r ≡ true → due_in r ≡ None
+pub opens_undue : (r : Reply) → opens r ≡ true → due_in r ≡ None
 opens_undue (reply.Yes k) h = refl
 opens_undue r h = grind arith
 
@@ -85,10 +85,10 @@ abbrev pub pending_count : List Entry → ℕ → ℕ
 pending_count past i = count_by (is_unstarted past i) (still_open past) + cond (is_booked past i) 1 0
 
 none_waiting : (s : Layout) (past : List Entry) (e : Entry) (i : ℕ) → is_of_item i e ≡ true → pending_count past i ≤ 1 → Settling past e.who e.call e.reply → count_by (waiting_now past e i) (still_open past) ≡ 0
-none_waiting s past e i is few (called j t p item place free pending opening) =
+none_waiting s past e i is few (of_call j t p item place free pending opening) =
     let own = ap (is_pending past) (sym (own_item i j e (ap (λ o. option_or o (item_fired e.reply)) item) is)) ∙ pending in
     grind (arith, waiting_was past e i, none_unstarted past i, not_idle past i, none_anew past e i)
-none_waiting s past e i is few (booked j item place was due) =
+none_waiting s past e i is few (of_booking j item place was due) =
     let own = ap (is_booked past) (sym (own_item i j e item is)) ∙ was in
     grind (arith, waiting_was past e i)
 

@@ -1,10 +1,11 @@
 -- Runs, queueings and bookings of one item keep together: on one queue, and in one pool.
-use Rattle.cmwq_theory_steps.specs.Common.{◌≡◌, ◌==◌, ℕ, Bool, true, false, not, ◌&&◌, List, [], ◌∷◌, ◌++◌, length, filter, Option, Some, None, option_to_list, refl, sym, ap, ap₂, ◌∙◌, subst, arith, option_map, option_and_then, is_some, if◌then◌else◌, option_or, option_map_or, AllByRecursion, eq-eqb, eqb-true, CpuId, PoolId, WorkerId, Who, Call, Reply, Entry, Booking, Place, Queueing, Start, Layout, pool_at, queue_at, is_at, same_pool, item_called, item_fired, is_of_item, item_at, settles, due_in, booked_by, booking, number_started, starts, is_started, run, item_start, item_run, start_in, starts_item, queueings, queue_of, has_number, is_live, still_open, opening, opens, queued_at, place_wanted, cpu_for, is_unstarted, unstarted_queueing, runs_elsewhere, IsLegal, All_map, All_unfilter, All_append, All_filter, active_live, listed_live}
+use Rattle.cmwq_theory_steps.specs.Common.{booking_of, item_of, place_called, ◌≡◌, ◌==◌, ℕ, Bool, true, false, not, ◌&&◌, List, [], ◌∷◌, ◌++◌, length, filter, Option, Some, None, option_to_list, refl, sym, ap, ap₂, ◌∙◌, subst, arith, option_map, option_and_then, is_some, if◌then◌else◌, option_or, option_map_or, AllByRecursion, eq-eqb, eqb-true, PoolId, WorkerId, Who, Reply, Entry, Booking, Place, Queueing, Start, Layout, pool_at, queue_at, is_at, same_pool, item_fired, is_of_item, item_at, settles, due_in, booked_by, booking, number_started, starts, is_started, run, item_start, item_run, start_in, starts_item, queueings, queue_of, has_number, is_live, still_open, opening, opens, queued_at, place_wanted, cpu_for, is_unstarted, unstarted_queueing, runs_elsewhere, IsLegal, All_map, All_unfilter, All_append, All_filter, active_live, listed_live}
 use Rattle.cmwq_model.specs.declared.reply.Reply.TheVariants as reply
 use Rattle.cmwq_theory_steps.specs.Endings.{survives}
 use Rattle.cmwq_theory_steps.specs.RunSteps.{ends_run}
 use Rattle.cmwq_theory_steps.specs.Pools.{IsRunIn}
-use Rattle.std.proofs.lemmas.Bool.{and_parts, not-false}
+use Rattle.std.proofs.Common.{subst₂}
+use Rattle.std.proofs.lemmas.Bool.{and_parts, false_from_ne_true, not-false}
 use Rattle.std.proofs.lemmas.Option.{same_Some}
 use Rattle.cmwq_theory_steps.proofs.RunsActive.{run_is_active, found_known}
 use Rattle.cmwq_theory_steps.proofs.Activated.{find_holds}
@@ -14,10 +15,10 @@ use Rattle.cmwq_theory_steps.proofs.StartsListed.{queueing_at-older, starts_list
 use Rattle.cmwq_theory_steps.proofs.Fresh.{unstarted_is}
 use Rattle.cmwq_theory_steps.proofs.Endings.{open_go_on}
 use Rattle.cmwq_theory_steps.proofs.ItemSteps.{StartsOf, starts_of, items_run_on, left_run, runs_its_item}
-use Rattle.cmwq_theory_steps.proofs.Standing.{booking_after}
-use Rattle.cmwq_theory_steps.proofs.Pending.{one_unstarted, booked_or_unstarted, opening_opens}
-use Rattle.cmwq_theory_steps.proofs.Causes.{Cause, cause_of}
-use Rattle.cmwq_theory_steps.proofs.Causes as cause
+use Rattle.cmwq_theory_steps.proofs.Standing.{booking_after, made_for}
+use Rattle.cmwq_theory_steps.proofs.Pending.{Settling, of_booking, of_call, one_unstarted, booked_or_unstarted, opening_opens, opens_settles, opens_undue, own_item, settling}
+use Rattle.cmwq_theory_steps.proofs.StateSteps.{opens_as_asked}
+use Rattle.cmwq_theory_steps.proofs.Causes.{IsFree, cause_of}
 
 -- ---- a run is in the pool of its worker
 
@@ -41,49 +42,47 @@ unstarted_alone s past i legal = All_unfilter (λ x. unstarted_queueing past i �
     each None = tt
     each (Some x) = (refl, tt)
 
--- ---- where a queueing that is opened comes from
+-- ---- where what is opened or booked is placed: where the item is free, or where it was booked
 
--- the queue is the one that the item runs on, if it runs, or that of its booking
-data QueueFrom (past : List Entry) (i q : ℕ) : Type 0 where
-  of_run : runs_elsewhere past i q ≡ false → QueueFrom past i q
-  of_booking : (b : Booking) → booking past i ≡ Some b → b.place.queue.0 ≡ q → QueueFrom past i q
+pub data PlacedAt (past : List Entry) (who : Who) (i : ℕ) (p : Place) : Type 0 where
+  freely : (t : ℕ) → IsFree past who i p.queue.0 t → PlacedAt past who i p
+  as_booked : (b : Booking) → booking past i ≡ Some b → b.place ≡ p → PlacedAt past who i p
 
-record OpenedAt (past : List Entry) (x : Queueing) : Type 0 where
-  cpu : CpuId
-  is_cpu : x.place.cpu ≡ cpu_for past x.item.0 cpu
-  from : QueueFrom past x.item.0 x.place.queue.0
+some_same : {A : Type 0} (a b : A) (o : Option A) → o ≡ Some a → o ≡ Some b → a ≡ b
+some_same a b o h k = same_Some a b (sym h ∙ k)
 
-opened_as : (past : List Entry) (i : ℕ) (p : Place) (x : Queueing) → QueueFrom past i p.queue.0 → Some (queued_at past i p) ≡ Some x → OpenedAt past x
-opened_as past i p x from h = subst (OpenedAt past) (let same : queued_at past i p ≡ x = cc in same) (record { cpu = p.cpu; is_cpu = refl; from = from })
+pub opens_at : (s : Layout) (past : List Entry) (e : Entry) (i : ℕ) (p : Place) → IsLegal s (e ∷ past) → opens e.reply ≡ true → item_of e ≡ Some i → place_wanted past e.call i ≡ Some p → PlacedAt past e.who i p
+opens_at s past e i p legal h item placed = of (settling s past e.who e.call e.reply (cause_of s past e legal) (opens_settles e.reply h))
+  where
+    wanted : (o : Option Booking) → booking past i ≡ o → option_or (place_called e.call) (option_map (λ (b : Booking). b.place) o) ≡ Some p → place_called e.call ≡ None → PlacedAt past e.who i p
+    wanted None is k none = cc
+    wanted (Some b) is k none = as_booked b is (some_same b.place p _ (ap (λ o. option_or o (Some b.place)) none) k)
 
-opened_booked : (past : List Entry) (i : ℕ) (x : Queueing) (o : Option Booking) → booking past i ≡ o → option_map (queued_at past i) (option_map (λ (b : Booking). b.place) o) ≡ Some x → OpenedAt past x
-opened_booked past i x None is h = cc
-opened_booked past i x (Some b) is h = opened_as past i b.place x (of_booking b is refl) h
+    of : Settling past e.who e.call e.reply → PlacedAt past e.who i p
+    of (of_call j t q own place free pending o) =
+        let same = some_same j i (item_of e) (ap (λ o. option_or o (item_fired e.reply)) own) item in
+        let there = some_same q p (place_wanted past e.call i) (ap (λ o. option_or o (option_map (λ (b : Booking). b.place) (booking past i))) place) placed in
+        freely t (subst₂ (λ k (x : Place). IsFree past e.who k x.queue.0 t) same there free)
+    of (of_booking j own none was due) = wanted (booking past i) refl placed none
 
-abbrev pub opening_of : List Entry → Call → Reply → Option Queueing
-opening_of past c r = if opens r then option_and_then (λ i. option_map (queued_at past i) (place_wanted past c i)) (option_or (item_called c) (item_fired r)) else None
+pub record BooksFreely (past : List Entry) (who : Who) (i q : ℕ) : Type 0 where
+  pub ticks : ℕ
+  pub some : (ticks == 0) ≡ false
+  pub free : IsFree past who i q ticks
 
-opened_at : (s : Layout) (past : List Entry) (who : Who) (c : Call) (r : Reply) (x : Queueing) → Cause s past who c r → opening_of past c r ≡ Some x → OpenedAt past x
-opened_at s past who c r x (cause.queued w i q d free idle) h = opened_as past i.0 (record { queue = q; cpu = d }) x (of_run free.not_foreign) h
-opened_at s past who c r x (cause.delayed_by_none w i q d t zero free idle) h = opened_as past i.0 (record { queue = q; cpu = d }) x (of_run free.not_foreign) h
-opened_at s past who c r x (cause.modified_idle w i q d t zero free idle) h = opened_as past i.0 (record { queue = q; cpu = d }) x (of_run free.not_foreign) h
-opened_at s past who c r x (cause.modified_again w i q d t zero free was) h = opened_as past i.0 (record { queue = q; cpu = d }) x (of_run free.not_foreign) h
-opened_at s past who c r x (cause.fires w b due) h = opened_booked past b.item.0 x (booking past b.item.0) refl h
-opened_at s past who c r x (cause.delayed_queued w i free shut was) h = opened_booked past i.0 x (booking past i.0) refl h
-opened_at s past who c r x other h = cc
-
--- what is booked is booked on the queue that the item runs on
-abbrev pub booking_in : Call → Reply → ℕ → Option Booking
-booking_in c r n = option_and_then (booked_by c n) (due_in r)
-
-booked_as : (past : List Entry) (i j : ℕ) (a b : Booking) → runs_elsewhere past j a.place.queue.0 ≡ false → (j == i) ≡ true → Some a ≡ Some b → runs_elsewhere past i b.place.queue.0 ≡ false
-booked_as past i j a b free is h = ap₂ (λ k (x : Booking). runs_elsewhere past k x.place.queue.0) (sym (eqb-true j i is)) (sym (same_Some a b h)) ∙ free
-
-booked_at : (s : Layout) (past : List Entry) (who : Who) (c : Call) (r : Reply) (i n : ℕ) (b : Booking) → Cause s past who c r → is_at (option_or (item_called c) (item_fired r)) i ≡ true → booking_in c r n ≡ Some b → runs_elsewhere past i b.place.queue.0 ≡ false
-booked_at s past who c r i n b (cause.delayed w j q d t some free idle) is h = booked_as past i j.0 _ b free.not_foreign is h
-booked_at s past who c r i n b (cause.modified_booked w j q d t some free idle) is h = booked_as past i j.0 _ b free.not_foreign is h
-booked_at s past who c r i n b (cause.modified_rebooked w j q d t some free was) is h = booked_as past i j.0 _ b free.not_foreign is h
-booked_at s past who c r i n b other is h = cc
+pub books_at : (s : Layout) (past : List Entry) (e : Entry) (i n : ℕ) (b : Booking) → IsLegal s (e ∷ past) → settles e.reply ≡ true → is_of_item i e ≡ true → booking_of e n ≡ Some b → BooksFreely past e.who i b.place.queue.0
+books_at s past e i n b legal h mine made = of (due_in e.reply) refl made (settling s past e.who e.call e.reply (cause_of s past e legal) h)
+  where
+    of : (o : Option ℕ) → due_in e.reply ≡ o → option_and_then (booked_by e.call n) o ≡ Some b → Settling past e.who e.call e.reply → BooksFreely past e.who i b.place.queue.0
+    of None due k settled = cc
+    of (Some d) due k (of_booking j own none was undue) = cc
+    of (Some d) due k (of_call j t q own place free pending o) =
+        let here = own_item i j e (ap (λ o. option_or o (item_fired e.reply)) own) mine in
+        record {
+          ticks = t;
+          some = o ∙ false_from_ne_true _ (λ opens. let none = opens_undue e.reply opens in cc);
+          free = subst₂ (λ m (x : Place). IsFree past e.who m x.queue.0 t) here (some_same q b.place _ place (made_for e.call n d b k).place) free;
+        }
 
 -- ---- what is unstarted after an entry was so before, or is opened by it
 
@@ -170,19 +169,27 @@ left_together s past e i start legal runs kept = record {
 }
   where
     books : (a : Bool) → (settles e.reply && is_of_item i e) ≡ a → (b : Booking) → booking (e ∷ past) i ≡ Some b → queue_of past start.number ≡ Some b.place.queue.0
-    books true ha b h = not_elsewhere past i b.place.queue.0 start runs (booked_at s past e.who e.call e.reply i (length past) b (cause_of s past e legal) (and_parts (settles e.reply) (is_of_item i e) ha).1 (sym (booking_after past e i true ha) ∙ h))
+    books true ha b h =
+        let both = and_parts (settles e.reply) (is_of_item i e) ha in
+        let made = sym (booking_after past e i true ha) ∙ h in
+        not_elsewhere past i b.place.queue.0 start runs (books_at s past e i (length past) b legal both.0 both.1 made).free.not_foreign
     books false ha b h = kept.booked b (sym (booking_after past e i false ha) ∙ h)
 
-    from_queue : (x : Queueing) → QueueFrom past i x.place.queue.0 → queue_of past start.number ≡ Some x.place.queue.0
-    from_queue x (of_run free) = not_elsewhere past i x.place.queue.0 start runs free
-    from_queue x (of_booking b booked same) = kept.booked b booked ∙ ap Some same
+    from_place : (p : Place) → PlacedAt past e.who i p → queue_of past start.number ≡ Some p.queue.0
+    from_place p (freely t free) = not_elsewhere past i p.queue.0 start runs free.not_foreign
+    from_place p (as_booked b booked same) = kept.booked b booked ∙ ap (λ (x : Place). Some x.queue.0) same
 
     queues : (x : Queueing) → unstarted_queueing (e ∷ past) i ≡ Some x → Came past e i x → (queue_of past start.number ≡ Some x.place.queue.0) × (x.place.cpu ≡ start.worker.pool.cpu)
     queues x h (earlier before) = kept.queued x before
     queues x h (at_once opened) =
         let item = (unstarted_is (e ∷ past) i x h).item in
-        let o = opened_at s past e.who e.call e.reply x (cause_of s past e legal) opened in
-        (from_queue x (subst (λ j. QueueFrom past j x.place.queue.0) item o.from), o.is_cpu ∙ ap (λ j. cpu_for past j o.cpu) item ∙ ap (λ (r : Option Start). option_map_or (λ (st : Start). st.worker.pool.cpu) r o.cpu) runs)
+        let shown = opening_opens past e x opened in
+        let k = opens_as_asked s past e legal shown in
+        let same = same_Some x (queued_at past k.item k.place) (sym opened ∙ k.opened) in
+        let own : k.item ≡ i = sym (ap (λ (y : Queueing). y.item.0) same) ∙ item in (
+          from_place k.place (subst (λ j. PlacedAt past e.who j k.place) own (opens_at s past e k.item k.place legal shown k.is_item k.is_place)) ∙ ap (λ (y : Queueing). Some y.place.queue.0) (sym same),
+          ap (λ (y : Queueing). y.place.cpu) same ∙ ap (λ j. cpu_for past j k.place.cpu) own ∙ ap (λ (r : Option Start). option_map_or (λ (st : Start). st.worker.pool.cpu) r k.place.cpu) runs,
+        )
 
 together : (s : Layout) (past : List Entry) (i : ℕ) (start : Start) → IsLegal s past → item_run past i ≡ Some start → KeepsTogether past i start
 unfolding IsLegal item_start

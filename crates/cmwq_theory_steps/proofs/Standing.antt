@@ -1,5 +1,5 @@
 -- A booking that stands is the booking of its item.
-use Rattle.cmwq_theory_steps.specs.Common.{◌≡◌, ◌<◌, ℕ, Bool, true, false, ◌&&◌, List, [], ◌∷◌, length, filter, Option, Some, None, option_to_list, refl, sym, ap, ap₂, ◌∙◌, subst, arith, option_map, option_and_then, if◌then◌else◌, option_or, AllByRecursion, eq-eqb, eqb-true, ItemId, Who, Call, Reply, Entry, Booking, Layout, is_at, item_called, item_fired, is_of_item, settles, due_in, booking, booking_of, booked_by, bookings, standing, stands, number_booked, first_due, may_fire, is_soonest, All_map, All_append, All_filter}
+use Rattle.cmwq_theory_steps.specs.Common.{place_called, ◌≡◌, ◌<◌, ℕ, Bool, true, false, ◌&&◌, List, [], ◌∷◌, length, filter, Option, Some, None, option_to_list, refl, sym, ap, ap₂, ◌∙◌, subst, arith, option_map, option_and_then, if◌then◌else◌, option_or, AllByRecursion, eq-eqb, eqb-true, ItemId, Who, Call, Reply, Entry, Booking, Layout, is_at, item_called, item_fired, is_of_item, settles, due_in, booking, booking_of, booked_by, bookings, standing, stands, number_booked, first_due, may_fire, is_soonest, All_map, All_append, All_filter}
 use Rattle.cmwq_model.specs.declared.call.Call.TheVariants as call
 use Rattle.cmwq_model.specs.declared.reply.Reply.TheVariants as reply
 use Rattle.cmwq_theory_steps.specs.Reasons.{FiresBooking}
@@ -25,6 +25,7 @@ due_settles r k h = grind arith
 pub record IsFor (c : Call) (n : ℕ) (b : Booking) : Type 0 where
   pub number : b.number ≡ n
   pub item : item_called c ≡ Some b.item.0
+  pub place : place_called c ≡ Some b.place
 
 pub made_for : (c : Call) (n d : ℕ) (b : Booking) → booked_by c n d ≡ Some b → IsFor c n b
 made_for (call.Delay i q p t) n d b h = grind arith

@@ -2,7 +2,7 @@
 use Rattle.cmwq_theory_steps.specs.Common.{booked_by, item_of, ◌≡◌, ℕ, true, List, ◌∷◌, length, Option, Some, None, refl, ap, ap₂, ◌∙◌, arith, option_map, option_and_then, is_some, if◌then◌else◌, option_or, Who, Caller, Worker, Call, Reply, Entry, Booking, Place, Layout, item_fired, is_by, now, due_in, booking, is_booked, is_asleep, is_enlisted, opens, place_wanted, queued_at, IsLegal, same_who, count_by-cons, eq-eqb}
 use Rattle.cmwq_theory_steps.specs.StateSteps.{SleepersGoOn, EnlistedGoOn, BookingsGoOn, TimeGoesOn, SerialsGoOn, SerialsRise, BooksAsAsked, OpensAsAsked}
 use Rattle.std.proofs.lemmas.Option.{same_Some}
-use Rattle.cmwq_theory_steps.proofs.Pending.{Settling, booked, called, opens_settles, settling}
+use Rattle.cmwq_theory_steps.proofs.Pending.{Settling, of_booking, of_call, opens_settles, settling}
 use Rattle.cmwq_theory_steps.proofs.Causes.{Cause, cause_of}
 use Rattle.cmwq_theory_steps.proofs.Causes as cause
 use Rattle.cmwq_theory_steps.specs.Histories.{one}
@@ -69,6 +69,6 @@ pub opens_as_asked : (s : Layout) (past : List Entry) (e : Entry) → IsLegal s 
 opens_as_asked s past e legal h = of (settling s past e.who e.call e.reply (cause_of s past e legal) (opens_settles e.reply h))
   where
     of : Settling past e.who e.call e.reply → OpensAsAsked past e
-    of (called i t p item place free pending o) =
+    of (of_call i t p item place free pending o) =
         opens_there past e i p (ap (λ o. option_or o (item_fired e.reply)) item) (ap (λ o. option_or o (option_map (λ (b : Booking). b.place) (booking past i))) place) h
-    of (booked i item none was due) = let b = some_booking past i was in opens_there past e i b.0.place item (ap₂ (λ o p. option_or o (option_map (λ (b : Booking). b.place) p)) none b.1) h
+    of (of_booking i item none was due) = let b = some_booking past i was in opens_there past e i b.0.place item (ap₂ (λ o p. option_or o (option_map (λ (b : Booking). b.place) p)) none b.1) h
