@@ -1,5 +1,5 @@
 -- While a cancel_sync of an item is unended, the item is not pending.
-use Rattle.cmwq_theory_laws.specs.Common.{unended_tickets, ◌≡◌, ◌≤◌, ◌+◌, ◌==◌, ℕ, Bool, true, false, cond, ◌&&◌, ◌||◌, List, [], ◌∷◌, length, filter, count_by, Some, None, option_to_list, refl, sym, ap, ap₂, ◌∙◌, arith, is_some, if◌then◌else◌, option_and_then, option_or, list_any, or-false, or_parts, eq-eqb, list_any-append, Who, Caller, Call, Reply, Entry, Queueing, Ticket, Layout, is_at, item_called, item_fired, is_of_item, settles, due_in, is_booked, booked_by, number_cancelled, takes_back, opens, still_open, is_unstarted, unstarted_queueing, is_pending, tickets, ticket_in, ticket_for, gives_ticket, cancels_sync, is_cancelling, IsLegal, count_by-none, count_by-filter, count_none, none_found, Cause, IsFree, cause_of, booking_after, due_own, pending_count, no_more_pending, waiting_now, unstarted_count, waiting_was, none_unstarted, not_idle, of_item, booked_or_unstarted, one_unstarted}
+use Rattle.cmwq_theory_laws.specs.Common.{unended_tickets, ◌≡◌, ◌≤◌, ◌+◌, ℕ, Bool, true, false, cond, ◌&&◌, ◌||◌, List, [], ◌∷◌, length, filter, count_by, Some, None, option_to_list, refl, sym, ap, ap₂, ◌∙◌, arith, is_some, if◌then◌else◌, option_and_then, option_or, list_any, or-false, or_parts, eq-eqb, list_any-append, Who, Caller, Call, Reply, Entry, Queueing, Ticket, Layout, is_at, item_called, item_fired, is_of_item, settles, due_in, is_booked, booked_by, number_cancelled, takes_back, opens, still_open, is_unstarted, unstarted_queueing, is_pending, tickets, ticket_in, ticket_for, gives_ticket, cancels_sync, is_cancelling, IsLegal, count_by-none, count_by-filter, count_none, none_found, Cause, cause_of, booking_after, pending_count, no_more_pending, waiting_now, unstarted_count, waiting_was, none_unstarted, not_idle, of_item, booked_or_unstarted, one_unstarted}
 use Rattle.cmwq_model.specs.declared.call.Call.TheVariants as call
 use Rattle.cmwq_theory_steps.proofs.Causes as cause
 use Rattle.std.proofs.Common.{inl, inr, ⊎_elim, ◌⊎◌}
@@ -7,6 +7,7 @@ use Rattle.std.proofs.lemmas.Bool.{and_from, and_left, and_parts, both_ways, fal
 use Rattle.cmwq_lemmas.proofs.Passing.{any_counted, counted_any, fewer_kept}
 use Rattle.cmwq_theory_steps.specs.TicketSteps.{is_kept}
 use Rattle.cmwq_theory_steps.proofs.TicketSteps.{unended_go_on}
+use Rattle.cmwq_theory_steps.proofs.Pending.{Settling, of_booking, of_call, own_item, settling}
 use Rattle.cmwq_theory_steps.proofs.PendingSteps.{none_opened}
 
 not_booked : (past : List Entry) (i : ℕ) → is_pending past i ≡ false → is_booked past i ≡ false
@@ -21,30 +22,14 @@ stays_idle s past e i legal other idle = pending_none (e ∷ past) i (grind (ari
 
 -- ---- nothing settles an idle item that is being cancelled
 
-cancelling_free : (past : List Entry) (i j : ℕ) {who : Who} {q t : ℕ} → IsFree past who j q t → (j == i) ≡ true → is_cancelling past i ≡ true → ⊥
-cancelling_free past i j free same held = both_ways _ (of_item (λ m. is_cancelling past m ≡ false) i j same free.not_cancelling) held
-
-booked_idle : (past : List Entry) (i j : ℕ) → (j == i) ≡ true → is_booked past j ≡ true → is_pending past i ≡ false → ⊥
-booked_idle past i j same was idle = both_ways _ (not_booked past i idle) (of_item (λ m. is_booked past m ≡ true) i j same was)
-
-settles_none : (s : Layout) (past : List Entry) (who : Who) (c : Call) (r : Reply) (i : ℕ) → Cause s past who c r → settles r ≡ true → is_at (option_or (item_called c) (item_fired r)) i ≡ true
-    → is_cancelling past i ≡ true → is_pending past i ≡ false → ⊥
-settles_none s past who c r i (cause.queued w j q d free none) h k held idle = cancelling_free past i j.0 free k held
-settles_none s past who c r i (cause.delayed_by_none w j q d t zero free none) h k held idle = cancelling_free past i j.0 free k held
-settles_none s past who c r i (cause.delayed w j q d t some free none) h k held idle = cancelling_free past i j.0 free k held
-settles_none s past who c r i (cause.modified_idle w j q d t zero free none) h k held idle = cancelling_free past i j.0 free k held
-settles_none s past who c r i (cause.modified_booked w j q d t some free none) h k held idle = cancelling_free past i j.0 free k held
-settles_none s past who c r i (cause.modified_again w j q d t zero free some) h k held idle = cancelling_free past i j.0 free k held
-settles_none s past who c r i (cause.modified_rebooked w j q d t some free was) h k held idle = cancelling_free past i j.0 free k held
-settles_none s past who c r i (cause.unbooked w j none was) h k held idle = booked_idle past i j.0 k was idle
-settles_none s past who c r i (cause.fires w b due) h k held idle = booked_idle past i b.item.0 k (ap is_some (due_own past b due)) idle
-settles_none s past who c r i (cause.delayed_queued w j free shut was) h k held idle = booked_idle past i j.0 k was idle
-settles_none s past who c r i (cause.sync_unbooked w j free none was) h k held idle = booked_idle past i j.0 k was idle
-settles_none s past who c r i other h k held idle = cc
+settles_none : (past : List Entry) (e : Entry) (i : ℕ) → Settling past e.who e.call e.reply → is_of_item i e ≡ true → is_cancelling past i ≡ true → is_pending past i ≡ false → ⊥
+settles_none past e i (of_call j t p item place free pending opening) mine held idle =
+    both_ways _ free.not_cancelling (ap (is_cancelling past) (own_item i j e (ap (λ o. option_or o (item_fired e.reply)) item) mine) ∙ held)
+settles_none past e i (of_booking j item none was due) mine held idle = both_ways _ (not_booked past i idle) (ap (is_booked past) (sym (own_item i j e item mine)) ∙ was)
 
 idle_goes_on : (s : Layout) (past : List Entry) (e : Entry) (i : ℕ) → IsLegal s (e ∷ past) → is_cancelling past i ≡ true → is_pending past i ≡ false → is_pending (e ∷ past) i ≡ false
 idle_goes_on s past e i legal held idle = stays_idle s past e i legal (false_from_ne_true _ (λ both.
-    let k = and_parts (settles e.reply) (is_of_item i e) both in settles_none s past e.who e.call e.reply i (cause_of s past e legal) k.0 k.1 held idle)) idle
+    let k = and_parts (settles e.reply) (is_of_item i e) both in settles_none past e i (settling s past e.who e.call e.reply (cause_of s past e legal) k.0) k.1 held idle)) idle
 
 -- ---- a cancel_sync leaves its item idle
 

@@ -1,5 +1,5 @@
 -- A queue that is gone has nothing open and nothing booked on it; one that is being destroyed has nothing booked on it.
-use Rattle.cmwq_theory_laws.specs.Common.{◌≡◌, ◌==◌, ℕ, Bool, true, false, ◌&&◌, ◌||◌, List, [], ◌∷◌, length, filter, Option, Some, None, option_to_list, refl, sym, ap, ◌∙◌, subst, arith, if◌then◌else◌, option_and_then, option_map, option_or, option_map_or, AllByRecursion, list_any, or_parts, eq-eqb, eqb-true, nat_tests, Who, Call, Reply, Entry, Booking, Queueing, Layout, is_at, item_fired, is_of_item, settles, due_in, booking, booking_of, booked_by, bookings, standing, stands, number_booked, opens, opening, queued_at, place_wanted, still_open, tickets, unended_tickets, gives_ticket, drains, destroys, is_drain_of, is_destroy_of, is_draining, is_being_destroyed, is_done, ends_destroy, is_gone, holds_up, waits_for, is_booked_on, IsLegal, All_append, All_unfilter, find_none, Cause, IsFree, cause_of, booking_after, opening_opens}
+use Rattle.cmwq_theory_laws.specs.Common.{◌≡◌, ◌==◌, ℕ, Bool, true, false, ◌&&◌, ◌||◌, List, [], ◌∷◌, length, filter, Option, Some, None, option_to_list, refl, sym, ap, ◌∙◌, subst, arith, if◌then◌else◌, option_and_then, option_map, option_or, option_map_or, AllByRecursion, list_any, or_parts, eq-eqb, eqb-true, nat_tests, Who, Call, Reply, Entry, Booking, Queueing, Layout, is_at, item_fired, is_of_item, settles, due_in, booking, booking_of, booked_by, bookings, standing, stands, number_booked, opens, opening, queued_at, still_open, tickets, unended_tickets, gives_ticket, drains, destroys, is_drain_of, is_destroy_of, is_draining, is_being_destroyed, is_done, ends_destroy, is_gone, holds_up, waits_for, is_booked_on, IsLegal, All_append, All_unfilter, find_none, Cause, cause_of, booking_after, opening_opens}
 use Rattle.cmwq_model.specs.declared.record.Place.{Place}
 use Rattle.cmwq_model.specs.declared.call.Call.TheVariants as call
 use Rattle.cmwq_model.specs.declared.reply.Reply.TheVariants as reply
@@ -13,65 +13,28 @@ use Rattle.std.proofs.lemmas.Bool.{and_parts, both_ways, false_from_ne_true, or_
 use Rattle.std.proofs.lemmas.Option.{same_Some}
 use Rattle.cmwq_lemmas.proofs.Passing.{all_kept, all_split}
 use Rattle.cmwq_theory_steps.proofs.PendingSteps.{none_opened}
+use Rattle.cmwq_theory_steps.proofs.Pools.{PlacedAt, as_booked, books_at, freely, opens_at}
 use Rattle.cmwq_theory_steps.proofs.Standing.{made_for}
 use Rattle.cmwq_theory_steps.proofs.StateSteps.{opens_as_asked}
 use Rattle.cmwq_theory_laws.proofs.Settled.{any_found}
 use Rattle.cmwq_theory_steps.proofs.Refusals.{none_mapped}
 
-abbrev on_queue : ℕ → Place → Bool
-on_queue q p = p.queue.0 == q
-
 -- ---- what an entry books is on a queue that isn't draining, and isn't gone
-
-record IsFreeQueue (past : List Entry) (q : ℕ) : Type 0 where
-  not_draining : is_draining past q ≡ false
-  not_gone : is_gone past q ≡ false
-
-free_queue : (past : List Entry) (who : Who) (i q t : ℕ) → IsFree past who i q t → (t == 0) ≡ false → IsFreeQueue past q
-free_queue past who i q t free some = let shut = free.not_shut in record { not_draining = grind (arith, nat_tests); not_gone = free.not_gone }
-
-books_free : (s : Layout) (past : List Entry) (who : Who) (c : Call) (r : Reply) (d n : ℕ) (b : Booking) → Cause s past who c r → due_in r ≡ Some d → booked_by c n d ≡ Some b → IsFreeQueue past b.place.queue.0
-books_free s past who c r d n b (cause.delayed w i q p t some free idle) h is = subst (IsFreeQueue past) (ap (λ o. option_map_or (λ (x : Booking). x.place.queue.0) o q.0) is) (free_queue past w i.0 q.0 t free some)
-books_free s past who c r d n b (cause.modified_booked w i q p t some free idle) h is = subst (IsFreeQueue past) (ap (λ o. option_map_or (λ (x : Booking). x.place.queue.0) o q.0) is) (free_queue past w i.0 q.0 t free some)
-books_free s past who c r d n b (cause.modified_rebooked w i q p t some free was) h is = subst (IsFreeQueue past) (ap (λ o. option_map_or (λ (x : Booking). x.place.queue.0) o q.0) is) (free_queue past w i.0 q.0 t free some)
-books_free s past who c r d n b other h is = cc
 
 -- so a queue that drains or is gone gets no booking
 none_more_booked : (s : Layout) (past : List Entry) (e : Entry) (q : ℕ) → IsLegal s (e ∷ past) → (is_draining past q || is_gone past q) ≡ true → NoneBooked past q → NoneBooked (e ∷ past) q
 none_more_booked s past e q legal busy none i b h = at (settles e.reply && is_of_item i e) refl
   where
-    off : IsFreeQueue past b.place.queue.0 → (b.place.queue.0 == q) ≡ false
-    off free = false_from_ne_true _ (λ is.
-        let k = subst (IsFreeQueue past) (eqb-true b.place.queue.0 q is) free in both_ways _ (or_from _ _ k.not_draining k.not_gone) busy)
-
-    new : (o : Option ℕ) → due_in e.reply ≡ o → option_and_then (booked_by e.call (length past)) o ≡ Some b → (b.place.queue.0 == q) ≡ false
-    new None due is = cc
-    new (Some d) due is = off (books_free s past e.who e.call e.reply d (length past) b (cause_of s past e legal) due is)
-
     at : (a : Bool) → (settles e.reply && is_of_item i e) ≡ a → (b.place.queue.0 == q) ≡ false
-    at true ha = new (due_in e.reply) refl (sym (booking_after past e i true ha) ∙ h)
+    at true ha = false_from_ne_true _ (λ is.
+        let k = and_parts (settles e.reply) (is_of_item i e) ha in
+        let m = books_at s past e i (length past) b legal k.0 k.1 (sym (booking_after past e i true ha) ∙ h) in
+        let some = m.some in
+        let shut = m.free.not_shut in
+        both_ways _ (or_from (is_draining past b.place.queue.0) _ (grind (arith, nat_tests)) m.free.not_gone) (ap (λ k. is_draining past k || is_gone past k) (eqb-true b.place.queue.0 q is) ∙ busy))
     at false ha = none i b (sym (booking_after past e i false ha) ∙ h)
 
 -- ---- what an entry opens is on a queue that isn't gone, or on one where it was booked
-
-placed_same : (a b : Place) → Some a ≡ Some b → a.queue.0 ≡ b.queue.0
-placed_same a b h = ap (λ o. option_map_or (λ (x : Place). x.queue.0) o a.queue.0) h
-
-not_on_gone : (past : List Entry) (q k : ℕ) (p : Place) → k ≡ p.queue.0 → is_gone past q ≡ true → is_gone past k ≡ false → on_queue q p ≡ false
-not_on_gone past q k p same gone free = false_from_ne_true _ (λ on. both_ways _ free (ap (is_gone past) (same ∙ eqb-true p.queue.0 q on) ∙ gone))
-
-not_where_booked : (past : List Entry) (i q : ℕ) (p : Place) (o : Option Booking) → booking past i ≡ o → option_map (λ (b : Booking). b.place) o ≡ Some p → NoneBooked past q → on_queue q p ≡ false
-not_where_booked past i q p None is wanted none = cc
-not_where_booked past i q p (Some b) is wanted none = ap (λ k. k == q) (sym (placed_same b.place p wanted)) ∙ none i b is
-
-opens_on : (s : Layout) (past : List Entry) (who : Who) (c : Call) (r : Reply) (i q : ℕ) (p : Place) → Cause s past who c r → opens r ≡ true → place_wanted past c i ≡ Some p → is_gone past q ≡ true → NoneBooked past q → on_queue q p ≡ false
-opens_on s past who c r i q p (cause.queued w j k d free idle) h place gone none = not_on_gone past q k.0 p (placed_same _ p place) gone free.not_gone
-opens_on s past who c r i q p (cause.delayed_by_none w j k d t zero free idle) h place gone none = not_on_gone past q k.0 p (placed_same _ p place) gone free.not_gone
-opens_on s past who c r i q p (cause.modified_idle w j k d t zero free idle) h place gone none = not_on_gone past q k.0 p (placed_same _ p place) gone free.not_gone
-opens_on s past who c r i q p (cause.modified_again w j k d t zero free some) h place gone none = not_on_gone past q k.0 p (placed_same _ p place) gone free.not_gone
-opens_on s past who c r i q p (cause.fires w b due) h place gone none = not_where_booked past i q p (booking past i) refl place none
-opens_on s past who c r i q p (cause.delayed_queued w j free shut some) h place gone none = not_where_booked past i q p (booking past i) refl place none
-opens_on s past who c r i q p other h place gone none = cc
 
 -- what is open after an entry is on no queue on which nothing was, nor what it opens
 stays_empty : (s : Layout) (past : List Entry) (e : Entry) (q : ℕ) → IsLegal s (e ∷ past) → NoneOpen past q → AllByRecursion (λ x. (x.place.queue.0 == q) ≡ false) (option_to_list (opening past e)) → NoneOpen (e ∷ past) q
@@ -82,13 +45,17 @@ stays_empty s past e q legal empty none =
 none_more_open : (s : Layout) (past : List Entry) (e : Entry) (q : ℕ) → IsLegal s (e ∷ past) → is_gone past q ≡ true → NoneBooked past q → NoneOpen past q → NoneOpen (e ∷ past) q
 none_more_open s past e q legal gone none empty = stays_empty s past e q legal empty (of (opening past e) refl)
   where
+    off : (i : ℕ) (p : Place) → PlacedAt past e.who i p → (p.queue.0 == q) ≡ false
+    off i p (freely t free) = false_from_ne_true _ (λ on. both_ways _ free.not_gone (ap (is_gone past) (eqb-true p.queue.0 q on) ∙ gone))
+    off i p (as_booked b is same) = ap (λ (x : Place). x.queue.0 == q) (sym same) ∙ none i b is
+
     of : (o : Option Queueing) → opening past e ≡ o → AllByRecursion (λ x. (x.place.queue.0 == q) ≡ false) (option_to_list o)
     of None is = tt
     of (Some x) is =
         let shown = opening_opens past e x is in
         let k = opens_as_asked s past e legal shown in
         let same = same_Some x (queued_at past k.item k.place) (sym is ∙ k.opened) in
-        (ap (λ (y : Queueing). y.place.queue.0 == q) same ∙ opens_on s past e.who e.call e.reply k.item q k.place (cause_of s past e legal) shown k.is_place gone none, tt)
+        (ap (λ (y : Queueing). y.place.queue.0 == q) same ∙ off k.item k.place (opens_at s past e k.item k.place legal shown k.is_item k.is_place), tt)
 
 destroy_drains : (q : ℕ) (c : Call) → destroys q c ≡ true → drains q c ≡ true
 destroy_drains q (call.Destroy k) h = h
