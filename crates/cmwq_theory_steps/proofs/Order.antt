@@ -1,24 +1,8 @@
 -- A pool's worklist stands in the order in which its queueings became active.
-use Rattle.cmwq_theory_steps.specs.Common.{◌≡◌, ◌<◌, ◌≤◌, ℕ, Bool, true, false, List, [], ◌∷◌, ◌++◌, length, filter, Option, Some, None, refl, ap, ◌∙◌, arith, inl, inr, if◌then◌else◌, AllByRecursion, option_or, Entry, Queueing, Layout, queueings, is_live, is_active, is_newly_active, newly_active, became_active, IsRising, All_map, All_both, All_append, All_each, All_filter, queueings_rise, rising_filter, open_before, stays_active, active_older, active_live}
+use Rattle.cmwq_theory_steps.specs.Common.{◌≡◌, ◌<◌, ◌≤◌, ℕ, Bool, true, List, [], ◌∷◌, ◌++◌, length, filter, Option, Some, None, refl, ap, arith, inl, inr, if◌then◌else◌, AllByRecursion, option_or, Entry, Queueing, Layout, queueings, is_live, is_active, is_newly_active, newly_active, became_active, IsRising, All_map, All_both, All_append, All_each, All_filter, queueings_rise, rising_filter, open_before, stays_active, active_older, active_live}
 use Rattle.std.proofs.lemmas.Bool.{cond_both}
-use Rattle.std.proofs.lemmas.Option.{same_Some}
 use Rattle.cmwq_lemmas.proofs.Passing.{all_kept}
 use Rattle.cmwq_theory_steps.specs.Order.{since, IsSooner, AreInOrder}
-
--- ---- since when a queueing is active
-
-data Since (s : Layout) (e : Entry) (past : List Entry) (x : Queueing) (j : ℕ) : Type 0 where
-  already : since s past x ≡ Some j → Since s e past x j
-  at_once : since s past x ≡ None → is_active s (e ∷ past) x ≡ true → length (e ∷ past) ≡ j → Since s e past x j
-
-since_cases : (s : Layout) (e : Entry) (past : List Entry) (x : Queueing) (j : ℕ) → since s (e ∷ past) x ≡ Some j → Since s e past x j
-unfolding since
-since_cases s e past x j h = at (since s past x) (is_active s (e ∷ past) x) refl refl h
-  where
-    at : (o : Option ℕ) (b : Bool) → since s past x ≡ o → is_active s (e ∷ past) x ≡ b → option_or o (if b then Some (length (e ∷ past)) else None) ≡ Some j → Since s e past x j
-    at (Some k) b ho hb h = already (ho ∙ h)
-    at None true ho hb h = at_once ho hb (same_Some _ _ h)
-    at None false ho hb h = cc
 
 since_keeps : (s : Layout) (e : Entry) (past : List Entry) (x : Queueing) (j : ℕ) → since s past x ≡ Some j → since s (e ∷ past) x ≡ Some j
 unfolding since
@@ -27,20 +11,13 @@ since_keeps s e past x j h = ap (λ o. option_or o (if is_active s (e ∷ past) 
 since_older : (s : Layout) (past : List Entry) (x : Queueing) (j : ℕ) → since s past x ≡ Some j → x.number < length past
 unfolding since
 since_older s [] x j h = cc
-since_older s (e ∷ past) x j h = elim (since_cases s e past x j h) [
-  | already before ↦ let less : x.number < length past = since_older s past x j before in omega arith
-  | at_once none active is ↦ active_older s (e ∷ past) x active
-]
+since_older s (e ∷ past) x j h = grind (arith, since_older s past x j, active_older s (e ∷ past) x)
 
 -- what was active at some time and is open now is active now
 pub still_active : (s : Layout) (past : List Entry) (x : Queueing) (j : ℕ) → since s past x ≡ Some j → is_live past x ≡ true → is_active s past x ≡ true
 unfolding since
 still_active s [] x j h live = cc
-still_active s (e ∷ past) x j h live = elim (since_cases s e past x j h) [
-  | already before ↦ let older = since_older s past x j before in
-      stays_active s past e x (still_active s past x j before (open_before e past x.item.0 x.number older live)) live
-  | at_once none active is ↦ active
-]
+still_active s (e ∷ past) x j h live = grind (arith, since_older s past x j, still_active s past x j, open_before e past x.item.0 x.number, stays_active s past e x)
 
 -- what an entry makes active is active since then
 newly_since : (s : Layout) (past : List Entry) (e : Entry) (x : Queueing) → is_newly_active s past e x ≡ true → since s (e ∷ past) x ≡ Some (length (e ∷ past))

@@ -107,13 +107,6 @@ opened_elsewhere past e i (Some x) h other =
     let item : is_of_item i e ≡ (x.item.0 == i) = ap (λ o. is_at o i) (opening_item e past x h) in
     count_by-none (is_unstarted (e ∷ past) i) (x ∷ []) (grind arith, tt)
 
-few_settled : (s : Layout) (past : List Entry) (e : Entry) (i : ℕ) → IsLegal s (e ∷ past) → (settles e.reply && is_of_item i e) ≡ true → pending_count past i ≤ 1 → pending_count (e ∷ past) i ≤ 1
-few_settled s past e i legal both few =
-    let k = and_parts (settles e.reply) (is_of_item i e) both in
-    let zero = none_waiting s past e i k.1 few (settling s past e.who e.call e.reply (cause_of s past e legal) k.0) in
-    subst (λ b. count_by (is_unstarted (e ∷ past) i) (still_open (e ∷ past)) + cond b 1 0 ≤ 1) (sym (ap is_some (booking_after past e i true both)))
-    (omega (arith, opened_or_booked past e i (opening past e) refl, unstarted_count s past e i legal))
-
 -- an entry that doesn't settle the item makes no more of it pending
 pub no_more_pending : (s : Layout) (past : List Entry) (e : Entry) (i : ℕ) → IsLegal s (e ∷ past) → (settles e.reply && is_of_item i e) ≡ false → pending_count (e ∷ past) i ≤ pending_count past i
 no_more_pending s past e i legal other =
@@ -126,7 +119,11 @@ few_pending s [] i legal = omega arith
 few_pending s (e ∷ past) i legal = at (settles e.reply && is_of_item i e) refl (few_pending s past i legal.2)
   where
     at : (b : Bool) → (settles e.reply && is_of_item i e) ≡ b → pending_count past i ≤ 1 → pending_count (e ∷ past) i ≤ 1
-    at true both few = few_settled s past e i legal both few
+    at true both few =
+        let k = and_parts (settles e.reply) (is_of_item i e) both in
+        let zero = none_waiting s past e i k.1 few (settling s past e.who e.call e.reply (cause_of s past e legal) k.0) in
+        subst (λ b. count_by (is_unstarted (e ∷ past) i) (still_open (e ∷ past)) + cond b 1 0 ≤ 1) (sym (ap is_some (booking_after past e i true both)))
+        (omega (arith, opened_or_booked past e i (opening past e) refl, unstarted_count s past e i legal))
     at false other few = omega (arith, no_more_pending s past e i legal other)
 
 pub booked_or_unstarted : (s : Layout) (past : List Entry) (i : ℕ) → IsLegal s past → is_booked past i ≡ true → unstarted_queueing past i ≡ None

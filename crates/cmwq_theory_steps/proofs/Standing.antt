@@ -42,11 +42,6 @@ record IsOwn (past : List Entry) (b : Booking) : Type 0 where
   older : b.number < length past
   own : stands past b ≡ true → booking past b.item.0 ≡ Some b
 
-own_here : (e : Entry) (past : List Entry) (b : Booking) → booking_of e (length past) ≡ Some b → IsOwn (e ∷ past) b
-own_here e past b h =
-    let m = made e (length past) b (due_in e.reply) refl h in
-    record { older = omega (arith, m.number); own = λ stood. booking_after past e b.item.0 true (ap₂ (λ a b. a && b) m.settled m.item) ∙ h }
-
 own_more : (e : Entry) (past : List Entry) (b : Booking) → IsOwn past b → IsOwn (e ∷ past) b
 own_more e past b k = record { older = omega (arith, k.older); own = own (settles e.reply && is_of_item b.item.0 e) refl }
   where
@@ -60,7 +55,9 @@ own_more e past b k = record { older = omega (arith, k.older); own = own (settle
 
 own_last : (e : Entry) (past : List Entry) (o : Option Booking) → booking_of e (length past) ≡ o → AllByRecursion (IsOwn (e ∷ past)) (option_to_list o)
 own_last e past None is = tt
-own_last e past (Some b) is = (own_here e past b is, tt)
+own_last e past (Some b) is =
+    let m = made e (length past) b (due_in e.reply) refl is in
+    (record { older = omega (arith, m.number); own = λ stood. booking_after past e b.item.0 true (ap₂ (λ a b. a && b) m.settled m.item) ∙ is }, tt)
 
 bookings_own : (past : List Entry) → AllByRecursion (IsOwn past) (bookings past)
 unfolding bookings

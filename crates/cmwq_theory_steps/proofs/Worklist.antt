@@ -1,6 +1,8 @@
 -- A pool's worklist has all that belongs there, and nothing else.
-use Rattle.cmwq_theory_steps.specs.Common.{◌≡◌, Bool, true, false, List, [], ◌∷◌, ◌++◌, length, Option, Some, None, option_to_list, refl, arith, Contains, AllByRecursion, Contains-append_left, Contains-append_right, PoolId, Entry, Queueing, Layout, queueings, opening, is_active, is_newly_active, newly_active, became_active, is_listed, worklist, All_map, All_both, All_append, All_filter, opening_number, active_older}
+use Rattle.cmwq_theory_steps.specs.Common.{◌≡◌, true, List, [], ◌∷◌, length, Option, Some, None, option_to_list, refl, arith, Contains, AllByRecursion, Contains-append_left, Contains-append_right, PoolId, Entry, Queueing, Layout, queueings, opening, is_active, is_newly_active, newly_active, became_active, is_listed, worklist, All_map, All_both, All_append, All_filter, opening_number, active_older}
 use Rattle.cmwq_theory_steps.specs.Order.{IsWorklist}
+use Rattle.std.proofs.Common.{⊎_elim}
+use Rattle.std.proofs.lemmas.Bool.{cases_Bool}
 use Rattle.cmwq_lemmas.proofs.Members.{all_in, contained_in, filter_in, in_contained}
 use Rattle.cmwq_theory_steps.proofs.Activated.{activated_all}
 use Rattle.cmwq_theory_steps.proofs.Order.{activated_in_order, in_order_filter}
@@ -9,12 +11,7 @@ use Rattle.cmwq_theory_steps.proofs.Order.{activated_in_order, in_order_filter}
 
 opening_inactive : (s : Layout) (past : List Entry) (o : Option Queueing) → ((x : Queueing) → o ≡ Some x → x.number ≡ length past) → AllByRecursion (λ x. is_active s past x ≡ true → Contains (became_active s past) x) (option_to_list o)
 opening_inactive s past None h = tt
-opening_inactive s past (Some x) h = ((λ active. let less = active_older s past x active in let number = h x refl in absurd (omega arith)), tt)
-
-active_here : (s : Layout) (past : List Entry) (e : Entry) (x : Queueing) (b : Bool) → is_active s past x ≡ b → (is_active s past x ≡ true → Contains (became_active s past) x)
-    → (is_newly_active s past e x ≡ true → Contains (newly_active s past e) x) → is_active s (e ∷ past) x ≡ true → Contains (became_active s past ++ newly_active s past e) x
-active_here s past e x true h was newly active = Contains-append_left (became_active s past) (newly_active s past e) x (was h)
-active_here s past e x false h was newly active = Contains-append_right (became_active s past) (newly_active s past e) x (newly (grind arith))
+opening_inactive s past (Some x) h = ((λ active. absurd (omega (arith, active_older s past x active, h x refl))), tt)
 
 activated_has : (s : Layout) (past : List Entry) → AllByRecursion (λ x. is_active s past x ≡ true → Contains (became_active s past) x) (queueings past)
 unfolding became_active queueings
@@ -22,7 +19,8 @@ activated_has s [] = tt
 activated_has s (e ∷ past) =
     All_both (λ x. is_active s past x ≡ true → Contains (became_active s past) x) (λ x. is_newly_active s past e x ≡ true → Contains (newly_active s past e) x)
     (λ x. is_active s (e ∷ past) x ≡ true → Contains (became_active s (e ∷ past)) x) (queueings (e ∷ past))
-    (λ x was newly active. active_here s past e x (is_active s past x) refl was newly active)
+    (λ x was newly active. ⊎_elim (λ before. Contains-append_left (became_active s past) (newly_active s past e) x (was before))
+    (λ not_before. Contains-append_right (became_active s past) (newly_active s past e) x (newly (grind arith))) (cases_Bool (is_active s past x)))
     (All_append (λ x. is_active s past x ≡ true → Contains (became_active s past) x) (queueings past) (option_to_list (opening past e)) (activated_has s past) (opening_inactive s past (opening past e) (opening_number past e)))
     (all_in _ (queueings (e ∷ past)) (λ x there newly. in_contained (newly_active s past e) x (filter_in (is_newly_active s past e) (queueings (e ∷ past)) x there newly)))
 

@@ -1,5 +1,5 @@
 -- A pool's worklist after one more entry.
-use Rattle.cmwq_theory_steps.specs.Common.{◌≡◌, ◌<◌, ℕ, Bool, true, false, not, ◌&&◌, ◌||◌, List, [], ◌∷◌, ◌++◌, length, filter, Option, Some, None, option_to_list, refl, sym, ap, ap₂, ◌∙◌, subst, arith, AllByRecursion, filter-append, PoolId, Entry, Queueing, Layout, number_started, starts, is_started, queueings, queueing_at, opening, is_live, is_active, is_newly_active, newly_active, became_active, is_listed, worklist, IsLegal, All_map, All_both, All_append, All_each, All_filter, IsBelow, queueings_below, opening_number, open_before, stays_active, active_live}
+use Rattle.cmwq_theory_steps.specs.Common.{◌≡◌, ◌<◌, ℕ, true, false, not, ◌&&◌, ◌||◌, List, [], ◌∷◌, ◌++◌, length, filter, Option, Some, None, option_to_list, refl, sym, ap, ap₂, ◌∙◌, subst, arith, AllByRecursion, filter-append, PoolId, Entry, Queueing, Layout, number_started, starts, is_started, queueings, queueing_at, opening, is_live, is_active, is_newly_active, newly_active, became_active, is_listed, worklist, IsLegal, All_map, All_both, All_append, All_each, All_filter, IsBelow, queueings_below, opening_number, open_before, stays_active, active_live}
 use Rattle.cmwq_theory_steps.specs.Endings.{survives}
 use Rattle.cmwq_theory_steps.specs.Activations.{is_left, is_in}
 use Rattle.cmwq_lemmas.proofs.Filters.{filter_twice, filter_same}
@@ -40,11 +40,9 @@ older_found : (s : Layout) (past : List Entry) → AllByRecursion (IsOlder s pas
 older_found s past = All_both (IsBelow (length past)) (IsFound past) (IsOlder s past) (queueings past) (λ x less found. record { older = less; found = found }) (queueings_below past) (queueings_found past)
 
 started_active_more : (s : Layout) (past : List Entry) (e : Entry) (x : Queueing) → IsLegal s (e ∷ past) → IsOlder s past x → IsActiveOnce s past x → IsActiveOnce s (e ∷ past) x
-started_active_more s past e x legal old earlier started live = stays_active s past e x (was (starts x.number e) refl) live
-  where
-    was : (b : Bool) → starts x.number e ≡ b → is_active s past x ≡ true
-    was true h = starts_active s past e x legal old.found h
-    was false h = earlier (ap (λ b. b || is_started past x.number) (sym h) ∙ started) (open_before e past x.item.0 x.number old.older live)
+started_active_more s past e x legal old earlier started live =
+    let before = open_before e past x.item.0 x.number old.older live in
+    stays_active s past e x (grind (arith, starts_active s past e x legal old.found, earlier)) live
 
 pub opening_inert : (s : Layout) (past : List Entry) (e : Entry) (o : Option Queueing) → IsLegal s (e ∷ past) → opening past e ≡ o → AllByRecursion (λ x. is_started (e ∷ past) x.number ≡ false) (option_to_list o)
 opening_inert s past e None legal h = tt
