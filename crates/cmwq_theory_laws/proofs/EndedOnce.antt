@@ -1,6 +1,7 @@
 -- What was cancelled was never started, and what is finished was started.
-use Rattle.cmwq_theory_laws.specs.Common.{◌≡◌, ℕ, Bool, true, false, ◌&&◌, List, [], ◌∷◌, length, Option, Some, None, option_to_list, refl, ap, ◌∙◌, arith, AllByRecursion, and-false, or_right, Entry, Queueing, Layout, starts, finishes, number_started, number_finished, is_started, is_finished, is_cancelled, is_open, queueings, opening, IsLegal, All_map, All_both, All_append, opening_number, IsKnown, queueings_known, is_at-true, run_is, finishes_run, open_at_once}
+use Rattle.cmwq_theory_laws.specs.Common.{◌≡◌, ℕ, Bool, true, false, List, [], ◌∷◌, length, option_to_list, refl, ap, ◌∙◌, arith, AllByRecursion, or_right, Entry, Queueing, Layout, starts, finishes, number_started, number_finished, is_started, is_finished, is_cancelled, is_open, queueings, opening, IsLegal, All_map, All_both, All_append, opening_number, IsKnown, queueings_known, is_at-true, run_is, finishes_run, open_at_once}
 use Rattle.std.proofs.Common.{⊎_elim}
+use Rattle.cmwq_lemmas.proofs.Members.{all_in, in_option}
 use Rattle.std.proofs.lemmas.Bool.{and_right, or_cases}
 use Rattle.cmwq_theory_laws.specs.Sanity.{is_ended_twice, is_started_cancelled}
 use Rattle.cmwq_theory_steps.proofs.RunSteps.{started_not_cancelled, started_open, last_started}
@@ -21,19 +22,14 @@ start_spares s past e x legal known survivors = here (starts x.number e) refl
     here true ha = and_right _ _ (open_uncancelled (e ∷ past) x.item.0 x.number (started_open s past e x.item.0 x.number legal (is_at-true (number_started e.reply) x.number ha) known.item))
     here false ha = grind (arith, uncancelled_more s past e x.item.0 x.number legal)
 
-opened_survives : (s : Layout) (past : List Entry) (e : Entry) (o : Option Queueing) → IsLegal s (e ∷ past) → opening past e ≡ o → AllByRecursion (λ x. is_cancelled (e ∷ past) x.item.0 x.number ≡ false) (option_to_list o)
-opened_survives s past e None legal h = tt
-opened_survives s past e (Some x) legal h =
-    (ap (is_cancelled (e ∷ past) x.item.0) (opening_number past e x h) ∙ open_uncancelled (e ∷ past) x.item.0 (length past) (open_at_once s past e x.item.0 legal), tt)
-
 pub cancelled_never_start : (s : Layout) (past : List Entry) → IsLegal s past → AllByRecursion (λ x. is_started_cancelled past x ≡ false) (queueings past)
 unfolding IsLegal queueings
 cancelled_never_start s [] legal = tt
 cancelled_never_start s (e ∷ past) legal =
     All_append (λ x. is_started_cancelled (e ∷ past) x ≡ false) (queueings past) (option_to_list (opening past e))
     (All_both (IsKnown past) (λ x. is_started_cancelled past x ≡ false) (λ x. is_started_cancelled (e ∷ past) x ≡ false) (queueings past) (λ x known survivors. start_spares s past e x legal known survivors) (queueings_known past) (cancelled_never_start s past legal.2))
-    (All_map (λ x. is_cancelled (e ∷ past) x.item.0 x.number ≡ false) (λ x. is_started_cancelled (e ∷ past) x ≡ false) (option_to_list (opening past e)) (λ x h. ap (λ b. is_started (e ∷ past) x.number && b) h ∙ and-false (is_started (e ∷ past) x.number))
-    (opened_survives s past e (opening past e) legal refl))
+    (all_in _ (option_to_list (opening past e)) (λ x there. and_right _ _ (ap (is_cancelled (e ∷ past) x.item.0) (opening_number past e x (in_option (opening past e) x there))
+    ∙ open_uncancelled (e ∷ past) x.item.0 (length past) (open_at_once s past e x.item.0 legal))))
 
 -- ---- what is finished was started
 

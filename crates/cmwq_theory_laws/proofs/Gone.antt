@@ -1,5 +1,5 @@
 -- A queue that is gone has nothing open and nothing booked on it; one that is being destroyed has nothing booked on it.
-use Rattle.cmwq_theory_laws.specs.Common.{◌≡◌, ◌==◌, ℕ, Bool, true, false, ◌&&◌, ◌||◌, List, [], ◌∷◌, length, filter, Option, Some, None, option_to_list, refl, sym, ap, ◌∙◌, subst, arith, if◌then◌else◌, option_and_then, option_map, option_or, option_map_or, AllByRecursion, list_any, or_parts, eq-eqb, eqb-true, nat_tests, Who, Call, Reply, Entry, Booking, Queueing, Layout, is_at, item_fired, is_of_item, settles, due_in, booking, booking_of, booked_by, bookings, standing, stands, number_booked, opens, opening, queued_at, still_open, tickets, unended_tickets, gives_ticket, drains, destroys, is_drain_of, is_destroy_of, is_draining, is_being_destroyed, is_done, ends_destroy, is_gone, holds_up, waits_for, is_booked_on, IsLegal, All_append, All_unfilter, find_none, Cause, cause_of, booking_after, opening_opens}
+use Rattle.cmwq_theory_laws.specs.Common.{◌≡◌, ◌==◌, ℕ, Bool, true, false, ◌&&◌, ◌||◌, List, [], ◌∷◌, length, filter, Option, Some, None, option_to_list, refl, sym, ap, ◌∙◌, subst, arith, if◌then◌else◌, option_and_then, option_map, option_or, option_map_or, AllByRecursion, list_any, eq-eqb, eqb-true, nat_tests, Who, Call, Reply, Entry, Booking, Queueing, Layout, is_at, item_fired, is_of_item, settles, due_in, booking, booking_of, booked_by, bookings, standing, stands, number_booked, opens, opening, queued_at, still_open, tickets, unended_tickets, gives_ticket, drains, destroys, is_drain_of, is_destroy_of, is_draining, is_being_destroyed, is_done, ends_destroy, is_gone, holds_up, waits_for, is_booked_on, IsLegal, All_append, All_unfilter, find_none, Cause, cause_of, booking_after, opening_opens}
 use Rattle.cmwq_model.specs.declared.record.Place.{Place}
 use Rattle.cmwq_model.specs.declared.call.Call.TheVariants as call
 use Rattle.cmwq_model.specs.declared.reply.Reply.TheVariants as reply
@@ -11,12 +11,14 @@ use Rattle.cmwq_theory_steps.proofs.Endings.{open_go_on}
 use Rattle.std.proofs.Common.{inl, inr}
 use Rattle.std.proofs.lemmas.Bool.{and_parts, both_ways, false_from_ne_true, or_from, or_left, or_right}
 use Rattle.std.proofs.lemmas.Option.{same_Some}
-use Rattle.cmwq_lemmas.proofs.Passing.{all_kept, all_split}
+use Rattle.cmwq_lemmas.proofs.Filters.{count_by-wider}
+use Rattle.cmwq_lemmas.proofs.Lists.{All_each}
+use Rattle.cmwq_lemmas.proofs.Passing.{all_kept, all_split, any_counted, counted_any}
 use Rattle.cmwq_theory_steps.proofs.PendingSteps.{none_opened}
 use Rattle.cmwq_theory_steps.proofs.Pools.{PlacedAt, as_booked, books_at, freely, opens_at}
 use Rattle.cmwq_theory_steps.proofs.Standing.{made_for}
 use Rattle.cmwq_theory_steps.proofs.StateSteps.{opens_as_asked}
-use Rattle.cmwq_theory_laws.proofs.Settled.{any_found}
+use Rattle.cmwq_theory_laws.proofs.Settled.{any_found, none_any}
 use Rattle.cmwq_theory_steps.proofs.Refusals.{none_mapped}
 
 -- ---- what an entry books is on a queue that isn't draining, and isn't gone
@@ -62,8 +64,7 @@ destroy_drains q (call.Destroy k) h = h
 destroy_drains q c h = cc
 
 any_more : {X : Type 0} (p r : X → Bool) (xs : List X) → ((x : X) → p x ≡ true → r x ≡ true) → list_any p xs ≡ true → list_any r xs ≡ true
-any_more p r [] more h = cc
-any_more p r (x ∷ xs) more h = grind (arith, more x, any_more p r xs more)
+any_more p r xs more h = counted_any r xs (omega (arith, any_counted p xs h, count_by-wider p r xs (All_each _ xs more)))
 
 -- ---- a booking is one of those that stand
 
@@ -87,13 +88,9 @@ its_booking (e ∷ past) i P b all h = at (settles e.reply && is_of_item i e) re
     at true ha is rest = (item_is (due_in e.reply) refl is (and_parts (settles e.reply) (is_of_item i e) ha).1, last_holds P (booking_of e (length past)) b parts.1 is)
     at false ha is rest = rest is
 
-none_of : (q : ℕ) (xs : List Booking) → list_any (is_booked_on q) xs ≡ false → AllByRecursion (λ b. (b.place.queue.0 == q) ≡ false) xs
-none_of q [] h = tt
-none_of q (b ∷ xs) h = let parts = or_parts (b.place.queue.0 == q) (list_any (is_booked_on q) xs) h in (parts.0, none_of q xs parts.1)
-
 none_standing : (past : List Entry) (q : ℕ) → list_any (is_booked_on q) (standing past) ≡ false → NoneBooked past q
 none_standing past q h i b is =
-    let k = its_booking past i (λ a. stands past a ≡ true → (a.place.queue.0 == q) ≡ false) b (All_unfilter (λ a. (a.place.queue.0 == q) ≡ false) (stands past) (bookings past) (none_of q (standing past) h)) is in
+    let k = its_booking past i (λ a. stands past a ≡ true → (a.place.queue.0 == q) ≡ false) b (All_unfilter (λ a. (a.place.queue.0 == q) ≡ false) (stands past) (bookings past) (none_any (is_booked_on q) (standing past) h)) is in
     k.1 (ap (λ o. is_at (option_map number_booked o) b.number) (ap (booking past) k.0 ∙ is) ∙ eq-eqb b.number b.number refl)
 
 -- ---- the invariant

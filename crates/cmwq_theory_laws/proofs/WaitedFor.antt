@@ -1,5 +1,5 @@
 -- Where the end of a ticket is answered done, all that it waits for has ended.
-use Rattle.cmwq_theory_laws.specs.Common.{◌≡◌, ◌≤◌, ◌<◌, ◌==◌, ℕ, true, false, ◌&&◌, List, [], ◌∷◌, length, Option, Some, None, nat_lt, refl, arith, AllByRecursion, nat_tests, Call, Entry, Queueing, Layout, queueings, is_live, still_open, serving_from, is_within, holds_up, waits_for, least_waited, IsLegal, All_both, All_each, find_none, All_unfilter, IsBelow, queueings_below, ready_call}
+use Rattle.cmwq_theory_laws.specs.Common.{◌≡◌, ◌≤◌, ◌<◌, ℕ, true, false, List, [], ◌∷◌, length, Option, Some, None, refl, arith, AllByRecursion, nat_tests, Call, Entry, Queueing, Layout, queueings, is_live, still_open, serving_from, is_within, holds_up, waits_for, least_waited, IsLegal, All_both, All_each, find_none, All_unfilter, IsBelow, queueings_below, ready_call}
 use Rattle.cmwq_model.specs.declared.call.Call.TheVariants as call
 use Rattle.cmwq_theory_laws.specs.Headline.{is_waited_for, has_ended, WaitsEndAfter}
 use Rattle.std.proofs.lemmas.Bool.{both_ways, false_from_ne_true}
@@ -18,19 +18,11 @@ within_served past q t n (Some b) is less = let from = served_from_own past q t 
 
 -- ---- what is waited for has ended
 
-flush_waits : (past : List Entry) (q t : ℕ) (x : Queueing) → ((x.place.queue.0 == q) && nat_lt x.number t) ≡ true → ((x.place.queue.0 == q) && is_within (serving_from past q t) x.number) ≡ true
-flush_waits past q t x h =
-    let less : x.number < t = grind (arith, nat_tests) in
-    let within = within_served past q t x.number (serving_from past q t) refl less in
-    grind arith
-
 held_up : (past : List Entry) (t : ℕ) (c : Call) (x : Queueing) → is_waited_for c t x ≡ true → holds_up past t c x ≡ true
-held_up past t (call.Flush q) x h = flush_waits past q.0 t x h
-held_up past t (call.FlushItem i) x h = h
-held_up past t (call.FlushDelayed i) x h = h
-held_up past t (call.Drain q) x h = h
-held_up past t (call.Destroy q) x h = h
-held_up past t c x h = cc
+held_up past t (call.Flush q) x h =
+    let less : x.number < t = grind (arith, nat_tests) in
+    grind (arith, within_served past q.0 t x.number (serving_from past q.0 t) refl less)
+held_up past t c x h = grind arith
 
 ended_of : (past : List Entry) (x : Queueing) → x.number < length past → is_live past x ≡ false → has_ended past x ≡ true
 ended_of past x less h = grind (arith, nat_tests)

@@ -19,7 +19,7 @@ use Rattle.cmwq_theory_steps.proofs.StateSteps.{opens_as_asked, books_as_asked}
 use Rattle.cmwq_theory_steps.proofs.Unstarted.{unstarted_goes_on}
 use Rattle.cmwq_theory_steps.proofs.EndsAsTold.{same_by_number, unstarted_found}
 use Rattle.cmwq_theory_steps.proofs.Starts.{starts_next}
-use Rattle.cmwq_lemmas.proofs.Truth.{or_true, same_bools}
+use Rattle.cmwq_lemmas.proofs.Truth.{same_bools}
 use Rattle.std.proofs.lemmas.Bool.{and_parts, both_ways, false_from_ne_true}
 use Rattle.std.proofs.lemmas.Option.{same_Some}
 
@@ -38,10 +38,6 @@ opened_own s past e i legal h own =
     let o = opens_as_asked s past e legal h in
     ap (λ x. is_some (of_item i x)) o.opened ∙ ap (λ b. is_some (cond b (Some (queued_at past o.item o.place)) None)) (eq-eqb o.item i (own_item i o.item e o.is_item own))
 
-some_or : (a b : Option Queueing) → is_some b ≡ true → is_some (option_or a b) ≡ true
-some_or None b h = h
-some_or (Some x) b h = refl
-
 pub none_opened : (past : List Entry) (e : Entry) → opens e.reply ≡ false → opening past e ≡ None
 none_opened past e h = ap (λ b. if b then option_and_then (λ i. option_map (queued_at past i) (place_wanted past e.call i)) (item_of e) else None) h
 
@@ -53,7 +49,7 @@ settled_pending s past e i legal settled own = ap₂ (λ a b. a || b) booked (ap
 
     at : (o : Bool) (d : Option ℕ) → opens e.reply ≡ o → due_in e.reply ≡ d
         → (is_some (booking_of e (length past)) || is_some (option_or (still_unstarted past e (unstarted_queueing past i)) (of_item i (opening past e)))) ≡ (o || is_some d)
-    at true d ho hd = ap (λ b. is_some (booking_of e (length past)) || b) (some_or (still_unstarted past e (unstarted_queueing past i)) (of_item i (opening past e)) (opened_own s past e i legal ho own)) ∙ or_true (is_some (booking_of e (length past)))
+    at true d ho hd = grind (arith, opened_own s past e i legal ho own)
     at false (Some d) ho hd = let b = books_as_asked s past e d legal hd in ap (λ o. is_some o || is_some (option_or (still_unstarted past e (unstarted_queueing past i)) (of_item i (opening past e)))) b.books
     at false None ho hd =
         let u = unbook_reason s past e.who e.call e.reply (cause_of s past e legal) (unbooked_else e.reply settled ho hd) in

@@ -7,6 +7,7 @@ use Rattle.cmwq_theory_steps.specs.Pools.{IsRunIn}
 use Rattle.std.proofs.Common.{subst₂}
 use Rattle.std.proofs.lemmas.Bool.{and_parts, false_from_ne_true, not-false}
 use Rattle.std.proofs.lemmas.Option.{same_Some}
+use Rattle.cmwq_lemmas.proofs.Members.{all_in, in_option}
 use Rattle.cmwq_theory_steps.proofs.RunsActive.{run_is_active, found_known}
 use Rattle.cmwq_theory_steps.proofs.Activated.{find_holds}
 use Rattle.cmwq_theory_steps.proofs.Entries.{is_at-true}
@@ -36,11 +37,8 @@ runs_are_in_pools s past w n legal runs =
 -- ---- what is open and not started is the item's unstarted queueing
 
 pub unstarted_alone : (s : Layout) (past : List Entry) (i : ℕ) → IsLegal s past → AllByRecursion (λ x. is_unstarted past i x ≡ true → unstarted_queueing past i ≡ Some x) (still_open past)
-unstarted_alone s past i legal = All_unfilter (λ x. unstarted_queueing past i ≡ Some x) (is_unstarted past i) (still_open past) (subst (AllByRecursion (λ x. unstarted_queueing past i ≡ Some x)) (sym (one_unstarted s past i legal)) (each (unstarted_queueing past i)))
-  where
-    each : (o : Option Queueing) → AllByRecursion (λ x. o ≡ Some x) (option_to_list o)
-    each None = tt
-    each (Some x) = (refl, tt)
+unstarted_alone s past i legal = All_unfilter (λ x. unstarted_queueing past i ≡ Some x) (is_unstarted past i) (still_open past)
+    (subst (AllByRecursion (λ x. unstarted_queueing past i ≡ Some x)) (sym (one_unstarted s past i legal)) (all_in _ (option_to_list (unstarted_queueing past i)) (in_option (unstarted_queueing past i))))
 
 -- ---- where what is opened or booked is placed: where the item is free, or where it was booked
 
@@ -90,10 +88,6 @@ data Came (past : List Entry) (e : Entry) (i : ℕ) (x : Queueing) : Type 0 wher
   earlier : unstarted_queueing past i ≡ Some x → Came past e i x
   at_once : opening past e ≡ Some x → Came past e i x
 
-came_here : (past : List Entry) (e : Entry) (i : ℕ) (o : Option Queueing) → opening past e ≡ o → AllByRecursion (Came past e i) (option_to_list o)
-came_here past e i None h = tt
-came_here past e i (Some x) h = (at_once h, tt)
-
 unstarted_came : (s : Layout) (past : List Entry) (e : Entry) (i : ℕ) (x : Queueing) → IsLegal s (e ∷ past) → unstarted_queueing (e ∷ past) i ≡ Some x → Came past e i x
 unfolding IsLegal
 unstarted_came s past e i x legal h =
@@ -103,7 +97,7 @@ unstarted_came s past e i x legal h =
     all : AllByRecursion (λ y. is_unstarted (e ∷ past) i y ≡ true → Came past e i y) (filter (survives past e) (still_open past) ++ option_to_list (opening past e))
     all = All_append _ (filter (survives past e) (still_open past)) (option_to_list (opening past e))
         (All_filter _ (survives past e) (still_open past) (All_map (λ y. is_unstarted past i y ≡ true → unstarted_queueing past i ≡ Some y) _ (still_open past) (λ y alone survivors new. earlier (alone (grind arith))) (unstarted_alone s past i legal.2)))
-        (All_map (Came past e i) _ (option_to_list (opening past e)) (λ y came new. came) (came_here past e i (opening past e) refl))
+        (all_in _ (option_to_list (opening past e)) (λ y there new. at_once (in_option (opening past e) y there)))
 
 -- ---- where an item runs, it is queued and booked
 

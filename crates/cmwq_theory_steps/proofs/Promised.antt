@@ -19,19 +19,13 @@ weight : (r : Reply) (op bk eu ub : ℕ) → op ≤ one (opens r) → bk ≤ one
 weight (reply.Started n) op bk eu ub ho hb he hu h = omega arith
 weight r op bk eu ub ho hb he hu h = grind arith
 
-opened_most : (past : List Entry) (e : Entry) → one (is_some (opening past e)) ≤ one (opens e.reply)
-opened_most past e = at (opening past e) refl
-  where
-    at : (o : Option Queueing) → opening past e ≡ o → one (is_some o) ≤ one (opens e.reply)
-    at None h = omega arith
-    at (Some x) h = omega (arith, ap one (opening_opens past e x h))
+opened_most : (past : List Entry) (e : Entry) (o : Option Queueing) → opening past e ≡ o → one (is_some o) ≤ one (opens e.reply)
+opened_most past e None h = omega arith
+opened_most past e (Some x) h = omega (arith, ap one (opening_opens past e x h))
 
-booked_most : (e : Entry) (n : ℕ) → one (is_some (booking_of e n)) ≤ one (is_some (due_in e.reply))
-booked_most e n = at (due_in e.reply)
-  where
-    at : (o : Option ℕ) → one (is_some (option_and_then (booked_by e.call n) o)) ≤ one (is_some o)
-    at None = omega arith
-    at (Some d) = grind arith
+booked_most : (c : Call) (n : ℕ) (o : Option ℕ) → one (is_some (option_and_then (booked_by c n) o)) ≤ one (is_some o)
+booked_most c n None = omega arith
+booked_most c n (Some d) = grind arith
 
 -- what is cancelled had not started
 cancelled_unstarted : (s : Layout) (past : List Entry) (e : Entry) (n : ℕ) → IsLegal s (e ∷ past) → number_cancelled e.reply ≡ Some n → ends_unstarted past e ≡ true
@@ -62,5 +56,5 @@ was_booked s past who c r other h k = cc
 pub promised_need_no_more : (s : Layout) (past : List Entry) (e : Entry) → IsLegal s (e ∷ past) → is_promised e.reply ≡ true → room_needed s (e ∷ past) ≤ room_needed s past
 promised_need_no_more s past e legal h =
     let pays = weight e.reply (one (is_some (opening past e))) (one (is_some (booking_of e (length past)))) (one (ends_unstarted past e)) (one (settles_booked past e))
-    (opened_most past e) (booked_most e (length past)) (cancelled_pays s past e _ legal refl) (λ k. ap₂ (λ a b. one (a && b)) k (was_booked s past e.who e.call e.reply (cause_of s past e legal) h k)) h in
+    (opened_most past e _ refl) (booked_most e.call (length past) (due_in e.reply)) (cancelled_pays s past e _ legal refl) (λ k. ap₂ (λ a b. one (a && b)) k (was_booked s past e.who e.call e.reply (cause_of s past e legal) h k)) h in
     omega (arith, owed_goes_on s past e legal)

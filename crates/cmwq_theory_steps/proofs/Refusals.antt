@@ -9,7 +9,7 @@ use Rattle.cmwq_theory_steps.specs.Activations.{is_left, is_in, waits, behind_wi
 use Rattle.cmwq_theory_steps.specs.TicketSteps.{ticket_asked, is_kept}
 use Rattle.cmwq_theory_steps.specs.RoomSteps.{is_slept, is_woke, is_frozen_now, is_thawed_now, paid, taken_on}
 use Rattle.cmwq_theory_steps.specs.RunSteps.{run_after, ends_run}
-use Rattle.cmwq_theory_steps.specs.Waiting.{waiting, is_active_on, ends_active_on}
+use Rattle.cmwq_theory_steps.specs.Waiting.{waiting, is_active_on}
 use Rattle.cmwq_theory_steps.specs.Queued.{run_queue_after}
 use Rattle.cmwq_theory_steps.specs.Refusals.{is_refusal, DoesNothing, ChangesNothing}
 use Rattle.cmwq_lemmas.proofs.Filters.{filter_same, find_same}
@@ -116,11 +116,9 @@ same_waiting s past e legal q none = ap (filter (waits s (e ∷ past))) (same_op
 
 same_count : (s : Layout) (past : List Entry) (e : Entry) (a c : ℕ) → IsLegal s (e ∷ past) → DoesNothing s past e → active_count s (e ∷ past) a c ≡ active_count s past a c
 same_count s past e a c legal d =
-    let more = active_count_goes_on s past e a c in
-    let none : count_by (is_on a c) (newly_active s past e) ≡ 0 = ap (count_by (is_on a c)) d.newly in
-    let stays = stays_counted s past e legal a c in
-    let nobody : one (ends_active_on s past e a c) ≡ 0 = ap (λ o. one (option_map_or (is_active_on s past a c) o false)) d.ended in
-    omega arith
+    let none = ap (count_by (is_on a c)) d.newly in
+    let nobody = ap (λ o. one (option_map_or (is_active_on s past a c) o false)) d.ended in
+    omega (arith, active_count_goes_on s past e a c, stays_counted s past e legal a c)
 
 same_worklist : (s : Layout) (past : List Entry) (e : Entry) (p : PoolId) → IsLegal s (e ∷ past) → SaysNothing e.reply → newly_active s past e ≡ [] → worklist s (e ∷ past) p ≡ worklist s past p
 same_worklist s past e p legal q none = worklists_go_on s past e p legal ∙ nothing_more (is_left past e) (worklist s past p) (filter (is_in s p) (newly_active s past e)) (left past e q) (ap (filter (is_in s p)) none)

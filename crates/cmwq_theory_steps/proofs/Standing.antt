@@ -3,6 +3,7 @@ use Rattle.cmwq_theory_steps.specs.Common.{place_called, ◌≡◌, ◌<◌, ℕ
 use Rattle.cmwq_model.specs.declared.call.Call.TheVariants as call
 use Rattle.cmwq_model.specs.declared.reply.Reply.TheVariants as reply
 use Rattle.cmwq_theory_steps.specs.Reasons.{FiresBooking}
+use Rattle.cmwq_lemmas.proofs.Members.{In, all_in, in_option}
 use Rattle.cmwq_theory_steps.proofs.Activated.{find_holds}
 use Rattle.cmwq_theory_steps.proofs.Causes.{Cause}
 use Rattle.cmwq_theory_steps.proofs.Causes as cause
@@ -53,16 +54,16 @@ own_more e past b k = record { older = omega (arith, k.older); own = own (settle
     own true ha stood = absurd (other (booking_of e (length past)) refl (sym (ap (λ o. is_at (option_map number_booked o) b.number) (booking_after past e b.item.0 true ha)) ∙ stood))
     own false ha stood = let same = booking_after past e b.item.0 false ha in same ∙ k.own (sym (ap (λ o. is_at (option_map number_booked o) b.number) same) ∙ stood)
 
-own_last : (e : Entry) (past : List Entry) (o : Option Booking) → booking_of e (length past) ≡ o → AllByRecursion (IsOwn (e ∷ past)) (option_to_list o)
-own_last e past None is = tt
-own_last e past (Some b) is =
-    let m = made e (length past) b (due_in e.reply) refl is in
-    (record { older = omega (arith, m.number); own = λ stood. booking_after past e b.item.0 true (ap₂ (λ a b. a && b) m.settled m.item) ∙ is }, tt)
-
 bookings_own : (past : List Entry) → AllByRecursion (IsOwn past) (bookings past)
 unfolding bookings
 bookings_own [] = tt
-bookings_own (e ∷ past) = All_append (IsOwn (e ∷ past)) (bookings past) (option_to_list (booking_of e (length past))) (All_map (IsOwn past) (IsOwn (e ∷ past)) (bookings past) (own_more e past) (bookings_own past)) (own_last e past (booking_of e (length past)) refl)
+bookings_own (e ∷ past) = All_append (IsOwn (e ∷ past)) (bookings past) (option_to_list (booking_of e (length past))) (All_map (IsOwn past) (IsOwn (e ∷ past)) (bookings past) (own_more e past) (bookings_own past)) (all_in _ (option_to_list (booking_of e (length past))) last)
+  where
+    last : (b : Booking) → In b (option_to_list (booking_of e (length past))) → IsOwn (e ∷ past) b
+    last b there =
+        let is = in_option (booking_of e (length past)) b there in
+        let m = made e (length past) b (due_in e.reply) refl is in
+        record { older = omega (arith, m.number); own = λ stood. booking_after past e b.item.0 true (ap₂ (λ a b. a && b) m.settled m.item) ∙ is }
 
 pub standing_own : (past : List Entry) → AllByRecursion (λ b. booking past b.item.0 ≡ Some b) (standing past)
 standing_own past = All_filter (λ b. booking past b.item.0 ≡ Some b) (stands past) (bookings past) (All_map (IsOwn past) (λ b. stands past b ≡ true → booking past b.item.0 ≡ Some b) (bookings past) (λ b k. k.own) (bookings_own past))

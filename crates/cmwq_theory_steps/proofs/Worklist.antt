@@ -1,17 +1,13 @@
 -- A pool's worklist has all that belongs there, and nothing else.
-use Rattle.cmwq_theory_steps.specs.Common.{◌≡◌, true, List, [], ◌∷◌, length, Option, Some, None, option_to_list, refl, arith, Contains, AllByRecursion, Contains-append_left, Contains-append_right, PoolId, Entry, Queueing, Layout, queueings, opening, is_active, is_newly_active, newly_active, became_active, is_listed, worklist, All_map, All_both, All_append, All_filter, opening_number, active_older}
+use Rattle.cmwq_theory_steps.specs.Common.{◌≡◌, true, List, [], ◌∷◌, option_to_list, arith, Contains, AllByRecursion, Contains-append_left, Contains-append_right, PoolId, Entry, Layout, queueings, opening, is_active, is_newly_active, newly_active, became_active, is_listed, worklist, All_map, All_both, All_append, All_filter, opening_number, active_older}
 use Rattle.cmwq_theory_steps.specs.Order.{IsWorklist}
 use Rattle.std.proofs.Common.{⊎_elim}
 use Rattle.std.proofs.lemmas.Bool.{cases_Bool}
-use Rattle.cmwq_lemmas.proofs.Members.{all_in, contained_in, filter_in, in_contained}
+use Rattle.cmwq_lemmas.proofs.Members.{all_in, in_option, contained_in, filter_in, in_contained}
 use Rattle.cmwq_theory_steps.proofs.Activated.{activated_all}
 use Rattle.cmwq_theory_steps.proofs.Order.{activated_in_order, in_order_filter}
 
 -- ---- what is active became active
-
-opening_inactive : (s : Layout) (past : List Entry) (o : Option Queueing) → ((x : Queueing) → o ≡ Some x → x.number ≡ length past) → AllByRecursion (λ x. is_active s past x ≡ true → Contains (became_active s past) x) (option_to_list o)
-opening_inactive s past None h = tt
-opening_inactive s past (Some x) h = ((λ active. absurd (omega (arith, active_older s past x active, h x refl))), tt)
 
 activated_has : (s : Layout) (past : List Entry) → AllByRecursion (λ x. is_active s past x ≡ true → Contains (became_active s past) x) (queueings past)
 unfolding became_active queueings
@@ -21,7 +17,8 @@ activated_has s (e ∷ past) =
     (λ x. is_active s (e ∷ past) x ≡ true → Contains (became_active s (e ∷ past)) x) (queueings (e ∷ past))
     (λ x was newly active. ⊎_elim (λ before. Contains-append_left (became_active s past) (newly_active s past e) x (was before))
     (λ not_before. Contains-append_right (became_active s past) (newly_active s past e) x (newly (grind arith))) (cases_Bool (is_active s past x)))
-    (All_append (λ x. is_active s past x ≡ true → Contains (became_active s past) x) (queueings past) (option_to_list (opening past e)) (activated_has s past) (opening_inactive s past (opening past e) (opening_number past e)))
+    (All_append (λ x. is_active s past x ≡ true → Contains (became_active s past) x) (queueings past) (option_to_list (opening past e)) (activated_has s past)
+    (all_in _ (option_to_list (opening past e)) (λ x there active. absurd (omega (arith, active_older s past x active, opening_number past e x (in_option (opening past e) x there))))))
     (all_in _ (queueings (e ∷ past)) (λ x there newly. in_contained (newly_active s past e) x (filter_in (is_newly_active s past e) (queueings (e ∷ past)) x there newly)))
 
 -- ---- the worklist
