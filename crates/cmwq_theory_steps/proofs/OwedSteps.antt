@@ -14,14 +14,10 @@ use Rattle.std.proofs.lemmas.Bool.{and_parts, both_ways, false_from_ne_true}
 
 -- ---- the worker of an entry is one of the layout's
 
-record IsWorkerOf (s : Layout) (w : WorkerId) : Type 0 where
-  cpu : w.pool.cpu.0 < s.cpus
-  index : w.index < s.workers
-
-worker_within : (s : Layout) (w : WorkerId) (c : Call) → IsTrue (fits s (Worker w) c) → IsWorkerOf s w
+worker_within : (s : Layout) (w : WorkerId) (c : Call) → IsTrue (fits s (Worker w) c) → (w.pool.cpu.0 < s.cpus) × (w.index < s.workers)
 worker_within s w c fit =
     let k = and_parts _ _ (and_parts _ _ (and_parts (nat_lt w.pool.cpu.0 s.cpus && nat_lt w.index s.workers && is_workers c) (has_numbers s c) fit).0).0 in
-    record { cpu = ltb-true w.pool.cpu.0 s.cpus k.0; index = ltb-true w.index s.workers k.1 }
+    (ltb-true w.pool.cpu.0 s.cpus k.0, ltb-true w.index s.workers k.1)
 
 same_swap : (v w : WorkerId) → same_worker w v ≡ false → same_worker v w ≡ false
 same_swap v w h = false_from_ne_true _ (λ k. let is = same_worker-true v w k in both_ways _ h (subst (λ u. same_worker u v ≡ true) is (same_worker_itself v)))
@@ -33,7 +29,7 @@ ChangesOwn e f g = (v : WorkerId) → is_by (Worker v) e ≡ false → f v ≡ g
 own_counted : (s : Layout) (past : List Entry) (e : Entry) (f g : WorkerId → Bool) (w : WorkerId) → IsLegal s (e ∷ past) → e.who ≡ Worker w → ChangesOwn e f g → count_by g (workers s) + one (f w) ≡ count_by f (workers s) + one (g w)
 own_counted s past e f g w legal who others =
     let within = worker_within s w e.call (subst (λ x. IsTrue (fits s x e.call)) who (legal_fits s past e legal)) in
-    count_point (is_worker w) f g (f w) (g w) (workers s) (worker_once s w within.cpu within.index) (λ v h. ap f (same_worker-true v w h)) (λ v h. ap g (same_worker-true v w h)) (λ v h. others v (ap (λ x. same_who x (Worker v)) who ∙ same_swap w v h))
+    count_point (is_worker w) f g (f w) (g w) (workers s) (worker_once s w within.0 within.1) (λ v h. ap f (same_worker-true v w h)) (λ v h. ap g (same_worker-true v w h)) (λ v h. others v (ap (λ x. same_who x (Worker v)) who ∙ same_swap w v h))
 
 -- a caller's entry starts, finishes, puts to sleep and wakes nothing
 record IsNoWorkers (r : Reply) : Type 0 where

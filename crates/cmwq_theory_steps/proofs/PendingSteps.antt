@@ -42,11 +42,9 @@ pub none_opened : (past : List Entry) (e : Entry) → opens e.reply ≡ false �
 none_opened past e h = ap (λ b. if b then option_and_then (λ i. option_map (queued_at past i) (place_wanted past e.call i)) (item_of e) else None) h
 
 settled_pending : (s : Layout) (past : List Entry) (e : Entry) (i : ℕ) → IsLegal s (e ∷ past) → settles e.reply ≡ true → is_of_item i e ≡ true → is_pending (e ∷ past) i ≡ makes_pending e.reply
-settled_pending s past e i legal settled own = ap₂ (λ a b. a || b) booked (ap is_some (unstarted_goes_on s past e i legal)) ∙ at (opens e.reply) (due_in e.reply) refl refl
+settled_pending s past e i legal settled own =
+    ap₂ (λ a b. is_some a || is_some b) (booking_after past e i true (ap₂ (λ a b. a && b) settled own)) (unstarted_goes_on s past e i legal) ∙ at (opens e.reply) (due_in e.reply) refl refl
   where
-    booked : is_booked (e ∷ past) i ≡ is_some (booking_of e (length past))
-    booked = ap is_some (booking_after past e i true (ap₂ (λ a b. a && b) settled own))
-
     at : (o : Bool) (d : Option ℕ) → opens e.reply ≡ o → due_in e.reply ≡ d
         → (is_some (booking_of e (length past)) || is_some (option_or (still_unstarted past e (unstarted_queueing past i)) (of_item i (opening past e)))) ≡ (o || is_some d)
     at true d ho hd = grind (arith, opened_own s past e i legal ho own)

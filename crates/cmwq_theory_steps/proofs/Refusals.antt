@@ -1,5 +1,5 @@
 -- Entries that are refused change nothing.
-use Rattle.cmwq_theory_steps.specs.Common.{◌≡◌, ◌<◌, ◌+◌, ℕ, Bool, true, false, not, ◌&&◌, ◌||◌, List, [], ◌∷◌, ◌++◌, length, filter, find, count_by, Option, Some, None, option_to_list, append-nil, nat_lt, refl, sym, ap, ap₂, ◌∙◌, subst, arith, option_map, option_and_then, is_some, if◌then◌else◌, option_map_or, nat_tests, PoolId, WorkerId, Who, Caller, Worker, Call, Reply, Entry, Queueing, Start, Ticket, Layout, is_at, is_by, is_of_item, item_of, ticks_told, now, settles, due_in, booking, booked_by, number_started, number_finished, number_cancelled, replaces, is_started, run, item_run, is_asleep, asleep_after, start_in, queueings, is_of, opens, opening, is_live, still_open, is_unstarted, unstarted_queueing, queued_at, place_wanted, run_queue, is_frozen, is_ahead, is_below_max_active, is_active, newly_active, worklist, next, is_startable, is_enlisted, index_enlisted, is_in_pool, is_retired, unended_tickets, gives_ticket, ticket_for, ticket_in, is_end_of, is_done, is_gone, ends_destroy, IsLegal, bits, owed, answer, keeps_widths, All_map, All_each, active_go_on, active_live, frozen_same, max_same, width_same, open_below}
+use Rattle.cmwq_theory_steps.specs.Common.{◌≡◌, ◌<◌, ◌+◌, ℕ, Bool, true, false, not, ◌&&◌, ◌||◌, List, [], ◌∷◌, ◌++◌, length, filter, find, count_by, Option, Some, None, option_to_list, append-nil, nat_lt, refl, sym, ap, ap₂, ◌∙◌, subst, arith, option_map, option_and_then, is_some, if◌then◌else◌, option_map_or, nat_tests, PoolId, Who, Caller, Worker, Call, Reply, Entry, Queueing, Start, Ticket, Layout, is_at, is_by, is_of_item, item_of, ticks_told, now, settles, due_in, booking, booked_by, number_started, number_finished, number_cancelled, replaces, is_started, run, item_run, is_asleep, asleep_after, start_in, queueings, is_of, opens, opening, is_live, still_open, is_unstarted, unstarted_queueing, queued_at, place_wanted, run_queue, is_frozen, is_ahead, is_below_max_active, is_active, newly_active, worklist, next, is_startable, is_enlisted, index_enlisted, is_in_pool, is_retired, unended_tickets, gives_ticket, ticket_for, ticket_in, is_end_of, is_done, is_gone, ends_destroy, IsLegal, bits, owed, answer, keeps_widths, All_map, All_each, active_go_on, active_live, frozen_same, max_same, width_same, open_below}
 use Rattle.cmwq_model.specs.declared.call.Call.TheVariants as call
 use Rattle.cmwq_model.specs.declared.reply.Reply.TheVariants as reply
 use Rattle.cmwq_theory_steps.specs.Histories.{one}
@@ -146,10 +146,6 @@ unfolding next
 same_next s past e p legal q none = ap (find (is_startable (e ∷ past))) (same_worklist s past e p legal q none)
     ∙ find_same (is_startable (e ∷ past)) (is_startable past) (worklist s past p) (All_each _ (worklist s past p) (λ x. ap (λ o. not (is_some o)) (same_item_run s past e x.item.0 legal q)))
 
-same_enlisted : (past : List Entry) (e : Entry) (w : WorkerId) → SaysNothing e.reply → is_enlisted (e ∷ past) w ≡ is_enlisted past w
-unfolding is_enlisted
-same_enlisted past e w q = ap₂ (λ o b. (is_in_pool w.pool e.who && is_at o w.index) || (not (is_by (Worker w) e && b) && is_enlisted past w)) q.enlisted q.retired ∙ simp and_false refl
-
 -- ---- items, tickets, time and room
 
 same_booking : (past : List Entry) (e : Entry) (i : ℕ) → SaysNothing e.reply → booking (e ∷ past) i ≡ booking past i
@@ -183,7 +179,7 @@ same_owed s past e legal q d =
     omega arith
 
 pub refusals_change_nothing : (s : Layout) (past : List Entry) (e : Entry) → IsLegal s (e ∷ past) → is_refusal e.reply ≡ true → ChangesNothing s past e
-unfolding is_asleep is_gone is_frozen
+unfolding is_asleep is_enlisted is_gone is_frozen
 refusals_change_nothing s past e legal h =
     let q = says_nothing e.reply h in
     let d = does_nothing s past e legal q in
@@ -202,7 +198,7 @@ refusals_change_nothing s past e legal h =
       run = λ w. workers_run_on s past e w legal ∙ either (is_by (Worker w) e) (run_after e.reply (run past w)) (run past w) (q.runs (run past w));
       run_queue = λ w. run_queues_go_on s past e legal w ∙ either (is_by (Worker w) e) (run_queue_after past e.reply (run_queue past w)) (run_queue past w) (q.queues past (run_queue past w));
       asleep = λ w. either (is_by (Worker w) e) (asleep_after e.reply (is_asleep past w)) (is_asleep past w) (q.asleep (is_asleep past w));
-      enlisted = λ w. same_enlisted past e w q;
+      enlisted = λ w. ap₂ (λ o b. (is_in_pool w.pool e.who && is_at o w.index) || (not (is_by (Worker w) e && b) && is_enlisted past w)) q.enlisted q.retired ∙ simp and_false refl;
       unended = same_unended s past e legal q d.given;
       gone = λ a. ap (λ b. is_gone past a || (b && ends_destroy past a e.who e.call)) q.done ∙ or_false (is_gone past a);
       frozen = frozen_same e.reply (is_frozen past) q.widths;

@@ -36,6 +36,6 @@ way_by_picked s past e done x rest split =
     let same : filter h (filter on (candidates s past e)) ≡ take (w - stay) (filter on (candidates s past e)) =
     turn_filters h on (candidates s past e) ∙ (ap (filter on) (sym (newly_are s past e)) ∙ (newly_active_on s past e q c ∙ ap (take (w - stay)) turned)) in
     let rises : IsRising (filter on done ++ x ∷ filter on rest) = subst IsRising parts (rising_filter on (candidates s past e) (rising_filter (waits s past) (still_open (e ∷ past)) (open_rise (e ∷ past)))) in
-    let here = front_below_max_active h (w - stay) (filter on done) x (filter on rest) rises (subst (λ v. filter h v ≡ take (w - stay) v) parts same) in
     let counted : length (filter h (filter on done)) ≡ count_by on (filter h done) = ap length (turn_filters h on done) ∙ sym (length-count on (filter h done)) in
-    here ∙ (ap (λ k. nat_lt k (w - stay)) counted ∙ grind (arith, nat_tests))
+    front_below_max_active h (w - stay) (filter on done) x (filter on rest) rises (subst (λ v. filter h v ≡ take (w - stay) v) parts same)
+    ∙ (ap (λ k. nat_lt k (w - stay)) counted ∙ grind (arith, nat_tests))
