@@ -5,6 +5,7 @@ use Rattle.cmwq_theory_steps.specs.Activations.{is_left, is_in}
 use Rattle.cmwq_lemmas.proofs.Filters.{filter_twice, filter_same}
 use Rattle.std.proofs.lemmas.Bool.{and_from, and_parts}
 use Rattle.std.proofs.lemmas.Option.{same_Some}
+use Rattle.cmwq_lemmas.proofs.Members.{all_in, of_in}
 use Rattle.cmwq_lemmas.proofs.Truth.{same_bools}
 use Rattle.cmwq_theory_steps.proofs.Order.{still_active, HasSince, activated_since}
 use Rattle.cmwq_theory_steps.proofs.Activated.{activated_all}
@@ -32,17 +33,10 @@ opened_unstarted s past e n legal is =
 abbrev pub IsActiveOnce : Layout → List Entry → Queueing → Type 0
 IsActiveOnce s past x = is_started past x.number ≡ true → is_live past x ≡ true → is_active s past x ≡ true
 
-record IsOlder (s : Layout) (past : List Entry) (x : Queueing) : Type 0 where
-  older : x.number < length past
-  found : IsFound past x
-
-older_found : (s : Layout) (past : List Entry) → AllByRecursion (IsOlder s past) (queueings past)
-older_found s past = All_both (IsBelow (length past)) (IsFound past) (IsOlder s past) (queueings past) (λ x less found. record { older = less; found = found }) (queueings_below past) (queueings_found past)
-
-started_active_more : (s : Layout) (past : List Entry) (e : Entry) (x : Queueing) → IsLegal s (e ∷ past) → IsOlder s past x → IsActiveOnce s past x → IsActiveOnce s (e ∷ past) x
-started_active_more s past e x legal old earlier started live =
-    let before = open_before e past x.item.0 x.number old.older live in
-    stays_active s past e x (grind (arith, starts_active s past e x legal old.found, earlier)) live
+started_active_more : (s : Layout) (past : List Entry) (e : Entry) (x : Queueing) → IsLegal s (e ∷ past) → x.number < length past → IsFound past x → IsActiveOnce s past x → IsActiveOnce s (e ∷ past) x
+started_active_more s past e x legal older found earlier started live =
+    let before = open_before e past x.item.0 x.number older live in
+    stays_active s past e x (grind (arith, starts_active s past e x legal found, earlier)) live
 
 pub opening_inert : (s : Layout) (past : List Entry) (e : Entry) (o : Option Queueing) → IsLegal s (e ∷ past) → opening past e ≡ o → AllByRecursion (λ x. is_started (e ∷ past) x.number ≡ false) (option_to_list o)
 opening_inert s past e None legal h = tt
@@ -53,21 +47,23 @@ unfolding queueings IsLegal
 started_are_active s [] legal = tt
 started_are_active s (e ∷ past) legal =
     All_append (IsActiveOnce s (e ∷ past)) (queueings past) (option_to_list (opening past e))
-    (All_both (IsOlder s past) (IsActiveOnce s past) (IsActiveOnce s (e ∷ past)) (queueings past) (λ x old earlier. started_active_more s past e x legal old earlier) (older_found s past) (started_are_active s past legal.2))
+    (all_in (IsActiveOnce s (e ∷ past)) (queueings past) (λ x there. started_active_more s past e x legal (of_in (IsBelow (length past)) _ x (queueings_below past) there)
+    (of_in (IsFound past) _ x (queueings_found past) there) (of_in (IsActiveOnce s past) _ x (started_are_active s past legal.2) there)))
     (All_map (λ x. is_started (e ∷ past) x.number ≡ false) (IsActiveOnce s (e ∷ past)) (option_to_list (opening past e)) (λ x none started live. let bad : true ≡ false = sym started ∙ none in cc) (opening_inert s past e (opening past e) legal refl))
 
 -- ---- what became active hasn't started
 
-newly_inert : (s : Layout) (past : List Entry) (e : Entry) (x : Queueing) → IsLegal s (e ∷ past) → IsOlder s past x → IsActiveOnce s past x → is_newly_active s past e x ≡ true → is_started (e ∷ past) x.number ≡ false
-newly_inert s past e x legal old earlier newly =
-    let live = open_before e past x.item.0 x.number old.older (active_live s (e ∷ past) x (grind arith)) in
-    grind (arith, starts_active s past e x legal old.found, earlier)
+newly_inert : (s : Layout) (past : List Entry) (e : Entry) (x : Queueing) → IsLegal s (e ∷ past) → x.number < length past → IsFound past x → IsActiveOnce s past x → is_newly_active s past e x ≡ true → is_started (e ∷ past) x.number ≡ false
+newly_inert s past e x legal older found earlier newly =
+    let live = open_before e past x.item.0 x.number older (active_live s (e ∷ past) x (grind arith)) in
+    grind (arith, starts_active s past e x legal found, earlier)
 
 newly_unstarted : (s : Layout) (past : List Entry) (e : Entry) → IsLegal s (e ∷ past) → AllByRecursion (λ x. is_started (e ∷ past) x.number ≡ false) (newly_active s past e)
 unfolding queueings IsLegal
 newly_unstarted s past e legal = All_filter (λ x. is_started (e ∷ past) x.number ≡ false) (is_newly_active s past e) (queueings (e ∷ past))
     (All_append (λ x. is_newly_active s past e x ≡ true → is_started (e ∷ past) x.number ≡ false) (queueings past) (option_to_list (opening past e))
-    (All_both (IsOlder s past) (IsActiveOnce s past) (λ x. is_newly_active s past e x ≡ true → is_started (e ∷ past) x.number ≡ false) (queueings past) (λ x old earlier newly. newly_inert s past e x legal old earlier newly) (older_found s past) (started_are_active s past legal.2))
+    (all_in _ (queueings past) (λ x there. newly_inert s past e x legal (of_in (IsBelow (length past)) _ x (queueings_below past) there)
+    (of_in (IsFound past) _ x (queueings_found past) there) (of_in (IsActiveOnce s past) _ x (started_are_active s past legal.2) there)))
     (All_map (λ x. is_started (e ∷ past) x.number ≡ false) (λ x. is_newly_active s past e x ≡ true → is_started (e ∷ past) x.number ≡ false) (option_to_list (opening past e)) (λ x none newly. none) (opening_inert s past e (opening past e) legal refl)))
 
 -- ---- what became active before
