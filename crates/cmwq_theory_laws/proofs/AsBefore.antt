@@ -1,20 +1,12 @@
 -- Where widths don't change, what is active is what was active before widths could change.
-use Rattle.cmwq_theory_laws.specs.Common.{◌≡◌, ◌<◌, ℕ, Bool, true, false, not, ◌&&◌, ◌||◌, List, [], ◌∷◌, ◌++◌, length, filter, find, count_by, Option, Some, None, option_to_list, nat_lt, refl, sym, ap, ap₂, ◌∙◌, arith, subst, ◌+◌, ◌==◌, if◌then◌else◌, option_map_or, AllByRecursion, ltb-true, lt-ltb, nat_tests, PoolId, Who, Caller, Worker, Call, Reply, Entry, Queueing, Ticket, Layout, first_width, is_freezable, pool_at, same_pool, serial_of, now, is_started, width, max_active, is_frozen, frozen_after, sets_max, width_told, has_run, queueings, is_live, still_open, is_pending, runs_elsewhere, is_ahead, is_below_max_active, is_active, is_newly_active, is_listed, became_active, worklist, next, is_startable, is_enlisted, gives_ticket, ticket_for, ticket_in, tickets, is_done, is_unended, unended_tickets, destroys, is_destroy_of, is_cancelling, is_crowded, is_ticket, ticket_of, ends_destroy, is_gone, may_call, is_shut, queue_answer, modify_answer, wait_answer, answer, take_answer, start_of, IsLegal, entry_for, find_holds, All_map, All_append, All_filter, All_each, filter_same, active_go_on, Cause, causes}
+use Rattle.cmwq_theory_laws.specs.Common.{cause_of, and-false, ◌≡◌, ℕ, Bool, true, false, not, ◌&&◌, ◌||◌, List, [], ◌∷◌, ◌++◌, length, filter, find, count_by, Option, Some, None, option_to_list, nat_lt, refl, sym, ap, ap₂, ◌∙◌, arith, if◌then◌else◌, option_map_or, AllByRecursion, ltb-true, lt-ltb, nat_tests, PoolId, Who, Caller, Worker, Call, Reply, Entry, Queueing, Ticket, Layout, first_width, is_freezable, pool_at, same_pool, serial_of, is_started, width, max_active, is_frozen, frozen_after, sets_max, width_told, queueings, is_live, still_open, is_ahead, is_below_max_active, is_active, is_newly_active, is_listed, became_active, worklist, next, is_startable, gives_ticket, ticket_for, ticket_in, tickets, is_done, is_unended, unended_tickets, destroys, is_destroy_of, is_ticket, ticket_of, ends_destroy, is_gone, queue_answer, modify_answer, wait_answer, answer, take_answer, IsLegal, entry_for, find_holds, All_map, All_append, All_each, filter_same, active_go_on, Cause}
 use Rattle.cmwq_model.specs.declared.call.Call.TheVariants as call
-use Rattle.cmwq_model.specs.declared.reply.Reply.TheVariants as reply
 use Rattle.cmwq_theory_laws.specs.FirstWidths.{queue_before, modify_before, wait_before, is_first, is_newly_first, ever_first, is_listed_before, next_before, HasFirstWidths, is_old, take_before, answer_before, entry_before, IsLegalBefore}
 use Rattle.cmwq_theory_steps.proofs.Causes as cause
-use Rattle.cmwq_theory_steps.proofs.Inversions.{answer_is}
 use Rattle.cmwq_theory_active.proofs.Ahead.{fewer_ahead}
+use Rattle.cmwq_lemmas.proofs.Passing.{all_kept}
 
 -- ---- with the layout's widths
-
--- what was first and is open is first
-stays_first : (s : Layout) (past : List Entry) (e : Entry) (x : Queueing) → x.number < length past → is_first s past x ≡ true → nat_lt (count_by (is_ahead x) (still_open (e ∷ past))) (first_width s x.place.queue.0) ≡ true
-stays_first s past e x older first =
-    let less : count_by (is_ahead x) (still_open past) < first_width s x.place.queue.0 = ltb-true _ _ (grind arith) in
-    let fewer = fewer_ahead past e x older in
-    lt-ltb _ _ (omega arith)
 
 abbrev IsAsBefore : Layout → List Entry → Queueing → Type 0
 IsAsBefore s past x = is_active s past x ≡ is_first s past x
@@ -25,20 +17,16 @@ goes_on_as_before s past e x wide was is =
     is ∙ ap₂ (λ a w. is_live (e ∷ past) x && (a || nat_lt (count_by (is_ahead x) (still_open (e ∷ past))) w)) was wide
     ∙ ap (λ b. is_live (e ∷ past) x && b) (at (is_first s past x) refl)
   where
-    older : is_first s past x ≡ true → x.number < length past
-    older h = ltb-true x.number (length past) (grind arith)
-
     at : (b : Bool) → is_first s past x ≡ b → (b || nat_lt (count_by (is_ahead x) (still_open (e ∷ past))) (first_width s x.place.queue.0)) ≡ nat_lt (count_by (is_ahead x) (still_open (e ∷ past))) (first_width s x.place.queue.0)
-    at true h = sym (stays_first s past e x (older h) h)
+    at true h =
+        let less = ltb-true (count_by (is_ahead x) (still_open past)) (first_width s x.place.queue.0) (grind arith) in
+        sym (lt-ltb _ _ (omega (arith, fewer_ahead past e x (ltb-true x.number (length past) (grind arith)))))
     at false h = refl
-
-none_first : (s : Layout) (x : Queueing) → is_active s [] x ≡ is_first s [] x
-unfolding is_active
-none_first s x = let none : nat_lt x.number 0 ≡ false = grind (arith, nat_tests) in rw none refl
 
 -- of any queueing
 pub active_as_before : (s : Layout) (past : List Entry) (x : Queueing) → HasFirstWidths s past → IsAsBefore s past x
-active_as_before s [] x wide = none_first s x
+unfolding is_active
+active_as_before s [] x wide = grind (arith, nat_tests)
 active_as_before s (e ∷ past) x wide = goes_on_as_before s past e x (wide.0 x.place.queue.0) (active_as_before s past x wide.1) (active_go_on s past e x)
 
 -- the lists of what became active, too
@@ -53,17 +41,6 @@ all_as_before s past wide = ((λ x. active_as_before s past x wide), activated_a
 
 -- ---- histories without the new calls
 
--- what they are answered leaves the widths as they are
-keeps_reply : Reply → Bool
-keeps_reply reply.Frozen = false
-keeps_reply r = true
-
-frozen_kept : (r : Reply) (b : Bool) → keeps_reply r ≡ true → b ≡ false → frozen_after r b ≡ false
-unfolding keeps_reply
-frozen_kept reply.Frozen b h was = cc
-frozen_kept reply.Thawed b h was = refl
-frozen_kept r b h was = was
-
 unset : (e : Entry) (q : ℕ) (c : Call) → is_old c ≡ true → sets_max c q ≡ false
 unset e q (call.SetMax r n) h = cc
 unset e q c h = refl
@@ -71,13 +48,14 @@ unset e q c h = refl
 abbrev AreOld : List Entry → Type 0
 AreOld past = AllByRecursion (λ e. is_old e.call ≡ true) past
 
+-- what they are answered freezes nothing
 abbrev AreKept : List Entry → Type 0
-AreKept past = AllByRecursion (λ e. keeps_reply e.reply ≡ true) past
+AreKept past = AllByRecursion (λ e. frozen_after e.reply false ≡ false) past
 
 never_frozen : (past : List Entry) → AreKept past → is_frozen past ≡ false
 unfolding is_frozen
 never_frozen [] h = refl
-never_frozen (e ∷ past) h = frozen_kept e.reply (is_frozen past) h.0 (never_frozen past h.1)
+never_frozen (e ∷ past) h = ap (frozen_after e.reply) (never_frozen past h.1) ∙ h.0
 
 max_kept : (s : Layout) (past : List Entry) (q : ℕ) → AreOld past → max_active s past q ≡ first_width s q
 unfolding max_active
@@ -86,11 +64,7 @@ max_kept s (e ∷ past) q h = ap (λ b. option_map_or (λ n. n) (if b then width
 
 width_kept : (s : Layout) (past : List Entry) (q : ℕ) → AreOld past → AreKept past → width s past q ≡ first_width s q
 unfolding width
-width_kept s past q old kept = ap (λ b. if is_freezable s q && b then 0 else max_active s past q) (never_frozen past kept) ∙ open_to (is_freezable s q) ∙ max_kept s past q old
-  where
-    open_to : (b : Bool) → (if b && false then 0 else max_active s past q) ≡ max_active s past q
-    open_to true = refl
-    open_to false = refl
+width_kept s past q old kept = ap (λ b. if is_freezable s q && b then 0 else max_active s past q) (never_frozen past kept) ∙ ap (λ b. if b then 0 else max_active s past q) (and-false (is_freezable s q)) ∙ max_kept s past q old
 
 widths_kept : (s : Layout) (past : List Entry) → AreOld past → AreKept past → HasFirstWidths s past
 widths_kept s [] old kept = tt
@@ -100,25 +74,19 @@ widths_kept s (e ∷ past) old kept = ((λ q. width_kept s (e ∷ past) q old ke
 next_as_before : (s : Layout) (past : List Entry) (p : PoolId) → HasFirstWidths s past → next s past p ≡ next_before s past p
 unfolding next worklist next_before
 next_as_before s past p wide =
+    let listed = All_each _ (became_active s past) (λ x. ap (λ b. b && not (is_started past x.number) && same_pool (pool_at s x.place) p) (active_as_before s past x wide)) in
     ap (find (is_startable past)) (filter_same (is_listed s past p) (is_listed_before s past p) (became_active s past) listed ∙ ap (filter (is_listed_before s past p)) (activated_as_before s past wide))
-  where
-    listed : AllByRecursion (λ x. is_listed s past p x ≡ is_listed_before s past p x) (became_active s past)
-    listed = All_each _ (became_active s past) (λ x. ap (λ b. b && not (is_started past x.number) && same_pool (pool_at s x.place) p) (active_as_before s past x wide))
 
 -- ---- no queue is gone
 
-not_destroyed : (q : ℕ) (who : Who) (c : Call) (n : ℕ) → destroys q c ≡ false → AllByRecursion (λ t. is_destroy_of q t ≡ false) (option_to_list (ticket_for who c n))
-not_destroyed q (Caller d) c n h = (h, tt)
-not_destroyed q (Worker w) c n h = tt
-
-none_given : (q : ℕ) (e : Entry) (n : ℕ) (b : Bool) → destroys q e.call ≡ false → AllByRecursion (λ t. is_destroy_of q t ≡ false) (option_to_list (if b then ticket_for e.who e.call n else None))
-none_given q e n true h = not_destroyed q e.who e.call n h
-none_given q e n false h = tt
+none_given : (q n : ℕ) (who : Who) (c : Call) (b : Bool) → destroys q c ≡ false → AllByRecursion (λ t. is_destroy_of q t ≡ false) (option_to_list (if b then ticket_for who c n else None))
+none_given q n (Caller d) c true h = (h, tt)
+none_given q n who c b h = grind arith
 
 no_destroys : (past : List Entry) (q : ℕ) → AllByRecursion (λ e. destroys q e.call ≡ false) past → AllByRecursion (λ t. is_destroy_of q t ≡ false) (tickets past)
 unfolding tickets
 no_destroys [] q h = tt
-no_destroys (e ∷ past) q h = All_append (λ t. is_destroy_of q t ≡ false) (tickets past) (option_to_list (ticket_in e (length past))) (no_destroys past q h.1) (none_given q e (length past) (gives_ticket e.reply) h.0)
+no_destroys (e ∷ past) q h = All_append (λ t. is_destroy_of q t ≡ false) (tickets past) (option_to_list (ticket_in e (length past))) (no_destroys past q h.1) (none_given q (length past) e.who e.call (gives_ticket e.reply) h.0)
 
 no_end : (past : List Entry) (q : ℕ) (who : Who) (c : Call) → AllByRecursion (λ t. is_destroy_of q t ≡ false) (tickets past) → ends_destroy past q who c ≡ false
 no_end past q who (call.End n) all = at (ticket_of past who n) refl
@@ -126,17 +94,13 @@ no_end past q who (call.End n) all = at (ticket_of past who n) refl
     at : (o : Option Ticket) → ticket_of past who n ≡ o → option_map_or (is_destroy_of q) o false ≡ false
     at None h = refl
     at (Some t) h = (find_holds (λ u. is_destroy_of q u ≡ false) (is_ticket who n) (unended_tickets past) t
-        (All_filter (λ u. is_destroy_of q u ≡ false) (is_unended past) (tickets past) (All_map (λ u. is_destroy_of q u ≡ false) _ (tickets past) (λ u is stands. is) all)) h).holds
+        (all_kept (λ u. is_destroy_of q u ≡ false) (is_unended past) (tickets past) all) h).holds
 no_end past q who c all = refl
 
 pub none_gone : (past : List Entry) (q : ℕ) → AllByRecursion (λ e. destroys q e.call ≡ false) past → is_gone past q ≡ false
 unfolding is_gone
 none_gone [] q h = refl
-none_gone (e ∷ past) q h = ap₂ (λ a b. a || (is_done e.reply && b)) (none_gone past q h.1) (no_end past q e.who e.call (no_destroys past q h.1)) ∙ neither (is_done e.reply)
-  where
-    neither : (b : Bool) → (false || (b && false)) ≡ false
-    neither true = refl
-    neither false = refl
+none_gone (e ∷ past) q h = ap₂ (λ a b. a || (is_done e.reply && b)) (none_gone past q h.1) (no_end past q e.who e.call (no_destroys past q h.1)) ∙ and-false (is_done e.reply)
 
 old_destroys : (q : ℕ) (c : Call) → is_old c ≡ true → destroys q c ≡ false
 old_destroys q (call.Destroy r) h = cc
@@ -147,77 +111,30 @@ old_none_gone past q old = none_gone past q (All_map (λ e. is_old e.call ≡ tr
 
 -- ---- each answer to such a call is as it was
 
-queue_as_before : (past : List Entry) (who : Who) (i q t : ℕ) → is_gone past q ≡ false → queue_answer past who i q t ≡ queue_before past who i q t
-unfolding queue_answer queue_before
-queue_as_before past who i q t none = ap
-    (λ b.
-    if not (may_call past who) then reply.Misuse
-    else if b then reply.Gone
-    else if is_cancelling past i then reply.No
-    else if is_pending past i then reply.No
-    else if runs_elsewhere past i q then reply.Foreign
-    else if is_shut past who q t then reply.Draining
-    else if t == 0 then reply.Yes (length past)
-    else reply.Booked (now past + t))
-    none
-
-modify_as_before : (past : List Entry) (who : Who) (i q t : ℕ) → is_gone past q ≡ false → modify_answer past who i q t ≡ modify_before past who i q t
-unfolding modify_answer modify_before
-modify_as_before past who i q t none = ap
-    (λ b.
-    if not (may_call past who) then reply.Misuse
-    else if b then reply.Gone
-    else if is_cancelling past i then reply.No
-    else if runs_elsewhere past i q then reply.Foreign
-    else if is_shut past who q t then reply.Draining
-    else if is_pending past i then (if t == 0 then reply.Again (length past) else reply.Rebooked (now past + t))
-    else if t == 0 then reply.Yes (length past)
-    else reply.Booked (now past + t))
-    none
-
-wait_as_before : (past : List Entry) (who : Who) (q : ℕ) → is_gone past q ≡ false → wait_answer past who q ≡ wait_before past who
-unfolding wait_answer wait_before
-wait_as_before past who q none = ap (λ b. if b then reply.Gone else if is_crowded past who then reply.Crowded else reply.Ticket (length past)) none
-
 answer_as_before : (s : Layout) (past : List Entry) (who : Who) (c : Call) → HasFirstWidths s past → ((q : ℕ) → is_gone past q ≡ false) → answer s past who c ≡ answer_before s past who c
-unfolding answer take_answer take_before
-answer_as_before s past who (call.Queue i q c) wide none = queue_as_before past who i.0 q.0 0 (none q.0)
-answer_as_before s past who (call.Delay i q c t) wide none = queue_as_before past who i.0 q.0 t (none q.0)
-answer_as_before s past who (call.Modify i q c t) wide none = modify_as_before past who i.0 q.0 t (none q.0)
-answer_as_before s past who (call.Flush q) wide none = wait_as_before past who q.0 (none q.0)
-answer_as_before s past who (call.Drain q) wide none = wait_as_before past who q.0 (none q.0)
-answer_as_before s past (Worker w) call.Take wide none = ap (λ o. if not (is_enlisted past w) || has_run past w then reply.Misuse else start_of s past w o) (next_as_before s past w.pool wide)
-answer_as_before s past (Caller c) call.Take wide none = refl
-answer_as_before s past (Worker w) c wide none = refl
-answer_as_before s past (Caller d) c wide none = refl
+unfolding answer take_answer take_before queue_answer queue_before modify_answer modify_before wait_answer wait_before
+answer_as_before s past who (call.Queue i q c) wide none = rw (none q.0) refl
+answer_as_before s past who (call.Delay i q c t) wide none = rw (none q.0) refl
+answer_as_before s past who (call.Modify i q c t) wide none = rw (none q.0) refl
+answer_as_before s past who (call.Flush q) wide none = rw (none q.0) refl
+answer_as_before s past who (call.Drain q) wide none = rw (none q.0) refl
+answer_as_before s past (Worker w) call.Take wide none = rw (next_as_before s past w.pool wide) refl
+answer_as_before s past who c wide none = refl
 
-kept_by_cause : (s : Layout) (past : List Entry) (who : Who) (c : Call) (r : Reply) → Cause s past who c r → is_old c ≡ true → keeps_reply r ≡ true
-unfolding keeps_reply
+kept_by_cause : (s : Layout) (past : List Entry) (who : Who) (c : Call) (r : Reply) → Cause s past who c r → is_old c ≡ true → frozen_after r false ≡ false
 kept_by_cause s past who c r (cause.freezes w free) h = cc
 kept_by_cause s past who c r other h = refl
-
-kept_answer : (s : Layout) (past : List Entry) (who : Who) (c : Call) → is_old c ≡ true → keeps_reply (answer s past who c) ≡ true
-kept_answer s past who c h = kept_by_cause s past who c (answer s past who c) (causes s past who c) h
 
 legal_kept : (s : Layout) (past : List Entry) → AreOld past → IsLegal s past → AreKept past
 unfolding IsLegal
 legal_kept s [] old legal = tt
-legal_kept s (e ∷ past) old legal = (subst (λ r. keeps_reply r ≡ true) (sym (answer_is s past e legal)) (kept_answer s past e.who e.call old.0), legal_kept s past old.1 legal.2)
-
-entry_as_before : (s : Layout) (past : List Entry) (who : Who) (c : Call) → HasFirstWidths s past → ((q : ℕ) → is_gone past q ≡ false) → entry_for s past who c ≡ entry_before s past who c
-entry_as_before s past who c wide none = ap (λ r. record { who = who; serial = serial_of past who; call = c; reply = r }) (answer_as_before s past who c wide none)
-
-legal_before : (s : Layout) (past : List Entry) → AreOld past → IsLegal s past → IsLegalBefore s past
-unfolding IsLegal IsLegalBefore
-legal_before s [] old legal = tt
-legal_before s (e ∷ past) old legal = (legal.0, legal.1 ∙ entry_as_before s past e.who e.call (widths_kept s past old.1 (legal_kept s past old.1 legal.2)) (λ q. old_none_gone past q old.1), legal_before s past old.1 legal.2)
-
-legal_after : (s : Layout) (past : List Entry) → AreOld past → IsLegalBefore s past → IsLegal s past
-unfolding IsLegal IsLegalBefore
-legal_after s [] old legal = tt
-legal_after s (e ∷ past) old legal =
-    let earlier = legal_after s past old.1 legal.2 in
-    (legal.0, legal.1 ∙ sym (entry_as_before s past e.who e.call (widths_kept s past old.1 (legal_kept s past old.1 earlier)) (λ q. old_none_gone past q old.1)), earlier)
+legal_kept s (e ∷ past) old legal = (kept_by_cause s past e.who e.call e.reply (cause_of s past e legal) old.0, legal_kept s past old.1 legal.2)
 
 pub legal_as_before : (s : Layout) (past : List Entry) → AreOld past → (IsLegal s past → IsLegalBefore s past) × (IsLegalBefore s past → IsLegal s past)
-legal_as_before s past old = ((λ h. legal_before s past old h), (λ h. legal_after s past old h))
+unfolding IsLegal IsLegalBefore
+legal_as_before s [] old = ((λ h. tt), (λ h. tt))
+legal_as_before s (e ∷ past) old =
+    let earlier = legal_as_before s past old.1 in
+    let same : IsLegal s past → entry_for s past e.who e.call ≡ entry_before s past e.who e.call = λ legal. ap (λ r. record { who = e.who; serial = serial_of past e.who; call = e.call; reply = r })
+    (answer_as_before s past e.who e.call (widths_kept s past old.1 (legal_kept s past old.1 legal)) (λ q. old_none_gone past q old.1)) in
+    ((λ h. (h.0, h.1 ∙ same h.2, earlier.0 h.2)), (λ h. (h.0, h.1 ∙ sym (same (earlier.1 h.2)), earlier.1 h.2)))

@@ -1,17 +1,14 @@
 -- Illegal histories that break the laws of legal ones, by computation.
-use Rattle.cmwq_theory_laws.specs.Common.{◌≡◌, ◌≤◌, true, false, [], ◌∷◌, refl, ap, arith, WorkerId, booking, is_cancelled, last_start, item_start, queueings, is_active, became_active, width, max_active, is_gone, tickets, active_count, IsDistinct}
+use Rattle.cmwq_theory_laws.specs.Common.{◌≤◌, [], ◌∷◌, refl, ap, arith, WorkerId, booking, is_cancelled, last_start, item_start, queueings, is_active, became_active, width, max_active, is_gone, tickets, active_count, IsDistinct}
 use Rattle.cmwq_theory_laws.specs.Illegal.{worker_of_pool_zero, GoneButOpen, worker_of_pool_zero, RunInTwoWorkers, StartedTwice, StartedUnqueued, RunBeyondMaxActive, EndedEarly, Unsettled}
 use Rattle.std.proofs.lemmas.Bool.{false≢true, true≢false}
 
 pub run_in_two_workers : RunInTwoWorkers
 unfolding last_start is_cancelled
-run_in_two_workers law =
-    let same : worker_of_pool_zero 0 ≡ worker_of_pool_zero 1 = law 0 (worker_of_pool_zero 0) (worker_of_pool_zero 1) refl refl in
-    let index : (worker_of_pool_zero 0).index ≡ (worker_of_pool_zero 1).index = ap (λ (w : WorkerId). w.index) same in
-    absurd (omega arith)
+run_in_two_workers law = absurd (omega (arith, ap (λ (w : WorkerId). w.index) (law 0 (worker_of_pool_zero 0) (worker_of_pool_zero 1) refl refl)))
 
 pub started_twice : StartedTwice
-started_twice law = let twice : 2 ≤ 1 = law 0 in absurd (omega arith)
+started_twice law = absurd (omega (arith, law 0))
 
 pub started_unqueued : StartedUnqueued
 unfolding queueings

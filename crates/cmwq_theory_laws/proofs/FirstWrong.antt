@@ -1,5 +1,5 @@
 -- The first wrong entry of a history.
-use Rattle.cmwq_theory_laws.specs.Common.{◌≡◌, ◌<◌, Bool, true, false, nat_lt, List, [], ◌∷◌, ◌++◌, length, reverse, refl, sym, ap, ap₂, ◌∙◌, subst, append_assoc, arith, reverse-append, ltb-true, nat_tests, Entry, Illegal, Layout, IsLegal, past_of, entry_for, Wants, IsFirstWrong}
+use Rattle.cmwq_theory_laws.specs.Common.{◌≡◌, ◌<◌, Bool, true, false, nat_lt, List, [], ◌∷◌, ◌++◌, length, reverse, refl, sym, ap, ◌∙◌, subst, append_assoc, arith, reverse-append, ltb-true, nat_tests, Entry, Illegal, Layout, IsLegal, past_of, entry_for, Wants, IsFirstWrong}
 use Rattle.cmwq_model.specs.declared.verdict.Wanted.{Wanted}
 use Rattle.cmwq_model.specs.declared.verdict.Wanted.TheVariants as wanted
 use Rattle.cmwq_theory_steps.proofs.Growing.{older_are_legal}
@@ -10,18 +10,15 @@ past_split : (before : List Entry) (e : Entry) (rest : List Entry) → past_of (
 past_split before e rest =
     reverse-append before (e ∷ rest) ∙ ap (λ (p : List Entry). p ++ reverse before) (reverse-append (e ∷ []) rest) ∙ append_assoc (reverse rest) (e ∷ []) (reverse before)
 
-right_entry : (s : Layout) (past : List Entry) (e : Entry) → IsLegal s (e ∷ past) → e ≡ entry_for s past e.who e.call
-unfolding IsLegal
-right_entry s past e h = h.1
-
 never_right : (s : Layout) (past : List Entry) (e : Entry) (w : Wanted) → Wants s past e w → e ≡ entry_for s past e.who e.call → ⊥
 never_right s past e (wanted.Serial n) h right = h.1 (ap (λ (x : Entry). x.serial) right ∙ sym h.0)
 never_right s past e (wanted.Reply r) h right = h.2 (ap (λ (x : Entry). x.reply) right ∙ sym h.1)
 
 -- an entry after which the history was legal isn't wrong
 never_legal : (s : Layout) (before rest : List Entry) (e : Entry) (w : Wanted) → Wants s (past_of before) e w → IsLegal s (past_of (before ++ e ∷ rest)) → ⊥
+unfolding IsLegal
 never_legal s before rest e w wants legal =
-    never_right s (past_of before) e w wants (right_entry s (past_of before) e (older_are_legal s (past_of rest) (e ∷ past_of before) (subst (IsLegal s) (past_split before e rest) legal)))
+    never_right s (past_of before) e w wants (older_are_legal s (past_of rest) (e ∷ past_of before) (subst (IsLegal s) (past_split before e rest) legal)).1
 
 pub wrong_are_illegal : (s : Layout) (entries : List Entry) (i : Illegal) → IsFirstWrong s entries i → IsLegal s (past_of entries) → ⊥
 wrong_are_illegal s entries i f legal = never_legal s f.before f.rest f.entry i.wanted f.wants (subst (λ (es : List Entry). IsLegal s (past_of es)) f.parts legal)
@@ -31,23 +28,15 @@ wrong_are_illegal s entries i f legal = never_legal s f.before f.rest f.entry i.
 -- of two ways to split a list the shorter front, and what follows it, stand in the longer one
 shorter_front : (xs ys : List Entry) (x y : Entry) (r t : List Entry) → xs ++ x ∷ r ≡ ys ++ y ∷ t → length xs < length ys → (m : List Entry) × (ys ≡ xs ++ x ∷ m)
 shorter_front [] [] x y r t same less = absurd (omega arith)
-shorter_front [] (z ∷ ys) x y r t same less = let head : x ≡ z = cc in (ys, ap (λ (v : Entry). v ∷ ys) (sym head))
+shorter_front [] (z ∷ ys) x y r t same less = (ys, cc)
 shorter_front (w ∷ xs) [] x y r t same less = absurd (omega arith)
-shorter_front (w ∷ xs) (z ∷ ys) x y r t same less =
-    let head : w ≡ z = cc in
-    let tail : xs ++ x ∷ r ≡ ys ++ y ∷ t = cc in
-    let more = shorter_front xs ys x y r t tail (omega arith) in
-    (more.0, ap₂ (λ (v : Entry) (vs : List Entry). v ∷ vs) (sym head) more.1)
+shorter_front (w ∷ xs) (z ∷ ys) x y r t same less = let more = shorter_front xs ys x y r t (cc) (omega arith) in (more.0, cc)
 
 same_front : (xs ys : List Entry) (x y : Entry) (r t : List Entry) → xs ++ x ∷ r ≡ ys ++ y ∷ t → length xs ≡ length ys → (xs ≡ ys) × (x ≡ y)
 same_front [] [] x y r t same long = (refl, cc)
 same_front [] (z ∷ ys) x y r t same long = absurd (omega arith)
 same_front (w ∷ xs) [] x y r t same long = absurd (omega arith)
-same_front (w ∷ xs) (z ∷ ys) x y r t same long =
-    let head : w ≡ z = cc in
-    let tail : xs ++ x ∷ r ≡ ys ++ y ∷ t = cc in
-    let more = same_front xs ys x y r t tail (omega arith) in
-    (ap₂ (λ (v : Entry) (vs : List Entry). v ∷ vs) head more.0, more.1)
+same_front (w ∷ xs) (z ∷ ys) x y r t same long = let more = same_front xs ys x y r t (cc) (omega arith) in (cc, more.1)
 
 not_before : (s : Layout) (entries : List Entry) (i j : Illegal) (f : IsFirstWrong s entries i) (g : IsFirstWrong s entries j) → length f.before < length g.before → ⊥
 not_before s entries i j f g less =

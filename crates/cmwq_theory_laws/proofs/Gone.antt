@@ -1,202 +1,97 @@
 -- A queue that is gone has nothing open and nothing booked on it; one that is being destroyed has nothing booked on it.
-use Rattle.cmwq_theory_laws.specs.Common.{◌≡◌, ◌==◌, ℕ, Bool, true, false, cond, not, ◌&&◌, ◌||◌, List, [], ◌∷◌, ◌++◌, length, filter, find, Option, Some, None, option_to_list, nat_lt, refl, sym, ap, ap₂, ◌∙◌, subst, arith, if◌then◌else◌, option_and_then, option_map, option_or, option_map_or, AllByRecursion, list_any, or-false, or_parts, eq-eqb, eqb-true, nat_tests, list_any-append, filter-append, Who, Caller, Worker, Call, Reply, Entry, Booking, Queueing, Ticket, Layout, is_at, item_called, item_fired, item_of, is_of_item, settles, due_in, booking, booking_of, booked_by, bookings, standing, stands, number_booked, opens, opening, queued_at, place_wanted, still_open, tickets, is_unended, unended_tickets, ticket_in, ticket_for, gives_ticket, drains, destroys, is_drain_of, is_destroy_of, is_draining, is_being_destroyed, is_done, ends_destroy, is_gone, holds_up, waits_for, runs_on, is_booked_on, IsLegal, All_map, All_append, All_filter, All_unfilter, find_none, Cause, IsFree, cause_of, booking_after, opening_opens}
+use Rattle.cmwq_theory_laws.specs.Common.{◌≡◌, ◌==◌, ℕ, Bool, true, false, ◌&&◌, ◌||◌, List, [], ◌∷◌, length, filter, Option, Some, None, option_to_list, refl, sym, ap, ◌∙◌, subst, arith, if◌then◌else◌, option_and_then, option_map, option_or, option_map_or, AllByRecursion, list_any, eq-eqb, eqb-true, nat_tests, Who, Call, Reply, Entry, Booking, Queueing, Layout, is_at, item_fired, is_of_item, settles, due_in, booking, booking_of, booked_by, bookings, standing, stands, number_booked, opens, opening, queued_at, still_open, tickets, unended_tickets, gives_ticket, drains, destroys, is_drain_of, is_destroy_of, is_draining, is_being_destroyed, is_done, ends_destroy, is_gone, holds_up, waits_for, is_booked_on, IsLegal, All_append, All_unfilter, find_none, Cause, cause_of, booking_after, opening_opens}
 use Rattle.cmwq_model.specs.declared.record.Place.{Place}
 use Rattle.cmwq_model.specs.declared.call.Call.TheVariants as call
 use Rattle.cmwq_model.specs.declared.reply.Reply.TheVariants as reply
 use Rattle.cmwq_theory_steps.specs.Endings.{survives}
 use Rattle.cmwq_theory_laws.specs.Gone.{NoneBooked, NoneOpen}
 use Rattle.cmwq_theory_steps.proofs.Causes as cause
-use Rattle.cmwq_theory_laws.proofs.Cancelling.{any_wider, unended_before}
+use Rattle.cmwq_theory_laws.proofs.Cancelling.{unended_kind}
 use Rattle.cmwq_theory_steps.proofs.Endings.{open_go_on}
-use Rattle.std.proofs.lemmas.Bool.{or_left, or_right}
+use Rattle.std.proofs.Common.{inl, inr}
+use Rattle.std.proofs.lemmas.Bool.{and_parts, both_ways, false_from_ne_true, or_from, or_left, or_right}
+use Rattle.std.proofs.lemmas.Option.{same_Some}
+use Rattle.cmwq_lemmas.proofs.Filters.{count_by-wider}
+use Rattle.cmwq_lemmas.proofs.Lists.{All_each}
+use Rattle.cmwq_lemmas.proofs.Passing.{all_kept, all_split, any_counted, counted_any}
+use Rattle.cmwq_theory_steps.proofs.PendingSteps.{none_opened}
+use Rattle.cmwq_theory_steps.proofs.Pools.{PlacedAt, as_booked, books_at, freely, opens_at}
+use Rattle.cmwq_theory_steps.proofs.Standing.{made_for}
+use Rattle.cmwq_theory_steps.proofs.StateSteps.{opens_as_asked}
+use Rattle.cmwq_theory_laws.proofs.Settled.{any_found, none_any}
 use Rattle.cmwq_theory_steps.proofs.Refusals.{none_mapped}
 
-abbrev on_queue : ℕ → Place → Bool
-on_queue q p = p.queue.0 == q
-
 -- ---- what an entry books is on a queue that isn't draining, and isn't gone
-
-record IsFreeQueue (past : List Entry) (q : ℕ) : Type 0 where
-  not_draining : is_draining past q ≡ false
-  not_gone : is_gone past q ≡ false
-
-shut_parts : (a b c : Bool) → (a && (b || c)) ≡ false → c ≡ true → a ≡ false
-shut_parts true b true h k = let bad : (b || true) ≡ false = h in absurd (no b bad)
-  where
-    no : (b : Bool) → (b || true) ≡ false → ⊥
-    no true h = cc
-    no false h = cc
-shut_parts true b false h k = cc
-shut_parts false b c h k = refl
-
-free_queue : (past : List Entry) (who : Who) (i q t : ℕ) → IsFree past who i q t → (t == 0) ≡ false → IsFreeQueue past q
-free_queue past who i q t free some = record { not_draining = shut_parts (is_draining past q) (not (runs_on past who q)) (nat_lt 0 t) free.not_shut (grind (arith, nat_tests)); not_gone = free.not_gone }
-
-books_free : (s : Layout) (past : List Entry) (who : Who) (c : Call) (r : Reply) (d n : ℕ) (b : Booking) → Cause s past who c r → due_in r ≡ Some d → booked_by c n d ≡ Some b → IsFreeQueue past b.place.queue.0
-books_free s past who c r d n b (cause.delayed w i q p t some free idle) h is = subst (IsFreeQueue past) (ap (λ o. option_map_or (λ (x : Booking). x.place.queue.0) o q.0) is) (free_queue past w i.0 q.0 t free some)
-books_free s past who c r d n b (cause.modified_booked w i q p t some free idle) h is = subst (IsFreeQueue past) (ap (λ o. option_map_or (λ (x : Booking). x.place.queue.0) o q.0) is) (free_queue past w i.0 q.0 t free some)
-books_free s past who c r d n b (cause.modified_rebooked w i q p t some free was) h is = subst (IsFreeQueue past) (ap (λ o. option_map_or (λ (x : Booking). x.place.queue.0) o q.0) is) (free_queue past w i.0 q.0 t free some)
-books_free s past who c r d n b other h is = cc
 
 -- so a queue that drains or is gone gets no booking
 none_more_booked : (s : Layout) (past : List Entry) (e : Entry) (q : ℕ) → IsLegal s (e ∷ past) → (is_draining past q || is_gone past q) ≡ true → NoneBooked past q → NoneBooked (e ∷ past) q
 none_more_booked s past e q legal busy none i b h = at (settles e.reply && is_of_item i e) refl
   where
-    off : IsFreeQueue past b.place.queue.0 → (b.place.queue.0 == q) ≡ false
-    off free = other (b.place.queue.0 == q) refl
-      where
-        other : (a : Bool) → (b.place.queue.0 == q) ≡ a → a ≡ false
-        other false is = refl
-        other true is =
-            let same : b.place.queue.0 ≡ q = eqb-true b.place.queue.0 q is in
-            let bad : true ≡ false = sym busy ∙ ap₂ (λ x y. x || y) (subst (λ k. is_draining past k ≡ false) same free.not_draining) (subst (λ k. is_gone past k ≡ false) same free.not_gone) in
-            cc
-
-    new : (o : Option ℕ) → due_in e.reply ≡ o → option_and_then (booked_by e.call (length past)) o ≡ Some b → (b.place.queue.0 == q) ≡ false
-    new None due is = cc
-    new (Some d) due is = off (books_free s past e.who e.call e.reply d (length past) b (cause_of s past e legal) due is)
-
     at : (a : Bool) → (settles e.reply && is_of_item i e) ≡ a → (b.place.queue.0 == q) ≡ false
-    at true ha = new (due_in e.reply) refl (sym (booking_after past e i true ha) ∙ h)
+    at true ha = false_from_ne_true _ (λ is.
+        let k = and_parts (settles e.reply) (is_of_item i e) ha in
+        let m = books_at s past e i (length past) b legal k.0 k.1 (sym (booking_after past e i true ha) ∙ h) in
+        let some = m.some in
+        let shut = m.free.not_shut in
+        both_ways _ (or_from (is_draining past b.place.queue.0) _ (grind (arith, nat_tests)) m.free.not_gone) (ap (λ k. is_draining past k || is_gone past k) (eqb-true b.place.queue.0 q is) ∙ busy))
     at false ha = none i b (sym (booking_after past e i false ha) ∙ h)
 
 -- ---- what an entry opens is on a queue that isn't gone, or on one where it was booked
 
-placed_same : (a b : Place) → Some a ≡ Some b → a.queue.0 ≡ b.queue.0
-placed_same a b h = ap (λ o. option_map_or (λ (x : Place). x.queue.0) o a.queue.0) h
-
-not_on_gone : (past : List Entry) (q k : ℕ) (p : Place) → k ≡ p.queue.0 → is_gone past q ≡ true → is_gone past k ≡ false → on_queue q p ≡ false
-not_on_gone past q k p same gone free = at (on_queue q p) refl
-  where
-    at : (a : Bool) → on_queue q p ≡ a → a ≡ false
-    at false on = refl
-    at true on = let is : k ≡ q = same ∙ eqb-true p.queue.0 q on in let bad : true ≡ false = sym gone ∙ subst (λ m. is_gone past m ≡ false) is free in cc
-
-not_where_booked : (past : List Entry) (i q : ℕ) (p : Place) (o : Option Booking) → booking past i ≡ o → option_map (λ (b : Booking). b.place) o ≡ Some p → NoneBooked past q → on_queue q p ≡ false
-not_where_booked past i q p None is wanted none = cc
-not_where_booked past i q p (Some b) is wanted none = ap (λ k. k == q) (sym (placed_same b.place p wanted)) ∙ none i b is
-
-opens_on : (s : Layout) (past : List Entry) (who : Who) (c : Call) (r : Reply) (i q : ℕ) (p : Place) → Cause s past who c r → opens r ≡ true → place_wanted past c i ≡ Some p → is_gone past q ≡ true → NoneBooked past q → on_queue q p ≡ false
-opens_on s past who c r i q p (cause.queued w j k d free idle) h place gone none = not_on_gone past q k.0 p (placed_same _ p place) gone free.not_gone
-opens_on s past who c r i q p (cause.delayed_by_none w j k d t zero free idle) h place gone none = not_on_gone past q k.0 p (placed_same _ p place) gone free.not_gone
-opens_on s past who c r i q p (cause.modified_idle w j k d t zero free idle) h place gone none = not_on_gone past q k.0 p (placed_same _ p place) gone free.not_gone
-opens_on s past who c r i q p (cause.modified_again w j k d t zero free some) h place gone none = not_on_gone past q k.0 p (placed_same _ p place) gone free.not_gone
-opens_on s past who c r i q p (cause.fires w b due) h place gone none = not_where_booked past i q p (booking past i) refl place none
-opens_on s past who c r i q p (cause.delayed_queued w j free shut some) h place gone none = not_where_booked past i q p (booking past i) refl place none
-opens_on s past who c r i q p other h place gone none = cc
+-- what is open after an entry is on no queue on which nothing was, nor what it opens
+stays_empty : (s : Layout) (past : List Entry) (e : Entry) (q : ℕ) → IsLegal s (e ∷ past) → NoneOpen past q → AllByRecursion (λ x. (x.place.queue.0 == q) ≡ false) (option_to_list (opening past e)) → NoneOpen (e ∷ past) q
+stays_empty s past e q legal empty none =
+    subst (AllByRecursion (λ x. (x.place.queue.0 == q) ≡ false)) (sym (open_go_on s past e legal))
+    (All_append _ (filter (survives past e) (still_open past)) (option_to_list (opening past e)) (all_kept _ (survives past e) (still_open past) empty) none)
 
 none_more_open : (s : Layout) (past : List Entry) (e : Entry) (q : ℕ) → IsLegal s (e ∷ past) → is_gone past q ≡ true → NoneBooked past q → NoneOpen past q → NoneOpen (e ∷ past) q
-none_more_open s past e q legal gone none empty =
-    subst (AllByRecursion (λ x. (x.place.queue.0 == q) ≡ false)) (sym (open_go_on s past e legal))
-    (All_append _ (filter (survives past e) (still_open past)) (option_to_list (opening past e)) (All_filter _ (survives past e) (still_open past) (All_map _ _ (still_open past) (λ x off survivors. off) empty)) (of (opening past e) refl))
+none_more_open s past e q legal gone none empty = stays_empty s past e q legal empty (of (opening past e) refl)
   where
-    placed : (i : ℕ) (o : Option Place) (x : Queueing) → place_wanted past e.call i ≡ o → option_map (queued_at past i) o ≡ Some x → opens e.reply ≡ true → item_of e ≡ Some i → (x.place.queue.0 == q) ≡ false
-    placed i None x is h shown item = cc
-    placed i (Some p) x is h shown item =
-        let same : p.queue.0 ≡ x.place.queue.0 = ap (λ o. option_map_or (λ (y : Queueing). y.place.queue.0) o p.queue.0) h in
-        ap (λ k. k == q) (sym same) ∙ opens_on s past e.who e.call e.reply i q p (cause_of s past e legal) shown is gone none
-
-    with_item : (o : Option ℕ) (x : Queueing) → item_of e ≡ o → option_and_then (λ i. option_map (queued_at past i) (place_wanted past e.call i)) o ≡ Some x → opens e.reply ≡ true → (x.place.queue.0 == q) ≡ false
-    with_item None x item h shown = cc
-    with_item (Some i) x item h shown = placed i (place_wanted past e.call i) x refl h shown item
+    off : (i : ℕ) (p : Place) → PlacedAt past e.who i p → (p.queue.0 == q) ≡ false
+    off i p (freely t free) = false_from_ne_true _ (λ on. both_ways _ free.not_gone (ap (is_gone past) (eqb-true p.queue.0 q on) ∙ gone))
+    off i p (as_booked b is same) = ap (λ (x : Place). x.queue.0 == q) (sym same) ∙ none i b is
 
     of : (o : Option Queueing) → opening past e ≡ o → AllByRecursion (λ x. (x.place.queue.0 == q) ≡ false) (option_to_list o)
     of None is = tt
     of (Some x) is =
         let shown = opening_opens past e x is in
-        (with_item (item_of e) x refl (sym (ap (λ b. if b then option_and_then (λ i. option_map (queued_at past i) (place_wanted past e.call i)) (item_of e) else None) shown) ∙ is) shown, tt)
-
--- ---- a queue is being destroyed after an entry where it was so before, or the entry begins it
+        let k = opens_as_asked s past e legal shown in
+        let same = same_Some x (queued_at past k.item k.place) (sym is ∙ k.opened) in
+        (ap (λ (y : Queueing). y.place.queue.0 == q) same ∙ off k.item k.place (opens_at s past e k.item k.place legal shown k.is_item k.is_place), tt)
 
 destroy_drains : (q : ℕ) (c : Call) → destroys q c ≡ true → drains q c ≡ true
 destroy_drains q (call.Destroy k) h = h
 destroy_drains q c h = cc
 
 any_more : {X : Type 0} (p r : X → Bool) (xs : List X) → ((x : X) → p x ≡ true → r x ≡ true) → list_any p xs ≡ true → list_any r xs ≡ true
-any_more p r [] more h = cc
-any_more p r (x ∷ xs) more h = at (p x) refl h (any_more p r xs more)
-  where
-    at : (a : Bool) → p x ≡ a → (a || list_any p xs) ≡ true → (list_any p xs ≡ true → list_any r xs ≡ true) → (r x || list_any r xs) ≡ true
-    at true is h rest = ap (λ b. b || list_any r xs) (more x is)
-    at false is h rest = grind arith
-
-destroyed_drains : (past : List Entry) (q : ℕ) → is_being_destroyed past q ≡ true → is_draining past q ≡ true
-destroyed_drains past q h = any_more (is_destroy_of q) (is_drain_of q) (unended_tickets past) (λ t is. destroy_drains q t.call is) h
-
-data Destroying (past : List Entry) (e : Entry) (q : ℕ) : Type 0 where
-  was : is_being_destroyed past q ≡ true → Destroying past e q
-  begins : destroys q e.call ≡ true → gives_ticket e.reply ≡ true → Destroying past e q
-
-given_destroys : (past : List Entry) (e : Entry) (q : ℕ) (b : Bool) (who : Who) → gives_ticket e.reply ≡ b → list_any (is_destroy_of q) (filter (is_unended (e ∷ past)) (option_to_list (if b then ticket_for who e.call (length past) else None))) ≡ true
-    → Destroying past e q
-given_destroys past e q false who gives h = cc
-given_destroys past e q true (Worker w) gives h = cc
-given_destroys past e q true (Caller c) gives h = here (is_unended (e ∷ past) (record { caller = c; call = e.call; number = length past })) h
-  where
-    here : (b : Bool) → list_any (is_destroy_of q) (cond b (record { caller = c; call = e.call; number = length past } ∷ []) []) ≡ true → Destroying past e q
-    here true h = begins (sym (or-false (destroys q e.call)) ∙ h) gives
-    here false h = cc
-
-destroying_cases : (e : Entry) (past : List Entry) (q : ℕ) → is_being_destroyed (e ∷ past) q ≡ true → Destroying past e q
-unfolding tickets
-destroying_cases e past q h = here (list_any (is_destroy_of q) (filter (is_unended (e ∷ past)) (tickets past))) refl (sym parts ∙ h)
-  where
-    parts : is_being_destroyed (e ∷ past) q ≡ (list_any (is_destroy_of q) (filter (is_unended (e ∷ past)) (tickets past)) || list_any (is_destroy_of q) (filter (is_unended (e ∷ past)) (option_to_list (ticket_in e (length past)))))
-    parts = ap (list_any (is_destroy_of q)) (filter-append (is_unended (e ∷ past)) (tickets past) (option_to_list (ticket_in e (length past))))
-        ∙ list_any-append (is_destroy_of q) (filter (is_unended (e ∷ past)) (tickets past)) (filter (is_unended (e ∷ past)) (option_to_list (ticket_in e (length past))))
-
-    here : (b : Bool) → list_any (is_destroy_of q) (filter (is_unended (e ∷ past)) (tickets past)) ≡ b → (b || list_any (is_destroy_of q) (filter (is_unended (e ∷ past)) (option_to_list (ticket_in e (length past))))) ≡ true → Destroying past e q
-    here true is h = was (any_wider (is_destroy_of q) (is_unended (e ∷ past)) (is_unended past) (tickets past) (unended_before e past) is)
-    here false is h = given_destroys past e q (gives_ticket e.reply) e.who refl h
+any_more p r xs more h = counted_any r xs (omega (arith, any_counted p xs h, count_by-wider p r xs (All_each _ xs more)))
 
 -- ---- a booking is one of those that stand
 
-record IsMadeOnce (past : List Entry) (i : ℕ) (P : Booking → Type 0) (b : Booking) : Type 0 where
-  item : b.item.0 ≡ i
-  holds : P b
-
-made_of : (c : Call) (r : Reply) (n d : ℕ) (b : Booking) (i : ℕ) → booked_by c n d ≡ Some b → is_at (option_or (item_called c) (item_fired r)) i ≡ true → b.item.0 ≡ i
-made_of (call.Delay j q p t) r n d b i h of = let is : j.0 ≡ b.item.0 = ap (λ o. option_map_or (λ (x : Booking). x.item.0) o j.0) h in sym is ∙ eqb-true j.0 i of
-made_of (call.Modify j q p t) r n d b i h of = let is : j.0 ≡ b.item.0 = ap (λ o. option_map_or (λ (x : Booking). x.item.0) o j.0) h in sym is ∙ eqb-true j.0 i of
-made_of c r n d b i h of = cc
-
-both_true : (a b : Bool) → (a && b) ≡ true → b ≡ true
-both_true true b h = h
-both_true false b h = cc
-
 last_holds : (P : Booking → Type 0) (o : Option Booking) (b : Booking) → AllByRecursion P (option_to_list o) → o ≡ Some b → P b
 last_holds P None b h is = cc
-last_holds P (Some a) b h is = let same : a ≡ b = cc in subst P same h.0
+last_holds P (Some a) b h is = subst P (same_Some a b is) h.0
 
-front_holds : (P : Booking → Type 0) (xs ys : List Booking) → AllByRecursion P (xs ++ ys) → AllByRecursion P xs × AllByRecursion P ys
-front_holds P [] ys h = (tt, h)
-front_holds P (x ∷ xs) ys h = let rest = front_holds P xs ys h.1 in ((h.0, rest.0), rest.1)
-
-its_booking : (past : List Entry) (i : ℕ) (P : Booking → Type 0) (b : Booking) → AllByRecursion P (bookings past) → booking past i ≡ Some b → IsMadeOnce past i P b
+its_booking : (past : List Entry) (i : ℕ) (P : Booking → Type 0) (b : Booking) → AllByRecursion P (bookings past) → booking past i ≡ Some b → (b.item.0 ≡ i) × P b
 unfolding booking bookings
 its_booking [] i P b all h = cc
 its_booking (e ∷ past) i P b all h = at (settles e.reply && is_of_item i e) refl h (its_booking past i P b parts.0)
   where
     parts : AllByRecursion P (bookings past) × AllByRecursion P (option_to_list (booking_of e (length past)))
-    parts = front_holds P (bookings past) (option_to_list (booking_of e (length past))) all
+    parts = all_split P (bookings past) (option_to_list (booking_of e (length past))) all
 
     item_is : (o : Option ℕ) → due_in e.reply ≡ o → option_and_then (booked_by e.call (length past)) o ≡ Some b → is_of_item i e ≡ true → b.item.0 ≡ i
     item_is None due is of = cc
-    item_is (Some d) due is of = made_of e.call e.reply (length past) d b i is of
+    item_is (Some d) due is of = eqb-true b.item.0 i (sym (ap (λ o. is_at (option_or o (item_fired e.reply)) i) (made_for e.call (length past) d b is).item) ∙ of)
 
-    at : (a : Bool) → (settles e.reply && is_of_item i e) ≡ a → (if a then booking_of e (length past) else booking past i) ≡ Some b → (booking past i ≡ Some b → IsMadeOnce past i P b) → IsMadeOnce (e ∷ past) i P b
-    at true ha is rest = record { item = item_is (due_in e.reply) refl is (both_true (settles e.reply) (is_of_item i e) ha); holds = last_holds P (booking_of e (length past)) b parts.1 is }
-    at false ha is rest = let k = rest is in record { item = k.item; holds = k.holds }
-
-none_of : (q : ℕ) (xs : List Booking) → list_any (is_booked_on q) xs ≡ false → AllByRecursion (λ b. (b.place.queue.0 == q) ≡ false) xs
-none_of q [] h = tt
-none_of q (b ∷ xs) h = let parts = or_parts (b.place.queue.0 == q) (list_any (is_booked_on q) xs) h in (parts.0, none_of q xs parts.1)
+    at : (a : Bool) → (settles e.reply && is_of_item i e) ≡ a → (if a then booking_of e (length past) else booking past i) ≡ Some b → (booking past i ≡ Some b → (b.item.0 ≡ i) × P b) → (b.item.0 ≡ i) × P b
+    at true ha is rest = (item_is (due_in e.reply) refl is (and_parts (settles e.reply) (is_of_item i e) ha).1, last_holds P (booking_of e (length past)) b parts.1 is)
+    at false ha is rest = rest is
 
 none_standing : (past : List Entry) (q : ℕ) → list_any (is_booked_on q) (standing past) ≡ false → NoneBooked past q
 none_standing past q h i b is =
-    let k = its_booking past i (λ a. stands past a ≡ true → (a.place.queue.0 == q) ≡ false) b (All_unfilter (λ a. (a.place.queue.0 == q) ≡ false) (stands past) (bookings past) (none_of q (standing past) h)) is in
-    let item : b.item.0 ≡ i = k.item in
-    k.holds (ap (λ o. is_at (option_map number_booked o) b.number) (ap (booking past) item ∙ is) ∙ eq-eqb b.number b.number refl)
+    let k = its_booking past i (λ a. stands past a ≡ true → (a.place.queue.0 == q) ≡ false) b (All_unfilter (λ a. (a.place.queue.0 == q) ≡ false) (stands past) (bookings past) (none_any (is_booked_on q) (standing past) h)) is in
+    k.1 (ap (λ o. is_at (option_map number_booked o) b.number) (ap (booking past) k.0 ∙ is) ∙ eq-eqb b.number b.number refl)
 
 -- ---- the invariant
 
@@ -213,44 +108,26 @@ left_none : (past : List Entry) (e : Entry) (q : ℕ) → settles e.reply ≡ fa
 left_none past e q quiet none i b h = none i b (sym (booking_after past e i false (ap (λ a. a && is_of_item i e) quiet)) ∙ h)
 
 destroying_step : (s : Layout) (past : List Entry) (e : Entry) (q : ℕ) → IsLegal s (e ∷ past) → IsEmptied past q → is_being_destroyed (e ∷ past) q ≡ true → NoneBooked (e ∷ past) q
-destroying_step s past e q legal before h = elim (destroying_cases e past q h) [
-  | was held ↦ none_more_booked s past e q legal (or_left (is_draining past q) (is_gone past q) (destroyed_drains past q held)) (before.destroying held)
-  | begins destroying given ↦ let k = begun_none s past e.who e.call e.reply q (cause_of s past e legal) destroying given in left_none past e q k.1 k.0
+destroying_step s past e q legal before h = elim (unended_kind s past e (destroys q) legal h) [
+  | inl held ↦ none_more_booked s past e q legal (or_left (is_draining past q) (is_gone past q) (any_more (is_destroy_of q) (is_drain_of q) (unended_tickets past) (λ t. destroy_drains q t.call) held)) (before.destroying held)
+  | inr begins ↦ let k = begun_none s past e.who e.call e.reply q (cause_of s past e legal) begins.0 begins.1 in left_none past e q k.1 k.0
 ]
-
--- the end of a destroy: it was unended, and nothing of the queue is open
-record EndsDestroy (past : List Entry) (q : ℕ) : Type 0 where
-  held : is_being_destroyed past q ≡ true
-  empty : NoneOpen past q
-
-found_any : (p r : Ticket → Bool) (t : Ticket) (xs : List Ticket) → find p xs ≡ Some t → r t ≡ true → list_any r xs ≡ true
-found_any p r t [] found passes = cc
-found_any p r t (u ∷ xs) found passes = at (p u) found (found_any p r t xs)
-  where
-    at : (b : Bool) → cond b (Some u) (find p xs) ≡ Some t → (find p xs ≡ Some t → r t ≡ true → list_any r xs ≡ true) → (r u || list_any r xs) ≡ true
-    at true is rest = let same : u ≡ t = cc in ap (λ v. r v || list_any r xs) same ∙ ap (λ b. b || list_any r xs) passes
-    at false is rest = or_right (r u) (list_any r xs) (rest is passes)
 
 waits_none : (past : List Entry) (n q : ℕ) (c : Call) → destroys q c ≡ true → waits_for past n c ≡ None → NoneOpen past q
 waits_none past n q (call.Destroy k) h ready = subst (λ m. NoneOpen past m) (eqb-true k.0 q h) (find_none (holds_up past n (call.Destroy k)) (still_open past) (none_mapped _ ready))
 waits_none past n q c h ready = cc
 
-ends_which : (s : Layout) (past : List Entry) (who : Who) (c : Call) (r : Reply) (q : ℕ) → Cause s past who c r → is_done r ≡ true → ends_destroy past q who c ≡ true → EndsDestroy past q
+-- the end of a destroy: it was unended, and nothing of the queue is open
+ends_which : (s : Layout) (past : List Entry) (who : Who) (c : Call) (r : Reply) (q : ℕ) → Cause s past who c r → is_done r ≡ true → ends_destroy past q who c ≡ true → (is_being_destroyed past q ≡ true) × NoneOpen past q
 ends_which s past who c r q (cause.ended w n t found ready) done h =
     let is : destroys q t.call ≡ true = sym (ap (λ o. option_map_or (is_destroy_of q) o false) found) ∙ h in
-    record { held = found_any _ (is_destroy_of q) t (unended_tickets past) found is; empty = waits_none past t.number q t.call is ready }
+    (any_found _ (is_destroy_of q) t (unended_tickets past) found is, waits_none past t.number q t.call is ready)
 ends_which s past who c r q other done h = cc
 
 -- a done settles nothing, and opens nothing
 done_quiet : (r : Reply) → is_done r ≡ true → (settles r ≡ false) × (opens r ≡ false)
 done_quiet reply.Done h = (refl, refl)
 done_quiet r h = cc
-
-left_open : (s : Layout) (past : List Entry) (e : Entry) (q : ℕ) → IsLegal s (e ∷ past) → opens e.reply ≡ false → NoneOpen past q → NoneOpen (e ∷ past) q
-left_open s past e q legal quiet empty =
-    subst (AllByRecursion (λ x. (x.place.queue.0 == q) ≡ false)) (sym (open_go_on s past e legal))
-    (All_append _ (filter (survives past e) (still_open past)) (option_to_list (opening past e)) (All_filter _ (survives past e) (still_open past) (All_map _ _ (still_open past) (λ x off survivors. off) empty))
-    (subst (λ o. AllByRecursion (λ x. (x.place.queue.0 == q) ≡ false) (option_to_list o)) (sym (ap (λ b. if b then option_and_then (λ i. option_map (queued_at past i) (place_wanted past e.call i)) (item_of e) else None) quiet)) tt))
 
 gone_step : (s : Layout) (past : List Entry) (e : Entry) (q : ℕ) → IsLegal s (e ∷ past) → IsEmptied past q → is_gone (e ∷ past) q ≡ true → NoneOpen (e ∷ past) q × NoneBooked (e ∷ past) q
 unfolding is_gone
@@ -263,7 +140,7 @@ gone_step s past e q legal before h = at (is_gone past q) (is_done e.reply) refl
     at false true ha hb h =
         let ends = ends_which s past e.who e.call e.reply q (cause_of s past e legal) hb h in
         let quiet = done_quiet e.reply hb in
-        (left_open s past e q legal quiet.1 ends.empty, left_none past e q quiet.0 (before.destroying ends.held))
+        (stays_empty s past e q legal ends.1 (subst (λ o. AllByRecursion (λ x. (x.place.queue.0 == q) ≡ false) (option_to_list o)) (sym (none_opened past e quiet.1)) tt), left_none past e q quiet.0 (before.destroying ends.0))
     at false false ha hb h = cc
 
 emptied : (s : Layout) (past : List Entry) (q : ℕ) → IsLegal s past → IsEmptied past q

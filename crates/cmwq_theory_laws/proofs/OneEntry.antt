@@ -1,5 +1,7 @@
 -- A call has one legal entry, steps are legal, and serials count up.
-use Rattle.cmwq_theory_laws.specs.Common.{◌≡◌, ◌+◌, ℕ, zero, suc, Bool, true, false, cond, List, [], ◌∷◌, ◌++◌, map, filter, refl, sym, ap, ap₂, ◌∙◌, arith, append-nil, fold, if◌then◌else◌, reverse, AllByRecursion, range_with_len, eqb-true, reverse-append, map-append, filter-append, Who, Caller, Worker, Call, Entry, Layout, fits, same_who, is_by, serial_of, IsLegal, entry_for, Steps, has_room, step, none, steps, count_by-cons, same_worker-true}
+use Rattle.cmwq_theory_laws.specs.Common.{◌≡◌, ◌+◌, ℕ, Bool, true, false, cond, List, [], ◌∷◌, ◌++◌, map, filter, refl, sym, ap, ap₂, ◌∙◌, arith, append-nil, fold, if◌then◌else◌, reverse, AllByRecursion, range_with_len, eqb-true, reverse-append, map-append, filter-append, Who, Caller, Worker, Call, Entry, Layout, fits, same_who, is_by, serial_of, IsLegal, entry_for, Steps, has_room, step, none, steps, count_by-cons, same_worker-true}
+use Rattle.std.proofs.Common.{suc, zero-add}
+use Rattle.cmwq_lemmas.proofs.Lists.{range_more}
 use Rattle.cmwq_theory_laws.specs.Sanity.{HasOneEntry, serials, serial_told}
 
 -- ---- one entry
@@ -39,12 +41,6 @@ same_who-true (Worker v) (Worker w) h = ap Worker (same_worker-true v w h)
 same_who-true (Caller c) (Worker w) h = cc
 same_who-true (Worker v) (Caller d) h = cc
 
-range_more : (a n : ℕ) → range_with_len a n ++ (a + n) ∷ [] ≡ range_with_len a (suc n)
-range_more a zero = let same : a + 0 ≡ a = omega arith in ap (λ m. m ∷ []) same
-range_more a (suc n) =
-    let same : a + suc n ≡ (a + 1) + n = omega arith in
-    ap (λ ms. a ∷ ms) (ap (λ m. range_with_len (a + 1) n ++ m ∷ []) same ∙ range_more (a + 1) n)
-
 told_next : (s : Layout) (past : List Entry) (e : Entry) (who : Who) → IsLegal s (e ∷ past) → is_by who e ≡ true → e.serial ≡ serial_of past who
 unfolding IsLegal
 told_next s past e who legal by = ap (λ (x : Entry). x.serial) legal.1 ∙ ap (serial_of past) (same_who-true e.who who by)
@@ -57,13 +53,8 @@ serials_more past e who =
 one_more : (s : Layout) (past : List Entry) (e : Entry) (who : Who) (b : Bool) → IsLegal s (e ∷ past) → is_by who e ≡ b → serials past who ≡ range_with_len 0 (serial_of past who)
     → serials past who ++ map serial_told (cond b (e ∷ []) []) ≡ range_with_len 0 (cond b 1 0 + serial_of past who)
 one_more s past e who true legal by earlier =
-    let n = serial_of past who in
-    let next : 0 + n ≡ n = omega arith in
-    let count : suc n ≡ 1 + n = omega arith in
-    ap₂ (λ ms m. ms ++ m ∷ []) earlier (told_next s past e who legal by ∙ sym next) ∙ range_more 0 n ∙ ap (range_with_len 0) count
-one_more s past e who false legal by earlier =
-    let count : serial_of past who ≡ 0 + serial_of past who = omega arith in
-    append-nil (serials past who) ∙ earlier ∙ ap (range_with_len 0) count
+    ap₂ (λ ms m. ms ++ m ∷ []) earlier (told_next s past e who legal by ∙ sym (zero-add (serial_of past who))) ∙ sym (range_more 0 (serial_of past who)) ∙ ap (range_with_len 0) {x = suc (serial_of past who)} (omega arith)
+one_more s past e who false legal by earlier = append-nil (serials past who) ∙ earlier ∙ ap (range_with_len 0) (sym (zero-add (serial_of past who)))
 
 pub serials_count : (s : Layout) (past : List Entry) → IsLegal s past → (who : Who) → serials past who ≡ range_with_len 0 (serial_of past who)
 unfolding IsLegal

@@ -1,19 +1,18 @@
 -- Where the end of a cancel_sync is answered done, its item neither is pending nor runs after that.
-use Rattle.cmwq_theory_laws.specs.Common.{◌≡◌, ℕ, Bool, true, false, cond, ◌&&◌, ◌||◌, List, [], ◌∷◌, find, Option, Some, None, refl, ap, ◌∙◌, sym, option_map, is_some, if◌then◌else◌, list_any, or_right, eq-eqb, Entry, Start, Layout, entry_at, is_of_item, settles, number_started, item_run, item_runs, starts_item, start_in, is_pending, unended_tickets, is_ticket, is_cancelling, cancels_sync, is_cancel_sync_of, waits_for, IsLegal, IsDone, no_start, starts_no_item, items_run_on, ends_ticket, ready_call, ended_call}
+use Rattle.cmwq_theory_laws.specs.Common.{AllByRecursion, or_parts, arith, ◌≡◌, ℕ, Bool, true, false, ◌&&◌, List, [], ◌∷◌, find, Option, Some, None, refl, ap, ◌∙◌, sym, option_map, is_some, if◌then◌else◌, list_any, eq-eqb, Entry, Start, Layout, entry_at, is_of_item, settles, number_started, item_run, item_runs, start_in, is_pending, unended_tickets, is_ticket, is_cancelling, cancels_sync, is_cancel_sync_of, waits_for, IsLegal, IsDone, no_start, starts_no_item, items_run_on, ends_ticket, ready_call, ended_call}
 use Rattle.cmwq_model.specs.declared.call.Call.TheVariants as call
 use Rattle.cmwq_theory_laws.specs.Headline.{CancelsSettle}
 use Rattle.cmwq_theory_steps.specs.RunSteps.{ends_run}
 use Rattle.cmwq_theory_laws.proofs.Cancelling.{cancelling_idle, stays_idle}
 
-module _ {X : Type 0} where
-  any_here : (p q : X → Bool) (x y : X) (xs : List X) (b : Bool) → cond b (Some y) (find p xs) ≡ Some x → q x ≡ true → (find p xs ≡ Some x → list_any q xs ≡ true) → (q y || list_any q xs) ≡ true
-  any_here p q x y xs true found passes later = let same : y ≡ x = cc in ap (λ z. q z || list_any q xs) same ∙ ap (λ b. b || list_any q xs) passes
-  any_here p q x y xs false found passes later = or_right (q y) (list_any q xs) (later found)
+-- what is found is there
+pub any_found : {X : Type 0} (p q : X → Bool) (x : X) (xs : List X) → find p xs ≡ Some x → q x ≡ true → list_any q xs ≡ true
+any_found p q x [] found passes = cc
+any_found p q x (y ∷ xs) found passes = grind (arith, any_found p q x xs)
 
-  -- what is found is there
-  pub any_found : (p q : X → Bool) (x : X) (xs : List X) → find p xs ≡ Some x → q x ≡ true → list_any q xs ≡ true
-  any_found p q x [] found passes = cc
-  any_found p q x (y ∷ xs) found passes = any_here p q x y xs (p y) found passes (λ rest. any_found p q x xs rest passes)
+pub none_any : {X : Type 0} (p : X → Bool) (xs : List X) → list_any p xs ≡ false → AllByRecursion (λ x. p x ≡ false) xs
+none_any p [] h = tt
+none_any p (x ∷ xs) h = let parts = or_parts (p x) (list_any p xs) h in (parts.0, none_any p xs parts.1)
 
 -- the cancel_sync whose end is answered done was unended until then
 was_cancelling : (s : Layout) (past : List Entry) (e : Entry) (t i : ℕ) (begun : Entry) → IsLegal s (e ∷ past) → IsDone e t → entry_at past t ≡ Some begun → begun.call ≡ call.CancelSync (record { 0 = i }) → is_cancelling past i ≡ true
@@ -21,10 +20,6 @@ was_cancelling s past e t i begun legal done at cancels =
     let ends = ends_ticket s past e t legal done in
     let is = ended_call s past e t begun legal done at ∙ cancels in
     any_found (is_ticket e.who t) (is_cancel_sync_of i) ends.ticket (unended_tickets past) ends.found (ap (cancels_sync i) is ∙ eq-eqb i i refl)
-
-no_run : (o : Option Start) → option_map (λ (start : Start). start.number) o ≡ None → o ≡ None
-no_run None h = refl
-no_run (Some start) h = cc
 
 pub cancels_settle : (s : Layout) (past : List Entry) → IsLegal s past → CancelsSettle past
 unfolding IsLegal
@@ -35,8 +30,12 @@ cancels_settle s (e ∷ past) legal = ((λ t i begun done at cancels. (idle t i 
     idle t i begun done at cancels =
         stays_idle s past e i legal (ap (λ r. settles r && is_of_item i e) done.1) (cancelling_idle s past i legal.2 (was_cancelling s past e t i begun legal done at cancels))
 
+    stays : (o : Option Start) → option_map (λ (start : Start). start.number) o ≡ None → is_some (if ends_run e o then None else o) ≡ false
+    stays None h = refl
+    stays (Some start) h = cc
+
     stopped : (t i : ℕ) (begun : Entry) → IsDone e t → entry_at past t ≡ Some begun → begun.call ≡ call.CancelSync (record { 0 = i }) → item_runs (e ∷ past) i ≡ false
     stopped t i begun done at cancels =
-        let none = no_run (item_run past i) (sym (ap (waits_for past t) cancels) ∙ ready_call s past e t begun legal done at) in
-        let starts_none : starts_item past e i ≡ false = starts_no_item e past i (no_start e (ap number_started done.1)) in
-        ap is_some (items_run_on s past e i legal ∙ ap (λ b. if b then start_in e else if ends_run e (item_run past i) then None else item_run past i) starts_none ∙ ap (λ o. if ends_run e o then None else o) none)
+        let none = sym (ap (waits_for past t) cancels) ∙ ready_call s past e t begun legal done at in
+        let starts_none = starts_no_item e past i (no_start e (ap number_started done.1)) in
+        ap is_some (items_run_on s past e i legal ∙ ap (λ b. if b then start_in e else if ends_run e (item_run past i) then None else item_run past i) starts_none) ∙ stays (item_run past i) none

@@ -1,7 +1,8 @@
 -- Where the end of a ticket is answered done, all that it waits for has ended.
-use Rattle.cmwq_theory_laws.specs.Common.{◌≡◌, ◌≤◌, ◌<◌, ◌==◌, ℕ, Bool, true, false, ◌&&◌, List, [], ◌∷◌, length, Option, Some, None, nat_lt, nat_le, refl, sym, ◌∙◌, arith, if◌then◌else◌, option_or, AllByRecursion, nat_tests, Call, Entry, Queueing, Layout, queueings, is_live, still_open, serving_from, is_served_after, is_within, holds_up, waits_for, least_waited, IsLegal, All_both, All_each, find_none, All_unfilter, IsBelow, queueings_below, ready_call}
+use Rattle.cmwq_theory_laws.specs.Common.{◌≡◌, ◌≤◌, ◌<◌, ℕ, true, false, List, [], ◌∷◌, length, Option, Some, None, refl, arith, AllByRecursion, nat_tests, Call, Entry, Queueing, Layout, queueings, is_live, still_open, serving_from, is_within, holds_up, waits_for, least_waited, IsLegal, All_both, All_each, find_none, All_unfilter, IsBelow, queueings_below, ready_call}
 use Rattle.cmwq_model.specs.declared.call.Call.TheVariants as call
 use Rattle.cmwq_theory_laws.specs.Headline.{is_waited_for, has_ended, WaitsEndAfter}
+use Rattle.std.proofs.lemmas.Bool.{both_ways, false_from_ne_true}
 use Rattle.cmwq_theory_steps.proofs.Refusals.{none_mapped}
 
 -- ---- a flush is served from its own number on
@@ -9,16 +10,7 @@ use Rattle.cmwq_theory_steps.proofs.Refusals.{none_mapped}
 served_from_own : (past : List Entry) (q n b : ℕ) → serving_from past q n ≡ Some b → n ≤ b
 unfolding serving_from
 served_from_own [] q n b h = cc
-served_from_own (e ∷ past) q n b h = from (serving_from past q n) refl h (served_from_own past q n b)
-  where
-    here : (a c : Bool) → nat_le n (length past) ≡ a → (if a && c then Some (length past) else None) ≡ Some b → n ≤ b
-    here true true is h = let at : length past ≡ b = cc in grind (arith, nat_tests)
-    here true false is h = cc
-    here false c is h = cc
-
-    from : (o : Option ℕ) → serving_from past q n ≡ o → option_or o (if nat_le n (length past) && is_served_after (e ∷ past) q n then Some (length past) else None) ≡ Some b → (serving_from past q n ≡ Some b → n ≤ b) → n ≤ b
-    from (Some m) is h earlier = earlier (is ∙ h)
-    from None is h earlier = here (nat_le n (length past)) (is_served_after (e ∷ past) q n) refl h
+served_from_own (e ∷ past) q n b h = grind (arith, nat_tests, served_from_own past q n b)
 
 within_served : (past : List Entry) (q t n : ℕ) (o : Option ℕ) → serving_from past q t ≡ o → n < t → is_within o n ≡ true
 within_served past q t n None is less = refl
@@ -26,19 +18,11 @@ within_served past q t n (Some b) is less = let from = served_from_own past q t 
 
 -- ---- what is waited for has ended
 
-flush_waits : (past : List Entry) (q t : ℕ) (x : Queueing) → ((x.place.queue.0 == q) && nat_lt x.number t) ≡ true → ((x.place.queue.0 == q) && is_within (serving_from past q t) x.number) ≡ true
-flush_waits past q t x h =
-    let less : x.number < t = grind (arith, nat_tests) in
-    let within = within_served past q t x.number (serving_from past q t) refl less in
-    grind arith
-
 held_up : (past : List Entry) (t : ℕ) (c : Call) (x : Queueing) → is_waited_for c t x ≡ true → holds_up past t c x ≡ true
-held_up past t (call.Flush q) x h = flush_waits past q.0 t x h
-held_up past t (call.FlushItem i) x h = h
-held_up past t (call.FlushDelayed i) x h = h
-held_up past t (call.Drain q) x h = h
-held_up past t (call.Destroy q) x h = h
-held_up past t c x h = cc
+held_up past t (call.Flush q) x h =
+    let less : x.number < t = grind (arith, nat_tests) in
+    grind (arith, within_served past q.0 t x.number (serving_from past q.0 t) refl less)
+held_up past t c x h = grind arith
 
 ended_of : (past : List Entry) (x : Queueing) → x.number < length past → is_live past x ≡ false → has_ended past x ≡ true
 ended_of past x less h = grind (arith, nat_tests)
@@ -49,11 +33,7 @@ waited_ended past t c ready =
     (queueings_below past) (All_unfilter (λ x. holds_up past t c x ≡ false) (is_live past) (queueings past) (find_none (holds_up past t c) (still_open past) (none_mapped _ ready)))
   where
     ended : (x : Queueing) → x.number < length past → (is_live past x ≡ true → holds_up past t c x ≡ false) → is_waited_for c t x ≡ true → has_ended past x ≡ true
-    ended x less free waited = at (is_live past x) refl
-      where
-        at : (b : Bool) → is_live past x ≡ b → has_ended past x ≡ true
-        at false dead = ended_of past x less dead
-        at true live = let bad : true ≡ false = sym (held_up past t c x waited) ∙ free live in cc
+    ended x less free waited = ended_of past x less (false_from_ne_true _ (λ live. both_ways _ (free live) (held_up past t c x waited)))
 
 all_ended : (past : List Entry) (t : ℕ) (c : Call) → waits_for past t c ≡ None → AllByRecursion (λ x. is_waited_for c t x ≡ true → has_ended past x ≡ true) (queueings past)
 all_ended past t (call.CancelSync i) ready = All_each _ (queueings past) (λ x h. cc)

@@ -1,5 +1,5 @@
 -- Where an entry makes a queueing active, no more than the width are active there after it.
-use Rattle.cmwq_theory_laws.specs.Common.{◌≡◌, ◌≤◌, ℕ, min, max, Bool, true, false, not, ◌&&◌, ◌||◌, List, [], ◌∷◌, count_by, refl, sym, ap, ◌∙◌, arith, nat_tests, AllByRecursion, Entry, Queueing, Layout, width, queueings, is_live, still_open, is_active, is_below_max_active, is_newly_active, is_on, open_on, OfEachEntry, All_map, All_filter, All_unfilter, count_by-same, active_go_on, kept_front, fronts_below_max_active, ways_counted, active_on, first_active}
+use Rattle.cmwq_theory_laws.specs.Common.{◌≡◌, ◌≤◌, ℕ, true, false, ◌||◌, List, [], ◌∷◌, count_by, ◌∙◌, arith, nat_tests, AllByRecursion, Entry, Queueing, Layout, width, queueings, is_live, still_open, is_active, is_below_max_active, is_newly_active, is_on, open_on, OfEachEntry, All_map, All_filter, All_unfilter, count_by-same, active_go_on, kept_front, fronts_below_max_active, ways_counted, active_on, first_active}
 use Rattle.cmwq_theory_laws.specs.Headline.{WithinWidthAfter}
 use Rattle.cmwq_theory_steps.proofs.Fronts.{front_less, count_or}
 
@@ -17,29 +17,16 @@ few_on s past e p =
     let both = count_by-same (is_active s (e ∷ past)) (λ x. is_active s past x || is_below_max_active s (e ∷ past) x) (open_on (e ∷ past) p.0 p.1) (active_on s past e p.0 p.1) ∙ count_or (is_active s past) (is_below_max_active s (e ∷ past)) (open_on (e ∷ past) p.0 p.1) kept way in
     let counted = ways_counted s (e ∷ past) p.0 p.1 in
     All_unfilter _ (is_on p.0 p.1) (still_open (e ∷ past)) (All_map _ (λ x. is_active s past x ≡ false → is_below_max_active s (e ∷ past) x ≡ true → count_by (is_active s (e ∷ past)) (open_on (e ∷ past) p.0 p.1) ≤ width s (e ∷ past) p.0) (open_on (e ∷ past) p.0 p.1)
-    (λ x less fails passes. within _ _ _ _ _ both (less fails passes) counted) (front_less (is_active s past) (is_below_max_active s (e ∷ past)) (open_on (e ∷ past) p.0 p.1) kept way))
-  where
-    within : (k a b l w : ℕ) → k ≡ max a b → a ≤ b → b ≡ min l w → k ≤ w
-    within k a b l w is less counted = grind arith
+    (λ x less fails passes. grind (arith, both, less fails passes, counted)) (front_less (is_active s past) (is_below_max_active s (e ∷ past)) (open_on (e ∷ past) p.0 p.1) kept way))
 
 few_after : (s : Layout) (past : List Entry) (e : Entry) → WithinWidthAfter s past e
 few_after s past e = All_filter _ (is_newly_active s past e) (queueings (e ∷ past)) (All_map _ _ (queueings (e ∷ past)) one (All_unfilter _ (is_live (e ∷ past)) (queueings (e ∷ past)) (all_for (FewOn s past e) (still_open (e ∷ past)) (few_on s past e))))
   where
-    parts : (x : Queueing) (l a w : Bool) → is_active s (e ∷ past) x ≡ (l && (a || w)) → (is_active s (e ∷ past) x && not a) ≡ true → (l ≡ true) × (a ≡ false) × (w ≡ true)
-    parts x l true w is h = let none : (is_active s (e ∷ past) x && false) ≡ true = h in absurd (no (is_active s (e ∷ past) x) none)
-      where
-        no : (b : Bool) → (b && false) ≡ true → ⊥
-        no true h = cc
-        no false h = cc
-    parts x true false true is h = (refl, refl, refl)
-    parts x true false false is h = let bad : (false && true) ≡ true = sym (ap (λ b. b && true) is) ∙ h in cc
-    parts x false false w is h = let bad : (false && true) ≡ true = sym (ap (λ b. b && true) is) ∙ h in cc
-
     one : (x : Queueing) → (is_live (e ∷ past) x ≡ true → (p : ℕ × ℕ) → FewOn s past e p x) → is_newly_active s past e x ≡ true → count_by (is_active s (e ∷ past)) (open_on (e ∷ past) x.place.queue.0 x.place.cpu.0) ≤ width s (e ∷ past) x.place.queue.0
     one x few newly =
         let on : is_on x.place.queue.0 x.place.cpu.0 x ≡ true = grind (arith, nat_tests) in
-        let k = parts x (is_live (e ∷ past) x) (is_active s past x) (is_below_max_active s (e ∷ past) x) (active_go_on s past e x) newly in
-        few k.0 (x.place.queue.0, x.place.cpu.0) on k.1 k.2
+        let now = active_go_on s past e x in
+        few (grind arith) (x.place.queue.0, x.place.cpu.0) on (grind arith) (grind arith)
 
 pub within_width : (s : Layout) (past : List Entry) → OfEachEntry (WithinWidthAfter s) past
 within_width s [] = tt

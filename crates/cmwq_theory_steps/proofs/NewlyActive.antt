@@ -1,8 +1,12 @@
 -- What one more entry makes active: the first behind the width where an active one ends, and what it opens where it is below max_active.
-use Rattle.cmwq_theory_steps.specs.Common.{◌≡◌, ◌<◌, ◌≤◌, ◌+◌, ◌==◌, ℕ, Bool, true, false, cond, not, ◌&&◌, ◌||◌, List, [], ◌∷◌, ◌++◌, length, filter, count_by, Option, Some, None, option_to_list, append-nil, nat_lt, refl, sym, ap, ap₂, ◌∙◌, subst, arith, slice_get, if◌then◌else◌, AllByRecursion, ltb-true, ltb-false, eqb-true, le-ltb, or_right, nat_tests, filter-append, sum_by-append, sum_by-filter_both, Entry, Queueing, Reply, Layout, is_at, is_of_item, number_finished, number_cancelled, replaces, is_started, width, queueings, opens, opening, is_live, still_open, is_ahead, is_below_max_active, is_active, newly_active, IsLegal, keeps_widths, All_map, All_both, All_each, All_filter, All_unfilter, count_by-cons, opening_number, active_go_on, width_same, open_below}
+use Rattle.cmwq_theory_steps.specs.Common.{option_map_or, ◌≡◌, ◌<◌, ◌≤◌, ◌+◌, ◌==◌, ℕ, Bool, true, false, cond, not, ◌&&◌, ◌||◌, List, [], ◌∷◌, ◌++◌, length, filter, count_by, Option, Some, None, option_to_list, append-nil, nat_lt, refl, sym, ap, ap₂, ◌∙◌, subst, arith, slice_get, if◌then◌else◌, AllByRecursion, ltb-true, ltb-false, eqb-true, nat_tests, filter-append, sum_by-filter_both, Entry, Queueing, Reply, Layout, number_finished, number_cancelled, replaces, width, queueings, opens, opening, is_live, still_open, is_ahead, is_below_max_active, is_active, newly_active, IsLegal, keeps_widths, All_map, All_both, All_each, All_filter, All_unfilter, count_by-cons, opening_number, active_go_on, width_same, open_below}
 use Rattle.cmwq_model.specs.declared.reply.Reply.TheVariants as reply
 use Rattle.cmwq_theory_steps.specs.Endings.{survives, is_ended, ending}
 use Rattle.cmwq_theory_steps.specs.Activations.{waits, is_of_same_pwq, beside, behind_width, is_below_max_active_at_once}
+use Rattle.std.proofs.lemmas.Bool.{and_from, and_parts, both_ways, not-true, true_from_ne_false}
+use Rattle.cmwq_lemmas.proofs.Lists.{count_append}
+use Rattle.cmwq_lemmas.proofs.Truth.{and_false, and_true, same_bools}
+use Rattle.cmwq_theory_steps.proofs.PendingSteps.{none_opened}
 use Rattle.cmwq_lemmas.proofs.Filters.{filter_twice, filter_same, filter_none, count_by-same, count_by-wider}
 use Rattle.cmwq_theory_steps.proofs.Ranks.{is_below, one_ranked}
 use Rattle.cmwq_theory_steps.proofs.Active.{count_ahead, open_ranked, not_active_yet}
@@ -10,16 +14,6 @@ use Rattle.cmwq_theory_steps.proofs.Promoted.{newly_is, newly_of_open}
 use Rattle.cmwq_theory_steps.proofs.Pending.{opening_opens}
 use Rattle.cmwq_theory_steps.proofs.Endings.{opened_live, open_go_on}
 use Rattle.cmwq_theory_steps.proofs.Ended.{one_ends}
-
--- ---- small things
-
-none_below_max_active : (s : Layout) → AllByRecursion (λ x. is_live [] x ≡ true → is_active s [] x ≡ false → is_below_max_active s [] x ≡ false) (queueings [])
-unfolding queueings
-none_below_max_active s = tt
-
-none_passes : (a b : Bool) → (a && (false && b)) ≡ false
-none_passes true b = refl
-none_passes false b = refl
 
 -- ---- how many stand ahead, before the entry and after it
 
@@ -33,34 +27,23 @@ ahead_before s past e x legal =
 
 none_ahead : (past : List Entry) (e : Entry) (x : Queueing) (o : Option Queueing) → x.number ≤ length past → opening past e ≡ o → count_by (is_ahead x) (option_to_list o) ≡ 0
 none_ahead past e x None less h = refl
-none_ahead past e x (Some y) less h =
-    let number : y.number ≡ length past = opening_number past e y h in
-    let not_ahead : is_ahead x y ≡ false = grind (arith, nat_tests) in
-    count_by-cons (is_ahead x) y [] ∙ ap (λ b. cond b 1 0 + 0) not_ahead
+none_ahead past e x (Some y) less h = grind (arith, nat_tests, opening_number past e y h, count_by-cons (is_ahead x) y [])
 
 ahead_after : (s : Layout) (past : List Entry) (e : Entry) (x : Queueing) → IsLegal s (e ∷ past) → x.number ≤ length past → count_by (is_ahead x) (still_open (e ∷ past)) ≡ survivors_ahead past e x
 ahead_after s past e x legal less =
-    let split = sum_by-append (λ y. cond (is_ahead x y) 1 0) (filter (survives past e) (still_open past)) (option_to_list (opening past e)) in
-    let none = none_ahead past e x (opening past e) less refl in
-    ap (count_by (is_ahead x)) (open_go_on s past e legal) ∙ (let sum : count_by (is_ahead x) (filter (survives past e) (still_open past) ++ option_to_list (opening past e)) ≡ survivors_ahead past e x = omega arith in sum)
+    ap (count_by (is_ahead x)) (open_go_on s past e legal)
+    ∙ omega (arith, count_append (is_ahead x) (filter (survives past e) (still_open past)) (option_to_list (opening past e)), none_ahead past e x (opening past e) less refl)
 
 -- ---- what was open and becomes active, and what is opened
 
 -- a queueing that is open and is below max_active is active
 way_is_active : (s : Layout) (past : List Entry) → AllByRecursion (λ x. is_live past x ≡ true → is_active s past x ≡ false → is_below_max_active s past x ≡ false) (queueings past)
-way_is_active s [] = none_below_max_active s
-way_is_active s (e ∷ past) = All_each _ (queueings (e ∷ past)) (λ x live inactive. at x (is_below_max_active s (e ∷ past) x) refl live inactive)
-  where
-    at : (x : Queueing) (b : Bool) → is_below_max_active s (e ∷ past) x ≡ b → is_live (e ∷ past) x ≡ true → is_active s (e ∷ past) x ≡ false → b ≡ false
-    at x false way live inactive = refl
-    at x true way live inactive = let bad : true ≡ false = sym (active_go_on s past e x ∙ ap₂ (λ a b. a && b) live (or_right (is_active s past x) (is_below_max_active s (e ∷ past) x) way)) ∙ inactive in cc
+unfolding queueings
+way_is_active s [] = tt
+way_is_active s (e ∷ past) = All_each _ (queueings (e ∷ past)) (λ x live inactive. grind (arith, active_go_on s past e x))
 
 waiting_behind : (s : Layout) (past : List Entry) → AllByRecursion (λ x. waits s past x ≡ true → width s past x.place.queue.0 ≤ count_by (is_ahead x) (still_open past)) (still_open past)
-waiting_behind s past = All_filter _ (is_live past) (queueings past) (All_map _ _ (queueings past) (λ x none live waiting. ltb-false _ _ (none live (not_true (is_active s past x) waiting))) (way_is_active s past))
-  where
-    not_true : (b : Bool) → not b ≡ true → b ≡ false
-    not_true true h = cc
-    not_true false h = refl
+waiting_behind s past = All_filter _ (is_live past) (queueings past) (All_map _ _ (queueings past) (λ x none live waiting. ltb-false _ _ (none live (not-true (is_active s past x) waiting))) (way_is_active s past))
 
 newly_parts : (s : Layout) (past : List Entry) (e : Entry) → IsLegal s (e ∷ past)
     → newly_active s past e ≡ filter (λ x. survives past e x && (is_below_max_active s (e ∷ past) x && waits s past x)) (still_open past) ++ filter (is_below_max_active s (e ∷ past)) (option_to_list (opening past e))
@@ -73,86 +56,33 @@ newly_parts s past e legal =
   where
     of : (o : Option Queueing) → opening past e ≡ o → filter (λ x. is_below_max_active s (e ∷ past) x && waits s past x) (option_to_list o) ≡ filter (is_below_max_active s (e ∷ past)) (option_to_list o)
     of None is = refl
-    of (Some x) is = ap (λ b. cond b (x ∷ []) []) (ap (λ b. is_below_max_active s (e ∷ past) x && not b) (not_active_yet s past x (opening_number past e x is)) ∙ any (is_below_max_active s (e ∷ past) x))
-      where
-        any : (b : Bool) → (b && true) ≡ b
-        any true = refl
-        any false = refl
+    of (Some x) is = ap (λ b. cond b (x ∷ []) []) (ap (λ b. is_below_max_active s (e ∷ past) x && not b) (not_active_yet s past x (opening_number past e x is)) ∙ and_true _)
 
--- where nothing ends and no width changes, nothing that was open becomes active
-none_moves : (s : Layout) (past : List Entry) (e : Entry) → IsLegal s (e ∷ past) → keeps_widths e.reply ≡ true → ending past e ≡ None → filter (λ x. survives past e x && (is_below_max_active s (e ∷ past) x && waits s past x)) (still_open past) ≡ []
-none_moves s past e legal keeps none = filter_none _ (still_open past) (All_both (λ x. x.number < length past) _ _ (still_open past) one (open_below past) (waiting_behind s past))
+-- where the entry ends the queueing of o, if any: what is behind that, with exactly as many ahead as the queue is wide
+abbrev moves_up : Layout → List Entry → Entry → Option Queueing → Queueing → Bool
+moves_up s past e o x = survives past e x && (option_map_or (is_ahead x) o false && (count_by (is_ahead x) (still_open past) == width s past x.place.queue.0))
+
+count_ending : (s : Layout) (past : List Entry) (e : Entry) (x : Queueing) (o : Option Queueing) → IsLegal s (e ∷ past) → ending past e ≡ o → count_by (is_ahead x) (still_open past) ≡ survivors_ahead past e x + cond (option_map_or (is_ahead x) o false) 1 0
+count_ending s past e x o legal is = ahead_before s past e x legal ∙ ap (λ n. survivors_ahead past e x + n) (ap (λ p. count_by (is_ahead x) (option_to_list p)) is ∙ counted o)
   where
-    one : (x : Queueing) → x.number < length past → (waits s past x ≡ true → width s past x.place.queue.0 ≤ count_by (is_ahead x) (still_open past)) → (survives past e x && (is_below_max_active s (e ∷ past) x && waits s past x)) ≡ false
-    one x less behind = at (waits s past x) refl
-      where
-        none_below_max_active_now : width s past x.place.queue.0 ≤ count_by (is_ahead x) (still_open past) → is_below_max_active s (e ∷ past) x ≡ false
-        none_below_max_active_now beyond =
-            let zero : count_by (is_ahead x) (option_to_list (ending past e)) ≡ 0 = ap (λ o. count_by (is_ahead x) (option_to_list o)) none in
-            let count = ahead_before s past e x legal in
-            let same : count_by (is_ahead x) (still_open past) ≡ survivors_ahead past e x = omega arith in
-            ap₂ nat_lt (ahead_after s past e x legal (omega arith)) (width_same s past e x.place.queue.0 keeps) ∙ le-ltb _ _ (omega arith)
-
-        neither : (a b : Bool) → (a && (b && false)) ≡ false
-        neither true true = refl
-        neither true false = refl
-        neither false b = refl
-
-        at : (b : Bool) → waits s past x ≡ b → (survives past e x && (is_below_max_active s (e ∷ past) x && b)) ≡ false
-        at true h = ap (λ b. survives past e x && (b && true)) (none_below_max_active_now (behind h)) ∙ none_passes (survives past e x) true
-        at false h = neither (survives past e x) (is_below_max_active s (e ∷ past) x)
-
--- where y ends: what is behind y, with exactly as many ahead as the queue is wide
-abbrev moves_up : Layout → List Entry → Entry → Queueing → Queueing → Bool
-moves_up s past e y x = survives past e x && (is_ahead x y && (count_by (is_ahead x) (still_open past) == width s past x.place.queue.0))
-
-count_ending : (s : Layout) (past : List Entry) (e : Entry) (x y : Queueing) → IsLegal s (e ∷ past) → ending past e ≡ Some y → count_by (is_ahead x) (still_open past) ≡ survivors_ahead past e x + cond (is_ahead x y) 1 0
-count_ending s past e x y legal is =
-    ahead_before s past e x legal ∙ ap (λ o. survivors_ahead past e x + count_by (is_ahead x) (option_to_list o)) is
-    ∙ (let one = count_by-cons (is_ahead x) y [] in let sum : survivors_ahead past e x + count_by (is_ahead x) (y ∷ []) ≡ survivors_ahead past e x + cond (is_ahead x y) 1 0 = omega arith in sum)
+    counted : (o : Option Queueing) → count_by (is_ahead x) (option_to_list o) ≡ cond (option_map_or (is_ahead x) o false) 1 0
+    counted None = refl
+    counted (Some y) = omega (arith, count_by-cons (is_ahead x) y [])
 
 -- what waits and moves up is what moves up of what waits
-moves_waiting : (s : Layout) (past : List Entry) (e : Entry) (y : Queueing) → IsLegal s (e ∷ past) → keeps_widths e.reply ≡ true → ending past e ≡ Some y
-    → filter (λ x. survives past e x && (is_below_max_active s (e ∷ past) x && waits s past x)) (still_open past) ≡ filter (waits s past) (filter (moves_up s past e y) (still_open past))
-moves_waiting s past e y legal keeps is = filter_same _ (λ x. moves_up s past e y x && waits s past x) (still_open past) (All_both (λ x. x.number < length past) _ _ (still_open past) one (open_below past) (waiting_behind s past))
-    ∙ sym (filter_twice (waits s past) (moves_up s past e y) (still_open past))
+moves_waiting : (s : Layout) (past : List Entry) (e : Entry) (o : Option Queueing) → IsLegal s (e ∷ past) → keeps_widths e.reply ≡ true → ending past e ≡ o
+    → filter (λ x. survives past e x && (is_below_max_active s (e ∷ past) x && waits s past x)) (still_open past) ≡ filter (waits s past) (filter (moves_up s past e o) (still_open past))
+moves_waiting s past e o legal keeps is = filter_same _ (λ x. moves_up s past e o x && waits s past x) (still_open past) (All_both (λ x. x.number < length past) _ _ (still_open past) one (open_below past) (waiting_behind s past))
+    ∙ sym (filter_twice (waits s past) (moves_up s past e o) (still_open past))
   where
-    step : (m w : ℕ) → w ≤ m + 1 → nat_lt m w ≡ (m + 1 == w)
-    step m w h = grind (arith, nat_tests)
-
-    beyond : (m w : ℕ) → w ≤ m → nat_lt m w ≡ false
-    beyond m w h = le-ltb m w h
-
-    neither : (a b : Bool) → (a && (b && false)) ≡ ((a && b) && false)
-    neither true b = refl
-    neither false b = refl
-
-    neither2 : (a b : Bool) → (a && (b && false)) ≡ (a && false)
-    neither2 true true = refl
-    neither2 true false = refl
-    neither2 false b = refl
-
-    fold : (a b c : Bool) → (a && (b && c)) ≡ ((a && b) && c)
-    fold true b c = refl
-    fold false b c = refl
-
     at : (a c p : Bool) (m n w : ℕ) → n ≡ m + cond c 1 0 → (p ≡ true → w ≤ n) → (a && (nat_lt m w && p)) ≡ ((a && (c && (n == w))) && p)
-    at false c p m n w h k = refl
-    at true c false m n w h k = flat (nat_lt m w) (c && (n == w))
-      where
-        flat : (a b : Bool) → (a && false) ≡ (b && false)
-        flat true true = refl
-        flat true false = refl
-        flat false true = refl
-        flat false false = refl
-    at true true true m n w h k = let more : w ≤ m + 1 = subst (λ j. w ≤ j) h (k refl) in ap (λ b. b && true) (step m w more ∙ ap (λ j. j == w) (sym h))
-    at true false true m n w h k = let same : n ≡ m = omega arith in let most : w ≤ n = k refl in ap (λ b. b && true) (beyond m w (omega arith))
+    at a c p m n w h k = grind (arith, nat_tests)
 
     one : (x : Queueing) → x.number < length past → (waits s past x ≡ true → width s past x.place.queue.0 ≤ count_by (is_ahead x) (still_open past))
-        → (survives past e x && (is_below_max_active s (e ∷ past) x && waits s past x)) ≡ (moves_up s past e y x && waits s past x)
+        → (survives past e x && (is_below_max_active s (e ∷ past) x && waits s past x)) ≡ (moves_up s past e o x && waits s past x)
     one x less behind =
         ap₂ (λ m w. survives past e x && (nat_lt m w && waits s past x)) (ahead_after s past e x legal (omega arith)) (width_same s past e x.place.queue.0 keeps)
-        ∙ at (survives past e x) (is_ahead x y) (waits s past x) (survivors_ahead past e x) (count_by (is_ahead x) (still_open past)) (width s past x.place.queue.0) (count_ending s past e x y legal is) behind
+        ∙ at (survives past e x) (option_map_or (is_ahead x) o false) (waits s past x) (survivors_ahead past e x) (count_by (is_ahead x) (still_open past)) (width s past x.place.queue.0) (count_ending s past e x o legal is) behind
 
 -- ---- that is the one behind the width, if y is active
 
@@ -165,120 +95,66 @@ ended_number s past e y legal is = All_unfilter (λ x. x.number ≡ y.number) (i
 ahead_rise : (x y : Queueing) (xs : List Queueing) → is_of_same_pwq y x ≡ true → x.number ≤ y.number → count_by (is_ahead x) xs ≤ count_by (is_ahead y) xs
 ahead_rise x y xs on less = count_by-wider (is_ahead x) (is_ahead y) xs (All_each _ xs (λ z h. grind (arith, nat_tests)))
 
-is_behind : (x y : Queueing) → is_of_same_pwq y x ≡ true → y.number < x.number → is_ahead x y ≡ true
-is_behind x y on less = grind (arith, nat_tests)
-
 -- where as many as the queue is wide stand ahead of x, and fewer ahead of y, x is behind y and isn't ended with it
 stands_behind : (past : List Entry) (e : Entry) (x y : Queueing) (w : ℕ) → (is_ended past e x ≡ true → x.number ≡ y.number) → count_by (is_ahead y) (still_open past) < w → is_of_same_pwq y x ≡ true → count_by (is_ahead x) (still_open past) ≡ w
     → (survives past e x ≡ true) × (is_ahead x y ≡ true)
-stands_behind past e x y w alone within on count = at (nat_lt y.number x.number) refl
-  where
-    survivors : y.number < x.number → (b : Bool) → survives past e x ≡ b → survives past e x ≡ true
-    survivors less true h = h
-    survivors less false h = let same : x.number ≡ y.number = alone (ap not h) in absurd (omega arith)
-
-    at : (b : Bool) → nat_lt y.number x.number ≡ b → (survives past e x ≡ true) × (is_ahead x y ≡ true)
-    at true h = let less : y.number < x.number = ltb-true y.number x.number h in (survivors less (survives past e x) refl, is_behind x y on less)
-    at false h = let less : x.number ≤ y.number = ltb-false y.number x.number h in let fewer = ahead_rise x y (still_open past) on less in absurd (omega arith)
-
-apart : (x y : Queueing) → is_of_same_pwq y x ≡ false → is_ahead x y ≡ false
-apart x y h = grind (arith, nat_tests)
+stands_behind past e x y w alone within on count =
+    let less : y.number < x.number = grind (arith, ahead_rise x y (still_open past) on) in
+    (true_from_ne_false _ (λ ended. let same = alone (ap not ended) in absurd (omega arith)), grind (arith, nat_tests))
 
 moves_active : (s : Layout) (past : List Entry) (e : Entry) (x y : Queueing) → (is_ended past e x ≡ true → x.number ≡ y.number) → count_by (is_ahead y) (still_open past) < width s past y.place.queue.0
-    → moves_up s past e y x ≡ (is_of_same_pwq y x && (count_by (is_below x) (beside past y) == width s past y.place.queue.0))
+    → moves_up s past e (Some y) x ≡ (is_of_same_pwq y x && (count_by (is_below x) (beside past y) == width s past y.place.queue.0))
 moves_active s past e x y alone within = at (is_of_same_pwq y x) refl
   where
-    rest : is_of_same_pwq y x ≡ true → (b : Bool) → (count_by (is_ahead x) (still_open past) == width s past y.place.queue.0) ≡ b → (survives past e x && (is_ahead x y && b)) ≡ b
-    rest on true h =
-        let both = stands_behind past e x y (width s past y.place.queue.0) alone within on (eqb-true _ _ h) in
-        ap₂ (λ a b. a && (b && true)) both.0 both.1
-    rest on false h = none (survives past e x) (is_ahead x y)
-      where
-        none : (a b : Bool) → (a && (b && false)) ≡ false
-        none true true = refl
-        none true false = refl
-        none false b = refl
+    rest : is_of_same_pwq y x ≡ true → (survives past e x && (is_ahead x y && (count_by (is_ahead x) (still_open past) == width s past y.place.queue.0))) ≡ (count_by (is_ahead x) (still_open past) == width s past y.place.queue.0)
+    rest on = same_bools _ _ (λ h. (and_parts _ _ (and_parts _ _ h).1).1) (λ h. let both = stands_behind past e x y (width s past y.place.queue.0) alone within on (eqb-true _ _ h) in and_from _ _ both.0 (and_from _ _ both.1 h))
 
-    at : (b : Bool) → is_of_same_pwq y x ≡ b → moves_up s past e y x ≡ (b && (count_by (is_below x) (beside past y) == width s past y.place.queue.0))
-    at false on = ap (λ b. survives past e x && (b && (count_by (is_ahead x) (still_open past) == width s past x.place.queue.0))) (apart x y on) ∙ none_passes (survives past e x) (count_by (is_ahead x) (still_open past) == width s past x.place.queue.0)
+    at : (b : Bool) → is_of_same_pwq y x ≡ b → moves_up s past e (Some y) x ≡ (b && (count_by (is_below x) (beside past y) == width s past y.place.queue.0))
+    at false on = grind (arith, nat_tests)
     at true on =
         let queue : x.place.queue.0 ≡ y.place.queue.0 = grind (arith, nat_tests) in
-        ap (λ q. survives past e x && (is_ahead x y && (count_by (is_ahead x) (still_open past) == width s past q))) queue
-        ∙ rest on (count_by (is_ahead x) (still_open past) == width s past y.place.queue.0) refl
+        ap (λ q. survives past e x && (is_ahead x y && (count_by (is_ahead x) (still_open past) == width s past q))) queue ∙ rest on
         ∙ ap (λ n. n == width s past y.place.queue.0) (count_ahead past y.place.queue.0 y.place.cpu.0 x on)
 
 promotes_active : (s : Layout) (past : List Entry) (e : Entry) (y : Queueing) → IsLegal s (e ∷ past) → ending past e ≡ Some y → count_by (is_ahead y) (still_open past) < width s past y.place.queue.0
-    → filter (moves_up s past e y) (still_open past) ≡ option_to_list (slice_get (beside past y) (width s past y.place.queue.0))
+    → filter (moves_up s past e (Some y)) (still_open past) ≡ option_to_list (slice_get (beside past y) (width s past y.place.queue.0))
 promotes_active s past e y legal is within =
-    filter_same (moves_up s past e y) (λ x. is_of_same_pwq y x && (count_by (is_below x) (beside past y) == width s past y.place.queue.0)) (still_open past)
+    filter_same (moves_up s past e (Some y)) (λ x. is_of_same_pwq y x && (count_by (is_below x) (beside past y) == width s past y.place.queue.0)) (still_open past)
     (All_map (λ x. is_ended past e x ≡ true → x.number ≡ y.number) _ (still_open past) (λ x alone. moves_active s past e x y alone within) (ended_number s past e y legal is))
     ∙ sym (filter_twice (λ x. count_by (is_below x) (beside past y) == width s past y.place.queue.0) (is_of_same_pwq y) (still_open past))
     ∙ one_ranked (λ x. count_by (is_below x) (beside past y)) 0 (width s past y.place.queue.0) (width s past y.place.queue.0) (beside past y) (omega arith) (open_ranked past y.place.queue.0 y.place.cpu.0)
 
 -- where y isn't active, what is behind it has more ahead than the queue is wide
-moves_none : (s : Layout) (past : List Entry) (e : Entry) (x y : Queueing) → IsLegal s (e ∷ past) → ending past e ≡ Some y → width s past y.place.queue.0 ≤ count_by (is_ahead y) (still_open past) → moves_up s past e y x ≡ false
-moves_none s past e x y legal is beyond = at (is_ahead x y) refl
+moves_none : (s : Layout) (past : List Entry) (e : Entry) (x y : Queueing) → IsLegal s (e ∷ past) → ending past e ≡ Some y → width s past y.place.queue.0 ≤ count_by (is_ahead y) (still_open past) → moves_up s past e (Some y) x ≡ false
+moves_none s past e x y legal is beyond =
+    let rise = ahead_rise y x (filter (survives past e) (still_open past)) in
+    let count = count_ending s past e x (Some y) legal is in
+    let own = count_ending s past e y (Some y) legal is in
+    grind (arith, nat_tests)
+
+promotes : (s : Layout) (past : List Entry) (e : Entry) (o : Option Queueing) → IsLegal s (e ∷ past) → ending past e ≡ o → filter (moves_up s past e o) (still_open past) ≡ option_to_list (behind_width s past o)
+promotes s past e None legal is = filter_none (moves_up s past e None) (still_open past) (All_each _ (still_open past) (λ x. and_false (survives past e x)))
+promotes s past e (Some y) legal is = at (is_below_max_active s past y) refl
   where
-    on_place : is_ahead x y ≡ true → is_of_same_pwq x y ≡ true
-    on_place h = grind (arith, nat_tests)
-
-    not_self : is_ahead y y ≡ false
-    not_self = grind (arith, nat_tests)
-
-    more : is_ahead x y ≡ true → (count_by (is_ahead x) (still_open past) == width s past x.place.queue.0) ≡ false
-    more h =
-        let queue : x.place.queue.0 ≡ y.place.queue.0 = grind (arith, nat_tests) in
-        let less : y.number < x.number = grind (arith, nat_tests) in
-        let rise = ahead_rise y x (filter (survives past e) (still_open past)) (on_place h) (omega arith) in
-        let count : count_by (is_ahead x) (still_open past) ≡ survivors_ahead past e x + 1 = count_ending s past e x y legal is ∙ ap (λ b. survivors_ahead past e x + cond b 1 0) h in
-        let own : count_by (is_ahead y) (still_open past) ≡ survivors_ahead past e y + 0 = count_ending s past e y y legal is ∙ ap (λ b. survivors_ahead past e y + cond b 1 0) not_self in
-        let wide : width s past x.place.queue.0 ≡ width s past y.place.queue.0 = ap (width s past) queue in
-        let greater : width s past x.place.queue.0 < count_by (is_ahead x) (still_open past) = omega arith in
-        grind (arith, nat_tests)
-
-    none : (a b : Bool) → b ≡ false → (a && (true && b)) ≡ false
-    none true b h = h
-    none false b h = refl
-
-    at : (b : Bool) → is_ahead x y ≡ b → moves_up s past e y x ≡ false
-    at true h = ap (λ b. survives past e x && (b && (count_by (is_ahead x) (still_open past) == width s past x.place.queue.0))) h ∙ none (survives past e x) _ (more h)
-    at false h = ap (λ b. survives past e x && (b && (count_by (is_ahead x) (still_open past) == width s past x.place.queue.0))) h ∙ none_passes (survives past e x) (count_by (is_ahead x) (still_open past) == width s past x.place.queue.0)
-
-promotes : (s : Layout) (past : List Entry) (e : Entry) (y : Queueing) → IsLegal s (e ∷ past) → ending past e ≡ Some y → filter (moves_up s past e y) (still_open past) ≡ option_to_list (behind_width s past (Some y))
-promotes s past e y legal is = at (is_below_max_active s past y) refl
-  where
-    at : (b : Bool) → is_below_max_active s past y ≡ b → filter (moves_up s past e y) (still_open past) ≡ option_to_list (if b then slice_get (beside past y) (width s past y.place.queue.0) else None)
+    at : (b : Bool) → is_below_max_active s past y ≡ b → filter (moves_up s past e (Some y)) (still_open past) ≡ option_to_list (if b then slice_get (beside past y) (width s past y.place.queue.0) else None)
     at true h = promotes_active s past e y legal is (ltb-true _ _ h)
-    at false h = filter_none (moves_up s past e y) (still_open past) (All_each _ (still_open past) (λ x. moves_none s past e x y legal is (ltb-false _ _ h)))
-
-newly_promoted : (s : Layout) (past : List Entry) (e : Entry) (o : Option Queueing) → IsLegal s (e ∷ past) → keeps_widths e.reply ≡ true → ending past e ≡ o
-    → filter (λ x. survives past e x && (is_below_max_active s (e ∷ past) x && waits s past x)) (still_open past) ≡ filter (waits s past) (option_to_list (behind_width s past o))
-newly_promoted s past e None legal keeps is = none_moves s past e legal keeps is
-newly_promoted s past e (Some y) legal keeps is = moves_waiting s past e y legal keeps is ∙ ap (filter (waits s past)) (promotes s past e y legal is)
+    at false h = filter_none (moves_up s past e (Some y)) (still_open past) (All_each _ (still_open past) (λ x. moves_none s past e x y legal is (ltb-false _ _ h)))
 
 -- ---- what is opened
 
-opens_keep : (r : Reply) → opens r ≡ true → keeps_widths r ≡ true
-opens_keep (reply.Width n) h = cc
-opens_keep reply.Frozen h = cc
-opens_keep reply.Thawed h = cc
-opens_keep r h = refl
+-- where a width changes nothing ends, and nothing is opened
+widened_quiet : (r : Reply) → keeps_widths r ≡ false → (number_finished r ≡ None) × (number_cancelled r ≡ None) × (replaces r ≡ false) × (opens r ≡ false)
+widened_quiet (reply.Width n) h = (refl, refl, refl, refl)
+widened_quiet r h = grind arith
 
 opened_way : (s : Layout) (past : List Entry) (e : Entry) (x : Queueing) → IsLegal s (e ∷ past) → opening past e ≡ Some x → is_below_max_active s (e ∷ past) x ≡ is_below_max_active_at_once s past e x
 opened_way s past e x legal is =
     let number : x.number ≡ length past = opening_number past e x is in
     ap₂ nat_lt (ahead_after s past e x legal (omega arith) ∙ count_by-same (is_ahead x) (is_of_same_pwq x) (filter (survives past e) (still_open past)) all_ahead)
-    (width_same s past e x.place.queue.0 (opens_keep e.reply (opening_opens past e x is)))
+    (width_same s past e x.place.queue.0 (true_from_ne_false _ (λ widened. both_ways _ (widened_quiet e.reply widened).3 (opening_opens past e x is))))
   where
-    ahead : (y : Queueing) → y.number < length past → is_ahead x y ≡ is_of_same_pwq x y
-    ahead y less = let number : x.number ≡ length past = opening_number past e x is in let below : nat_lt y.number x.number ≡ true = grind (arith, nat_tests) in ap (λ b. is_of_same_pwq x y && b) below ∙ any (is_of_same_pwq x y)
-      where
-        any : (b : Bool) → (b && true) ≡ b
-        any true = refl
-        any false = refl
-
     all_ahead : AllByRecursion (λ y. is_ahead x y ≡ is_of_same_pwq x y) (filter (survives past e) (still_open past))
-    all_ahead = All_filter _ (survives past e) (still_open past) (All_map _ _ (still_open past) (λ y less survivors. ahead y less) (open_below past))
+    all_ahead = All_filter _ (survives past e) (still_open past) (All_map _ _ (still_open past) (λ y less survivors. grind (arith, nat_tests, opening_number past e x is)) (open_below past))
 
 pub opened_are_below_max_active : (s : Layout) (past : List Entry) (e : Entry) (x : Queueing) → IsLegal s (e ∷ past) → opening past e ≡ Some x → is_active s (e ∷ past) x ≡ is_below_max_active_at_once s past e x
 opened_are_below_max_active s past e x legal is =
@@ -292,26 +168,13 @@ newly_opened s past e (Some x) legal is = ap (λ b. cond b (x ∷ []) []) (opene
 pub newly_active_are : (s : Layout) (past : List Entry) (e : Entry) → IsLegal s (e ∷ past) → keeps_widths e.reply ≡ true
     → newly_active s past e ≡ filter (waits s past) (option_to_list (behind_width s past (ending past e))) ++ filter (is_below_max_active_at_once s past e) (option_to_list (opening past e))
 newly_active_are s past e legal keeps =
-    newly_parts s past e legal ∙ ap₂ (λ xs ys. xs ++ ys) (newly_promoted s past e (ending past e) legal keeps refl) (newly_opened s past e (opening past e) legal refl)
-
--- ---- where a width changes nothing ends, and nothing is opened
-
-spares_all : (past : List Entry) (e : Entry) (x : Queueing) (r : Reply) → e.reply ≡ r → keeps_widths r ≡ false → survives past e x ≡ true
-spares_all past e x (reply.Width n) is h = ap (λ r. not (is_at (number_finished r) x.number) && not (is_at (number_cancelled r) x.number) && not (replaces r && is_of_item x.item.0 e && not (is_started past x.number))) is
-spares_all past e x reply.Frozen is h = ap (λ r. not (is_at (number_finished r) x.number) && not (is_at (number_cancelled r) x.number) && not (replaces r && is_of_item x.item.0 e && not (is_started past x.number))) is
-spares_all past e x reply.Thawed is h = ap (λ r. not (is_at (number_finished r) x.number) && not (is_at (number_cancelled r) x.number) && not (replaces r && is_of_item x.item.0 e && not (is_started past x.number))) is
-spares_all past e x r is h = cc
-
-opens_none : (past : List Entry) (e : Entry) (o : Option Queueing) → opening past e ≡ o → keeps_widths e.reply ≡ false → o ≡ None
-opens_none past e None is h = refl
-opens_none past e (Some x) is h = let bad : true ≡ false = sym (opens_keep e.reply (opening_opens past e x is)) ∙ h in cc
+    newly_parts s past e legal ∙ ap₂ (λ xs ys. xs ++ ys) (moves_waiting s past e (ending past e) legal keeps refl ∙ ap (filter (waits s past)) (promotes s past e (ending past e) legal refl)) (newly_opened s past e (opening past e) legal refl)
 
 pub widened_make_active : (s : Layout) (past : List Entry) (e : Entry) → IsLegal s (e ∷ past) → keeps_widths e.reply ≡ false → newly_active s past e ≡ filter (λ x. is_below_max_active s (e ∷ past) x && waits s past x) (still_open past)
 widened_make_active s past e legal h =
+    let k = widened_quiet e.reply h in
+    let spared : (x : Queueing) → survives past e x ≡ true = λ x. rw (k.0, k.1, k.2) refl in
     newly_parts s past e legal
-    ∙ ap₂ (λ xs ys. xs ++ ys) (filter_same _ _ (still_open past) (All_each _ (still_open past) (λ x. ap (λ b. b && (is_below_max_active s (e ∷ past) x && waits s past x)) (spares_all past e x e.reply refl h))))
-    (ap (λ o. filter (is_below_max_active s (e ∷ past)) (option_to_list o)) (opens_none past e (opening past e) refl h))
-    ∙ none_after (filter (λ x. is_below_max_active s (e ∷ past) x && waits s past x) (still_open past))
-  where
-    none_after : (xs : List Queueing) → xs ++ [] ≡ xs
-    none_after xs = rw append-nil refl
+    ∙ ap₂ (λ xs ys. xs ++ ys) (filter_same _ _ (still_open past) (All_each _ (still_open past) (λ x. ap (λ b. b && (is_below_max_active s (e ∷ past) x && waits s past x)) (spared x))))
+    (ap (λ o. filter (is_below_max_active s (e ∷ past)) (option_to_list o)) (none_opened past e k.3))
+    ∙ append-nil _

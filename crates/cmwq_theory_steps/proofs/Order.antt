@@ -1,22 +1,8 @@
 -- A pool's worklist stands in the order in which its queueings became active.
-use Rattle.cmwq_theory_steps.specs.Common.{◌≡◌, ◌<◌, ◌≤◌, ℕ, Bool, true, false, cond, List, [], ◌∷◌, ◌++◌, length, filter, Option, Some, None, refl, ap, ◌∙◌, arith, inl, inr, if◌then◌else◌, AllByRecursion, option_or, Entry, Queueing, Layout, queueings, is_live, is_active, is_newly_active, newly_active, became_active, IsRising, All_map, All_both, All_append, All_each, All_filter, queueings_rise, rising_filter, open_before, stays_active, active_older, active_live}
+use Rattle.cmwq_theory_steps.specs.Common.{◌≡◌, ◌<◌, ◌≤◌, ℕ, Bool, true, List, [], ◌∷◌, ◌++◌, length, filter, Option, Some, None, refl, ap, arith, inl, inr, if◌then◌else◌, AllByRecursion, option_or, Entry, Queueing, Layout, queueings, is_live, is_active, is_newly_active, newly_active, became_active, IsRising, All_map, All_both, All_append, All_each, All_filter, queueings_rise, rising_filter, open_before, stays_active, active_older, active_live}
+use Rattle.std.proofs.lemmas.Bool.{cond_both}
+use Rattle.cmwq_lemmas.proofs.Passing.{all_kept}
 use Rattle.cmwq_theory_steps.specs.Order.{since, IsSooner, AreInOrder}
-
--- ---- since when a queueing is active
-
-data Since (s : Layout) (e : Entry) (past : List Entry) (x : Queueing) (j : ℕ) : Type 0 where
-  already : since s past x ≡ Some j → Since s e past x j
-  at_once : since s past x ≡ None → is_active s (e ∷ past) x ≡ true → length (e ∷ past) ≡ j → Since s e past x j
-
-since_case : (s : Layout) (e : Entry) (past : List Entry) (x : Queueing) (j : ℕ) (o : Option ℕ) (b : Bool) → since s past x ≡ o → is_active s (e ∷ past) x ≡ b
-    → option_or o (if b then Some (length (e ∷ past)) else None) ≡ Some j → Since s e past x j
-since_case s e past x j (Some k) b ho hb h = already (ho ∙ h)
-since_case s e past x j None true ho hb h = at_once ho hb (let same : length (e ∷ past) ≡ j = cc in same)
-since_case s e past x j None false ho hb h = cc
-
-since_cases : (s : Layout) (e : Entry) (past : List Entry) (x : Queueing) (j : ℕ) → since s (e ∷ past) x ≡ Some j → Since s e past x j
-unfolding since
-since_cases s e past x j h = since_case s e past x j (since s past x) (is_active s (e ∷ past) x) refl refl h
 
 since_keeps : (s : Layout) (e : Entry) (past : List Entry) (x : Queueing) (j : ℕ) → since s past x ≡ Some j → since s (e ∷ past) x ≡ Some j
 unfolding since
@@ -25,37 +11,27 @@ since_keeps s e past x j h = ap (λ o. option_or o (if is_active s (e ∷ past) 
 since_older : (s : Layout) (past : List Entry) (x : Queueing) (j : ℕ) → since s past x ≡ Some j → x.number < length past
 unfolding since
 since_older s [] x j h = cc
-since_older s (e ∷ past) x j h = elim (since_cases s e past x j h) [
-  | already before ↦ let less : x.number < length past = since_older s past x j before in omega arith
-  | at_once none active is ↦ active_older s (e ∷ past) x active
-]
+since_older s (e ∷ past) x j h = grind (arith, since_older s past x j, active_older s (e ∷ past) x)
 
 -- what was active at some time and is open now is active now
 pub still_active : (s : Layout) (past : List Entry) (x : Queueing) (j : ℕ) → since s past x ≡ Some j → is_live past x ≡ true → is_active s past x ≡ true
 unfolding since
 still_active s [] x j h live = cc
-still_active s (e ∷ past) x j h live = elim (since_cases s e past x j h) [
-  | already before ↦ let older = since_older s past x j before in
-      stays_active s past e x (still_active s past x j before (open_before e past x.item.0 x.number older live)) live
-  | at_once none active is ↦ active
-]
+still_active s (e ∷ past) x j h live = grind (arith, since_older s past x j, still_active s past x j, open_before e past x.item.0 x.number, stays_active s past e x)
 
 -- what an entry makes active is active since then
 newly_since : (s : Layout) (past : List Entry) (e : Entry) (x : Queueing) → is_newly_active s past e x ≡ true → since s (e ∷ past) x ≡ Some (length (e ∷ past))
 unfolding since
-newly_since s past e x h = since_now (since s past x) refl
+newly_since s past e x h = at (since s past x) refl
   where
     active : is_active s (e ∷ past) x ≡ true
     active = grind arith
 
-    was_not : is_active s past x ≡ true → ⊥
-    was_not before = grind arith
-
-    since_now : (o : Option ℕ) → since s past x ≡ o → option_or o (if is_active s (e ∷ past) x then Some (length (e ∷ past)) else None) ≡ Some (length (e ∷ past))
-    since_now None ho = ap (λ b. if b then Some (length (e ∷ past)) else None) active
-    since_now (Some j) ho =
-        let older = since_older s past x j ho in
-        absurd (was_not (still_active s past x j ho (open_before e past x.item.0 x.number older (active_live s (e ∷ past) x active))))
+    at : (o : Option ℕ) → since s past x ≡ o → option_or o (if is_active s (e ∷ past) x then Some (length (e ∷ past)) else None) ≡ Some (length (e ∷ past))
+    at None ho = ap (λ b. if b then Some (length (e ∷ past)) else None) active
+    at (Some j) ho =
+        let was = still_active s past x j ho (open_before e past x.item.0 x.number (since_older s past x j ho) (active_live s (e ∷ past) x active)) in
+        absurd (grind arith)
 
 -- ---- all that ever became active stand in order
 
@@ -69,7 +45,7 @@ unfolding became_active
 activated_since s [] = tt
 activated_since s (e ∷ past) =
     All_append (HasSince s (e ∷ past)) (became_active s past) (newly_active s past e)
-    (All_map (HasSince s past) (HasSince s (e ∷ past)) (became_active s past) (λ x h. let within = h.within in record { at = h.at; is = since_keeps s e past x h.at h.is; within = omega arith }) (activated_since s past))
+    (All_map (HasSince s past) (HasSince s (e ∷ past)) (became_active s past) (λ x h. record { at = h.at; is = since_keeps s e past x h.at h.is; within = omega (arith, h.within) }) (activated_since s past))
     (All_filter (HasSince s (e ∷ past)) (is_newly_active s past e) (queueings (e ∷ past))
     (All_each (λ x. is_newly_active s past e x ≡ true → HasSince s (e ∷ past) x) (queueings (e ∷ past)) (λ x newly. record { at = length (e ∷ past); is = newly_since s past e x newly; within = omega arith })))
 
@@ -77,15 +53,9 @@ in_order_append : (s : Layout) (past : List Entry) (xs ys : List Queueing) → A
 in_order_append s past [] ys h k c = k
 in_order_append s past (x ∷ xs) ys h k c = (All_append (IsSooner s past x) xs ys h.0 c.0, in_order_append s past xs ys h.1 k c.1)
 
-in_order_head : (s : Layout) (past : List Entry) (x : Queueing) (xs : List Queueing) (b : Bool) → AllByRecursion (IsSooner s past x) xs → AreInOrder s past xs → AreInOrder s past (cond b (x ∷ xs) xs)
-in_order_head s past x xs true h k = (h, k)
-in_order_head s past x xs false h k = k
-
 pub in_order_filter : (s : Layout) (past : List Entry) (p : Queueing → Bool) (xs : List Queueing) → AreInOrder s past xs → AreInOrder s past (filter p xs)
 in_order_filter s past p [] h = tt
-in_order_filter s past p (x ∷ xs) h =
-    let later = All_filter (IsSooner s past x) p xs (All_map (IsSooner s past x) (λ y. p y ≡ true → IsSooner s past x y) xs (λ y sooner passes. sooner) h.0) in
-    in_order_head s past x (filter p xs) (p x) later (in_order_filter s past p xs h.1)
+in_order_filter s past p (x ∷ xs) h = cond_both (p x) (x ∷ filter p xs) (filter p xs) (AreInOrder s past) (λ passes. (all_kept (IsSooner s past x) p xs h.0, in_order_filter s past p xs h.1)) (λ fails. in_order_filter s past p xs h.1)
 
 in_order_keeps : (s : Layout) (past : List Entry) (e : Entry) (xs : List Queueing) → AreInOrder s past xs → AreInOrder s (e ∷ past) xs
 in_order_keeps s past e [] h = tt
@@ -115,5 +85,5 @@ activated_in_order s (e ∷ past) =
   where
     before : (x : Queueing) → HasSince s past x → AllByRecursion (IsSooner s (e ∷ past) x) (newly_active s past e)
     before x h = All_map (λ y. since s (e ∷ past) y ≡ Some (length (e ∷ past))) (IsSooner s (e ∷ past) x) (newly_active s past e)
-        (λ y is. let within = h.within in record { x_since = h.at; y_since = length (e ∷ past); x_is = since_keeps s e past x h.at h.is; y_is = is; order = inl (omega arith) })
+        (λ y is. record { x_since = h.at; y_since = length (e ∷ past); x_is = since_keeps s e past x h.at h.is; y_is = is; order = inl (omega (arith, h.within)) })
         (newly_all_since s past e)

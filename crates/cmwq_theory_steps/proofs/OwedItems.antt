@@ -1,9 +1,10 @@
 -- What a history owes after one more entry: tickets, bookings and what waits to start.
-use Rattle.cmwq_theory_steps.specs.Common.{◌≡◌, ◌<◌, ◌+◌, ◌==◌, ℕ, Bool, true, false, ◌&&◌, not, List, [], ◌∷◌, length, length-append, filter, Option, Some, None, option_to_list, nat_lt, refl, sym, ap, ap₂, ◌∙◌, subst, arith, option_and_then, is_some, if◌then◌else◌, IsTrue, range_with_len, option_or, option_map_or, ltb-true, eqb-true, eq-eqb, nat_tests, length-filter_both, Who, Call, Reply, Entry, Booking, Ticket, Layout, fits, may_make, has_numbers, is_at, item_called, item_fired, item_of, is_of_item, settles, due_in, booking, booking_of, booked_by, is_booked, gives_ticket, is_done, ticket_in, ticket_for, unended_tickets, IsLegal, All_each}
+use Rattle.cmwq_theory_steps.specs.Common.{◌≡◌, ◌<◌, ◌+◌, ◌==◌, ℕ, Bool, true, false, ◌&&◌, List, [], ◌∷◌, length, length-append, filter, Option, Some, None, option_to_list, nat_lt, refl, sym, ap, ap₂, ◌∙◌, arith, option_and_then, is_some, if◌then◌else◌, IsTrue, range_with_len, option_or, option_map_or, ltb-true, eqb-true, eq-eqb, nat_tests, length-filter_both, Who, Call, Reply, Entry, Booking, Ticket, Layout, fits, may_make, has_numbers, is_at, item_called, item_fired, item_of, is_of_item, settles, due_in, booking, booking_of, booked_by, is_booked, gives_ticket, is_done, ticket_in, ticket_for, unended_tickets, IsLegal, All_each}
 use Rattle.cmwq_model.specs.declared.call.Call.TheVariants as call
 use Rattle.cmwq_theory_steps.specs.TicketSteps.{is_kept, is_ended_by, ticket_asked, ticket_ended}
 use Rattle.cmwq_theory_steps.specs.Histories.{one}
 use Rattle.cmwq_theory_steps.specs.RoomSteps.{booked_count, settles_booked}
+use Rattle.std.proofs.lemmas.Bool.{and_parts}
 use Rattle.cmwq_lemmas.proofs.Filters.{count_by-same}
 use Rattle.cmwq_theory_steps.proofs.Points.{count_point, is_number, number_once}
 use Rattle.cmwq_theory_steps.proofs.Standing.{booking_after, due_own, due_settles, made_for}
@@ -17,11 +18,10 @@ use Rattle.cmwq_theory_steps.proofs.TicketSteps.{is_done_reply, unended_go_on, o
 ended_length : (s : Layout) (past : List Entry) (e : Entry) → IsLegal s (e ∷ past) → length (option_to_list (ticket_ended past e)) ≡ one (is_done e.reply)
 ended_length s past e legal = at (is_done e.reply) refl
   where
-    found : is_done e.reply ≡ true → (t : Ticket) × (ticket_asked past e.who e.call ≡ Some t)
-    found h = let r = done_reason s past e.who e.call e.reply (cause_of s past e legal) (is_done_reply e.reply h) in (r.ticket, ap (ticket_asked past e.who) r.is_end ∙ r.stands)
-
     at : (b : Bool) → is_done e.reply ≡ b → length (option_to_list (if b then ticket_asked past e.who e.call else None)) ≡ one b
-    at true h = ap (λ (o : Option Ticket). length (option_to_list o)) (found h).1
+    at true h =
+        let r = done_reason s past e.who e.call e.reply (cause_of s past e legal) (is_done_reply e.reply h) in
+        ap (λ (o : Option Ticket). length (option_to_list o)) (ap (ticket_asked past e.who) r.is_end ∙ r.stands)
     at false h = refl
 
 given_length : (s : Layout) (past : List Entry) (e : Entry) → IsLegal s (e ∷ past) → length (option_to_list (ticket_in e (length past))) ≡ one (gives_ticket e.reply)
@@ -33,60 +33,33 @@ given_length s past e legal = at (gives_ticket e.reply) refl
 
 pub tickets_counted : (s : Layout) (past : List Entry) (e : Entry) → IsLegal s (e ∷ past) → length (unended_tickets (e ∷ past)) + one (is_done e.reply) ≡ length (unended_tickets past) + one (gives_ticket e.reply)
 tickets_counted s past e legal =
-    let after : length (unended_tickets (e ∷ past)) ≡ length (filter (is_kept e) (unended_tickets past)) + length (option_to_list (ticket_in e (length past)))
-    = ap length (unended_go_on s past e legal) ∙ length-append (filter (is_kept e) (unended_tickets past)) (option_to_list (ticket_in e (length past))) in
-    let both = length-filter_both (is_kept e) (is_ended_by e) (λ t. twice (is_ended_by e t)) (unended_tickets past) in
-    let ended : length (filter (is_ended_by e) (unended_tickets past)) ≡ one (is_done e.reply) = ap length (one_ticket_ends past e) ∙ ended_length s past e legal in
-    let given = given_length s past e legal in
-    omega arith
-  where
-    twice : (b : Bool) → b ≡ not (not b)
-    twice true = refl
-    twice false = refl
+    let after = ap length (unended_go_on s past e legal) ∙ length-append (filter (is_kept e) (unended_tickets past)) (option_to_list (ticket_in e (length past))) in
+    let both = length-filter_both (is_ended_by e) (is_kept e) (λ t. refl) (unended_tickets past) in
+    omega (arith, ap length (one_ticket_ends past e) ∙ ended_length s past e legal, given_length s past e legal)
 
 -- ---- items are those of the layout
 
-last_two : (a b : Bool) → IsTrue (a && b) → b ≡ true
-last_two true b h = h
-last_two false b h = cc
-
-first_of : (a b c : Bool) → (a && b && c) ≡ true → a ≡ true
-first_of true b c h = refl
-first_of false b c h = cc
-
 item_within : (s : Layout) (who : Who) (c : Call) (i : ℕ) → IsTrue (fits s who c) → item_called c ≡ Some i → i < s.items
-item_within s who c i fit is = ltb-true i s.items (numbered c (last_two (may_make s who c) (has_numbers s c) fit) is)
+item_within s who c i fit is = ltb-true i s.items (numbered c (and_parts (may_make s who c) (has_numbers s c) fit).1 is)
   where
-    some_same : (j : ℕ) → Some j ≡ Some i → nat_lt j s.items ≡ true → nat_lt i s.items ≡ true
-    some_same j is h = subst (λ n. nat_lt n s.items ≡ true) (let same : j ≡ i = cc in same) h
-
     numbered : (c : Call) → has_numbers s c ≡ true → item_called c ≡ Some i → nat_lt i s.items ≡ true
-    numbered (call.Queue j q p) h is = some_same j.0 is (first_of _ _ _ h)
-    numbered (call.Delay j q p t) h is = some_same j.0 is (first_of _ _ _ h)
-    numbered (call.Modify j q p t) h is = some_same j.0 is (first_of _ _ _ h)
-    numbered (call.Cancel j) h is = some_same j.0 is h
-    numbered (call.FlushItem j) h is = some_same j.0 is h
-    numbered (call.FlushDelayed j) h is = some_same j.0 is h
-    numbered (call.CancelSync j) h is = some_same j.0 is h
-    numbered c h is = cc
+    numbered (call.Queue j q p) h is = grind arith
+    numbered c h is = grind arith
 
-booked_within : (s : Layout) (past : List Entry) (i : ℕ) (b : Booking) → IsLegal s past → booking past i ≡ Some b → i < s.items
+pub booked_within : (s : Layout) (past : List Entry) (i : ℕ) (b : Booking) → IsLegal s past → booking past i ≡ Some b → i < s.items
 unfolding booking IsLegal
 booked_within s [] i b legal h = cc
 booked_within s (e ∷ past) i b legal h = at (settles e.reply && is_of_item i e) refl h (booked_within s past i b legal.2)
   where
-    of : (settles e.reply && is_of_item i e) ≡ true → is_of_item i e ≡ true
-    of h = grind arith
-
     called : (o : Option ℕ) → due_in e.reply ≡ o → option_and_then (booked_by e.call (length past)) o ≡ Some b → is_of_item i e ≡ true → i < s.items
     called None is h k = cc
     called (Some d) is h k =
         let f = made_for e.call (length past) d b h in
-        let same : (b.item.0 == i) ≡ true = sym (ap (λ o. is_at (option_or o (item_fired e.reply)) i) f.item) ∙ k in
-        subst (λ n. n < s.items) (eqb-true b.item.0 i same) (item_within s e.who e.call b.item.0 (legal_fits s past e legal) f.item)
+        let same = eqb-true b.item.0 i (sym (ap (λ o. is_at (option_or o (item_fired e.reply)) i) f.item) ∙ k) in
+        item_within s e.who e.call i (legal_fits s past e legal) (f.item ∙ ap Some same)
 
     at : (a : Bool) → (settles e.reply && is_of_item i e) ≡ a → (if a then booking_of e (length past) else booking past i) ≡ Some b → (booking past i ≡ Some b → i < s.items) → i < s.items
-    at true is h earlier = called (due_in e.reply) refl h (of is)
+    at true is h earlier = called (due_in e.reply) refl h (and_parts (settles e.reply) (is_of_item i e) is).1
     at false is h earlier = earlier h
 
 pub record SettlesItem (s : Layout) (c : Call) (r : Reply) : Type 0 where
@@ -94,19 +67,17 @@ pub record SettlesItem (s : Layout) (c : Call) (r : Reply) : Type 0 where
   pub is_item : option_or (item_called c) (item_fired r) ≡ Some item
   pub within : item < s.items
 
+-- where no item is called, that of the booking that fires
+settles_fired : (s : Layout) (past : List Entry) (who : Who) (c : Call) (r : Reply) → Cause s past who c r → IsLegal s past → settles r ≡ true → item_called c ≡ None → SettlesItem s c r
+settles_fired s past who c r (cause.fires w b due) legal h none = record { item = b.item.0; is_item = refl; within = booked_within s past b.item.0 b legal (due_own past b due) }
+settles_fired s past who c r other legal h none = cc
+
 pub settles_item : (s : Layout) (past : List Entry) (who : Who) (c : Call) (r : Reply) → Cause s past who c r → IsLegal s past → IsTrue (fits s who c) → settles r ≡ true → SettlesItem s c r
-settles_item s past who c r (cause.queued w i q d free idle) legal fit h = record { item = i.0; is_item = refl; within = item_within s who _ i.0 fit refl }
-settles_item s past who c r (cause.delayed_by_none w i q d t zero free idle) legal fit h = record { item = i.0; is_item = refl; within = item_within s who _ i.0 fit refl }
-settles_item s past who c r (cause.delayed w i q d t some free idle) legal fit h = record { item = i.0; is_item = refl; within = item_within s who _ i.0 fit refl }
-settles_item s past who c r (cause.modified_idle w i q d t zero free idle) legal fit h = record { item = i.0; is_item = refl; within = item_within s who _ i.0 fit refl }
-settles_item s past who c r (cause.modified_again w i q d t zero free was) legal fit h = record { item = i.0; is_item = refl; within = item_within s who _ i.0 fit refl }
-settles_item s past who c r (cause.modified_booked w i q d t some free idle) legal fit h = record { item = i.0; is_item = refl; within = item_within s who _ i.0 fit refl }
-settles_item s past who c r (cause.modified_rebooked w i q d t some free was) legal fit h = record { item = i.0; is_item = refl; within = item_within s who _ i.0 fit refl }
-settles_item s past who c r (cause.unbooked w i none was) legal fit h = record { item = i.0; is_item = refl; within = item_within s who _ i.0 fit refl }
-settles_item s past who c r (cause.fires w b due) legal fit h = record { item = b.item.0; is_item = refl; within = booked_within s past b.item.0 b legal (due_own past b due) }
-settles_item s past who c r (cause.delayed_queued w i free clear was) legal fit h = record { item = i.0; is_item = refl; within = item_within s who _ i.0 fit refl }
-settles_item s past who c r (cause.sync_unbooked w i free none was) legal fit h = record { item = i.0; is_item = refl; within = item_within s who _ i.0 fit refl }
-settles_item s past who c r other legal fit h = cc
+settles_item s past who c r k legal fit h = at (item_called c) refl
+  where
+    at : (o : Option ℕ) → item_called c ≡ o → SettlesItem s c r
+    at None is = settles_fired s past who c r k legal h is
+    at (Some i) is = record { item = i; is_item = ap (λ o. option_or o (item_fired r)) is; within = item_within s who c i fit is }
 
 -- ---- bookings
 

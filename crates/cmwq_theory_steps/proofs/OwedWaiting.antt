@@ -1,11 +1,13 @@
 -- How many open queueings wait to start after one more entry.
-use Rattle.cmwq_theory_steps.specs.Common.{◌≡◌, ◌≤◌, ◌+◌, ◌==◌, ℕ, Bool, true, false, cond, ◌&&◌, ◌||◌, not, List, [], ◌∷◌, filter, find, count_by, Option, Some, None, option_to_list, refl, sym, ap, ap₂, ◌∙◌, arith, option_map, is_some, AllByRecursion, option_map_or, eqb-true, eq-eqb, nat_tests, sum_by-filter_both, sum_by-append, Entry, Queueing, Layout, is_at, is_of_item, number_started, starts, is_started, still_open, opening, has_number, has_not_started, IsLegal, listed_live, All_each, count_by-cons, count_by-filter, open_rise}
+use Rattle.cmwq_theory_steps.specs.Common.{◌≡◌, ◌+◌, ◌==◌, ℕ, true, false, cond, ◌&&◌, ◌||◌, not, List, [], ◌∷◌, filter, count_by, Option, Some, None, option_to_list, refl, sym, ap, ap₂, ◌∙◌, arith, is_some, AllByRecursion, option_map_or, eqb-true, eq-eqb, nat_tests, sum_by-filter_both, Entry, Queueing, Layout, is_at, is_of_item, number_started, starts, is_started, still_open, opening, has_number, has_not_started, IsLegal, listed_live, All_each, count_by-cons, open_rise}
 use Rattle.cmwq_theory_steps.specs.Endings.{survives, is_ended, ending}
 use Rattle.cmwq_theory_steps.specs.Histories.{one}
 use Rattle.cmwq_theory_steps.specs.RoomSteps.{waiting_count, ends_unstarted}
+use Rattle.std.proofs.Common.{◌≢◌}
+use Rattle.cmwq_lemmas.proofs.Lists.{count_append, filter_all}
 use Rattle.cmwq_lemmas.proofs.Filters.{count_by-same, count_none, none_found}
 use Rattle.cmwq_theory_steps.proofs.Points.{count_point}
-use Rattle.cmwq_theory_steps.proofs.StartsListed.{StartsListed, starts_listed, starts_anew}
+use Rattle.cmwq_theory_steps.proofs.StartsListed.{starts_listed, starts_anew}
 use Rattle.cmwq_theory_steps.proofs.Endings.{open_go_on}
 use Rattle.cmwq_theory_steps.proofs.RunSteps.{no_end}
 use Rattle.cmwq_theory_steps.proofs.WorklistSteps.{opening_inert}
@@ -19,8 +21,7 @@ opened_counts s past e (Some x) h = count_by-cons (has_not_started (e ∷ past))
 
 waiting_after : (s : Layout) (past : List Entry) (e : Entry) → IsLegal s (e ∷ past) → waiting_count (e ∷ past) ≡ count_by (has_not_started (e ∷ past)) (filter (survives past e) (still_open past)) + one (is_some (opening past e))
 waiting_after s past e legal =
-    ap (count_by (has_not_started (e ∷ past))) (open_go_on s past e legal)
-    ∙ sum_by-append (λ x. cond (has_not_started (e ∷ past) x) 1 0) (filter (survives past e) (still_open past)) (option_to_list (opening past e))
+    ap (count_by (has_not_started (e ∷ past))) (open_go_on s past e legal) ∙ count_append (has_not_started (e ∷ past)) (filter (survives past e) (still_open past)) (option_to_list (opening past e))
     ∙ ap (λ n. count_by (has_not_started (e ∷ past)) (filter (survives past e) (still_open past)) + n) (opened_counts s past e (opening past e) (opening_inert s past e (opening past e) legal refl))
 
 waiting_before : (s : Layout) (past : List Entry) (e : Entry) → IsLegal s (e ∷ past) → count_by (has_not_started past) (filter (survives past e) (still_open past)) + one (ends_unstarted past e) ≡ waiting_count past
@@ -30,18 +31,15 @@ waiting_before s past e legal =
   where
     single : (o : Option Queueing) → count_by (has_not_started past) (option_to_list o) ≡ one (option_map_or (has_not_started past) o false)
     single None = refl
-    single (Some x) = count_by-cons (has_not_started past) x [] ∙ (let sum : cond (has_not_started past x) 1 0 + 0 ≡ one (has_not_started past x) = omega arith in sum)
+    single (Some x) = omega (arith, count_by-cons (has_not_started past) x [])
 
 -- ---- an entry that starts nothing, and one that starts a queueing
 
 none_started : (s : Layout) (past : List Entry) (e : Entry) → IsLegal s (e ∷ past) → number_started e.reply ≡ None → waiting_count (e ∷ past) + one (is_some (number_started e.reply)) + one (ends_unstarted past e) ≡ waiting_count past + one (is_some (opening past e))
 none_started s past e legal none =
-    let after = waiting_after s past e legal in
-    let before = waiting_before s past e legal in
-    let same : count_by (has_not_started (e ∷ past)) (filter (survives past e) (still_open past)) ≡ count_by (has_not_started past) (filter (survives past e) (still_open past))
-    = count_by-same (has_not_started (e ∷ past)) (has_not_started past) (filter (survives past e) (still_open past)) (All_each _ (filter (survives past e) (still_open past)) (λ x. ap (λ o. not (is_at o x.number || is_started past x.number)) none)) in
-    let zero : one (is_some (number_started e.reply)) ≡ 0 = ap (λ (o : Option ℕ). one (is_some o)) none in
-    omega arith
+    let survivors = filter (survives past e) (still_open past) in
+    let same = count_by-same (has_not_started (e ∷ past)) (has_not_started past) survivors (All_each _ survivors (λ x. ap (λ o. not (is_at o x.number || is_started past x.number)) none)) in
+    omega (arith, waiting_after s past e legal, waiting_before s past e legal, same, ap (λ (o : Option ℕ). one (is_some o)) none)
 
 spares_all : (past : List Entry) (e : Entry) (n : ℕ) → number_started e.reply ≡ Some n → (x : Queueing) → survives past e x ≡ true
 spares_all past e n h x =
@@ -50,38 +48,19 @@ spares_all past e n h x =
 
 number_there : (s : Layout) (past : List Entry) (e : Entry) (n : ℕ) → IsLegal s (e ∷ past) → number_started e.reply ≡ Some n → count_by (has_number n) (still_open past) ≡ 1
 number_there s past e n legal h =
-    let few = few_numbered n (still_open past) (open_rise past) in
-    at (count_by (has_number n) (still_open past) == 0) refl few
-  where
-    st : StartsListed s past e n
-    st = starts_listed s past e n legal (ap (λ o. is_at o n) h ∙ eq-eqb n n refl)
-
-    there : option_map (λ (y : Queueing). y.number) (find (has_number n) (still_open past)) ≡ Some n
-    there = open_found past n st.queueing st.found (listed_live s past st.worker.pool st.queueing st.listed)
-
-    at : (b : Bool) → (count_by (has_number n) (still_open past) == 0) ≡ b → count_by (has_number n) (still_open past) ≤ 1 → count_by (has_number n) (still_open past) ≡ 1
-    at true k few =
-        let none = none_found (has_number n) (still_open past) (count_none (has_number n) (still_open past) (eqb-true _ 0 k)) in
-        let bad : Some n ≡ None = sym there ∙ ap (option_map (λ (y : Queueing). y.number)) none in
-        cc
-    at false k few = grind (arith, nat_tests)
+    let st = starts_listed s past e n legal (ap (λ o. is_at o n) h ∙ eq-eqb n n refl) in
+    let there = open_found past n st.queueing st.found (listed_live s past st.worker.pool st.queueing st.listed) in
+    let some : count_by (has_number n) (still_open past) ≢ 0 = λ zero. let none = none_found (has_number n) (still_open past) (count_none (has_number n) (still_open past) zero) in cc in
+    omega (arith, few_numbered n (still_open past) (open_rise past))
 
 one_started : (s : Layout) (past : List Entry) (e : Entry) (n : ℕ) → IsLegal s (e ∷ past) → number_started e.reply ≡ Some n → waiting_count (e ∷ past) + one (is_some (number_started e.reply)) + one (ends_unstarted past e) ≡ waiting_count past + one (is_some (opening past e))
 one_started s past e n legal h =
-    let after = waiting_after s past e legal in
     let all : count_by (has_not_started (e ∷ past)) (filter (survives past e) (still_open past)) ≡ count_by (has_not_started (e ∷ past)) (still_open past)
-    = sym (count_by-filter (λ x. survives past e x && has_not_started (e ∷ past) x) (survives past e) (has_not_started (e ∷ past)) (still_open past) (λ x. refl))
-    ∙ count_by-same (λ x. survives past e x && has_not_started (e ∷ past) x) (has_not_started (e ∷ past)) (still_open past) (All_each _ (still_open past) (λ x. ap (λ b. b && has_not_started (e ∷ past) x) (spares_all past e n h x))) in
-    let less : count_by (has_not_started (e ∷ past)) (still_open past) + 1 ≡ count_by (has_not_started past) (still_open past) + 0
-    = count_point (has_number n) (has_not_started past) (has_not_started (e ∷ past)) true false (still_open past) (number_there s past e n legal h) was is other in
-    let none : one (ends_unstarted past e) ≡ 0 = ended_none (ending past e) (none_found (is_ended past e) (still_open past) (All_each _ (still_open past) (λ x. ap not (spares_all past e n h x)))) in
-    let some : one (is_some (number_started e.reply)) ≡ 1 = ap (λ (o : Option ℕ). one (is_some o)) h in
-    omega arith
+    = ap (count_by (has_not_started (e ∷ past))) (filter_all (survives past e) (still_open past) (All_each _ (still_open past) (spares_all past e n h))) in
+    let less = count_point (has_number n) (has_not_started past) (has_not_started (e ∷ past)) true false (still_open past) (number_there s past e n legal h) was is other in
+    let none = ap (λ o. one (option_map_or (has_not_started past) o false)) (none_found (is_ended past e) (still_open past) (All_each _ (still_open past) (λ x. ap not (spares_all past e n h x)))) in
+    omega (arith, waiting_after s past e legal, ap (λ (o : Option ℕ). one (is_some o)) h)
   where
-    ended_none : (o : Option Queueing) → o ≡ None → one (option_map_or (has_not_started past) o false) ≡ 0
-    ended_none None k = refl
-    ended_none (Some x) k = cc
-
     starts_it : starts n e ≡ true
     starts_it = ap (λ o. is_at o n) h ∙ eq-eqb n n refl
 

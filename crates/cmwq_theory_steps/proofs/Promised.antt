@@ -1,5 +1,5 @@
 -- Room: the replies that are promised need no more than the history did before, so they are never refused.
-use Rattle.cmwq_theory_steps.specs.Common.{◌≡◌, ◌≤◌, ◌+◌, ℕ, Bool, true, false, not, ◌&&◌, List, ◌∷◌, length, Option, Some, None, refl, ap, ap₂, ◌∙◌, subst, arith, ◌*◌, option_map, option_and_then, is_some, option_or, option_map_or, Who, Call, Reply, Entry, Queueing, Layout, item_called, item_fired, settles, due_in, booking_of, booked_by, is_booked, number_started, number_finished, number_cancelled, is_started, opens, opening, gives_ticket, is_done, IsLegal, has_not_started, owed, room_needed, none}
+use Rattle.cmwq_theory_steps.specs.Common.{◌≡◌, ◌≤◌, ◌+◌, ℕ, true, false, not, ◌&&◌, List, ◌∷◌, length, Option, Some, None, refl, ap, ap₂, ◌∙◌, subst, arith, ◌*◌, option_map, option_and_then, is_some, option_or, option_map_or, Who, Call, Reply, Entry, Queueing, Layout, item_called, item_fired, settles, due_in, booking_of, booked_by, is_booked, number_started, number_finished, number_cancelled, is_started, opens, opening, gives_ticket, is_done, IsLegal, has_not_started, room_needed}
 use Rattle.cmwq_model.specs.declared.reply.Reply.TheVariants as reply
 use Rattle.cmwq_theory_steps.specs.Endings.{ending, number_replaced}
 use Rattle.cmwq_theory_steps.specs.Histories.{one}
@@ -10,45 +10,22 @@ use Rattle.cmwq_theory_steps.proofs.Fresh.{takes_back_unstarted, unstarted_is}
 use Rattle.cmwq_theory_steps.proofs.Standing.{due_own}
 use Rattle.cmwq_theory_steps.proofs.Pending.{opening_opens}
 use Rattle.cmwq_theory_steps.proofs.Ended.{ends_which}
-use Rattle.cmwq_theory_steps.proofs.OwedSteps.{runs_counted, sleepers_counted}
-use Rattle.cmwq_theory_steps.proofs.OwedItems.{tickets_counted, booked_counted}
-use Rattle.cmwq_theory_steps.proofs.OwedWaiting.{waiting_counted}
-use Rattle.cmwq_theory_steps.proofs.OwedFrozen.{frozen_counted}
+use Rattle.cmwq_theory_steps.proofs.Owing.{owed_goes_on}
 
 -- ---- what a promised reply gives back is at least what it takes, and its own entry
 
 weight : (r : Reply) (op bk eu ub : ℕ) → op ≤ one (opens r) → bk ≤ one (is_some (due_in r)) → (is_some (number_cancelled r) ≡ true → eu ≡ 1) → (settles r ≡ true → ub ≡ 1) → is_promised r ≡ true
     → 1 + 2 * op + one (is_some (number_started r)) + one (is_slept r) + 3 * bk + one (gives_ticket r) + one (is_frozen_now r) ≤ 2 * one (is_some (number_started r)) + 2 * eu + one (is_some (number_finished r)) + one (is_woke r) + 3 * ub + one (is_done r) + one (is_thawed_now r)
 weight (reply.Started n) op bk eu ub ho hb he hu h = omega arith
-weight (reply.StartedEnlist n x) op bk eu ub ho hb he hu h = omega arith
-weight (reply.Finished n) op bk eu ub ho hb he hu h = omega arith
-weight reply.Woke op bk eu ub ho hb he hu h = omega arith
-weight (reply.Fired i k) op bk eu ub ho hb he hu h = let pays = hu refl in omega arith
-weight (reply.Cancelled n) op bk eu ub ho hb he hu h = let pays = he refl in omega arith
-weight reply.Unbooked op bk eu ub ho hb he hu h = let pays = hu refl in omega arith
-weight reply.Done op bk eu ub ho hb he hu h = omega arith
-weight (reply.TicketCancelled k n) op bk eu ub ho hb he hu h = let pays = he refl in omega arith
-weight (reply.TicketUnbooked k) op bk eu ub ho hb he hu h = let pays = hu refl in omega arith
-weight reply.Thawed op bk eu ub ho hb he hu h = omega arith
-weight r op bk eu ub ho hb he hu h = cc
+weight r op bk eu ub ho hb he hu h = grind arith
 
-opened_most : (past : List Entry) (e : Entry) → one (is_some (opening past e)) ≤ one (opens e.reply)
-opened_most past e = at (opening past e) refl
-  where
-    at : (o : Option Queueing) → opening past e ≡ o → one (is_some o) ≤ one (opens e.reply)
-    at None h = omega arith
-    at (Some x) h = let same : one (opens e.reply) ≡ 1 = ap one (opening_opens past e x h) in omega arith
+opened_most : (past : List Entry) (e : Entry) (o : Option Queueing) → opening past e ≡ o → one (is_some o) ≤ one (opens e.reply)
+opened_most past e None h = omega arith
+opened_most past e (Some x) h = omega (arith, ap one (opening_opens past e x h))
 
-booked_most : (e : Entry) (n : ℕ) → one (is_some (booking_of e n)) ≤ one (is_some (due_in e.reply))
-booked_most e n = at (due_in e.reply)
-  where
-    few : (b : Bool) → one b ≤ 1
-    few true = omega arith
-    few false = omega arith
-
-    at : (o : Option ℕ) → one (is_some (option_and_then (booked_by e.call n) o)) ≤ one (is_some o)
-    at None = omega arith
-    at (Some d) = few (is_some (booked_by e.call n d))
+booked_most : (c : Call) (n : ℕ) (o : Option ℕ) → one (is_some (option_and_then (booked_by c n) o)) ≤ one (is_some o)
+booked_most c n None = omega arith
+booked_most c n (Some d) = grind arith
 
 -- what is cancelled had not started
 cancelled_unstarted : (s : Layout) (past : List Entry) (e : Entry) (n : ℕ) → IsLegal s (e ∷ past) → number_cancelled e.reply ≡ Some n → ends_unstarted past e ≡ true
@@ -56,8 +33,7 @@ cancelled_unstarted s past e n legal h = at (ending past e) (ends_which s past e
   where
     which : (r : Reply) → number_cancelled r ≡ Some n → option_or (number_finished r) (option_or (number_cancelled r) (number_replaced past e)) ≡ Some n
     which (reply.Cancelled m) h = h
-    which (reply.TicketCancelled k m) h = h
-    which r h = cc
+    which r h = grind arith
 
     new : is_started past n ≡ false
     new = let k = takes_back_unstarted s past e n legal h in subst (λ m. is_started past m ≡ false) k.number (unstarted_is past k.item k.queueing k.is_unstarted).not_started
@@ -66,12 +42,9 @@ cancelled_unstarted s past e n legal h = at (ending past e) (ends_which s past e
     at None k = cc
     at (Some x) k = let same : x.number ≡ n = cc in ap not (ap (is_started past) same ∙ new)
 
-some_number : (o : Option ℕ) → is_some o ≡ true → (n : ℕ) × (o ≡ Some n)
-some_number None h = cc
-some_number (Some n) h = (n, refl)
-
-cancelled_pays : (s : Layout) (past : List Entry) (e : Entry) → IsLegal s (e ∷ past) → is_some (number_cancelled e.reply) ≡ true → one (ends_unstarted past e) ≡ 1
-cancelled_pays s past e legal h = let n = some_number (number_cancelled e.reply) h in ap one (cancelled_unstarted s past e n.0 legal n.1)
+cancelled_pays : (s : Layout) (past : List Entry) (e : Entry) (o : Option ℕ) → IsLegal s (e ∷ past) → number_cancelled e.reply ≡ o → is_some o ≡ true → one (ends_unstarted past e) ≡ 1
+cancelled_pays s past e None legal is h = cc
+cancelled_pays s past e (Some n) legal is h = ap one (cancelled_unstarted s past e n legal is)
 
 -- what a promised reply settles was booked
 was_booked : (s : Layout) (past : List Entry) (who : Who) (c : Call) (r : Reply) → Cause s past who c r → is_promised r ≡ true → settles r ≡ true → option_map_or (is_booked past) (option_or (item_called c) (item_fired r)) false ≡ true
@@ -80,18 +53,8 @@ was_booked s past who c r (cause.fires w b due) h k = ap is_some (due_own past b
 was_booked s past who c r (cause.sync_unbooked w i free none was) h k = was
 was_booked s past who c r other h k = cc
 
-settled_pays : (s : Layout) (past : List Entry) (e : Entry) → IsLegal s (e ∷ past) → is_promised e.reply ≡ true → settles e.reply ≡ true → one (settles_booked past e) ≡ 1
-settled_pays s past e legal h k = ap₂ (λ a b. one (a && b)) k (was_booked s past e.who e.call e.reply (cause_of s past e legal) h k)
-
 pub promised_need_no_more : (s : Layout) (past : List Entry) (e : Entry) → IsLegal s (e ∷ past) → is_promised e.reply ≡ true → room_needed s (e ∷ past) ≤ room_needed s past
-unfolding owed
 promised_need_no_more s past e legal h =
     let pays = weight e.reply (one (is_some (opening past e))) (one (is_some (booking_of e (length past)))) (one (ends_unstarted past e)) (one (settles_booked past e))
-    (opened_most past e) (booked_most e (length past)) (cancelled_pays s past e legal) (settled_pays s past e legal h) h in
-    let waiting = waiting_counted s past e legal in
-    let runs = runs_counted s past e legal in
-    let sleepers = sleepers_counted s past e legal in
-    let booked = booked_counted s past e legal in
-    let tickets = tickets_counted s past e legal in
-    let frozen = frozen_counted s past e legal in
-    omega arith
+    (opened_most past e _ refl) (booked_most e.call (length past) (due_in e.reply)) (cancelled_pays s past e _ legal refl) (λ k. ap₂ (λ a b. one (a && b)) k (was_booked s past e.who e.call e.reply (cause_of s past e legal) h k)) h in
+    omega (arith, owed_goes_on s past e legal)

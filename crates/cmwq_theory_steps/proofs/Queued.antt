@@ -1,5 +1,5 @@
 -- Queueings by number, and the queues of runs, after one more entry.
-use Rattle.cmwq_theory_steps.specs.Common.{◌≡◌, ◌==◌, ℕ, Bool, true, false, cond, List, ◌∷◌, length, find, Option, Some, None, option_to_list, refl, sym, ap, ◌∙◌, option_map, option_and_then, if◌then◌else◌, option_or, eq-eqb, WorkerId, Worker, Reply, Entry, Queueing, Layout, is_at, is_by, number_started, run, queueings, opening, has_number, queueing_at, queue_of, run_queue, IsLegal, opening_number, find-append}
+use Rattle.cmwq_theory_steps.specs.Common.{arith, ◌≡◌, ◌==◌, ℕ, Bool, true, false, cond, List, ◌∷◌, length, find, Option, Some, None, option_to_list, refl, sym, ap, ◌∙◌, option_map, option_and_then, if◌then◌else◌, option_or, eq-eqb, WorkerId, Worker, Reply, Entry, Queueing, Layout, is_at, is_by, number_started, run, queueings, opening, has_number, queueing_at, queue_of, run_queue, IsLegal, opening_number, find-append}
 use Rattle.cmwq_model.specs.declared.reply.Reply.TheVariants as reply
 use Rattle.cmwq_theory_steps.specs.RunSteps.{run_after}
 use Rattle.cmwq_theory_steps.specs.Queued.{opening_at, run_queue_after}
@@ -8,11 +8,7 @@ use Rattle.cmwq_theory_steps.proofs.RunsActive.{run_is_active}
 use Rattle.cmwq_theory_steps.proofs.RunSteps.{workers_run_on}
 
 opened_at : (past : List Entry) (e : Entry) (n : ℕ) (o : Option Queueing) → opening past e ≡ o → find (has_number n) (option_to_list o) ≡ (if length past == n then o else None)
-opened_at past e n None h = either (length past == n) None
-  where
-    either : (b : Bool) (o : Option Queueing) → o ≡ (if b then o else o)
-    either true o = refl
-    either false o = refl
+opened_at past e n None h = grind arith
 opened_at past e n (Some x) h = ap (λ m. cond (m == n) (Some x) None) (opening_number past e x h)
 
 pub queueings_go_on : (past : List Entry) (e : Entry) (n : ℕ) → queueing_at (e ∷ past) n ≡ option_or (queueing_at past n) (opening_at past e n)

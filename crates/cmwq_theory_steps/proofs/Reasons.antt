@@ -1,41 +1,32 @@
 -- Why a legal entry's reply is what it is, read off its cause.
-use Rattle.cmwq_theory_steps.specs.Common.{◌≡◌, ◌+◌, ◌<◌, ◌==◌, ℕ, Bool, true, false, ◌&&◌, List, ◌∷◌, length, Some, None, nat_lt, refl, sym, ap, ◌∙◌, subst, arith, IsTrue, ltb-false, eqb-true, nat_tests, CallerId, ItemId, WorkerId, Who, Caller, Worker, Call, Reply, Entry, QueueId, Place, Layout, fits, item_called, now, is_booked, number_started, number_finished, number_cancelled, has_run, runs_awake, runs_asleep, place_called, unstarted_queueing, is_pending, is_enlisted, may_retire, gives_ticket, is_crowded, is_shut, is_held_back, IsLegal}
+use Rattle.cmwq_theory_steps.specs.Common.{Queueing, enlisted_by, index_enlisted, next, runnable, is_workers, ◌≡◌, ◌+◌, ◌<◌, ◌==◌, ℕ, Bool, true, false, List, ◌∷◌, length, Some, None, nat_lt, refl, sym, ap, ◌∙◌, subst, arith, IsTrue, ltb-false, eqb-true, nat_tests, CallerId, ItemId, WorkerId, Who, Caller, Worker, Call, Reply, Entry, Place, Layout, fits, item_called, now, is_booked, number_started, number_finished, number_cancelled, has_run, runs_awake, runs_asleep, place_called, unstarted_queueing, is_pending, is_enlisted, may_retire, gives_ticket, is_crowded, is_shut, is_held_back, IsLegal}
 use Rattle.cmwq_model.specs.declared.call.Call.TheVariants as call
 use Rattle.cmwq_model.specs.declared.reply.Reply.TheVariants as reply
 use Rattle.cmwq_theory_steps.specs.Reasons.{number_given, StartsNext, FinishesRun, TakesBack, ticks_asked, IsGranted, IsBookedIn, EndsWait, unbooks}
+use Rattle.std.proofs.lemmas.Option.{same_Some}
 use Rattle.cmwq_theory_steps.proofs.Causes.{Cause, IsFree}
 use Rattle.cmwq_theory_steps.proofs.Causes as cause
 
 -- ---- workers
 
-none_holds : (n : ℕ) → nat_lt 0 n ≡ false → n ≡ 0
-none_holds n h = let none = ltb-false 0 n h in omega arith
+next_started : (s : Layout) (past : List Entry) (w : WorkerId) (x : Queueing) (r : Reply) (n : ℕ) → is_enlisted past w ≡ true → has_run past w ≡ false → next s past w.pool ≡ Some x → nat_lt 0 (runnable s past w.pool) ≡ false → Some x.number ≡ Some n
+    → index_enlisted r ≡ enlisted_by s past w → StartsNext s past (Worker w) call.Take r n
+next_started s past w x r n enlisted idle found clear same index = record {
+  worker = w;
+  queueing = x;
+  by_worker = refl;
+  is_take = refl;
+  enlisted = enlisted;
+  idle = idle;
+  is_next = found;
+  is_clear = omega (arith, ltb-false 0 (runnable s past w.pool) clear);
+  number = same_Some x.number n same;
+  enlists = index;
+}
 
 pub start_reason : (s : Layout) (past : List Entry) (who : Who) (c : Call) (r : Reply) (n : ℕ) → Cause s past who c r → number_started r ≡ Some n → StartsNext s past who c r n
-start_reason s past who c r n (cause.starts w x enlisted idle found clear none) h = record {
-  worker = w;
-  queueing = x;
-  by_worker = refl;
-  is_take = refl;
-  enlisted = enlisted;
-  idle = idle;
-  is_next = found;
-  is_clear = none_holds _ clear;
-  number = (let same : x.number ≡ n = cc in same);
-  enlists = sym none;
-}
-start_reason s past who c r n (cause.enlists w x y enlisted idle found clear some) h = record {
-  worker = w;
-  queueing = x;
-  by_worker = refl;
-  is_take = refl;
-  enlisted = enlisted;
-  idle = idle;
-  is_next = found;
-  is_clear = none_holds _ clear;
-  number = (let same : x.number ≡ n = cc in same);
-  enlists = sym some;
-}
+start_reason s past who c r n (cause.starts w x enlisted idle found clear none) h = next_started s past w x _ n enlisted idle found clear h (sym none)
+start_reason s past who c r n (cause.enlists w x y enlisted idle found clear some) h = next_started s past w x _ n enlisted idle found clear h (sym some)
 start_reason s past who c r n other h = cc
 
 pub finish_reason : (s : Layout) (past : List Entry) (who : Who) (c : Call) (r : Reply) (n : ℕ) → Cause s past who c r → number_finished r ≡ Some n → FinishesRun past who c n
@@ -113,44 +104,26 @@ unbook_reason s past who c r other h = cc
 
 -- ---- tickets and time
 
-data IsTicketCall : Call → Type 0 where
-  flush : (q : QueueId) → IsTicketCall (call.Flush q)
-  drain : (q : QueueId) → IsTicketCall (call.Drain q)
-  destroy : (q : QueueId) → IsTicketCall (call.Destroy q)
-  flush_item : (i : ItemId) → IsTicketCall (call.FlushItem i)
-  flush_delayed : (i : ItemId) → IsTicketCall (call.FlushDelayed i)
-  cancel_sync : (i : ItemId) → IsTicketCall (call.CancelSync i)
-
 record GivesTicket (past : List Entry) (who : Who) (c : Call) (r : Reply) : Type 0 where
   free : is_crowded past who ≡ false
   number : number_given r ≡ Some (length past)
-  is_call : IsTicketCall c
+  is_call : is_workers c ≡ false
 
 gives : (s : Layout) (past : List Entry) (who : Who) (c : Call) (r : Reply) → Cause s past who c r → gives_ticket r ≡ true → GivesTicket past who c r
-gives s past who c r (cause.flushed w q free there) h = record { free = free; number = refl; is_call = flush q }
-gives s past who c r (cause.drained w q free there) h = record { free = free; number = refl; is_call = drain q }
-gives s past who c r (cause.destroyed w q free there new none) h = record { free = free; number = refl; is_call = destroy q }
-gives s past who c r (cause.item_flushed w i free some) h = record { free = free; number = refl; is_call = flush_item i }
-gives s past who c r (cause.delayed_queued w i free clear was) h = record { free = free; number = refl; is_call = flush_delayed i }
-gives s past who c r (cause.delayed_flushed w i free none some) h = record { free = free; number = refl; is_call = flush_delayed i }
-gives s past who c r (cause.sync_cancelled w i x free found) h = record { free = free; number = refl; is_call = cancel_sync i }
-gives s past who c r (cause.sync_unbooked w i free none was) h = record { free = free; number = refl; is_call = cancel_sync i }
-gives s past who c r (cause.sync_waits w i free none idle) h = record { free = free; number = refl; is_call = cancel_sync i }
+gives s past who c r (cause.flushed w q free there) h = record { free = free; number = refl; is_call = refl }
+gives s past who c r (cause.drained w q free there) h = record { free = free; number = refl; is_call = refl }
+gives s past who c r (cause.destroyed w q free there new none) h = record { free = free; number = refl; is_call = refl }
+gives s past who c r (cause.item_flushed w i free some) h = record { free = free; number = refl; is_call = refl }
+gives s past who c r (cause.delayed_queued w i free clear was) h = record { free = free; number = refl; is_call = refl }
+gives s past who c r (cause.delayed_flushed w i free none some) h = record { free = free; number = refl; is_call = refl }
+gives s past who c r (cause.sync_cancelled w i x free found) h = record { free = free; number = refl; is_call = refl }
+gives s past who c r (cause.sync_unbooked w i free none was) h = record { free = free; number = refl; is_call = refl }
+gives s past who c r (cause.sync_waits w i free none idle) h = record { free = free; number = refl; is_call = refl }
 gives s past who c r other h = cc
 
-no_worker : (a b d : Bool) → IsTrue (a && b && false && d) → ⊥
-no_worker true true d h = cc
-no_worker true false d h = cc
-no_worker false b d h = cc
-
-caller_makes : (s : Layout) (who : Who) (c : Call) → IsTicketCall c → IsTrue (fits s who c) → (caller : CallerId) × (who ≡ Caller caller)
+caller_makes : (s : Layout) (who : Who) (c : Call) → is_workers c ≡ false → IsTrue (fits s who c) → (caller : CallerId) × (who ≡ Caller caller)
 caller_makes s (Caller d) c k fit = (d, refl)
-caller_makes s (Worker w) c (flush q) fit = absurd (no_worker (nat_lt w.pool.cpu.0 s.cpus) (nat_lt w.index s.workers) _ fit)
-caller_makes s (Worker w) c (drain q) fit = absurd (no_worker (nat_lt w.pool.cpu.0 s.cpus) (nat_lt w.index s.workers) _ fit)
-caller_makes s (Worker w) c (destroy q) fit = absurd (no_worker (nat_lt w.pool.cpu.0 s.cpus) (nat_lt w.index s.workers) _ fit)
-caller_makes s (Worker w) c (flush_item i) fit = absurd (no_worker (nat_lt w.pool.cpu.0 s.cpus) (nat_lt w.index s.workers) _ fit)
-caller_makes s (Worker w) c (flush_delayed i) fit = absurd (no_worker (nat_lt w.pool.cpu.0 s.cpus) (nat_lt w.index s.workers) _ fit)
-caller_makes s (Worker w) c (cancel_sync i) fit = absurd (no_worker (nat_lt w.pool.cpu.0 s.cpus) (nat_lt w.index s.workers) _ fit)
+caller_makes s (Worker w) c k fit = absurd (grind arith)
 
 pub legal_fits : (s : Layout) (past : List Entry) (e : Entry) → IsLegal s (e ∷ past) → IsTrue (fits s e.who e.call)
 unfolding IsLegal
@@ -174,8 +147,4 @@ tick_reason s past who c r d other h = cc
 -- a reply that opens a queueing or gives a ticket names the entry's own number
 pub number_reason : (s : Layout) (past : List Entry) (who : Who) (c : Call) (r : Reply) (k : ℕ) → Cause s past who c r → number_given r ≡ Some k → k ≡ length past
 number_reason s past who c r k (cause.queued w i q d free idle) h = cc
-number_reason s past who c r k (cause.delayed_by_none w i q d t zero free idle) h = cc
-number_reason s past who c r k (cause.modified_idle w i q d t zero free idle) h = cc
-number_reason s past who c r k (cause.modified_again w i q d t zero free was) h = cc
-number_reason s past who c r k (cause.fires w b due) h = cc
 number_reason s past who c r k other h = cc

@@ -1,15 +1,15 @@
 -- Entries that are refused change nothing.
-use Rattle.cmwq_theory_steps.specs.Common.{◌≡◌, ◌<◌, ◌+◌, ℕ, Bool, true, false, cond, not, ◌&&◌, ◌||◌, List, [], ◌∷◌, ◌++◌, length, filter, find, count_by, Option, Some, None, option_to_list, append-nil, nat_lt, refl, sym, ap, ap₂, ◌∙◌, subst, arith, option_map, option_and_then, is_some, if◌then◌else◌, option_map_or, AllByRecursion, nat_tests, PoolId, WorkerId, Who, Caller, Worker, Call, Reply, Entry, Queueing, Start, Ticket, Layout, is_at, is_by, is_of_item, item_of, ticks_told, now, settles, due_in, booking, booked_by, number_started, number_finished, number_cancelled, replaces, is_started, run, item_run, is_asleep, asleep_after, start_in, queueings, is_of, opens, opening, is_live, still_open, is_unstarted, unstarted_queueing, queued_at, place_wanted, run_queue, is_frozen, is_ahead, is_below_max_active, is_active, newly_active, worklist, next, is_startable, is_enlisted, index_enlisted, is_in_pool, is_retired, unended_tickets, gives_ticket, ticket_for, ticket_in, is_end_of, is_done, is_gone, ends_destroy, IsLegal, bits, owed, answer, keeps_widths, All_map, All_each, active_go_on, active_live, frozen_same, max_same, width_same, open_below}
+use Rattle.cmwq_theory_steps.specs.Common.{◌≡◌, ◌<◌, ◌+◌, ℕ, Bool, true, false, not, ◌&&◌, ◌||◌, List, [], ◌∷◌, ◌++◌, length, filter, find, count_by, Option, Some, None, option_to_list, append-nil, nat_lt, refl, sym, ap, ap₂, ◌∙◌, subst, arith, option_map, option_and_then, is_some, if◌then◌else◌, option_map_or, nat_tests, PoolId, Who, Caller, Worker, Call, Reply, Entry, Queueing, Start, Ticket, Layout, is_at, is_by, is_of_item, item_of, ticks_told, now, settles, due_in, booking, booked_by, number_started, number_finished, number_cancelled, replaces, is_started, run, item_run, is_asleep, asleep_after, start_in, queueings, is_of, opens, opening, is_live, still_open, is_unstarted, unstarted_queueing, queued_at, place_wanted, run_queue, is_frozen, is_ahead, is_below_max_active, is_active, newly_active, worklist, next, is_startable, is_enlisted, index_enlisted, is_in_pool, is_retired, unended_tickets, gives_ticket, ticket_for, ticket_in, is_end_of, is_done, is_gone, ends_destroy, IsLegal, bits, owed, answer, keeps_widths, All_map, All_each, active_go_on, active_live, frozen_same, max_same, width_same, open_below}
 use Rattle.cmwq_model.specs.declared.call.Call.TheVariants as call
 use Rattle.cmwq_model.specs.declared.reply.Reply.TheVariants as reply
 use Rattle.cmwq_theory_steps.specs.Histories.{one}
 use Rattle.cmwq_theory_steps.specs.Places.{is_on, active_count}
-use Rattle.cmwq_theory_steps.specs.Endings.{survives, ending, number_ended}
+use Rattle.cmwq_theory_steps.specs.Endings.{survives, ending}
 use Rattle.cmwq_theory_steps.specs.Activations.{is_left, is_in, waits, behind_width, is_below_max_active_at_once}
 use Rattle.cmwq_theory_steps.specs.TicketSteps.{ticket_asked, is_kept}
 use Rattle.cmwq_theory_steps.specs.RoomSteps.{is_slept, is_woke, is_frozen_now, is_thawed_now, paid, taken_on}
 use Rattle.cmwq_theory_steps.specs.RunSteps.{run_after, ends_run}
-use Rattle.cmwq_theory_steps.specs.Waiting.{waiting, is_active_on, ends_active_on}
+use Rattle.cmwq_theory_steps.specs.Waiting.{waiting, is_active_on}
 use Rattle.cmwq_theory_steps.specs.Queued.{run_queue_after}
 use Rattle.cmwq_theory_steps.specs.Refusals.{is_refusal, DoesNothing, ChangesNothing}
 use Rattle.cmwq_lemmas.proofs.Filters.{filter_same, find_same}
@@ -25,7 +25,8 @@ use Rattle.cmwq_theory_steps.proofs.ItemSteps.{none_started, items_run_on}
 use Rattle.cmwq_theory_steps.proofs.Queued.{run_queues_go_on}
 use Rattle.cmwq_theory_steps.proofs.TicketSteps.{unended_go_on}
 use Rattle.cmwq_theory_steps.proofs.Owing.{owed_goes_on}
-use Rattle.cmwq_lemmas.proofs.Truth.{and_true, or_true, or_false}
+use Rattle.cmwq_lemmas.proofs.Lists.{filter_all}
+use Rattle.cmwq_lemmas.proofs.Truth.{and_false, and_true, or_true, or_false, same_bools}
 use Rattle.std.proofs.lemmas.Bool.{true≢false}
 
 -- ---- what such a reply doesn't say
@@ -53,18 +54,7 @@ record SaysNothing (r : Reply) : Type 0 where
 
 says_nothing : (r : Reply) → is_refusal r ≡ true → SaysNothing r
 says_nothing reply.Misuse h = record { opens_none = refl; settles_none = refl; due = refl; replaces_none = refl; started = refl; finished = refl; cancelled = refl; gives = refl; done = refl; widths = refl; frozen = refl; thawed = refl; slept = refl; woke = refl; enlisted = refl; retired = refl; asleep = λ b. refl; runs = λ o. refl; queues = λ past o. refl }
-says_nothing reply.No h = record { opens_none = refl; settles_none = refl; due = refl; replaces_none = refl; started = refl; finished = refl; cancelled = refl; gives = refl; done = refl; widths = refl; frozen = refl; thawed = refl; slept = refl; woke = refl; enlisted = refl; retired = refl; asleep = λ b. refl; runs = λ o. refl; queues = λ past o. refl }
-says_nothing reply.Foreign h = record { opens_none = refl; settles_none = refl; due = refl; replaces_none = refl; started = refl; finished = refl; cancelled = refl; gives = refl; done = refl; widths = refl; frozen = refl; thawed = refl; slept = refl; woke = refl; enlisted = refl; retired = refl; asleep = λ b. refl; runs = λ o. refl; queues = λ past o. refl }
-says_nothing reply.Draining h = record { opens_none = refl; settles_none = refl; due = refl; replaces_none = refl; started = refl; finished = refl; cancelled = refl; gives = refl; done = refl; widths = refl; frozen = refl; thawed = refl; slept = refl; woke = refl; enlisted = refl; retired = refl; asleep = λ b. refl; runs = λ o. refl; queues = λ past o. refl }
-says_nothing reply.Nothing h = record { opens_none = refl; settles_none = refl; due = refl; replaces_none = refl; started = refl; finished = refl; cancelled = refl; gives = refl; done = refl; widths = refl; frozen = refl; thawed = refl; slept = refl; woke = refl; enlisted = refl; retired = refl; asleep = λ b. refl; runs = λ o. refl; queues = λ past o. refl }
-says_nothing reply.Idle h = record { opens_none = refl; settles_none = refl; due = refl; replaces_none = refl; started = refl; finished = refl; cancelled = refl; gives = refl; done = refl; widths = refl; frozen = refl; thawed = refl; slept = refl; woke = refl; enlisted = refl; retired = refl; asleep = λ b. refl; runs = λ o. refl; queues = λ past o. refl }
-says_nothing reply.Crowded h = record { opens_none = refl; settles_none = refl; due = refl; replaces_none = refl; started = refl; finished = refl; cancelled = refl; gives = refl; done = refl; widths = refl; frozen = refl; thawed = refl; slept = refl; woke = refl; enlisted = refl; retired = refl; asleep = λ b. refl; runs = λ o. refl; queues = λ past o. refl }
-says_nothing (reply.Waiting n) h = record { opens_none = refl; settles_none = refl; due = refl; replaces_none = refl; started = refl; finished = refl; cancelled = refl; gives = refl; done = refl; widths = refl; frozen = refl; thawed = refl; slept = refl; woke = refl; enlisted = refl; retired = refl; asleep = λ b. refl; runs = λ o. refl; queues = λ past o. refl }
-says_nothing reply.Held h = record { opens_none = refl; settles_none = refl; due = refl; replaces_none = refl; started = refl; finished = refl; cancelled = refl; gives = refl; done = refl; widths = refl; frozen = refl; thawed = refl; slept = refl; woke = refl; enlisted = refl; retired = refl; asleep = λ b. refl; runs = λ o. refl; queues = λ past o. refl }
-says_nothing reply.Kept h = record { opens_none = refl; settles_none = refl; due = refl; replaces_none = refl; started = refl; finished = refl; cancelled = refl; gives = refl; done = refl; widths = refl; frozen = refl; thawed = refl; slept = refl; woke = refl; enlisted = refl; retired = refl; asleep = λ b. refl; runs = λ o. refl; queues = λ past o. refl }
-says_nothing reply.Gone h = record { opens_none = refl; settles_none = refl; due = refl; replaces_none = refl; started = refl; finished = refl; cancelled = refl; gives = refl; done = refl; widths = refl; frozen = refl; thawed = refl; slept = refl; woke = refl; enlisted = refl; retired = refl; asleep = λ b. refl; runs = λ o. refl; queues = λ past o. refl }
-says_nothing reply.Timers h = record { opens_none = refl; settles_none = refl; due = refl; replaces_none = refl; started = refl; finished = refl; cancelled = refl; gives = refl; done = refl; widths = refl; frozen = refl; thawed = refl; slept = refl; woke = refl; enlisted = refl; retired = refl; asleep = λ b. refl; runs = λ o. refl; queues = λ past o. refl }
-says_nothing r h = absurd (true≢false (sym h))
+says_nothing r h = grind arith
 
 -- ---- so the entry does nothing
 
@@ -72,12 +62,9 @@ pub none_mapped : (o : Option Queueing) → option_map (λ (x : Queueing). x.num
 none_mapped None h = refl
 none_mapped (Some x) h = cc
 
-nobody_ended : (past : List Entry) (e : Entry) → SaysNothing e.reply → number_ended past e ≡ None
-nobody_ended past e q = rw (q.finished, q.cancelled, q.replaces_none) refl
-
 does_nothing : (s : Layout) (past : List Entry) (e : Entry) → IsLegal s (e ∷ past) → SaysNothing e.reply → DoesNothing s past e
 does_nothing s past e legal q =
-    let none = none_mapped (ending past e) (ends_which s past e legal ∙ nobody_ended past e q) in
+    let none = none_mapped (ending past e) (ends_which s past e legal ∙ rw (q.finished, q.cancelled, q.replaces_none) refl) in
     let shut : opening past e ≡ None = ap (λ b. if b then option_and_then (λ i. option_map (queued_at past i) (place_wanted past e.call i)) (item_of e) else None) q.opens_none in
     record {
       ended = none;
@@ -94,10 +81,6 @@ refusals_do_nothing s past e legal h = does_nothing s past e legal (says_nothing
 -- ---- lists
 
 module _ {X : Type 0} where
-  filter_all : (p : X → Bool) (xs : List X) → AllByRecursion (λ x. p x ≡ true) xs → filter p xs ≡ xs
-  filter_all p [] h = refl
-  filter_all p (x ∷ xs) h = ap₂ (λ b ys. cond b (x ∷ ys) ys) h.0 (filter_all p xs h.1)
-
   nothing_more : (p : X → Bool) (xs ys : List X) → ((x : X) → p x ≡ true) → ys ≡ [] → filter p xs ++ ys ≡ xs
   nothing_more p xs ys all none = ap₂ (λ a b. a ++ b) (filter_all p xs (All_each _ xs all)) none ∙ append-nil xs
 
@@ -122,20 +105,10 @@ way_active s [] x live way = let none : nat_lt x.number 0 ≡ false = grind (ari
 way_active s (e ∷ past) x live way = active_go_on s past e x ∙ ap₂ (λ a b. a && (is_active s past x || b)) live way ∙ or_true (is_active s past x)
 
 same_active : (s : Layout) (past : List Entry) (e : Entry) → IsLegal s (e ∷ past) → SaysNothing e.reply → opening past e ≡ None → (x : Queueing) → x.number < length past → is_active s (e ∷ past) x ≡ is_active s past x
-same_active s past e legal q none x less = active_go_on s past e x ∙ ap₂ (λ a b. a && (is_active s past x || b)) live way ∙ at (is_live past x) (is_active s past x) (is_below_max_active s past x) refl refl refl
-  where
-    live : is_live (e ∷ past) x ≡ is_live past x
-    live = live_goes_on past e x less ∙ ap (λ b. is_live past x && b) (survivors past e q x) ∙ and_true (is_live past x)
-
-    way : is_below_max_active s (e ∷ past) x ≡ is_below_max_active s past x
-    way = ap₂ nat_lt (ap (count_by (is_ahead x)) (same_open s past e legal q none)) (width_same s past e x.place.queue.0 q.widths)
-
-    at : (l a w : Bool) → is_live past x ≡ l → is_active s past x ≡ a → is_below_max_active s past x ≡ w → (l && (a || w)) ≡ a
-    at true true w hl ha hw = refl
-    at true false true hl ha hw = let yes = way_active s past x hl hw in let bad : false ≡ true = sym ha ∙ yes in cc
-    at true false false hl ha hw = refl
-    at false true w hl ha hw = let yes = active_live s past x ha in let bad : false ≡ true = sym hl ∙ yes in cc
-    at false false w hl ha hw = refl
+same_active s past e legal q none x less =
+    let live : is_live (e ∷ past) x ≡ is_live past x = live_goes_on past e x less ∙ ap (λ b. is_live past x && b) (survivors past e q x) ∙ and_true (is_live past x) in
+    let way : is_below_max_active s (e ∷ past) x ≡ is_below_max_active s past x = ap₂ nat_lt (ap (count_by (is_ahead x)) (same_open s past e legal q none)) (width_same s past e x.place.queue.0 q.widths) in
+    active_go_on s past e x ∙ ap₂ (λ a b. a && (is_active s past x || b)) live way ∙ same_bools _ _ (λ h. grind (arith, way_active s past x)) (λ h. grind (arith, active_live s past x h))
 
 same_waiting : (s : Layout) (past : List Entry) (e : Entry) → IsLegal s (e ∷ past) → SaysNothing e.reply → opening past e ≡ None → waiting s (e ∷ past) ≡ waiting s past
 same_waiting s past e legal q none = ap (filter (waits s (e ∷ past))) (same_open s past e legal q none)
@@ -143,11 +116,9 @@ same_waiting s past e legal q none = ap (filter (waits s (e ∷ past))) (same_op
 
 same_count : (s : Layout) (past : List Entry) (e : Entry) (a c : ℕ) → IsLegal s (e ∷ past) → DoesNothing s past e → active_count s (e ∷ past) a c ≡ active_count s past a c
 same_count s past e a c legal d =
-    let more = active_count_goes_on s past e a c in
-    let none : count_by (is_on a c) (newly_active s past e) ≡ 0 = ap (count_by (is_on a c)) d.newly in
-    let stays = stays_counted s past e legal a c in
-    let nobody : one (ends_active_on s past e a c) ≡ 0 = ap (λ o. one (option_map_or (is_active_on s past a c) o false)) d.ended in
-    omega arith
+    let none = ap (count_by (is_on a c)) d.newly in
+    let nobody = ap (λ o. one (option_map_or (is_active_on s past a c) o false)) d.ended in
+    omega (arith, active_count_goes_on s past e a c, stays_counted s past e legal a c)
 
 same_worklist : (s : Layout) (past : List Entry) (e : Entry) (p : PoolId) → IsLegal s (e ∷ past) → SaysNothing e.reply → newly_active s past e ≡ [] → worklist s (e ∷ past) p ≡ worklist s past p
 same_worklist s past e p legal q none = worklists_go_on s past e p legal ∙ nothing_more (is_left past e) (worklist s past p) (filter (is_in s p) (newly_active s past e)) (left past e q) (ap (filter (is_in s p)) none)
@@ -175,26 +146,6 @@ unfolding next
 same_next s past e p legal q none = ap (find (is_startable (e ∷ past))) (same_worklist s past e p legal q none)
     ∙ find_same (is_startable (e ∷ past)) (is_startable past) (worklist s past p) (All_each _ (worklist s past p) (λ x. ap (λ o. not (is_some o)) (same_item_run s past e x.item.0 legal q)))
 
-same_run : (s : Layout) (past : List Entry) (e : Entry) (w : WorkerId) → IsLegal s (e ∷ past) → SaysNothing e.reply → run (e ∷ past) w ≡ run past w
-same_run s past e w legal q = workers_run_on s past e w legal ∙ either (is_by (Worker w) e) (run_after e.reply (run past w)) (run past w) (q.runs (run past w))
-
-same_run_queue : (s : Layout) (past : List Entry) (e : Entry) (w : WorkerId) → IsLegal s (e ∷ past) → SaysNothing e.reply → run_queue (e ∷ past) w ≡ run_queue past w
-same_run_queue s past e w legal q = run_queues_go_on s past e legal w ∙ either (is_by (Worker w) e) (run_queue_after past e.reply (run_queue past w)) (run_queue past w) (q.queues past (run_queue past w))
-
-same_asleep : (past : List Entry) (e : Entry) (w : WorkerId) → SaysNothing e.reply → is_asleep (e ∷ past) w ≡ is_asleep past w
-unfolding is_asleep
-same_asleep past e w q = either (is_by (Worker w) e) (asleep_after e.reply (is_asleep past w)) (is_asleep past w) (q.asleep (is_asleep past w))
-
-same_enlisted : (past : List Entry) (e : Entry) (w : WorkerId) → SaysNothing e.reply → is_enlisted (e ∷ past) w ≡ is_enlisted past w
-unfolding is_enlisted
-same_enlisted past e w q = ap₂ (λ o b. (is_in_pool w.pool e.who && is_at o w.index) || (not (is_by (Worker w) e && b) && is_enlisted past w)) q.enlisted q.retired ∙ at (is_in_pool w.pool e.who) (is_by (Worker w) e) (is_enlisted past w)
-  where
-    at : (a b c : Bool) → ((a && false) || (not (b && false) && c)) ≡ c
-    at true true c = refl
-    at true false c = refl
-    at false true c = refl
-    at false false c = refl
-
 -- ---- items, tickets, time and room
 
 same_booking : (past : List Entry) (e : Entry) (i : ℕ) → SaysNothing e.reply → booking (e ∷ past) i ≡ booking past i
@@ -207,21 +158,8 @@ same_bits s past e i legal q none = ap₂ (λ a b. (if a then 1 else 0) + (if b 
 same_unended : (s : Layout) (past : List Entry) (e : Entry) → IsLegal s (e ∷ past) → SaysNothing e.reply → ticket_in e (length past) ≡ None → unended_tickets (e ∷ past) ≡ unended_tickets past
 same_unended s past e legal q none = unended_go_on s past e legal ∙ nothing_more (is_kept e) (unended_tickets past) (option_to_list (ticket_in e (length past))) kept (ap option_to_list none)
   where
-    at : (a b : Bool) → not (a && b && false) ≡ true
-    at true true = refl
-    at true false = refl
-    at false b = refl
-
     kept : (t : Ticket) → is_kept e t ≡ true
-    kept t = ap (λ b. not (is_by (Caller t.caller) e && is_end_of t.number e.call && b)) q.done ∙ at (is_by (Caller t.caller) e) (is_end_of t.number e.call)
-
-same_gone : (past : List Entry) (e : Entry) (a : ℕ) → SaysNothing e.reply → is_gone (e ∷ past) a ≡ is_gone past a
-unfolding is_gone
-same_gone past e a q = ap (λ b. is_gone past a || (b && ends_destroy past a e.who e.call)) q.done ∙ or_false (is_gone past a)
-
-same_frozen : (past : List Entry) (e : Entry) → SaysNothing e.reply → is_frozen (e ∷ past) ≡ is_frozen past
-unfolding is_frozen
-same_frozen past e q = frozen_same e.reply (is_frozen past) q.widths
+    kept t = ap (λ b. not (is_by (Caller t.caller) e && is_end_of t.number e.call && b)) q.done ∙ ap not (and_false _)
 
 -- a tick is never refused
 no_ticks : (s : Layout) (past : List Entry) (who : Who) (c : Call) → is_refusal (answer s past who c) ≡ true → ticks_told c ≡ 0
@@ -231,7 +169,7 @@ no_ticks s past who c h = refl
 
 same_time : (s : Layout) (past : List Entry) (e : Entry) → IsLegal s (e ∷ past) → is_refusal e.reply ≡ true → now (e ∷ past) ≡ now past
 unfolding now
-same_time s past e legal h = let none = no_ticks s past e.who e.call (subst (λ r. is_refusal r ≡ true) (answer_is s past e legal) h) in omega arith
+same_time s past e legal h = omega (arith, no_ticks s past e.who e.call (subst (λ r. is_refusal r ≡ true) (answer_is s past e legal) h))
 
 same_owed : (s : Layout) (past : List Entry) (e : Entry) → IsLegal s (e ∷ past) → SaysNothing e.reply → DoesNothing s past e → owed s (e ∷ past) ≡ owed s past
 same_owed s past e legal q d =
@@ -241,6 +179,7 @@ same_owed s past e legal q d =
     omega arith
 
 pub refusals_change_nothing : (s : Layout) (past : List Entry) (e : Entry) → IsLegal s (e ∷ past) → is_refusal e.reply ≡ true → ChangesNothing s past e
+unfolding is_asleep is_enlisted is_gone is_frozen
 refusals_change_nothing s past e legal h =
     let q = says_nothing e.reply h in
     let d = does_nothing s past e legal q in
@@ -256,13 +195,13 @@ refusals_change_nothing s past e legal h =
       booking = λ i. same_booking past e i q;
       bits = λ i. same_bits s past e i legal q d.opened;
       item_run = λ i. same_item_run s past e i legal q;
-      run = λ w. same_run s past e w legal q;
-      run_queue = λ w. same_run_queue s past e w legal q;
-      asleep = λ w. same_asleep past e w q;
-      enlisted = λ w. same_enlisted past e w q;
+      run = λ w. workers_run_on s past e w legal ∙ either (is_by (Worker w) e) (run_after e.reply (run past w)) (run past w) (q.runs (run past w));
+      run_queue = λ w. run_queues_go_on s past e legal w ∙ either (is_by (Worker w) e) (run_queue_after past e.reply (run_queue past w)) (run_queue past w) (q.queues past (run_queue past w));
+      asleep = λ w. either (is_by (Worker w) e) (asleep_after e.reply (is_asleep past w)) (is_asleep past w) (q.asleep (is_asleep past w));
+      enlisted = λ w. ap₂ (λ o b. (is_in_pool w.pool e.who && is_at o w.index) || (not (is_by (Worker w) e && b) && is_enlisted past w)) q.enlisted q.retired ∙ simp and_false refl;
       unended = same_unended s past e legal q d.given;
-      gone = λ a. same_gone past e a q;
-      frozen = same_frozen past e q;
+      gone = λ a. ap (λ b. is_gone past a || (b && ends_destroy past a e.who e.call)) q.done ∙ or_false (is_gone past a);
+      frozen = frozen_same e.reply (is_frozen past) q.widths;
       max_active = λ a. max_same s past e a q.widths;
       width = λ a. width_same s past e a q.widths;
       time = same_time s past e legal h;

@@ -1,6 +1,9 @@
 -- What workers and items run after one more entry.
-use Rattle.cmwq_theory_steps.specs.Common.{◌≡◌, ◌<◌, ◌==◌, ℕ, Bool, true, false, not, ◌&&◌, ◌||◌, List, [], ◌∷◌, length, Option, Some, None, refl, sym, ap, ap₂, ◌∙◌, subst, option_and_then, is_some, if◌then◌else◌, option_map_or, eq-eqb, eqb-true, WorkerId, Who, Worker, Reply, Entry, Layout, is_at, is_by, same_who, item_at, is_of_item, number_started, number_finished, number_cancelled, starts, finishes, takes_back, replaces, is_started, is_open, is_number_open, last_start, run, IsLegal, listed_live}
+use Rattle.cmwq_theory_steps.specs.Common.{arith, option_or, ◌≡◌, ◌<◌, ℕ, Bool, true, false, not, ◌&&◌, ◌||◌, List, [], ◌∷◌, length, Option, Some, None, refl, sym, ap, ap₂, ◌∙◌, subst, option_and_then, is_some, if◌then◌else◌, option_map_or, eq-eqb, WorkerId, Who, Worker, Reply, Entry, Layout, is_at, is_by, same_who, item_at, is_of_item, number_started, number_finished, number_cancelled, starts, finishes, takes_back, replaces, is_started, is_open, is_number_open, last_start, run, IsLegal, listed_live}
 use Rattle.cmwq_model.specs.declared.reply.Reply.TheVariants as reply
+use Rattle.std.proofs.lemmas.Bool.{both_ways, false_from_ne_true, or_right}
+use Rattle.std.proofs.lemmas.Option.{same_Some}
+use Rattle.cmwq_lemmas.proofs.Truth.{and_false, and_true}
 use Rattle.cmwq_theory_steps.specs.RunSteps.{run_after}
 use Rattle.cmwq_theory_steps.proofs.Entries.{item_at-older, is_at-true}
 use Rattle.cmwq_theory_steps.proofs.Endings.{open_step}
@@ -12,48 +15,31 @@ use Rattle.cmwq_theory_steps.proofs.Fresh.{finishes_run, takes_back_unstarted, u
 -- ---- a queueing that has started stays open until it is finished
 
 pub started_not_cancelled : (s : Layout) (past : List Entry) (e : Entry) (n : ℕ) → IsLegal s (e ∷ past) → is_started past n ≡ true → takes_back n e ≡ false
-started_not_cancelled s past e n legal started = at (takes_back n e) refl
-  where
-    at : (b : Bool) → takes_back n e ≡ b → b ≡ false
-    at false h = refl
-    at true h =
-        let k = takes_back_unstarted s past e n legal (is_at-true (number_cancelled e.reply) n h) in
-        let new : is_started past n ≡ false = subst (λ m. is_started past m ≡ false) k.number (unstarted_is past k.item k.queueing k.is_unstarted).not_started in
-        let bad : true ≡ false = sym started ∙ new in
-        cc
+started_not_cancelled s past e n legal started = false_from_ne_true _ (λ back.
+    let k = takes_back_unstarted s past e n legal (is_at-true (number_cancelled e.reply) n back) in
+    both_ways _ (unstarted_is past k.item k.queueing k.is_unstarted).not_started (ap (is_started past) k.number ∙ started))
 
 pub started_open_on : (s : Layout) (past : List Entry) (e : Entry) (i n : ℕ) → IsLegal s (e ∷ past) → n < length past → is_started past n ≡ true → is_open (e ∷ past) i n ≡ (is_open past i n && not (finishes n e))
 started_open_on s past e i n legal less started =
     open_step past e i n less
     ∙ ap₂ (λ t u. is_open past i n && (not (finishes n e) && not t && not (replaces e.reply && is_of_item i e && not u))) (started_not_cancelled s past e n legal started) started
-    ∙ survivors (is_open past i n) (finishes n e) (replaces e.reply) (is_of_item i e)
-  where
-    survivors : (a f r k : Bool) → (a && (not f && true && not (r && k && false))) ≡ (a && not f)
-    survivors false f r k = refl
-    survivors true true r k = refl
-    survivors true false true true = refl
-    survivors true false true false = refl
-    survivors true false false k = refl
+    ∙ simp (and_false, and_true) refl
 
 -- what an entry starts is open after it
 pub no_end : (r : Reply) (n : ℕ) → number_started r ≡ Some n → (number_finished r ≡ None) × (number_cancelled r ≡ None) × (replaces r ≡ false)
 no_end (reply.Started m) n h = (refl, refl, refl)
-no_end (reply.StartedEnlist m x) n h = (refl, refl, refl)
-no_end r n h = cc
+no_end r n h = grind arith
 
 pub started_open : (s : Layout) (past : List Entry) (e : Entry) (i n : ℕ) → IsLegal s (e ∷ past) → number_started e.reply ≡ Some n → item_at past n ≡ Some i → is_open (e ∷ past) i n ≡ true
 started_open s past e i n legal h item =
     let st = starts_listed s past e n legal (ap (λ o. is_at o n) h ∙ eq-eqb n n refl) in
     let known = found_known past n st.queueing st.found in
-    let same : st.queueing.item.0 ≡ i = some_same _ _ (sym known.item ∙ ap (item_at past) st.number ∙ item) in
+    let same = same_Some st.queueing.item.0 i (sym known.item ∙ ap (item_at past) st.number ∙ item) in
     let live = listed_live s past st.worker.pool st.queueing st.listed in
     let was : is_open past i n ≡ true = sym (ap₂ (λ a b. is_open past a b) same st.number) ∙ live in
     let none = no_end e.reply n h in
     open_step past e i n (subst (λ m. m < length past) st.number known.older)
     ∙ ap₂ (λ a b. a && b) was (ap₂ (λ a b. a && b) (ap₂ (λ a b. not (is_at a n) && not (is_at b n)) none.0 none.1) (ap (λ r. not (r && is_of_item i e && not (is_started past n))) none.2))
-  where
-    some_same : (a b : ℕ) → Some a ≡ Some b → a ≡ b
-    some_same a b h = cc
 
 -- ---- the run of a worker
 
@@ -62,12 +48,8 @@ unfolding last_start
 last_started [] w n h = cc
 last_started (e ∷ past) w n h = elim (last_start_cases e past w n h) [
   | now by starts ↦ ap (λ o. is_at o n || is_started past n) starts ∙ ap (λ b. b || is_started past n) (eq-eqb n n refl)
-  | before last ↦ ap (λ b. starts n e || b) (last_started past w n last) ∙ any (starts n e)
+  | before last ↦ or_right (starts n e) _ (last_started past w n last)
 ]
-  where
-    any : (b : Bool) → (b || true) ≡ true
-    any true = refl
-    any false = refl
 
 started_number_open : (s : Layout) (past : List Entry) (e : Entry) (n : ℕ) → IsLegal s (e ∷ past) → n < length past → is_started past n ≡ true → is_number_open (e ∷ past) n ≡ (is_number_open past n && not (finishes n e))
 started_number_open s past e n legal less started =
@@ -118,46 +100,26 @@ number_item past n h = at (item_at past n) refl h
     at None item h = cc
     at (Some i) item h = (i, item)
 
+run_after_is : (r : Reply) (start finish o : Option ℕ) → number_started r ≡ start → number_finished r ≡ finish → run_after r o ≡ option_or start (if is_some finish then None else o)
+run_after_is (reply.Finished m) start finish o hs hf = ap₂ (λ a b. option_or a (if is_some b then None else o)) hs hf
+run_after_is r start finish o hs hf = ap₂ (λ a b. option_or a (if is_some b then None else o)) hs hf
+
 run_goes : (s : Layout) (past : List Entry) (e : Entry) (w : WorkerId) (by : Bool) (start finish : Option ℕ) → IsLegal s (e ∷ past) → is_by (Worker w) e ≡ by → number_started e.reply ≡ start → number_finished e.reply ≡ finish
     → run (e ∷ past) w ≡ (if by then run_after e.reply (run past w) else run past w)
 unfolding IsLegal
-run_goes s past e w true (Some n) f legal hb hs hf = run_begun s past e w n legal hb hs ∙ sym (after e.reply hs)
-  where
-    after : (r : Reply) → number_started r ≡ Some n → run_after r (run past w) ≡ Some n
-    after (reply.Started m) h = h
-    after (reply.StartedEnlist m x) h = h
-    after r h = cc
+run_goes s past e w true (Some n) f legal hb hs hf = run_begun s past e w n legal hb hs ∙ sym (run_after_is e.reply _ _ _ hs hf)
 run_goes s past e w true None None legal hb hs hf =
-    run_left s past e w legal (no_last_start past e w (ap₂ (λ a o. a && is_some o) hb hs)) (λ n runs. ap (λ o. is_at o n) hf) ∙ sym (after e.reply hs hf)
-  where
-    after : (r : Reply) → number_started r ≡ None → number_finished r ≡ None → run_after r (run past w) ≡ run past w
-    after (reply.Started m) h k = cc
-    after (reply.StartedEnlist m x) h k = cc
-    after (reply.Finished m) h k = cc
-    after r h k = refl
+    run_left s past e w legal (no_last_start past e w (ap₂ (λ a o. a && is_some o) hb hs)) (λ n runs. ap (λ o. is_at o n) hf) ∙ sym (run_after_is e.reply _ _ _ hs hf)
 run_goes s past e w true None (Some m) legal hb hs hf =
     let f = finishes_run s past e m legal hf in
     let same : f.worker ≡ w = same_worker-true f.worker w (subst (λ (x : Who). same_who x (Worker w) ≡ true) f.by_worker hb) in
-    run_ended s past e w m legal (no_last_start past e w (ap₂ (λ a o. a && is_some o) hb hs)) (subst (λ (v : WorkerId). run past v ≡ Some m) same f.is_run) (ap (λ o. is_at o m) hf ∙ eq-eqb m m refl) ∙ sym (after e.reply hf)
-  where
-    after : (r : Reply) → number_finished r ≡ Some m → run_after r (run past w) ≡ None
-    after (reply.Finished k) h = refl
-    after r h = cc
-run_goes s past e w false o None legal hb hs hf =
-    run_left s past e w legal (no_last_start past e w (ap (λ a. a && is_some (number_started e.reply)) hb)) (λ n runs. ap (λ o. is_at o n) hf)
-run_goes s past e w false o (Some m) legal hb hs hf =
-    run_left s past e w legal (no_last_start past e w (ap (λ a. a && is_some (number_started e.reply)) hb)) (λ n runs. at n runs (m == n) refl)
-  where
-    at : (n : ℕ) → run past w ≡ Some n → (b : Bool) → (m == n) ≡ b → finishes n e ≡ false
-    at n runs false h = ap (λ o. is_at o n) hf ∙ h
-    at n runs true h =
-        let f = finishes_run s past e m legal hf in
-        let item = number_item past n (run_is past w n runs).is_still_open in
-        let runs_too : run past f.worker ≡ Some n = f.is_run ∙ ap Some (eqb-true m n h) in
-        let same : f.worker ≡ w = (one_worker s past f.worker w n n item.0 legal.2 runs_too runs item.1 item.1).0 in
-        let by : is_by (Worker w) e ≡ true = ap (λ (x : Who). same_who x (Worker w)) (f.by_worker ∙ ap Worker same) ∙ same_worker_itself w in
-        let bad : true ≡ false = sym by ∙ hb in
-        cc
+    run_ended s past e w m legal (no_last_start past e w (ap₂ (λ a o. a && is_some o) hb hs)) (subst (λ (v : WorkerId). run past v ≡ Some m) same f.is_run) (ap (λ o. is_at o m) hf ∙ eq-eqb m m refl)
+    ∙ sym (run_after_is e.reply _ _ _ hs hf)
+run_goes s past e w false o f legal hb hs hf = run_left s past e w legal (no_last_start past e w (ap (λ a. a && is_some (number_started e.reply)) hb)) (λ n runs. false_from_ne_true _ (λ ends.
+    let f = finishes_run s past e n legal (is_at-true (number_finished e.reply) n ends) in
+    let item = number_item past n (run_is past w n runs).is_still_open in
+    let same : f.worker ≡ w = (one_worker s past f.worker w n n item.0 legal.2 f.is_run runs item.1 item.1).0 in
+    both_ways _ hb (ap (λ (x : Who). same_who x (Worker w)) (f.by_worker ∙ ap Worker same) ∙ same_worker_itself w)))
 
 pub workers_run_on : (s : Layout) (past : List Entry) (e : Entry) (w : WorkerId) → IsLegal s (e ∷ past) → run (e ∷ past) w ≡ (if is_by (Worker w) e then run_after e.reply (run past w) else run past w)
 workers_run_on s past e w legal = run_goes s past e w (is_by (Worker w) e) (number_started e.reply) (number_finished e.reply) legal refl refl refl

@@ -27,20 +27,11 @@ live_of_number past n x found h =
     ap (is_open past x.item.0) number ∙ sym (open_of_item past x.item.0 n item) ∙ h
 
 pub number_open_before : (e : Entry) (past : List Entry) (n : ℕ) → n < length past → is_number_open (e ∷ past) n ≡ true → is_number_open past n ≡ true
-number_open_before e past n less h = at (item_at past n) refl
+number_open_before e past n less h = at (item_at past n) (sym (ap (λ o. option_map_or (λ i. is_open (e ∷ past) i n) o false) (item_at-older e past n less)) ∙ h)
   where
-    same : item_at (e ∷ past) n ≡ item_at past n
-    same = item_at-older e past n less
-
-    at : (o : Option ℕ) → item_at past n ≡ o → is_number_open past n ≡ true
-    at None item =
-        let none : item_at (e ∷ past) n ≡ None = same ∙ item in
-        let closed : is_number_open (e ∷ past) n ≡ false = ap (λ o. option_map_or (λ i. is_open (e ∷ past) i n) o false) none in
-        cc
-    at (Some i) item = open_of_item past i n item ∙ open_before e past i n less (sym (open_of_item (e ∷ past) i n (same ∙ item)) ∙ h)
-
-listed_active : (s : Layout) (past : List Entry) (p : PoolId) (x : Queueing) → is_listed s past p x ≡ true → is_active s past x ≡ true
-listed_active s past p x h = grind arith
+    at : (o : Option ℕ) → option_map_or (λ i. is_open (e ∷ past) i n) o false ≡ true → option_map_or (λ i. is_open past i n) o false ≡ true
+    at None h = h
+    at (Some i) h = open_before e past i n less h
 
 pub listed_pool : (s : Layout) (past : List Entry) (p : PoolId) (x : Queueing) → is_listed s past p x ≡ true → same_pool (pool_at s x.place) p ≡ true
 listed_pool s past p x h = grind arith
@@ -51,11 +42,11 @@ run_begins s past e w n legal by h is_live =
     let st = starts_listed s past e n legal (ap (λ o. is_at o n) h ∙ eq-eqb n n refl) in
     let same : st.worker ≡ w = same_worker-true st.worker w (subst (λ (x : Who). same_who x (Worker w) ≡ true) st.by_worker by) in
     let found = queueing_at-older e past n st.queueing st.found in
-    let was = listed_active s past st.worker.pool st.queueing st.listed in
+    let listed = st.listed in
     record {
       queueing = st.queueing;
       found = found;
-      active = stays_active s past e st.queueing was (live_of_number (e ∷ past) n st.queueing found is_live);
+      active = stays_active s past e st.queueing (grind arith) (live_of_number (e ∷ past) n st.queueing found is_live);
       pool = subst (λ (v : WorkerId). same_pool (pool_at s st.queueing.place) v.pool ≡ true) same (listed_pool s past st.worker.pool st.queueing st.listed);
     }
 

@@ -1,8 +1,9 @@
 -- A booking that stands is the booking of its item.
-use Rattle.cmwq_theory_steps.specs.Common.{◌≡◌, ◌<◌, ℕ, Bool, true, false, ◌&&◌, List, [], ◌∷◌, length, filter, Option, Some, None, option_to_list, refl, sym, ap, ap₂, ◌∙◌, subst, arith, option_map, option_and_then, if◌then◌else◌, option_or, AllByRecursion, eq-eqb, eqb-true, ItemId, Who, Call, Reply, Entry, Booking, Layout, is_at, item_called, item_fired, is_of_item, settles, due_in, booking, booking_of, booked_by, bookings, standing, stands, number_booked, first_due, may_fire, is_soonest, All_map, All_append, All_filter}
+use Rattle.cmwq_theory_steps.specs.Common.{place_called, ◌≡◌, ◌<◌, ℕ, Bool, true, false, ◌&&◌, List, [], ◌∷◌, length, filter, Option, Some, None, option_to_list, refl, sym, ap, ap₂, ◌∙◌, subst, arith, option_map, option_and_then, if◌then◌else◌, option_or, AllByRecursion, eq-eqb, eqb-true, ItemId, Who, Call, Reply, Entry, Booking, Layout, is_at, item_called, item_fired, is_of_item, settles, due_in, booking, booking_of, booked_by, bookings, standing, stands, number_booked, first_due, may_fire, is_soonest, All_map, All_append, All_filter}
 use Rattle.cmwq_model.specs.declared.call.Call.TheVariants as call
 use Rattle.cmwq_model.specs.declared.reply.Reply.TheVariants as reply
 use Rattle.cmwq_theory_steps.specs.Reasons.{FiresBooking}
+use Rattle.cmwq_lemmas.proofs.Members.{In, all_in, in_option}
 use Rattle.cmwq_theory_steps.proofs.Activated.{find_holds}
 use Rattle.cmwq_theory_steps.proofs.Causes.{Cause}
 use Rattle.cmwq_theory_steps.proofs.Causes as cause
@@ -20,17 +21,16 @@ record IsMade (e : Entry) (n : ℕ) (b : Booking) : Type 0 where
 
 pub due_settles : (r : Reply) (d : ℕ) → due_in r ≡ Some d → settles r ≡ true
 due_settles (reply.Booked d) k h = refl
-due_settles (reply.Rebooked d) k h = refl
-due_settles r k h = cc
+due_settles r k h = grind arith
 
 pub record IsFor (c : Call) (n : ℕ) (b : Booking) : Type 0 where
   pub number : b.number ≡ n
   pub item : item_called c ≡ Some b.item.0
+  pub place : place_called c ≡ Some b.place
 
 pub made_for : (c : Call) (n d : ℕ) (b : Booking) → booked_by c n d ≡ Some b → IsFor c n b
-made_for (call.Delay i q p t) n d b h = let is : record { item = i; place = record { queue = q; cpu = p }; due = d; number = n } ≡ b = cc in record { number = sym (ap (λ (x : Booking). x.number) is); item = ap (λ (x : Booking). Some x.item.0) is }
-made_for (call.Modify i q p t) n d b h = let is : record { item = i; place = record { queue = q; cpu = p }; due = d; number = n } ≡ b = cc in record { number = sym (ap (λ (x : Booking). x.number) is); item = ap (λ (x : Booking). Some x.item.0) is }
-made_for c n d b h = cc
+made_for (call.Delay i q p t) n d b h = grind arith
+made_for c n d b h = grind arith
 
 made : (e : Entry) (n : ℕ) (b : Booking) (o : Option ℕ) → due_in e.reply ≡ o → option_and_then (booked_by e.call n) o ≡ Some b → IsMade e n b
 made e n b None is h = cc
@@ -43,35 +43,27 @@ record IsOwn (past : List Entry) (b : Booking) : Type 0 where
   older : b.number < length past
   own : stands past b ≡ true → booking past b.item.0 ≡ Some b
 
-own_here : (e : Entry) (past : List Entry) (b : Booking) → booking_of e (length past) ≡ Some b → IsOwn (e ∷ past) b
-own_here e past b h =
-    let m = made e (length past) b (due_in e.reply) refl h in
-    let number : b.number ≡ length past = m.number in
-    record { older = omega arith; own = λ stood. booking_after past e b.item.0 true (ap₂ (λ a b. a && b) m.settled m.item) ∙ h }
-
 own_more : (e : Entry) (past : List Entry) (b : Booking) → IsOwn past b → IsOwn (e ∷ past) b
-own_more e past b k = record { older = let less : b.number < length past = k.older in omega arith; own = own (settles e.reply && is_of_item b.item.0 e) refl }
+own_more e past b k = record { older = omega (arith, k.older); own = own (settles e.reply && is_of_item b.item.0 e) refl }
   where
     other : (o : Option Booking) → booking_of e (length past) ≡ o → is_at (option_map number_booked o) b.number ≡ true → ⊥
     other None is h = cc
-    other (Some a) is h =
-        let number : a.number ≡ length past = (made e (length past) a (due_in e.reply) refl is).number in
-        let same : a.number ≡ b.number = eqb-true a.number b.number h in
-        let less : b.number < length past = k.older in
-        absurd (omega arith)
+    other (Some a) is h = absurd (omega (arith, (made e (length past) a (due_in e.reply) refl is).number, eqb-true a.number b.number h, k.older))
 
     own : (a : Bool) → (settles e.reply && is_of_item b.item.0 e) ≡ a → stands (e ∷ past) b ≡ true → booking (e ∷ past) b.item.0 ≡ Some b
     own true ha stood = absurd (other (booking_of e (length past)) refl (sym (ap (λ o. is_at (option_map number_booked o) b.number) (booking_after past e b.item.0 true ha)) ∙ stood))
     own false ha stood = let same = booking_after past e b.item.0 false ha in same ∙ k.own (sym (ap (λ o. is_at (option_map number_booked o) b.number) same) ∙ stood)
 
-own_last : (e : Entry) (past : List Entry) (o : Option Booking) → booking_of e (length past) ≡ o → AllByRecursion (IsOwn (e ∷ past)) (option_to_list o)
-own_last e past None is = tt
-own_last e past (Some b) is = (own_here e past b is, tt)
-
 bookings_own : (past : List Entry) → AllByRecursion (IsOwn past) (bookings past)
 unfolding bookings
 bookings_own [] = tt
-bookings_own (e ∷ past) = All_append (IsOwn (e ∷ past)) (bookings past) (option_to_list (booking_of e (length past))) (All_map (IsOwn past) (IsOwn (e ∷ past)) (bookings past) (own_more e past) (bookings_own past)) (own_last e past (booking_of e (length past)) refl)
+bookings_own (e ∷ past) = All_append (IsOwn (e ∷ past)) (bookings past) (option_to_list (booking_of e (length past))) (All_map (IsOwn past) (IsOwn (e ∷ past)) (bookings past) (own_more e past) (bookings_own past)) (all_in _ (option_to_list (booking_of e (length past))) last)
+  where
+    last : (b : Booking) → In b (option_to_list (booking_of e (length past))) → IsOwn (e ∷ past) b
+    last b there =
+        let is = in_option (booking_of e (length past)) b there in
+        let m = made e (length past) b (due_in e.reply) refl is in
+        record { older = omega (arith, m.number); own = λ stood. booking_after past e b.item.0 true (ap₂ (λ a b. a && b) m.settled m.item) ∙ is }
 
 pub standing_own : (past : List Entry) → AllByRecursion (λ b. booking past b.item.0 ≡ Some b) (standing past)
 standing_own past = All_filter (λ b. booking past b.item.0 ≡ Some b) (stands past) (bookings past) (All_map (IsOwn past) (λ b. stands past b ≡ true → booking past b.item.0 ≡ Some b) (bookings past) (λ b k. k.own) (bookings_own past))

@@ -1,5 +1,5 @@
 -- What a legal entry starts stands in its pool's worklist: a queueing, active and not started before.
-use Rattle.cmwq_theory_steps.specs.Common.{◌≡◌, ◌<◌, ℕ, true, false, cond, List, [], ◌∷◌, find, Some, option_to_list, refl, ap, ◌∙◌, subst, arith, option_or, AllByRecursion, nat_tests, eq-eqb, find-append, PoolId, WorkerId, Worker, Entry, Queueing, Layout, starts, number_started, is_started, queueings, queueing_at, opening, has_number, is_listed, IsLegal, IsRising, All_both, queueings_rise}
+use Rattle.cmwq_theory_steps.specs.Common.{◌≡◌, ◌<◌, ℕ, true, false, cond, List, [], ◌∷◌, find, Some, option_to_list, refl, ap, ◌∙◌, subst, arith, option_or, AllByRecursion, nat_tests, eq-eqb, find-append, WorkerId, Worker, Entry, Queueing, Layout, starts, number_started, is_started, queueings, queueing_at, opening, has_number, is_listed, IsLegal, IsRising, All_both, queueings_rise}
 use Rattle.cmwq_theory_steps.proofs.Activated.{next_holds}
 use Rattle.cmwq_theory_steps.proofs.Starts.{starts_next}
 use Rattle.cmwq_theory_steps.proofs.Entries.{is_at-true}
@@ -9,16 +9,11 @@ use Rattle.cmwq_theory_steps.proofs.Entries.{is_at-true}
 abbrev pub IsFound : List Entry → Queueing → Type 0
 IsFound past x = queueing_at past x.number ≡ Some x
 
-found_later : (x y : Queueing) (xs : List Queueing) → x.number < y.number → find (has_number y.number) xs ≡ Some y → find (has_number y.number) (x ∷ xs) ≡ Some y
-found_later x y xs less h =
-    let other : has_number y.number x ≡ false = grind (arith, nat_tests) in
-    ap (λ b. cond b (Some x) (find (has_number y.number) xs)) other ∙ h
-
 rising_found : (xs : List Queueing) → IsRising xs → AllByRecursion (λ x. find (has_number x.number) xs ≡ Some x) xs
 rising_found [] h = tt
 rising_found (x ∷ xs) h = (
   ap (λ b. cond b (Some x) (find (has_number x.number) xs)) (eq-eqb x.number x.number refl),
-  All_both (λ y. x.number < y.number) (λ y. find (has_number y.number) xs ≡ Some y) (λ y. find (has_number y.number) (x ∷ xs) ≡ Some y) xs (λ y less found. found_later x y xs less found) h.0 (rising_found xs h.1),
+  All_both (λ y. x.number < y.number) (λ y. find (has_number y.number) xs ≡ Some y) (λ y. find (has_number y.number) (x ∷ xs) ≡ Some y) xs (λ y less found. grind (arith, nat_tests)) h.0 (rising_found xs h.1),
 )
 
 pub queueings_found : (past : List Entry) → AllByRecursion (IsFound past) (queueings past)
@@ -55,7 +50,5 @@ starts_listed s past e n legal h =
 pub starts_anew : (s : Layout) (past : List Entry) (e : Entry) (n : ℕ) → IsLegal s (e ∷ past) → starts n e ≡ true → is_started past n ≡ false
 starts_anew s past e n legal h =
     let st = starts_listed s past e n legal h in
-    subst (λ k. is_started past k ≡ false) st.number (new st.worker.pool st.queueing st.listed)
-  where
-    new : (p : PoolId) (x : Queueing) → is_listed s past p x ≡ true → is_started past x.number ≡ false
-    new p x h = grind arith
+    let listed = st.listed in
+    subst (λ k. is_started past k ≡ false) st.number (grind arith)

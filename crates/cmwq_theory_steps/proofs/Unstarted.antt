@@ -1,5 +1,5 @@
 -- An item's unstarted queueing after one more entry, and that what a pool starts next is one.
-use Rattle.cmwq_theory_steps.specs.Common.{◌≡◌, ℕ, Bool, true, false, not, ◌&&◌, ◌||◌, ◌==◌, List, [], ◌∷◌, ◌++◌, filter, Option, Some, None, option_to_list, cond, arith, refl, sym, ap, ap₂, ◌∙◌, AllByRecursion, filter-append, Entry, Queueing, PoolId, Layout, queueings, still_open, is_live, opening, is_unstarted, unstarted_queueing, starts, is_started, IsLegal, has_number, next, option_or, All_each, eq-eqb, All_unfilter, listed_live}
+use Rattle.cmwq_theory_steps.specs.Common.{◌≡◌, ℕ, Bool, true, false, not, ◌&&◌, ◌==◌, List, [], ◌∷◌, ◌++◌, filter, Option, Some, None, option_to_list, cond, arith, refl, sym, ap, ap₂, ◌∙◌, AllByRecursion, filter-append, Entry, Queueing, PoolId, Layout, queueings, still_open, is_live, opening, is_unstarted, unstarted_queueing, starts, is_started, IsLegal, has_number, next, option_or, All_each, eq-eqb, All_unfilter, listed_live}
 use Rattle.cmwq_theory_steps.specs.Endings.{survives}
 use Rattle.cmwq_lemmas.proofs.Filters.{filter_twice, filter_same}
 use Rattle.cmwq_theory_steps.proofs.Endings.{open_go_on}
@@ -9,42 +9,19 @@ use Rattle.cmwq_theory_steps.specs.ItemQueueings.{still_unstarted, of_item}
 use Rattle.cmwq_theory_steps.proofs.Activated.{find_holds, next_holds}
 use Rattle.cmwq_theory_steps.proofs.StartsListed.{IsFound, queueings_found, queueing_at-older}
 use Rattle.cmwq_theory_steps.proofs.Pools.{unstarted_alone}
-use Rattle.cmwq_lemmas.proofs.Truth.{flip}
 
 -- ---- the unstarted queueing of an item after an entry
 
 kept_one : (past : List Entry) (e : Entry) (o : Option Queueing) → filter (λ x. survives past e x && not (starts x.number e)) (option_to_list o) ≡ option_to_list (still_unstarted past e o)
 kept_one past e None = refl
-kept_one past e (Some x) = either (survives past e x && not (starts x.number e))
-  where
-    either : (b : Bool) → cond b (x ∷ []) [] ≡ option_to_list (cond b (Some x) None)
-    either true = refl
-    either false = refl
+kept_one past e (Some x) = grind arith
 
 opened_one : (past : List Entry) (e : Entry) (i : ℕ) (o : Option Queueing) → AllByRecursion (λ x. is_started (e ∷ past) x.number ≡ false) (option_to_list o) → filter (is_unstarted (e ∷ past) i) (option_to_list o) ≡ option_to_list (of_item i o)
 opened_one past e i None h = refl
-opened_one past e i (Some x) h = ap (λ b. cond ((x.item.0 == i) && not b) (x ∷ []) []) h.0 ∙ either (x.item.0 == i)
-  where
-    either : (b : Bool) → cond (b && not false) (x ∷ []) [] ≡ option_to_list (cond b (Some x) None)
-    either true = refl
-    either false = refl
+opened_one past e i (Some x) h = ap (λ b. cond ((x.item.0 == i) && not b) (x ∷ []) []) h.0 ∙ grind arith
 
 both : (u a b : Option Queueing) → option_to_list u ≡ option_to_list a ++ option_to_list b → u ≡ option_or a b
-both None None None h = refl
-both None None (Some y) h = cc
-both None (Some x) None h = cc
-both None (Some x) (Some y) h = cc
-both (Some z) None None h = cc
-both (Some z) None (Some y) h = cc
-both (Some z) (Some x) None h = cc
-both (Some z) (Some x) (Some y) h = cc
-
-kept_or_not : (p u t v : Bool) → (p && (u && not (t || v))) ≡ ((u && not v) && (p && not t))
-kept_or_not true true true v = grind arith
-kept_or_not true true false true = refl
-kept_or_not true true false false = refl
-kept_or_not true false t v = refl
-kept_or_not false u t v = flip false (u && not v) ∙ grind arith
+both u a b h = grind arith
 
 pub unstarted_goes_on : (s : Layout) (past : List Entry) (e : Entry) (i : ℕ) → IsLegal s (e ∷ past) → unstarted_queueing (e ∷ past) i ≡ option_or (still_unstarted past e (unstarted_queueing past i)) (of_item i (opening past e))
 unfolding IsLegal
@@ -53,7 +30,7 @@ unstarted_goes_on s past e i legal =
     let old : filter (is_unstarted (e ∷ past) i) (filter (survives past e) (still_open past)) ≡ option_to_list (still_unstarted past e (unstarted_queueing past i)) =
     filter_twice (is_unstarted (e ∷ past) i) (survives past e) (still_open past)
     ∙ (filter_same (λ x. survives past e x && is_unstarted (e ∷ past) i x) (λ x. is_unstarted past i x && kept x) (still_open past)
-    (All_each _ (still_open past) (λ x. kept_or_not (survives past e x) (x.item.0 == i) (starts x.number e) (is_started past x.number)))
+    (All_each _ (still_open past) (λ x. grind arith))
     ∙ (sym (filter_twice kept (is_unstarted past i) (still_open past)) ∙ (ap (filter kept) (one_unstarted s past i legal.2) ∙ kept_one past e (unstarted_queueing past i)))) in
     both (unstarted_queueing (e ∷ past) i) (still_unstarted past e (unstarted_queueing past i)) (of_item i (opening past e))
     (sym (one_unstarted s (e ∷ past) i legal)

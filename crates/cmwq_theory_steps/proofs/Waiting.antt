@@ -1,5 +1,5 @@
 -- What waits, and what becomes active, after one more entry.
-use Rattle.cmwq_theory_steps.specs.Common.{◌≡◌, Bool, true, false, not, ◌&&◌, ◌||◌, List, [], ◌∷◌, ◌++◌, filter, Option, Some, None, option_to_list, cond, arith, refl, sym, ap, ap₂, ◌∙◌, AllByRecursion, filter-append, Entry, Queueing, Layout, queueings, still_open, is_live, opening, is_below_max_active, is_active, is_newly_active, newly_active, IsLegal, All_each, All_filter, All_map, opening_number}
+use Rattle.cmwq_theory_steps.specs.Common.{active_go_on, ◌≡◌, true, not, ◌&&◌, List, [], ◌∷◌, ◌++◌, filter, Option, Some, None, option_to_list, cond, arith, refl, sym, ap, ap₂, ◌∙◌, AllByRecursion, filter-append, Entry, Queueing, Layout, queueings, still_open, is_live, opening, is_below_max_active, is_newly_active, newly_active, IsLegal, All_each, All_filter, All_map, opening_number}
 use Rattle.cmwq_theory_steps.specs.Endings.{survives}
 use Rattle.cmwq_theory_steps.specs.Activations.{waits}
 use Rattle.cmwq_lemmas.proofs.Filters.{filter_twice, filter_same}
@@ -15,7 +15,7 @@ all_live past = All_filter (λ x. is_live past x ≡ true) (is_live past) (queue
 -- what is opened wasn't active before
 pub opened_waits : (s : Layout) (past : List Entry) (e : Entry) (o : Option Queueing) → opening past e ≡ o → filter (waits s past) (option_to_list o) ≡ option_to_list o
 opened_waits s past e None h = refl
-opened_waits s past e (Some x) h = ap (λ b. cond (not b) (x ∷ []) []) (not_active_yet s past x (let at = opening_number past e x h in omega arith))
+opened_waits s past e (Some x) h = ap (λ b. cond (not b) (x ∷ []) []) (not_active_yet s past x (opening_number past e x h))
 
 pub candidates_are : (s : Layout) (past : List Entry) (e : Entry) → IsLegal s (e ∷ past) → candidates s past e ≡ filter (survives past e) (waiting s past) ++ option_to_list (opening past e)
 candidates_are s past e legal =
@@ -30,16 +30,7 @@ newly_are s past e =
     (All_map (λ x. is_live (e ∷ past) x ≡ true) _ (still_open (e ∷ past)) (λ x live. newly_is s past e x live ∙ flip (is_below_max_active s (e ∷ past) x) (waits s past x)) (all_live (e ∷ past)))
     ∙ sym (filter_twice (is_below_max_active s (e ∷ past)) (waits s past) (still_open (e ∷ past))))
 
-still_waits : (s : Layout) (past : List Entry) (e : Entry) (x : Queueing) → is_live (e ∷ past) x ≡ true → waits s (e ∷ past) x ≡ (waits s past x && has_none s (e ∷ past) x)
-unfolding is_active
-still_waits s past e x live = ap (λ b. not (b && (is_active s past x || is_below_max_active s (e ∷ past) x))) live ∙ either (is_active s past x) (is_below_max_active s (e ∷ past) x)
-  where
-    either : (a b : Bool) → not (true && (a || b)) ≡ (not a && not b)
-    either true b = refl
-    either false true = refl
-    either false false = refl
-
 pub waiting_goes_on : (s : Layout) (past : List Entry) (e : Entry) → waiting s (e ∷ past) ≡ filter (has_none s (e ∷ past)) (candidates s past e)
 waiting_goes_on s past e =
-    filter_same (waits s (e ∷ past)) (λ x. waits s past x && has_none s (e ∷ past) x) (still_open (e ∷ past)) (All_map (λ x. is_live (e ∷ past) x ≡ true) _ (still_open (e ∷ past)) (λ x live. still_waits s past e x live) (all_live (e ∷ past)))
+    filter_same (waits s (e ∷ past)) (λ x. waits s past x && has_none s (e ∷ past) x) (still_open (e ∷ past)) (All_map (λ x. is_live (e ∷ past) x ≡ true) _ (still_open (e ∷ past)) (λ x live. grind (arith, active_go_on s past e x)) (all_live (e ∷ past)))
     ∙ sym (filter_twice (has_none s (e ∷ past)) (waits s past) (still_open (e ∷ past)))

@@ -1,5 +1,7 @@
 -- What is below max_active, told by what became active so far: so one pass over what waits finds what becomes active.
-use Rattle.cmwq_theory_steps.specs.Common.{◌≡◌, ℕ, zero, suc, ◌+◌, ◌-◌, ◌<◌, Bool, true, false, ◌&&◌, List, [], ◌∷◌, ◌++◌, length, filter, take, count_by, cond, nat_lt, refl, sym, ap, ap₂, ◌∙◌, subst, arith, AllByRecursion, filter-append, eq-eqb, nat_tests, Entry, Queueing, Layout, still_open, width, is_below_max_active, IsRising, All_filter, All_map, rising_filter, open_rise}
+use Rattle.cmwq_theory_steps.specs.Common.{◌≡◌, ℕ, zero, suc, ◌+◌, ◌-◌, ◌<◌, Bool, List, [], ◌∷◌, ◌++◌, length, filter, take, count_by, cond, nat_lt, refl, sym, ap, ◌∙◌, subst, arith, AllByRecursion, filter-append, eq-eqb, nat_tests, Entry, Queueing, Layout, still_open, width, is_below_max_active, IsRising, rising_filter, open_rise}
+use Rattle.std.proofs.lemmas.Bool.{and_from}
+use Rattle.cmwq_lemmas.proofs.Passing.{all_kept}
 use Rattle.cmwq_theory_steps.specs.Places.{is_on, open_on}
 use Rattle.cmwq_theory_steps.specs.Activations.{waits, stay_count}
 use Rattle.cmwq_theory_steps.proofs.Active.{length-count}
@@ -11,49 +13,13 @@ use Rattle.cmwq_theory_steps.proofs.Promoted.{turn_filters}
 -- a rising list, and each front of a filter of it
 later_only : (h : Queueing → Bool) (x : Queueing) (xs zs : List Queueing) → AllByRecursion (λ y. x.number < y.number) xs → filter h xs ≡ x ∷ zs → ⊥
 later_only h x xs zs later is =
-    let all = All_filter (λ y. x.number < y.number) h xs (All_map (λ y. x.number < y.number) _ xs (λ y less _. less) later) in
-    let first = subst (AllByRecursion (λ y. x.number < y.number)) is all in
-    let less : x.number < x.number = first.0 in omega arith
-
-no_cons : (x : Queueing) (xs : List Queueing) → x ∷ xs ≡ [] → ⊥
-no_cons x xs h = cc
-
-tail_same : (x y : Queueing) (xs ys : List Queueing) → x ∷ xs ≡ y ∷ ys → xs ≡ ys
-tail_same x y xs ys h = cc
-
-some_less : (d : ℕ) → nat_lt 0 (suc d) ≡ true
-some_less d = grind (arith, nat_tests)
-
-both_more : (k d : ℕ) → nat_lt (suc k) (suc d) ≡ nat_lt k d
-both_more k d = grind (arith, nat_tests)
+    omega (arith, (subst (AllByRecursion (λ y. x.number < y.number)) is (all_kept (λ y. x.number < y.number) h xs later)).0)
 
 front_below_max_active : (h : Queueing → Bool) (d : ℕ) (D : List Queueing) (x : Queueing) (R : List Queueing) → IsRising (D ++ x ∷ R) → filter h (D ++ x ∷ R) ≡ take d (D ++ x ∷ R) → h x ≡ nat_lt (length (filter h D)) d
-front_below_max_active h zero [] x R rising is = at (h x) refl is
-  where
-    at : (b : Bool) → h x ≡ b → cond b (x ∷ filter h R) (filter h R) ≡ [] → h x ≡ false
-    at true e k = absurd (no_cons x (filter h R) k)
-    at false e k = e
-front_below_max_active h (suc d) [] x R rising is = at (h x) refl is ∙ sym (some_less d)
-  where
-    at : (b : Bool) → h x ≡ b → cond b (x ∷ filter h R) (filter h R) ≡ x ∷ take d R → h x ≡ true
-    at true e k = e
-    at false e k = absurd (later_only h x R (take d R) rising.0 k)
-front_below_max_active h zero (y ∷ D) x R rising is = at (h y) refl (front_below_max_active h zero D x R rising.1) is
-  where
-    at : (b : Bool) → h y ≡ b → (filter h (D ++ x ∷ R) ≡ [] → h x ≡ nat_lt (length (filter h D)) 0) → cond b (y ∷ filter h (D ++ x ∷ R)) (filter h (D ++ x ∷ R)) ≡ [] → h x ≡ nat_lt (length (cond (h y) (y ∷ filter h D) (filter h D))) 0
-    at true e on k = absurd (no_cons y (filter h (D ++ x ∷ R)) k)
-    at false e on k = on k ∙ ap (λ b. nat_lt (length (cond b (y ∷ filter h D) (filter h D))) 0) (sym e)
-front_below_max_active h (suc d) (y ∷ D) x R rising is = at (h y) refl (front_below_max_active h d D x R rising.1) is
-  where
-    at : (b : Bool) → h y ≡ b → (filter h (D ++ x ∷ R) ≡ take d (D ++ x ∷ R) → h x ≡ nat_lt (length (filter h D)) d) → cond b (y ∷ filter h (D ++ x ∷ R)) (filter h (D ++ x ∷ R)) ≡ y ∷ take d (D ++ x ∷ R) → h x ≡ nat_lt (length (cond (h y) (y ∷ filter h D) (filter h D))) (suc d)
-    at true e on k = on (tail_same y y (filter h (D ++ x ∷ R)) (take d (D ++ x ∷ R)) k) ∙ (sym (both_more (length (filter h D)) d) ∙ ap (λ b. nat_lt (length (cond b (y ∷ filter h D) (filter h D))) (suc d)) (sym e))
-    at false e on k = absurd (later_only h y (D ++ x ∷ R) (take d (D ++ x ∷ R)) rising.0 k)
-
-less_more : (k stay w : ℕ) → nat_lt k (w - stay) ≡ nat_lt (stay + k) w
-less_more k stay w = grind (arith, nat_tests)
-
-on_itself : (x : Queueing) → is_on x.place.queue.0 x.place.cpu.0 x ≡ true
-on_itself x = ap₂ (λ a b. a && b) (eq-eqb x.place.queue.0 x.place.queue.0 refl) (eq-eqb x.place.cpu.0 x.place.cpu.0 refl)
+front_below_max_active h zero [] x R rising is = grind arith
+front_below_max_active h (suc d) [] x R rising is = grind (arith, nat_tests, later_only h x R (take d R) rising.0)
+front_below_max_active h zero (y ∷ D) x R rising is = grind (arith, nat_tests, front_below_max_active h zero D x R rising.1)
+front_below_max_active h (suc d) (y ∷ D) x R rising is = grind (arith, nat_tests, later_only h y (D ++ x ∷ R) (take d (D ++ x ∷ R)) rising.0, front_below_max_active h d D x R rising.1)
 
 -- a queueing that waits is below max_active exactly where fewer than the width are active on its pool workqueue, counting those that became active before it in this pass
 pub way_by_picked : (s : Layout) (past : List Entry) (e : Entry) (done : List Queueing) (x : Queueing) (rest : List Queueing) → candidates s past e ≡ done ++ x ∷ rest
@@ -65,11 +31,11 @@ way_by_picked s past e done x rest split =
     let stay = stay_count s past e q c in
     let w = width s (e ∷ past) q in
     let parts : filter on (candidates s past e) ≡ filter on done ++ x ∷ filter on rest =
-    ap (filter on) split ∙ (filter-append on done (x ∷ rest) ∙ ap (λ b. filter on done ++ cond b (x ∷ filter on rest) (filter on rest)) (on_itself x)) in
+    ap (filter on) split ∙ (filter-append on done (x ∷ rest) ∙ ap (λ b. filter on done ++ cond b (x ∷ filter on rest) (filter on rest)) (and_from _ _ (eq-eqb q q refl) (eq-eqb c c refl))) in
     let turned : filter (waits s past) (open_on (e ∷ past) q c) ≡ filter on (candidates s past e) = turn_filters (waits s past) on (still_open (e ∷ past)) in
     let same : filter h (filter on (candidates s past e)) ≡ take (w - stay) (filter on (candidates s past e)) =
     turn_filters h on (candidates s past e) ∙ (ap (filter on) (sym (newly_are s past e)) ∙ (newly_active_on s past e q c ∙ ap (take (w - stay)) turned)) in
     let rises : IsRising (filter on done ++ x ∷ filter on rest) = subst IsRising parts (rising_filter on (candidates s past e) (rising_filter (waits s past) (still_open (e ∷ past)) (open_rise (e ∷ past)))) in
-    let here = front_below_max_active h (w - stay) (filter on done) x (filter on rest) rises (subst (λ v. filter h v ≡ take (w - stay) v) parts same) in
     let counted : length (filter h (filter on done)) ≡ count_by on (filter h done) = ap length (turn_filters h on done) ∙ sym (length-count on (filter h done)) in
-    here ∙ (ap (λ k. nat_lt k (w - stay)) counted ∙ less_more (count_by on (filter h done)) stay w)
+    front_below_max_active h (w - stay) (filter on done) x (filter on rest) rises (subst (λ v. filter h v ≡ take (w - stay) v) parts same)
+    ∙ (ap (λ k. nat_lt k (w - stay)) counted ∙ grind (arith, nat_tests))

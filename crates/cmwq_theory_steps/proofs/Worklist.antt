@@ -1,47 +1,13 @@
 -- A pool's worklist has all that belongs there, and nothing else.
-use Rattle.cmwq_theory_steps.specs.Common.{◌≡◌, Bool, true, false, cond, List, [], ◌∷◌, ◌++◌, length, filter, Option, Some, None, option_to_list, refl, subst, arith, Contains, AllByRecursion, Contains-append_left, Contains-append_right, All-from_recursion, PoolId, Entry, Queueing, Layout, queueings, opening, is_active, is_newly_active, newly_active, became_active, is_listed, worklist, All_map, All_both, All_append, All_filter, opening_number, active_older}
+use Rattle.cmwq_theory_steps.specs.Common.{◌≡◌, true, List, [], ◌∷◌, option_to_list, arith, Contains, AllByRecursion, Contains-append_left, Contains-append_right, PoolId, Entry, Layout, queueings, opening, is_active, is_newly_active, newly_active, became_active, is_listed, worklist, All_map, All_both, All_append, All_filter, opening_number, active_older}
 use Rattle.cmwq_theory_steps.specs.Order.{IsWorklist}
+use Rattle.std.proofs.Common.{⊎_elim}
+use Rattle.std.proofs.lemmas.Bool.{cases_Bool}
+use Rattle.cmwq_lemmas.proofs.Members.{all_in, in_option, contained_in, filter_in, in_contained}
 use Rattle.cmwq_theory_steps.proofs.Activated.{activated_all}
 use Rattle.cmwq_theory_steps.proofs.Order.{activated_in_order, in_order_filter}
 
-module _ {X : Type 0} where
-  contains_head : (x : X) (xs : List X) → Contains (x ∷ xs) x
-  contains_head x xs = (0, omega arith, refl)
-
-  contains_tail : (x y : X) (xs : List X) → Contains xs y → Contains (x ∷ xs) y
-  contains_tail x y xs h = Contains-append_right (x ∷ []) xs y h
-
-  all_contained : (xs : List X) → AllByRecursion (Contains xs) xs
-  all_contained [] = tt
-  all_contained (x ∷ xs) = (contains_head x xs, All_map (Contains xs) (Contains (x ∷ xs)) xs (λ y h. contains_tail x y xs h) (all_contained xs))
-
-  of_contained : (P : X → Type 0) (xs : List X) (x : X) → AllByRecursion P xs → Contains xs x → P x
-  of_contained P xs x h c = subst P c.2 (All-from_recursion P xs h c.0 x c.1)
-
-  kept_here : (x : X) (xs : List X) (b : Bool) → b ≡ true → Contains (cond b (x ∷ xs) xs) x
-  kept_here x xs true h = contains_head x xs
-  kept_here x xs false h = cc
-
-  kept_later : (x y : X) (xs : List X) (b : Bool) → Contains xs y → Contains (cond b (x ∷ xs) xs) y
-  kept_later x y xs true h = contains_tail x y xs h
-  kept_later x y xs false h = h
-
-  -- each element that passes is in the filtered list
-  filter_contains : (p : X → Bool) (xs : List X) → AllByRecursion (λ x. p x ≡ true → Contains (filter p xs) x) xs
-  filter_contains p [] = tt
-  filter_contains p (x ∷ xs) =
-      (kept_here x (filter p xs) (p x), All_map (λ y. p y ≡ true → Contains (filter p xs) y) (λ y. p y ≡ true → Contains (filter p (x ∷ xs)) y) xs (λ y h passes. kept_later x y (filter p xs) (p x) (h passes)) (filter_contains p xs))
-
 -- ---- what is active became active
-
-opening_inactive : (s : Layout) (past : List Entry) (o : Option Queueing) → ((x : Queueing) → o ≡ Some x → x.number ≡ length past) → AllByRecursion (λ x. is_active s past x ≡ true → Contains (became_active s past) x) (option_to_list o)
-opening_inactive s past None h = tt
-opening_inactive s past (Some x) h = ((λ active. let less = active_older s past x active in let number = h x refl in absurd (omega arith)), tt)
-
-active_here : (s : Layout) (past : List Entry) (e : Entry) (x : Queueing) (b : Bool) → is_active s past x ≡ b → (is_active s past x ≡ true → Contains (became_active s past) x)
-    → (is_newly_active s past e x ≡ true → Contains (newly_active s past e) x) → is_active s (e ∷ past) x ≡ true → Contains (became_active s past ++ newly_active s past e) x
-active_here s past e x true h was newly active = Contains-append_left (became_active s past) (newly_active s past e) x (was h)
-active_here s past e x false h was newly active = Contains-append_right (became_active s past) (newly_active s past e) x (newly (grind arith))
 
 activated_has : (s : Layout) (past : List Entry) → AllByRecursion (λ x. is_active s past x ≡ true → Contains (became_active s past) x) (queueings past)
 unfolding became_active queueings
@@ -49,25 +15,22 @@ activated_has s [] = tt
 activated_has s (e ∷ past) =
     All_both (λ x. is_active s past x ≡ true → Contains (became_active s past) x) (λ x. is_newly_active s past e x ≡ true → Contains (newly_active s past e) x)
     (λ x. is_active s (e ∷ past) x ≡ true → Contains (became_active s (e ∷ past)) x) (queueings (e ∷ past))
-    (λ x was newly active. active_here s past e x (is_active s past x) refl was newly active)
-    (All_append (λ x. is_active s past x ≡ true → Contains (became_active s past) x) (queueings past) (option_to_list (opening past e)) (activated_has s past) (opening_inactive s past (opening past e) (opening_number past e)))
-    (filter_contains (is_newly_active s past e) (queueings (e ∷ past)))
+    (λ x was newly active. ⊎_elim (λ before. Contains-append_left (became_active s past) (newly_active s past e) x (was before))
+    (λ not_before. Contains-append_right (became_active s past) (newly_active s past e) x (newly (grind arith))) (cases_Bool (is_active s past x)))
+    (All_append (λ x. is_active s past x ≡ true → Contains (became_active s past) x) (queueings past) (option_to_list (opening past e)) (activated_has s past)
+    (all_in _ (option_to_list (opening past e)) (λ x there active. absurd (omega (arith, active_older s past x active, opening_number past e x (in_option (opening past e) x there))))))
+    (all_in _ (queueings (e ∷ past)) (λ x there newly. in_contained (newly_active s past e) x (filter_in (is_newly_active s past e) (queueings (e ∷ past)) x there newly)))
 
 -- ---- the worklist
 
-contained_more : (e : Entry) (past : List Entry) (x : Queueing) → Contains (queueings past) x → Contains (queueings (e ∷ past)) x
-unfolding queueings
-contained_more e past x h = Contains-append_left (queueings past) (option_to_list (opening past e)) x h
-
 pub worklist_is : (s : Layout) (past : List Entry) (p : PoolId) → IsWorklist s past p (worklist s past p)
-unfolding worklist
+unfolding worklist queueings
 worklist_is s past p = record {
   all_stand = All_map (λ x. is_active s past x ≡ true → Contains (became_active s past) x) (λ x. is_listed s past p x ≡ true → Contains (worklist s past p) x) (queueings past)
-      (λ x h listed. of_contained (λ y. is_listed s past p y ≡ true → Contains (filter (is_listed s past p) (became_active s past)) y) (became_active s past) x
-      (filter_contains (is_listed s past p) (became_active s past)) (h (grind arith)) listed)
+      (λ x h listed. in_contained (worklist s past p) x (filter_in (is_listed s past p) (became_active s past) x (contained_in (became_active s past) x (h (grind arith))) listed))
       (activated_has s past);
   no_others = All_filter (λ x. Contains (queueings past) x × (is_listed s past p x ≡ true)) (is_listed s past p) (became_active s past)
       (All_map (Contains (queueings past)) (λ x. is_listed s past p x ≡ true → Contains (queueings past) x × (is_listed s past p x ≡ true)) (became_active s past) (λ x h listed. (h, listed))
-      (activated_all s (λ h. Contains (queueings h)) contained_more (λ h. all_contained (queueings h)) past));
+      (activated_all s (λ h. Contains (queueings h)) (λ e past x. Contains-append_left (queueings past) (option_to_list (opening past e)) x) (λ h. all_in (Contains (queueings h)) (queueings h) (in_contained (queueings h))) past));
   in_order = in_order_filter s past (is_listed s past p) (became_active s past) (activated_in_order s past);
 }

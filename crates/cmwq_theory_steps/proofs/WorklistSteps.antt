@@ -1,8 +1,12 @@
 -- A pool's worklist after one more entry.
-use Rattle.cmwq_theory_steps.specs.Common.{◌≡◌, ◌<◌, ℕ, Bool, true, false, not, ◌&&◌, ◌||◌, List, [], ◌∷◌, ◌++◌, length, filter, Option, Some, None, option_to_list, refl, sym, ap, ap₂, ◌∙◌, subst, arith, AllByRecursion, filter-append, PoolId, Entry, Queueing, Layout, number_started, starts, is_started, queueings, queueing_at, opening, is_live, is_active, is_newly_active, newly_active, became_active, is_listed, worklist, IsLegal, All_map, All_both, All_append, All_each, All_filter, IsBelow, queueings_below, opening_number, open_before, stays_active, active_live, not_live}
+use Rattle.cmwq_theory_steps.specs.Common.{◌≡◌, ◌<◌, ℕ, true, false, not, ◌&&◌, ◌||◌, List, [], ◌∷◌, ◌++◌, length, filter, Option, Some, None, option_to_list, refl, sym, ap, ap₂, ◌∙◌, subst, arith, AllByRecursion, filter-append, PoolId, Entry, Queueing, Layout, number_started, starts, is_started, queueings, queueing_at, opening, is_live, is_active, is_newly_active, newly_active, became_active, is_listed, worklist, IsLegal, All_map, All_both, All_append, All_each, All_filter, IsBelow, queueings_below, opening_number, open_before, stays_active, active_live}
 use Rattle.cmwq_theory_steps.specs.Endings.{survives}
 use Rattle.cmwq_theory_steps.specs.Activations.{is_left, is_in}
 use Rattle.cmwq_lemmas.proofs.Filters.{filter_twice, filter_same}
+use Rattle.std.proofs.lemmas.Bool.{and_from, and_parts}
+use Rattle.std.proofs.lemmas.Option.{same_Some}
+use Rattle.cmwq_lemmas.proofs.Members.{all_in, of_in}
+use Rattle.cmwq_lemmas.proofs.Truth.{same_bools}
 use Rattle.cmwq_theory_steps.proofs.Order.{still_active, HasSince, activated_since}
 use Rattle.cmwq_theory_steps.proofs.Activated.{activated_all}
 use Rattle.cmwq_theory_steps.proofs.Entries.{IsKnown, known_more, queueings_known}
@@ -17,14 +21,8 @@ use Rattle.cmwq_theory_steps.proofs.Endings.{live_goes_on}
 starts_active : (s : Layout) (past : List Entry) (e : Entry) (x : Queueing) → IsLegal s (e ∷ past) → IsFound past x → starts x.number e ≡ true → is_active s past x ≡ true
 starts_active s past e x legal found h =
     let st = starts_listed s past e x.number legal h in
-    let same : st.queueing ≡ x = some_same st.queueing x (sym st.found ∙ found) in
-    subst (λ y. is_active s past y ≡ true) same (listed_active st.queueing st.worker.pool st.listed)
-  where
-    some_same : (a b : Queueing) → Some a ≡ Some b → a ≡ b
-    some_same a b h = cc
-
-    listed_active : (y : Queueing) (p : PoolId) → is_listed s past p y ≡ true → is_active s past y ≡ true
-    listed_active y p h = grind arith
+    let listed = st.listed in
+    subst (λ y. is_active s past y ≡ true) (same_Some st.queueing x (sym st.found ∙ found)) (grind arith)
 
 -- what an entry opens hasn't started
 opened_unstarted : (s : Layout) (past : List Entry) (e : Entry) (n : ℕ) → IsLegal s (e ∷ past) → n ≡ length past → is_started (e ∷ past) n ≡ false
@@ -35,19 +33,10 @@ opened_unstarted s past e n legal is =
 abbrev pub IsActiveOnce : Layout → List Entry → Queueing → Type 0
 IsActiveOnce s past x = is_started past x.number ≡ true → is_live past x ≡ true → is_active s past x ≡ true
 
-record IsOlder (s : Layout) (past : List Entry) (x : Queueing) : Type 0 where
-  older : x.number < length past
-  found : IsFound past x
-
-older_found : (s : Layout) (past : List Entry) → AllByRecursion (IsOlder s past) (queueings past)
-older_found s past = All_both (IsBelow (length past)) (IsFound past) (IsOlder s past) (queueings past) (λ x less found. record { older = less; found = found }) (queueings_below past) (queueings_found past)
-
-started_active_more : (s : Layout) (past : List Entry) (e : Entry) (x : Queueing) → IsLegal s (e ∷ past) → IsOlder s past x → IsActiveOnce s past x → IsActiveOnce s (e ∷ past) x
-started_active_more s past e x legal old earlier started live = stays_active s past e x (was (starts x.number e) refl) live
-  where
-    was : (b : Bool) → starts x.number e ≡ b → is_active s past x ≡ true
-    was true h = starts_active s past e x legal old.found h
-    was false h = earlier (ap (λ b. b || is_started past x.number) (sym h) ∙ started) (open_before e past x.item.0 x.number old.older live)
+started_active_more : (s : Layout) (past : List Entry) (e : Entry) (x : Queueing) → IsLegal s (e ∷ past) → x.number < length past → IsFound past x → IsActiveOnce s past x → IsActiveOnce s (e ∷ past) x
+started_active_more s past e x legal older found earlier started live =
+    let before = open_before e past x.item.0 x.number older live in
+    stays_active s past e x (grind (arith, starts_active s past e x legal found, earlier)) live
 
 pub opening_inert : (s : Layout) (past : List Entry) (e : Entry) (o : Option Queueing) → IsLegal s (e ∷ past) → opening past e ≡ o → AllByRecursion (λ x. is_started (e ∷ past) x.number ≡ false) (option_to_list o)
 opening_inert s past e None legal h = tt
@@ -58,63 +47,35 @@ unfolding queueings IsLegal
 started_are_active s [] legal = tt
 started_are_active s (e ∷ past) legal =
     All_append (IsActiveOnce s (e ∷ past)) (queueings past) (option_to_list (opening past e))
-    (All_both (IsOlder s past) (IsActiveOnce s past) (IsActiveOnce s (e ∷ past)) (queueings past) (λ x old earlier. started_active_more s past e x legal old earlier) (older_found s past) (started_are_active s past legal.2))
+    (all_in (IsActiveOnce s (e ∷ past)) (queueings past) (λ x there. started_active_more s past e x legal (of_in (IsBelow (length past)) _ x (queueings_below past) there)
+    (of_in (IsFound past) _ x (queueings_found past) there) (of_in (IsActiveOnce s past) _ x (started_are_active s past legal.2) there)))
     (All_map (λ x. is_started (e ∷ past) x.number ≡ false) (IsActiveOnce s (e ∷ past)) (option_to_list (opening past e)) (λ x none started live. let bad : true ≡ false = sym started ∙ none in cc) (opening_inert s past e (opening past e) legal refl))
 
 -- ---- what became active hasn't started
 
-newly_inert : (s : Layout) (past : List Entry) (e : Entry) (x : Queueing) → IsLegal s (e ∷ past) → IsOlder s past x → IsActiveOnce s past x → is_newly_active s past e x ≡ true → is_started (e ∷ past) x.number ≡ false
-newly_inert s past e x legal old earlier newly = at (starts x.number e) (is_started past x.number) refl refl
-  where
-    live : is_live past x ≡ true
-    live = open_before e past x.item.0 x.number old.older (active_live s (e ∷ past) x (grind arith))
-
-    was_not : is_active s past x ≡ true → ⊥
-    was_not active = grind arith
-
-    at : (a b : Bool) → starts x.number e ≡ a → is_started past x.number ≡ b → (starts x.number e || is_started past x.number) ≡ false
-    at true b ha hb = absurd (was_not (starts_active s past e x legal old.found ha))
-    at false true ha hb = absurd (was_not (earlier hb live))
-    at false false ha hb = ap₂ (λ a b. a || b) ha hb
+newly_inert : (s : Layout) (past : List Entry) (e : Entry) (x : Queueing) → IsLegal s (e ∷ past) → x.number < length past → IsFound past x → IsActiveOnce s past x → is_newly_active s past e x ≡ true → is_started (e ∷ past) x.number ≡ false
+newly_inert s past e x legal older found earlier newly =
+    let live = open_before e past x.item.0 x.number older (active_live s (e ∷ past) x (grind arith)) in
+    grind (arith, starts_active s past e x legal found, earlier)
 
 newly_unstarted : (s : Layout) (past : List Entry) (e : Entry) → IsLegal s (e ∷ past) → AllByRecursion (λ x. is_started (e ∷ past) x.number ≡ false) (newly_active s past e)
 unfolding queueings IsLegal
 newly_unstarted s past e legal = All_filter (λ x. is_started (e ∷ past) x.number ≡ false) (is_newly_active s past e) (queueings (e ∷ past))
     (All_append (λ x. is_newly_active s past e x ≡ true → is_started (e ∷ past) x.number ≡ false) (queueings past) (option_to_list (opening past e))
-    (All_both (IsOlder s past) (IsActiveOnce s past) (λ x. is_newly_active s past e x ≡ true → is_started (e ∷ past) x.number ≡ false) (queueings past) (λ x old earlier newly. newly_inert s past e x legal old earlier newly) (older_found s past) (started_are_active s past legal.2))
+    (all_in _ (queueings past) (λ x there. newly_inert s past e x legal (of_in (IsBelow (length past)) _ x (queueings_below past) there)
+    (of_in (IsFound past) _ x (queueings_found past) there) (of_in (IsActiveOnce s past) _ x (started_are_active s past legal.2) there)))
     (All_map (λ x. is_started (e ∷ past) x.number ≡ false) (λ x. is_newly_active s past e x ≡ true → is_started (e ∷ past) x.number ≡ false) (option_to_list (opening past e)) (λ x none newly. none) (opening_inert s past e (opening past e) legal refl)))
 
 -- ---- what became active before
 
 active_step : (s : Layout) (past : List Entry) (e : Entry) (x : Queueing) → x.number < length past → HasSince s past x → is_active s (e ∷ past) x ≡ (is_active s past x && survives past e x)
-active_step s past e x less since = at (is_active s past x) (survives past e x) refl refl
-  where
-    dead : is_live (e ∷ past) x ≡ false → is_active s (e ∷ past) x ≡ false
-    dead h = not_live s (e ∷ past) x h
-
-    ended : (b : Bool) → is_active s past x ≡ false → is_live past x ≡ b → is_live (e ∷ past) x ≡ false
-    ended true inactive live = let bad : true ≡ false = sym (still_active s past x since.at since.is live) ∙ inactive in cc
-    ended false inactive live = live_goes_on past e x less ∙ ap (λ b. b && survives past e x) live
-
-    at : (a b : Bool) → is_active s past x ≡ a → survives past e x ≡ b → is_active s (e ∷ past) x ≡ (a && b)
-    at true true ha hb = stays_active s past e x ha (live_goes_on past e x less ∙ ap₂ (λ a b. a && b) (active_live s past x ha) hb)
-    at true false ha hb = dead (live_goes_on past e x less ∙ ap₂ (λ a b. a && b) (active_live s past x ha) hb)
-    at false b ha hb = dead (ended (is_live past x) ha refl)
+active_step s past e x less since =
+    let live = live_goes_on past e x less in
+    same_bools _ _ (λ now. let k = and_parts (is_live past x) (survives past e x) (sym live ∙ active_live s (e ∷ past) x now) in and_from _ _ (still_active s past x since.at since.is k.0) k.1)
+    (λ both. let k = and_parts (is_active s past x) (survives past e x) both in stays_active s past e x k.0 (live ∙ and_from _ _ (active_live s past x k.0) k.1))
 
 listed_step : (s : Layout) (past : List Entry) (e : Entry) (p : PoolId) (x : Queueing) → x.number < length past → HasSince s past x → is_listed s (e ∷ past) p x ≡ (is_listed s past p x && is_left past e x)
-listed_step s past e p x less since = ap (λ b. b && not (is_started (e ∷ past) x.number) && is_in s p x) (active_step s past e x less since) ∙ arranged (is_active s past x) (survives past e x) (starts x.number e) (is_started past x.number) (is_in s p x)
-  where
-    arranged : (a b c d f : Bool) → (a && b && not (c || d) && f) ≡ (a && not d && f && (b && not c))
-    arranged false b c d f = refl
-    arranged true false c true f = refl
-    arranged true false c false false = refl
-    arranged true false c false true = refl
-    arranged true true true true f = refl
-    arranged true true true false false = refl
-    arranged true true true false true = refl
-    arranged true true false true f = refl
-    arranged true true false false false = refl
-    arranged true true false false true = refl
+listed_step s past e p x less since = ap (λ b. b && not (is_started (e ∷ past) x.number) && is_in s p x) (active_step s past e x less since) ∙ grind arith
 
 -- ---- the worklist
 
@@ -130,10 +91,7 @@ worklists_go_on s past e p legal =
     ∙ sym (filter_twice (is_left past e) (is_listed s past p) (became_active s past)))
     (filter_same (is_listed s (e ∷ past) p) (is_in s p) (newly_active s past e)
     (All_both (λ x. is_active s (e ∷ past) x ≡ true) (λ x. is_started (e ∷ past) x.number ≡ false) (λ x. is_listed s (e ∷ past) p x ≡ is_in s p x) (newly_active s past e)
-    (λ x active none. ap₂ (λ a b. a && not b && is_in s p x) active none) all_active (newly_unstarted s past e legal)))
-  where
-    all_active : AllByRecursion (λ x. is_active s (e ∷ past) x ≡ true) (newly_active s past e)
-    all_active = All_filter (λ x. is_active s (e ∷ past) x ≡ true) (is_newly_active s past e) (queueings (e ∷ past)) (All_each _ (queueings (e ∷ past)) (λ x newly. grind arith))
+    (λ x active none. ap₂ (λ a b. a && not b && is_in s p x) active none) (All_filter _ (is_newly_active s past e) (queueings (e ∷ past)) (All_each _ (queueings (e ∷ past)) (λ x newly. grind arith))) (newly_unstarted s past e legal)))
 
 -- ---- only active queueings are started
 
