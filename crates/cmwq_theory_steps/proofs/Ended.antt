@@ -40,9 +40,6 @@ by_test past e p same few found number =
 pub open_found : (past : List Entry) (n : ℕ) (x : Queueing) → queueing_at past n ≡ Some x → is_live past x ≡ true → option_map (λ (y : Queueing). y.number) (find (has_number n) (still_open past)) ≡ Some n
 open_found past n x found live = ap (option_map (λ (y : Queueing). y.number)) (find-filter (has_number n) (is_live past) x (queueings past) found live) ∙ ap Some (found_number past n x found)
 
-pub number_same : (m n : ℕ) → (m == n) ≡ (n == m)
-number_same m n = grind (arith, nat_tests)
-
 by_number : (past : List Entry) (e : Entry) (n : ℕ) (x : Queueing) → queueing_at past n ≡ Some x → is_live past x ≡ true → ((y : Queueing) → is_ended past e y ≡ has_number n y) → ended_by past e.who (item_of e) e.reply ≡ Some x
     → number_ended past e ≡ Some n → Ends past e
 by_number past e n x found live same told number = by_test past e (has_number n) same (few_numbered n (still_open past) (open_rise past)) (find-filter (has_number n) (is_live past) x (queueings past) found live ∙ sym told)

@@ -33,7 +33,6 @@ pub mod Points
 pub mod Pools
 pub mod Promised
 pub mod Promoted
-pub mod QueueCases
 pub mod Queued
 pub mod Ranks
 pub mod Reasons
@@ -44,7 +43,6 @@ pub mod Standing
 pub mod Starts
 pub mod StartsListed
 pub mod StateSteps
-pub mod TakeCases
 pub mod TicketSteps
 pub mod Unstarted
 pub mod Waiting
