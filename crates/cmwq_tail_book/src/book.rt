@@ -56,6 +56,11 @@ impl TailBook {
         })
     }
 
+    /// Lets the book go, as `Execution::end` does an execution.
+    pub fn end(self) {
+        self.execution.end();
+    }
+
     /// How many entries there are, those that were given away too.
     pub fn len(&self) -> u64
         ensures len { result ≡ length self.now.history.entries }

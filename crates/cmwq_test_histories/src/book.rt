@@ -64,6 +64,11 @@ impl Pair {
         })
     }
 
+    /// Lets the pair go.
+    pub(crate) fn end(self) {
+        self.book.into_history();
+    }
+
     /// The entry that the plain program gives the call, if there is room for it.
     fn plain_entry(&self, rt: &impl Abort, who: Who, call: Call) -> Option<Entry> {
         assert!(rt; self.entries.len() <= 1_000_000);
@@ -197,7 +202,9 @@ impl Pair {
 fn agrees_in_room(rt: &(impl Abort + AllocGlobal), file: &CallFile, room: u64) -> Result<(), Fail> {
     let shape = file.shape.copy(rt.alloc())?;
     let mut pair = Pair::new(rt, shape, room)?;
-    pair.step_all(rt, &file.calls)
+    let agrees = pair.step_all(rt, &file.calls);
+    pair.end();
+    agrees
 }
 
 /// Makes these calls in every room from none to more than they need.
@@ -216,7 +223,9 @@ fn agrees_on_generated(rt: &(impl Abort + AllocGlobal), seed: u64) -> Result<(),
     let shape = shape(rt.alloc())?.ok_or("no shape")?;
     let mut pair = Pair::new(rt, shape, ROOM)?;
     let mut generator = Generator::new(rt.alloc(), seed);
-    pair.step_generated(rt, &mut generator)
+    let agrees = pair.step_generated(rt, &mut generator);
+    pair.end();
+    agrees
 }
 
 #[test]

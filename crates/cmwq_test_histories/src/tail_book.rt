@@ -30,13 +30,25 @@ struct Two {
 
 impl Two {
     fn new(alloc: Global, shape: Shape) -> Result<Two, Fail> {
+        let spare = Vec::with_capacity(alloc, KEEP as usize)?;
+        let whole = Book::new(alloc, &shape, ROOM)?;
+        let Ok(tail) = TailBook::new(alloc, &shape, KEEP) else {
+            whole.into_history();
+            return Err(Fail::from("no memory"));
+        };
         Ok(Two {
-            whole: Book::new(alloc, &shape, ROOM)?,
-            tail: TailBook::new(alloc, &shape, KEEP)?,
-            spare: Vec::with_capacity(alloc, KEEP as usize)?,
-            given: Vec::new(alloc),
             shape,
+            whole,
+            tail,
+            spare,
+            given: Vec::new(alloc),
         })
+    }
+
+    /// Lets both go.
+    fn end(self) {
+        self.whole.into_history();
+        self.tail.end();
     }
 
     /// Takes what is kept, where nothing more can be.
@@ -111,5 +123,7 @@ fn what_is_given_and_what_is_kept_is_the_history(rt: HostRuntime) -> Result<(), 
     let shape = shape(rt.alloc())?.ok_or("no shape")?;
     let mut two = Two::new(rt.alloc(), shape)?;
     let mut generator = Generator::new(rt.alloc(), 1);
-    two.step_generated(&rt, &mut generator)
+    let done = two.step_generated(&rt, &mut generator);
+    two.end();
+    done
 }

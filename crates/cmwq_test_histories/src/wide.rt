@@ -55,6 +55,12 @@ impl Wide {
         })
     }
 
+    /// Lets the pair go, after what was done on it.
+    fn end(self, done: Result<(), Fail>) -> Result<(), Fail> {
+        self.pair.end();
+        done
+    }
+
     /// The next number, below a limit.
     fn below(&mut self, limit: u32) -> u32
         requires { 0 < limit }
@@ -277,7 +283,8 @@ fn calls_at_random(
     calls: u32,
 ) -> Result<(), Fail> {
     let mut wide = Wide::new(rt, counts, 3, every)?;
-    wide.call_at_random(rt, calls)
+    let done = wide.call_at_random(rt, calls);
+    wide.end(done)
 }
 
 #[test]
@@ -304,7 +311,8 @@ fn as_many_workers_as_may_sleep(rt: HostRuntime) -> Result<(), Fail> {
         ..COUNTS
     };
     let mut wide = Wide::new(&rt, counts, 1, 8)?;
-    wide.let_all_sleep(&rt)
+    let done = wide.let_all_sleep(&rt);
+    wide.end(done)
 }
 
 #[test]
@@ -314,7 +322,8 @@ fn as_many_callers_as_may_flush(rt: HostRuntime) -> Result<(), Fail> {
         ..COUNTS
     };
     let mut wide = Wide::new(&rt, counts, 1, 255)?;
-    wide.end_all_around_the_run(&rt)
+    let done = wide.end_all_around_the_run(&rt);
+    wide.end(done)
 }
 
 #[test]
@@ -325,5 +334,6 @@ fn as_many_queues_as_may_be(rt: HostRuntime) -> Result<(), Fail> {
         ..COUNTS
     };
     let mut wide = Wide::new(&rt, counts, 255, 32)?;
-    wide.flush_each_queue(&rt)
+    let done = wide.flush_each_queue(&rt);
+    wide.end(done)
 }
