@@ -16,6 +16,7 @@ use cmwq_base::{
 };
 use cmwq_io::{Found, Line, Lines};
 use std::alloc::Global;
+use std::mem::{drop, replace};
 
 fn write_first<O: Sink>(output: &mut O, version: u8, calls: &Stepping) -> Result<(), Refusal>
     requires { 2 ≤ version }
@@ -126,22 +127,43 @@ fn live<S: Source, O: Sink>(
     ensures read_fault { IsErrOf result Refusal.ReadFault → Rises (S.troubles input.old) (S.troubles input.new) }
     ensures write_fault { IsErrOf result Refusal.WriteFault → Rises (O.troubles output.old) (O.troubles output.new) }
 {
+    let mut stage = Stage::Begin;
+    let ended = answer_lines(alloc, input, output, &mut stage);
+    drop(stage);
+    ended
+}
+
+/// The same from a first stage on, which stays the caller's, so that it is let go at one place, however this ends.
+fn answer_lines<S: Source, O: Sink>(
+    alloc: Global,
+    input: &mut S,
+    output: &mut O,
+    stage: &mut Stage<Stepping>,
+) -> Result<Option<u64>, Refusal>
+    requires { stage.old ≡ Stage.Begin }
+    ensures ends { IfSome (S.left input.old) (λ text. LiveEnds text (O.written output.old) (O.written output.new) result) }
+    ensures flushed { OnOk result ((O.held output.new ≡ 0) ⊎ (output.new ≡ output.old)) }
+    ensures read_fault { IsErrOf result Refusal.ReadFault → Rises (S.troubles input.old) (S.troubles input.new) }
+    ensures write_fault { IsErrOf result Refusal.WriteFault → Rises (O.troubles output.old) (O.troubles output.new) }
+{
     let mut lines = Lines::new(alloc)?;
     let mut line = Line::new();
-    let mut stage = Stage::Begin;
     for number in 1..=TOO_MANY_LINES {
         match lines.next_line(input, &mut line)? {
             Found::Whole => {
-                stage = stage.take(alloc, number, line.as_slice())?;
-                if !answer(output, &stage)? {
+                let now = replace(stage, Stage::Begin).take(alloc, number, line.as_slice())?;
+                drop(replace(stage, now));
+                if !answer(output, stage)? {
                     return Ok(Some(number));
                 }
             }
             Found::Long => return Err(Refusal::TooLong),
             Found::Cut => return Err(stage.cut(number)),
             Found::End => {
-                let file = stage.finish(alloc, number, false)?;
-                write_rest(output, file.version.max(2), &file.all)?;
+                let file = replace(stage, Stage::Begin).finish(alloc, number, false)?;
+                let written = write_rest(output, file.version.max(2), &file.all);
+                drop(file);
+                written?;
                 return Ok(None);
             }
         }

@@ -39,8 +39,13 @@ impl Progress {
         ensures { IfOk result (λ progress. progress ≡ record { layout = shape; room = most_room; entries = [] }) }
     {
         let execution = Execution::new(alloc, &shape, ALL_ROOM)?;
-        let summary = Summary::new(alloc, shape)?;
-        Ok(Progress { execution, summary })
+        match Summary::new(alloc, shape) {
+            Ok(summary) => Ok(Progress { execution, summary }),
+            Err(failed) => {
+                execution.end();
+                Err(failed)
+            }
+        }
     }
 
     /// The summary of what was right.

@@ -548,7 +548,7 @@ impl<N: HubName> Monitor<N> {
             crowded: _,
         } = self;
         let _len = execution.len();
-        release(execution);
+        execution.end();
         drop(sleepers);
         drop(shape);
         publisher.end(rt);
@@ -559,9 +559,6 @@ impl<N: HubName> Monitor<N> {
         }
     }
 }
-
-/// Apart, so that little else is alive while its many parts are dropped.
-fn release(_execution: Execution) {}
 
 fn is_done(reply: Reply) -> bool
     ensures { result ≡ is_done reply }

@@ -22,7 +22,7 @@ use cmwq_model::{
     Shape, Who, WorkerId,
 };
 use std::alloc::{AllocError, Global};
-use std::mem::replace;
+use std::mem::{drop, replace};
 
 /// An item on the CPU's list: what is left of its burn, and which of its parts comes next.
 #[derive(Clone, Copy, Debug)]
@@ -404,5 +404,8 @@ pub fn replay(alloc: Global, scenario: &Scenario) -> Result<Vec<Line>, NoMemory>
     requires { IsWithinLimits (plan_of scenario.now) }
     ensures { IfOk result (λ told. map event_of told.items ≡ lines.scenario_lines (plan_of scenario.now)) }
 {
-    Execution::new(alloc, scenario)?.run(alloc, scenario)
+    let mut execution = Execution::new(alloc, scenario)?;
+    let told = execution.run(alloc, scenario);
+    drop(execution);
+    told
 }

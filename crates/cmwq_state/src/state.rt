@@ -28,6 +28,7 @@ use cmwq_ticket::Tickets;
 use cmwq_timer::Timers;
 use std::alloc::Global;
 use std::marker::Model;
+use std::mem::drop;
 
 /// The time that a history may come to: 2^62 ticks.
 const MOST_TIME: u64 = 4_611_686_018_427_387_904;
@@ -80,7 +81,9 @@ impl State {
     }
 
     /// Lets the state go. That all its parts are let go is proved here, and not wherever one is.
-    pub fn end(self) {}
+    pub fn end(self) {
+        drop(self);
+    }
 
     fn start(
         alloc: Global,

@@ -1,6 +1,6 @@
 use Rattle.cmwq_cmd_history.specs.Common.{◌≡◌, ◌⊎◌, ◌≤◌, prepend_known, stage_of}
 use Rattle.cmwq_cmd_history.proofs.Living.{Living}
-use Rattle.cmwq_cmd_history.proofs.live.live.Given as goal
+use Rattle.cmwq_cmd_history.proofs.live.answer_lines.Given as goal
 
 abbrev pub invariant-loop-number : goal.invariant-loop-number
 invariant-loop-number g l =

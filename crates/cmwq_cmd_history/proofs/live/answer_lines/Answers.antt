@@ -3,7 +3,7 @@ use Rattle.cmwq_io.specs.Counts.{Rises}
 use Rattle.cmwq_base.specs.declared.refusal.Refusal.TheVariants.{ReadFault, WriteFault}
 use Rattle.cmwq_cmd_history.specs.Live.{Stepped}
 use Rattle.cmwq_cmd_history.proofs.Living.{lives, lives_on, ends_for_memory, ends_at_read_fault, ends_refused, ends_too_long, ends_without_shape, ends_cut_short, ends_full, ends_written_in_part, ends_whole, ends_whole_in_part}
-use Rattle.cmwq_cmd_history.proofs.live.live.Goals as goal
+use Rattle.cmwq_cmd_history.proofs.live.answer_lines.Goals as goal
 
 -- a count that hasn't fallen, and then rises
 rises_then : (a b c : ℕ) → a ≤ b → Rises b c → Rises a c
@@ -33,7 +33,7 @@ returns-in_err-lines-clause-ends g c =
     rw (p.1, p.2) (ends_for_memory _ _ 1 _ _ _ (lives (g.S.Source.left c.args.input.now) _ (g.O.Sink.written c.args.output.now) refl))
 
 pub loop-number-init : goal.loop-number-init
-loop-number-init g c = record { living = lives (g.S.Source.left c.args.input.now) _ (g.O.Sink.written c.args.output.now) c.in_ok-lines.ensures; flushed = inr refl; reads = omega arith; writes = omega arith }
+loop-number-init g c = record { living = rw c.requires (lives (g.S.Source.left c.args.input.now) _ (g.O.Sink.written c.args.output.now) c.in_ok-lines.ensures); flushed = inr refl; reads = omega arith; writes = omega arith }
 
 pub returns-in_err-next_line-clause-ends : goal.returns-in_err-next_line-clause-ends
 returns-in_err-next_line-clause-ends g c =
@@ -43,23 +43,23 @@ returns-in_err-next_line-clause-ends g c =
 pub returns-in_err-next_line-clause-read_fault : goal.returns-in_err-next_line-clause-read_fault
 returns-in_err-next_line-clause-read_fault g c = λ is. rises_then _ _ _ c.loop-number.invariant.reads c.in_err-next_line.ensures.fault
 
-pub returns-in_err-stage-in-Whole-clause-ends : goal.returns-in_err-stage-in-Whole-clause-ends
-returns-in_err-stage-in-Whole-clause-ends g c =
-    let p = err_from_is_err_and c.from_residual-in_err-stage-in-Whole.result c.from_residual-in_err-stage-in-Whole.ensures.1 in
+pub returns-in_err-now-in-Whole-clause-ends : goal.returns-in_err-now-in-Whole-clause-ends
+returns-in_err-now-in-Whole-clause-ends g c =
+    let p = err_from_is_err_and c.from_residual-in_err-now-in-Whole.result c.from_residual-in_err-now-in-Whole.ensures.1 in
     let stage = stage_of (λ s. s.layout) (λ s. s.calls) c.loop-number.stage in
-    let e = c.in_err-stage-in-Whole.field-0.0 in
+    let e = c.in_err-now-in-Whole.field-0.0 in
     let living = c.loop-number.invariant.living in
     let line = found_so _ _ _ _ Whole c.in-Whole.is c.in_ok-next_line.ensures.ok in
-    rw (p.1, p.2) (ends_refused _ _ c.loop-number.number stage _ _ living _ _ e line (rw (← c.as_slice.ensures.value) c.in_err-stage-in-Whole.ensures)
-    (whole_fails calls_kind c.loop-number.number stage _ _ _ _ e living.progress.same line (rw (← c.as_slice.ensures.value) c.in_err-stage-in-Whole.ensures)))
+    rw (p.1, p.2) (ends_refused _ _ c.loop-number.number stage _ _ living _ _ e line (rw (← c.as_slice.ensures.value, ← c.replace.ensures.value) c.in_err-now-in-Whole.ensures)
+    (whole_fails calls_kind c.loop-number.number stage _ _ _ _ e living.progress.same line (rw (← c.as_slice.ensures.value, ← c.replace.ensures.value) c.in_err-now-in-Whole.ensures)))
 
 pub returns-in_err-answer-in-Whole-clause-ends : goal.returns-in_err-answer-in-Whole-clause-ends
 returns-in_err-answer-in-Whole-clause-ends g c =
     let p = err_from_is_err_and c.from_residual-in_err-answer-in-Whole.result c.from_residual-in_err-answer-in-Whole.ensures.1 in
     let stage = stage_of (λ s. s.layout) (λ s. s.calls) c.loop-number.stage in
-    let next = stage_of (λ s. s.layout) (λ s. s.calls) c.in_ok-stage-in-Whole.stage in
+    let next = stage_of (λ s. s.layout) (λ s. s.calls) c.replace-in-Whole.new.dest in
     let line = found_so _ _ _ _ Whole c.in-Whole.is c.in_ok-next_line.ensures.ok in
-    let taken = rw c.as_slice.ensures.value at c.in_ok-stage-in-Whole.ensures in
+    let taken = rw (c.as_slice.ensures.value, c.replace.ensures.value, ← c.replace-in-Whole.ensures.after) at c.in_ok-now-in-Whole.ensures in
     rw (p.1, p.2 ∙ c.in_err-answer-in-Whole.ensures.only) (ends_written_in_part _ _ c.loop-number.number stage _ _ c.loop-number.invariant.living _ _ next _ line taken c.in_err-answer-in-Whole.ensures.err)
 
 pub returns-in_err-answer-in-Whole-clause-write_fault : goal.returns-in_err-answer-in-Whole-clause-write_fault
@@ -68,9 +68,9 @@ returns-in_err-answer-in-Whole-clause-write_fault g c = λ is. rises_then _ _ _ 
 pub returns-then-not-branch-clause-ends : goal.returns-then-not-branch-clause-ends
 returns-then-not-branch-clause-ends g c =
     let stage = stage_of (λ s. s.layout) (λ s. s.calls) c.loop-number.stage in
-    let next = stage_of (λ s. s.layout) (λ s. s.calls) c.in_ok-stage-in-Whole.stage in
+    let next = stage_of (λ s. s.layout) (λ s. s.calls) c.replace-in-Whole.new.dest in
     let line = found_so _ _ _ _ Whole c.in-Whole.is c.in_ok-next_line.ensures.ok in
-    let taken = rw c.as_slice.ensures.value at c.in_ok-stage-in-Whole.ensures in
+    let taken = rw (c.as_slice.ensures.value, c.replace.ensures.value, ← c.replace-in-Whole.ensures.after) at c.in_ok-now-in-Whole.ensures in
     let full = refused_so _ _ c.in_ok-answer-in-Whole.field-0 c.if-not-branch.true c.in_ok-answer-in-Whole.ensures.answered in
     let same = refused_so _ _ c.in_ok-answer-in-Whole.field-0 c.if-not-branch.true c.in_ok-answer-in-Whole.ensures.written in
     rw same (ends_full _ _ c.loop-number.number stage _ _ c.loop-number.invariant.living _ _ next line taken full)
@@ -102,21 +102,21 @@ returns-in_err-file-in-End-clause-ends g c =
     let e = c.in_err-file-in-End.field-0.0 in
     let living = c.loop-number.invariant.living in
     let line = found_so _ _ _ _ End c.in-End.is c.in_ok-next_line.ensures.ok in
-    let gives = end_gives calls_kind c.loop-number.number stage (contents_of (λ (s : Stepped). s.layout) (λ (s : Stepped). s.calls)) (Err e) _ _ _ _ living.progress.same line c.in_err-file-in-End.ensures in
-    rw (p.1, p.2) (ends_without_shape _ _ c.loop-number.number stage _ _ living _ _ e line c.in_err-file-in-End.ensures gives)
+    let gives = end_gives calls_kind c.loop-number.number stage (contents_of (λ (s : Stepped). s.layout) (λ (s : Stepped). s.calls)) (Err e) _ _ _ _ living.progress.same line (rw c.replace-in-End.ensures.value at c.in_err-file-in-End.ensures) in
+    rw (p.1, p.2) (ends_without_shape _ _ c.loop-number.number stage _ _ living _ _ e line (rw c.replace-in-End.ensures.value at c.in_err-file-in-End.ensures) gives)
 
-pub returns-in_err-write_rest-in-End-clause-ends : goal.returns-in_err-write_rest-in-End-clause-ends
-returns-in_err-write_rest-in-End-clause-ends g c =
-    let p = err_from_is_err_and c.from_residual-in_err-write_rest-in-End.result c.from_residual-in_err-write_rest-in-End.ensures.1 in
+pub returns-in_err-written-in-End-clause-ends : goal.returns-in_err-written-in-End-clause-ends
+returns-in_err-written-in-End-clause-ends g c =
+    let p = err_from_is_err_and c.from_residual-in_err-written-in-End.result c.from_residual-in_err-written-in-End.ensures.1 in
     let stage = stage_of (λ s. s.layout) (λ s. s.calls) c.loop-number.stage in
     let living = c.loop-number.invariant.living in
     let view = contents_of (λ s. s.layout) (λ s. s.calls) in
     let line = found_so _ _ _ _ End c.in-End.is c.in_ok-next_line.ensures.ok in
-    let read = end_gives calls_kind c.loop-number.number stage view (Ok c.in_ok-file-in-End.file) _ _ _ _ living.progress.same line c.in_ok-file-in-End.ensures in
-    rw (p.1, p.2 ∙ c.in_err-write_rest-in-End.ensures.only) (ends_whole_in_part _ _ c.loop-number.number stage _ _ living (view c.in_ok-file-in-End.file) _ c.in_ok-file-in-End.ensures read (rw c.max.ensures at c.in_err-write_rest-in-End.ensures.err))
+    let read = end_gives calls_kind c.loop-number.number stage view (Ok c.in_ok-file-in-End.file) _ _ _ _ living.progress.same line (rw c.replace-in-End.ensures.value at c.in_ok-file-in-End.ensures) in
+    rw (p.1, p.2 ∙ c.in_err-written-in-End.ensures.only) (ends_whole_in_part _ _ c.loop-number.number stage _ _ living (view c.in_ok-file-in-End.file) _ (rw c.replace-in-End.ensures.value at c.in_ok-file-in-End.ensures) read (rw c.max.ensures at c.in_err-written-in-End.ensures.err))
 
-pub returns-in_err-write_rest-in-End-clause-write_fault : goal.returns-in_err-write_rest-in-End-clause-write_fault
-returns-in_err-write_rest-in-End-clause-write_fault g c = λ is. rises_then _ _ _ c.loop-number.invariant.writes c.in_err-write_rest-in-End.ensures.fault
+pub returns-in_err-written-in-End-clause-write_fault : goal.returns-in_err-written-in-End-clause-write_fault
+returns-in_err-written-in-End-clause-write_fault g c = λ is. rises_then _ _ _ c.loop-number.invariant.writes c.in_err-written-in-End.ensures.fault
 
 pub returns-in-End-clause-ends : goal.returns-in-End-clause-ends
 returns-in-End-clause-ends g c =
@@ -124,15 +124,15 @@ returns-in-End-clause-ends g c =
     let living = c.loop-number.invariant.living in
     let view = contents_of (λ s. s.layout) (λ s. s.calls) in
     let line = found_so _ _ _ _ End c.in-End.is c.in_ok-next_line.ensures.ok in
-    let read = end_gives calls_kind c.loop-number.number stage view (Ok c.in_ok-file-in-End.file) _ _ _ _ living.progress.same line c.in_ok-file-in-End.ensures in
-    ends_whole _ _ c.loop-number.number stage _ _ living (view c.in_ok-file-in-End.file) _ c.in_ok-file-in-End.ensures read (rw c.max.ensures at c.in_ok-write_rest-in-End.ensures.ok)
+    let read = end_gives calls_kind c.loop-number.number stage view (Ok c.in_ok-file-in-End.file) _ _ _ _ living.progress.same line (rw c.replace-in-End.ensures.value at c.in_ok-file-in-End.ensures) in
+    ends_whole _ _ c.loop-number.number stage _ _ living (view c.in_ok-file-in-End.file) _ (rw c.replace-in-End.ensures.value at c.in_ok-file-in-End.ensures) read (rw c.max.ensures at c.in_ok-written-in-End.ensures.ok)
 
 pub loop-number-preserved : goal.loop-number-preserved
 loop-number-preserved g c =
     let stage = stage_of (λ s. s.layout) (λ s. s.calls) c.loop-number.stage in
-    let next = stage_of (λ s. s.layout) (λ s. s.calls) c.in_ok-stage-in-Whole.stage in
+    let next = stage_of (λ s. s.layout) (λ s. s.calls) c.replace-in-Whole.new.dest in
     let line = found_so _ _ _ _ Whole c.in-Whole.is c.in_ok-next_line.ensures.ok in
-    let taken = rw c.as_slice.ensures.value at c.in_ok-stage-in-Whole.ensures in
+    let taken = rw (c.as_slice.ensures.value, c.replace.ensures.value, ← c.replace-in-Whole.ensures.after) at c.in_ok-now-in-Whole.ensures in
     let room = chosen_so _ _ c.in_ok-answer-in-Whole.field-0 c.if-not-branch.false c.in_ok-answer-in-Whole.ensures.answered in
     let new = chosen_so _ _ c.in_ok-answer-in-Whole.field-0 c.if-not-branch.false c.in_ok-answer-in-Whole.ensures.written in
     record {
