@@ -144,6 +144,45 @@ fn join_all<N: HubName, S: Service, R: Threads>(
     Ok(ends)
 }
 
+/// Starts the threads of the workers and of the clock, if there is one.
+fn start_others<
+    's,
+    E,
+    N: HubName + Send + Sync + 's,
+    S: Service + Send + Sync,
+    R: Wait + Clock + Sync,
+>(
+    scope: &Scope<'s, E>,
+    rt: &'s R,
+    hub: &'s Hub<N>,
+    signal: &'s Signal,
+    service: &'s S,
+    participants: &mut Participants<N>,
+) -> Result<Option<JoinHandle<()>>, Fault> {
+    start_workers(scope, rt, hub, signal, service, participants)?;
+    let caller = own_caller(participants)?;
+    start_clock(scope, rt, hub, signal, service.tick_every(), caller)
+}
+
+/// The end, once the callers' threads have ended: what the service does then, and the end of the clock's thread.
+fn end_service<N: HubName, S: Service, R: Threads + Wait + Clock>(
+    rt: &R,
+    hub: &Hub<N>,
+    signal: &Signal,
+    service: &S,
+    clock: Option<JoinHandle<()>>,
+    participants: &mut Participants<N>,
+) -> Result<(), Fault> {
+    if !signal.is_over(rt) {
+        end_all(rt, hub, service, own_caller(participants)?)?;
+    }
+    signal.end(rt, None);
+    if let Some(clock) = clock {
+        clock.join(rt);
+    }
+    Ok(())
+}
+
 /// Starts all threads, and waits for those of the callers; then comes the end.
 fn serve_in<
     's,
@@ -158,24 +197,14 @@ fn serve_in<
     hub: &'s Hub<N>,
     signal: &'s Signal,
     service: &'s S,
-    participants: Participants<N>,
+    participants: &mut Participants<N>,
 ) -> Result<Ends<N, S>, Fault>
-    requires { participants ≡ all_free }
+    requires { participants.old ≡ all_free }
 {
-    let mut participants = participants;
-    let threads = start_callers(scope, rt, alloc, hub, signal, service, &mut participants)?;
-    let of_clock = own_caller(&mut participants)?;
-    let last = own_caller(&mut participants)?;
-    start_workers(scope, rt, hub, signal, service, &mut participants)?;
-    let clock = start_clock(scope, rt, hub, signal, service.tick_every(), of_clock)?;
+    let threads = start_callers(scope, rt, alloc, hub, signal, service, participants)?;
+    let clock = start_others(scope, rt, hub, signal, service, participants)?;
     let ends = join_all(rt, alloc, threads)?;
-    if !signal.is_over(rt) {
-        end_all(rt, hub, service, last)?;
-    }
-    signal.end(rt, None);
-    if let Some(clock) = clock {
-        clock.join(rt);
-    }
+    end_service(rt, hub, signal, service, clock, participants)?;
     Ok(ends)
 }
 
@@ -201,7 +230,8 @@ pub(crate) fn serve<
         |scope| -> Result<Ends<N, S>, Fault>
             requires { participants ≡ all_free }
         {
-            let ends = serve_in(scope, rt, alloc, hub, signal, service, participants);
+            let mut participants = participants;
+            let ends = serve_in(scope, rt, alloc, hub, signal, service, &mut participants);
             match &ends {
                 Ok(_) => hub.close(rt),
                 Err(fault) => {
