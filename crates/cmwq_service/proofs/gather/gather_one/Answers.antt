@@ -1,4 +1,4 @@
-use Rattle.std.proofs.Common.{◌≡◌, Ok, rules}
+use Rattle.std.proofs.Common.{◌≡◌, rules}
 use Rattle.cmwq_service.proofs.Ending.{called_in}
 use Rattle.cmwq_service.proofs.gather.gather_one.Goals as goal
 

@@ -1,4 +1,4 @@
-use Rattle.std.proofs.Common.{◌≡◌, rules, subst}
+use Rattle.std.proofs.Common.{rules, subst}
 use Rattle.cmwq_model.specs.Prelude.{IsLegal, past_of}
 use Rattle.cmwq_service.proofs.Ending.{served_so}
 use Rattle.cmwq_service.proofs.writing.end_hub.Goals as goal
