@@ -33,7 +33,8 @@ front_before a b xs ys q = (min q.0 (length xs), subst (Appends a b) (sym (take-
 pub front_after : (a b c : Option (List ℕ)) (xs ys : List ℕ) → Appends a b xs → AppendsFront b c ys → AppendsFront a c (xs ++ ys)
 front_after a b c xs ys p q = subst (AppendsFront a c) (ap (λ l. xs ++ l) (append-nil ys)) (front_behind a b c xs ys [] p q)
 
-appends_keeps : (a b c : Option (List ℕ)) (xs : List ℕ) → Appends a b xs → Keeps b c → Appends a c xs
+-- what was appended stays where all bytes are kept
+pub appends_keeps : (a b c : Option (List ℕ)) (xs : List ℕ) → Appends a b xs → Keeps b c → Appends a c xs
 appends_keeps a b c xs p k = grind arith
 
 -- a whole text is a front of itself

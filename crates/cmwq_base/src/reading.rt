@@ -1,6 +1,6 @@
 //! Reads a whole file from a source.
 
-ghost use Rattle.std.specs.Prelude.{◌≡◌, IfSome, IfOk, IsErrOf};
+ghost use Rattle.std.specs.Prelude.{IfSome, IfOk, IsErrOf};
 ghost use Rattle.cmwq_io.specs.Counts.{Rises};
 ghost use Rattle.cmwq_base.specs.Files.{as_front, file_of, IsVersionOf, IsSound};
 ghost use Rattle.cmwq_base.specs.Gives.{Gives};

@@ -13,7 +13,6 @@ use std::mem;
 
 /// What the lines of a kind of file say, by its format, which is 1, 2 or 3.
 pub trait FileLine: Sized {
-    ghost use Rattle.cmwq_model.specs.Prelude.{Layout};
     ghost use Rattle.cmwq_base.specs.Files.{Kind};
 
     /// How the lines are read.

@@ -1,5 +1,5 @@
 //! The verdict of a history that a text says.
-ghost use Rattle.std.specs.Prelude.{◌≡◌, ◌≢◌, ◌⊎◌, ℕ, List, [], Option, Some, None, Result, Err, IfOk};
+ghost use Rattle.std.specs.Prelude.{◌≡◌, ◌≢◌, ℕ, List, [], Option, Some, None, Result, Err, IfOk};
 ghost use Rattle.cmwq_io.specs.Memory.{bytes_of};
 ghost use Rattle.cmwq_model.specs.declared.verdict.Illegal.{Illegal};
 ghost use Rattle.cmwq_base.specs.declared.refusal.Refusal.{Refusal};

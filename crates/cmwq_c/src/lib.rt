@@ -10,7 +10,6 @@ ghost use Rattle.cmwq_text.specs.CallText.{call_read};
 ghost use Rattle.cmwq_text.specs.EntryText.{entry_text};
 ghost use Rattle.cmwq_core.specs.History.{next_entry, past_in, is_ready};
 ghost use Rattle.cmwq_tail_book.specs.Lasting.{lasting_at_first, with_made, with_none_kept, lasting_entry};
-ghost use Rattle.cmwq_c.specs.Books.{is_inside};
 ghost use Rattle.cmwq_c.specs.Numbers.{shape_of, who_of_numbers, asked_of, reply_numbers, entry_numbers};
 ghost use Rattle.cmwq_base.specs.declared.refusal.Refusal.{Refusal};
 ghost use Rattle.cmwq_base.specs.Kinds.{history_file_of};
@@ -34,7 +33,7 @@ use crate::numbers::{
 };
 use crate::status::{CLOSED, DONE, REFUSED};
 use crate::taken::{book_of, entry_of, foretell, line_of, line_step, number_step, serial_of};
-use cmwq_model::{ItemId, Number};
+use cmwq_model::ItemId;
 pub use laws::{calls_read_again, fields_lie_as_told, replies_stand_apart};
 use std::alloc::Global;
 use std::mem;

@@ -1,6 +1,6 @@
 //! A book with its shape, so that each call of C is tried before it is made.
-ghost use Rattle.std.specs.Prelude.{◌≡◌, ◌+◌, ◌<◌, ◌≤◌, true, length, count_by, None, Some, IfOk, IfErr, OnErr, IfSome, is_some, slice_get, nat_lt, IsTrue};
-ghost use Rattle.cmwq_model.specs.Prelude.{fits, is_layout, serial_of, still_open, is_active};
+ghost use Rattle.std.specs.Prelude.{◌≡◌, ◌+◌, ◌<◌, true, length, count_by, None, Some, IfOk, IfErr, OnErr, IfSome, is_some, nat_lt};
+ghost use Rattle.cmwq_model.specs.Prelude.{fits, serial_of, still_open, is_active};
 ghost use Rattle.cmwq_model.specs.Legal as legal;
 ghost use Rattle.cmwq_core.specs.History.{next_entry, past_in, is_ready};
 ghost use Rattle.cmwq_core.specs.Plans.{IsPlan};

@@ -1,5 +1,5 @@
 //! What calls of C answer: the statuses of cmwq.h.
-ghost use Rattle.std.specs.Prelude.{◌≡◌, Some, None};
+ghost use Rattle.std.specs.Prelude.{◌≡◌, Some};
 ghost use Rattle.cmwq_c.specs.Statuses.{status_of};
 
 use crate::session::Refusal;

@@ -1,5 +1,5 @@
 //! What the calls of C do, on a book.
-ghost use Rattle.std.specs.Prelude.{◌≡◌, ◌≢◌, ◌⊎◌, ◌≤◌, true, false, [], length, map, take, IfSome, IfNone, IfOk, IfErr, None, Some, ◌<◌};
+ghost use Rattle.std.specs.Prelude.{◌≡◌, ◌≢◌, ◌⊎◌, ◌≤◌, true, false, length, IfSome, IfNone, IfOk, IfErr, None, Some, ◌<◌};
 ghost use Rattle.cmwq_model.specs.Prelude.{is_layout};
 ghost use Rattle.cmwq_model.specs.Calls as calls;
 ghost use Rattle.cmwq_text.specs.CallText.{call_read};

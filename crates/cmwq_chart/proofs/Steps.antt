@@ -1,12 +1,11 @@
 -- What one entry more does to the shapes.
-use Rattle.std.proofs.Common.{◌≡◌, ℕ, ◌+◌, ◌-◌, ◌<◌, ◌≤◌, zero, suc, List, [], ◌∷◌, ◌++◌, length, get_or, take, drop, take-append-drop, reverse, subst, option_to_list, option_and_then, Option, Some, None, if◌then◌else◌, refl, sym, ap, ◌∙◌, arith, add-one, true, false, nat_lt, slice_get}
+use Rattle.std.proofs.Common.{◌≡◌, ℕ, ◌+◌, ◌-◌, ◌<◌, ◌≤◌, zero, suc, List, [], ◌∷◌, ◌++◌, length, get_or, take, drop, take-append-drop, reverse, subst, option_to_list, option_and_then, Option, Some, None, if◌then◌else◌, refl, sym, ap, ◌∙◌, arith, true, false, nat_lt, slice_get}
 use Rattle.std.proofs.lemmas.List.{reverse-append, length-reverse, length-take, get_or-reverse, get_or-replicate, length-replicate, map-id}
 use Rattle.std.proofs.lemmas.List.FromFn.{map-range_with_len_more}
 use Rattle.std.specs.List.{range_with_len}
 use Rattle.std.proofs.Math.ListN.{replicate}
 use Rattle.std.proofs.lemmas.Option.{slice_get-get_or, slice_get_within}
 use Rattle.std.proofs.lemmas.Bool.{le-ltb, lt-ltb}
-use Rattle.std.proofs.Math.Seq.{take-suc}
 use Rattle.std.specs.Option.{option_or}
 use Rattle.cmwq_model.specs.declared.entry.Entry.{Entry}
 use Rattle.cmwq_model.specs.Prelude.{Layout, finishes, item_of, item_at, past_of, IsLegal}
@@ -16,26 +15,16 @@ use Rattle.cmwq_chart.specs.CallerWaits.{wait_rows, wait_ended, waits_ended, wai
 use Rattle.cmwq_chart.specs.Signs.{sign_of, signs_of}
 use Rattle.cmwq_chart.specs.Sleeps.{asleep_since, sleep_ended, sleeps_ended}
 use Rattle.cmwq_chart.specs.Bars.{finish_place, bar_of, bars_in, AreFinishes, FinishIsKept}
+use Rattle.cmwq_model.proofs.Growing.{older_are_legal, past_more}
 
--- the first entries of a history, and one more
-pub past_step : (entries : List Entry) (k : ℕ) (d : Entry) → k < length entries → past_of (take (k + 1) entries) ≡ get_or entries k d ∷ past_of (take k entries)
-past_step entries k d h =
-    let longer : take (k + 1) entries ≡ take k entries ++ (get_or entries k d ∷ []) = rw add-one (take-suc entries k d h) in
-    ap reverse longer ∙ reverse-append (take k entries) (get_or entries k d ∷ [])
-
-pub legal_before : (s : Layout) (after past : List Entry) → IsLegal s (after ++ past) → IsLegal s past
-unfolding IsLegal
-legal_before s [] past legal = legal
-legal_before s (a ∷ after) past legal = legal_before s after past legal.2
-
--- and they are legal
+-- the first entries of a history are legal
 pub legal_taken : (s : Layout) (entries : List Entry) (k : ℕ) → IsLegal s (past_of entries) → IsLegal s (past_of (take k entries))
 legal_taken s entries k legal =
     let parts : past_of entries ≡ past_of (drop k entries) ++ past_of (take k entries) = ap reverse (sym (take-append-drop k entries)) ∙ reverse-append (take k entries) (drop k entries) in
-    legal_before s (past_of (drop k entries)) (past_of (take k entries)) (subst (IsLegal s) parts legal)
+    older_are_legal s (past_of (drop k entries)) (past_of (take k entries)) (subst (IsLegal s) parts legal)
 
 pub legal_step : (s : Layout) (entries : List Entry) (k : ℕ) (d : Entry) → k < length entries → IsLegal s (past_of entries) → IsLegal s (get_or entries k d ∷ past_of (take k entries))
-legal_step s entries k d h legal = subst (IsLegal s) (past_step entries k d h) (legal_taken s entries (k + 1) legal)
+legal_step s entries k d h legal = subst (IsLegal s) (past_more entries k d h) (legal_taken s entries (k + 1) legal)
 
 pub length_past : (entries : List Entry) → length (past_of entries) ≡ length entries
 length_past entries = length-reverse entries

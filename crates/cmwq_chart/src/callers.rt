@@ -1,5 +1,5 @@
 //! The callers that have entries.
-ghost use Rattle.std.specs.Prelude.{◌≡◌, ◌+◌, ◌≤◌, ◌∷◌, ◌++◌, [], if◌then◌else◌, length, filter, IfOk, OnOk};
+ghost use Rattle.std.specs.Prelude.{◌≡◌, ◌+◌, ◌≤◌, ◌∷◌, ◌++◌, [], if◌then◌else◌, length, IfOk, OnOk};
 ghost use Rattle.cmwq_model.specs.Prelude.{most_callers};
 ghost use Rattle.cmwq_chart.specs.CallerWaits as spec;
 

@@ -2,10 +2,10 @@
 ghost use Rattle.std.specs.Prelude.{◌≡◌, ◌+◌, ◌<◌, ◌∷◌, length, take};
 ghost use Rattle.cmwq_model.specs.Prelude.{is_by, item_at, item_of, past_of, same_worker, start_in};
 
-use cmwq_model::{Call, CallerId, Entry, ItemId, Number, Reply, Start, Who, WorkerId};
+use cmwq_model::{Call, CallerId, Entry, Number, Reply, Start, Who, WorkerId};
 
 /// The entry with this number.
-#[tactic(auto, using(crate::proofs::Steps::past_step))]
+#[tactic(auto, using(cmwq_model::proofs::Growing::past_more))]
 pub(crate) fn entry_at(entries: &[Entry], number: usize) -> Entry
     requires { number < length entries.now }
     ensures { past_of (take (number + 1) entries.now) ≡ result ∷ past_of (take number entries.now) }

@@ -12,12 +12,13 @@ use Rattle.cmwq_model.specs.declared.id.WorkerId.{WorkerId}
 use Rattle.cmwq_model.specs.Prelude.{Layout, is_at, is_by, same_who, finishes, number_started, number_finished, is_finished, run, has_run, IsLegal}
 use Rattle.cmwq_theory_steps.specs.RunSteps.{run_after}
 use Rattle.cmwq_theory_steps.proofs.Fresh.{finishes_run}
-use Rattle.cmwq_theory_steps.proofs.ItemRuns.{same_worker-true, same_worker_itself}
+use Rattle.cmwq_theory_steps.proofs.ItemRuns.{same_worker_itself}
 use Rattle.cmwq_theory_steps.proofs.RunSteps.{workers_run_on, no_end}
 use Rattle.cmwq_theory_steps.proofs.Starts.{starts_next}
 use Rattle.cmwq_theory_steps.proofs.StartsListed.{starts_anew}
 use Rattle.cmwq_theory_laws.proofs.EndedOnce.{finished_started}
 use Rattle.cmwq_chart.specs.Bars.{finish_place}
+use Rattle.cmwq_theory_steps.proofs.OwedSteps.{by_whom}
 
 -- ---- places
 
@@ -63,9 +64,6 @@ after_others (reply.StartedEnlist m x) o h k = cc
 after_others (reply.Finished m) o h k = cc
 after_others r o h k = refl
 
-by_one : (a : Entry) (v w : WorkerId) → a.who ≡ Worker v → is_by (Worker w) a ≡ true → v ≡ w
-by_one a v w who by = same_worker-true v w (subst (λ (x : Who). same_who x (Worker w) ≡ true) who by)
-
 module _ (s : Layout) (before : List Entry) (e : Entry) (w : WorkerId) (n : ℕ) (legal : IsLegal s (e ∷ before)) (who : e.who ≡ Worker w) (started : number_started e.reply ≡ Some n) where
   pub not_yet : finish_place (e ∷ before) n ≡ None
   unfolding finish_place IsLegal
@@ -88,13 +86,13 @@ module _ (s : Layout) (before : List Entry) (e : Entry) (w : WorkerId) (n : ℕ)
       workers_run_on s h a w legals ∙ ap (λ b. if b then run_after a.reply (run h w) else run h w) hb ∙ after_others a.reply (run h w) hs hf ∙ runs
   goes_more h a legals runs not true hb (Some m) fi hs hf =
       let st = starts_next s h a m legals hs in
-      let same : st.worker ≡ w = by_one a st.worker w st.by_worker hb in
+      let same : st.worker ≡ w = by_whom a st.worker w st.by_worker hb in
       let idle : has_run h w ≡ false = subst (λ (v : WorkerId). has_run h v ≡ false) same st.idle in
       let busy : has_run h w ≡ true = ap is_some runs in
       cc
   goes_more h a legals runs not true hb None (Some m) hs hf =
       let f = finishes_run s h a m legals hf in
-      let same : f.worker ≡ w = by_one a f.worker w f.by_worker hb in
+      let same : f.worker ≡ w = by_whom a f.worker w f.by_worker hb in
       let ran : run h w ≡ Some m = subst (λ (v : WorkerId). run h v ≡ Some m) same f.is_run in
       let one : m ≡ n = cc in
       let ends : finishes n a ≡ true = ap (λ o. is_at o n) hf ∙ eq-eqb m n one in

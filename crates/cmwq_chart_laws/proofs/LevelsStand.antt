@@ -13,7 +13,7 @@ use Rattle.cmwq_chart.specs.declared.levels.Level.{Level}
 use Rattle.cmwq_chart.specs.Levels.{height_at, is_same_height, is_changed, changes_level, level_from, level_until, level_ended, levels_ended_by, levels_ended, levels_left, levels_of}
 use Rattle.cmwq_chart_laws.specs.BarLaws.{StandsIn}
 use Rattle.cmwq_chart_laws.specs.LevelLaws.{Covers, IsTrueAfter, IsTrueWhereItIs, LevelsAreTrue, HasLevelAt, PlacesHaveLevels}
-use Rattle.cmwq_chart_laws.proofs.Listed.{flat_in, map_in, All_flat}
+use Rattle.cmwq_chart_laws.proofs.Listed.{flat_in, map_in, All_flat, same_tail}
 
 -- ---- heights
 
@@ -79,9 +79,6 @@ true_since s past p to e before stands begun =
     record { opens = ap (λ (h : Height). h.open_count) same; actives = ap (λ (h : Height). h.active_count) same; widths = ap (λ (h : Height). h.width) same }
 
 -- ---- each level is true where it is
-
-same_tail : (x y : Entry) (k l : List Entry) → x ∷ k ≡ y ∷ l → k ≡ l
-same_tail x y k l h = cc
 
 -- a level that an entry ended
 record IsOver (s : Layout) (past : List Entry) (l : Level) : Type 0 where

@@ -1,10 +1,13 @@
--- What is in a list that was made of another.
-use Rattle.std.proofs.Common.{List, [], ◌∷◌, map, inl, inr, ⊎_elim, sym, ap, subst}
+-- What is in a list that was made of another, and the rest of one list that is another.
+use Rattle.std.proofs.Common.{◌≡◌, List, [], ◌∷◌, map, inl, inr, ⊎_elim, sym, ap, subst}
 use Rattle.std.specs.Prelude.{flat_map}
 use Rattle.std.specs.List.{AllByRecursion}
 use Rattle.std.proofs.lemmas.List.Concat.{flat_map-cons}
 use Rattle.cmwq_lemmas.proofs.Lists.{All_append}
 use Rattle.cmwq_lemmas.proofs.Members.{In, in_left, in_right}
+
+pub same_tail : {X : Type 0} (x y : X) (k l : List X) → x ∷ k ≡ y ∷ l → k ≡ l
+same_tail x y k l h = cc
 
 module _ {X Y : Type 0} where
   pub map_in : (f : X → Y) (xs : List X) (x : X) → In x xs → In (f x) (map f xs)

@@ -20,8 +20,9 @@ use Rattle.cmwq_theory_steps.proofs.Starts.{starts_next}
 use Rattle.cmwq_chart.specs.declared.bars.Bar.{Bar}
 use Rattle.cmwq_chart.specs.Bars.{finish_place, bar_from, bar_of, bars_in, bars_of}
 use Rattle.cmwq_chart_laws.specs.BarLaws.{FinishesAt, EndsWell, begins_at, HasOneBar, StartsHaveOneBar, IsOfStart, BarsAreOfStarts, EndsBefore, AreApart, LanesAreApart}
-use Rattle.cmwq_chart.proofs.Steps.{legal_before}
+use Rattle.cmwq_model.proofs.Growing.{older_are_legal}
 use Rattle.cmwq_chart_laws.proofs.Finishes.{finish_within, finish_stays, not_yet, goes_on}
+use Rattle.cmwq_chart_laws.proofs.Listed.{same_tail}
 
 items_stay : (after past : List Entry) (n : ℕ) → n < length past → item_at (after ++ past) n ≡ item_at past n
 items_stay [] past n less = refl
@@ -110,7 +111,7 @@ one_begins whole before e b is from (a ∷ after) =
 has_one_bar : (s : Layout) (after before : List Entry) (e : Entry) (n : ℕ) → IsLegal s (after ++ e ∷ before) → number_started e.reply ≡ Some n → HasOneBar (after ++ e ∷ before) e before n
 has_one_bar s after before e n legals started =
     let past : List Entry = after ++ e ∷ before in
-    let legal = legal_before s after (e ∷ before) legals in
+    let legal = older_are_legal s after (e ∷ before) legals in
     let k = starts_known s before e n legal started in
     let begun : Start = record { worker = k.worker; number = n } in
     let bar : Bar = bar_from past (length before) begun k.item in
@@ -168,9 +169,6 @@ bars_are_of_starts past = All_map (IsMade past past) (IsOfStart past) (bars_of p
 
 -- ---- two bars of a worker
 
-same_tail : (x y : Entry) (k l : List Entry) → x ∷ k ≡ y ∷ l → k ≡ l
-same_tail x y k l h = cc
-
 splits : (ac ab : List Entry) (ec eb : Entry) (bc bb : List Entry) → ac ++ ec ∷ bc ≡ ab ++ eb ∷ bb → length bb < length bc → (mid : List Entry) × (bc ≡ mid ++ eb ∷ bb)
 splits [] [] ec eb bc bb h less = let same : length bc ≡ length bb = ap length (same_tail ec eb bc bb h) in absurd (omega arith)
 splits [] (y ∷ ab) ec eb bc bb h less = (ab, same_tail ec y bc (ab ++ eb ∷ bb) h)
@@ -224,9 +222,9 @@ apart s past legal b c mb mc lane less =
     let pc = start_parts ec c.worker c.number ec.who (number_started ec.reply) refl refl mc.of_start.starts in
     let nearer : length bb < length bc = omega (arith, mb.of_start.place, mc.of_start.place) in
     let mid = splits sc.after sb.after ec eb bc bb (sym sc.parts ∙ sb.parts) nearer in
-    let legal_c : IsLegal s (ec ∷ bc) = legal_before s sc.after (ec ∷ bc) (subst (IsLegal s) sc.parts legal) in
-    let legal_bc : IsLegal s bc = legal_before s (ec ∷ []) bc legal_c in
-    let legal_b : IsLegal s (eb ∷ bb) = legal_before s sb.after (eb ∷ bb) (subst (IsLegal s) sb.parts legal) in
+    let legal_c : IsLegal s (ec ∷ bc) = older_are_legal s sc.after (ec ∷ bc) (subst (IsLegal s) sc.parts legal) in
+    let legal_bc : IsLegal s bc = older_are_legal s (ec ∷ []) bc legal_c in
+    let legal_b : IsLegal s (eb ∷ bb) = older_are_legal s sb.after (eb ∷ bb) (subst (IsLegal s) sb.parts legal) in
     let st = starts_next s bc ec c.number legal_c pc.started in
     let same : st.worker ≡ b.worker = one_who ec.who st.worker c.worker st.by_worker pc.who ∙ sym lane in
     let idle : has_run bc b.worker ≡ false = subst (λ (v : WorkerId). has_run bc v ≡ false) same st.idle in

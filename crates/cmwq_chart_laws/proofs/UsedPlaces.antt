@@ -1,11 +1,11 @@
 -- The places of all queueings are shown.
-use Rattle.std.proofs.Common.{◌≡◌, ℕ, ◌<◌, Bool, true, false, ◌&&◌, ◌||◌, List, [], ◌∷◌, length, option_to_list, ⊎_elim, refl, ap, ap₂, ◌∙◌, arith, zero-add}
+use Rattle.std.proofs.Common.{◌≡◌, ℕ, ◌<◌, true, ◌&&◌, List, [], ◌∷◌, length, option_to_list, refl, ap₂, ◌∙◌, arith, zero-add}
 use Rattle.std.specs.Prelude.{flat_map, Contains}
-use Rattle.std.specs.List.{AllByRecursion, list_any, range_with_len}
+use Rattle.std.specs.List.{AllByRecursion, range_with_len}
 use Rattle.std.proofs.lemmas.Bool.{eq-eqb}
 use Rattle.std.proofs.lemmas.List.FromFn.{length-range_with_len, get_or-range_with_len}
 use Rattle.cmwq_lemmas.proofs.Lists.{All_append}
-use Rattle.cmwq_lemmas.proofs.Members.{In, of_in, all_in, in_at, in_option, filter_in, in_contained}
+use Rattle.cmwq_lemmas.proofs.Members.{In, of_in, all_in, any_in, in_at, in_option, filter_in, in_contained}
 use Rattle.cmwq_model.specs.declared.entry.Entry.{Entry}
 use Rattle.cmwq_model.specs.declared.record.Queueing.{Queueing}
 use Rattle.cmwq_model.specs.Prelude.{Layout, IsLegal, opening, queueings}
@@ -14,14 +14,6 @@ use Rattle.cmwq_refinement.proofs.PlacesFit.{opened_are_there}
 use Rattle.cmwq_chart.specs.Levels.{is_of_place, has_queueings, place_on, places_of_queue, places_of}
 use Rattle.cmwq_chart_laws.specs.LevelLaws.{UsedPlacesAreShown}
 use Rattle.cmwq_chart_laws.proofs.Listed.{map_in, flat_in}
-
-any_in : {X : Type 0} (p : X → Bool) (xs : List X) (x : X) → In x xs → p x ≡ true → list_any p xs ≡ true
-any_in p [] x i h = absurd i
-any_in p (z ∷ zs) x i h = ⊎_elim (λ e. ap (λ b. b || list_any p zs) (ap p e ∙ h)) (λ k. ap (λ b. p z || b) (any_in p zs x k h) ∙ any (p z)) i
-  where
-    any : (b : Bool) → (b || true) ≡ true
-    any true = refl
-    any false = refl
 
 range_in : (n k : ℕ) → k < n → In k (range_with_len 0 n)
 range_in n k less = in_at (range_with_len 0 n) k k (let long = length-range_with_len 0 n in omega arith) (get_or-range_with_len 0 n k k less ∙ zero-add k)

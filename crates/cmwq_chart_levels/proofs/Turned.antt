@@ -13,7 +13,8 @@ use Rattle.cmwq_core.specs.History.{History, past_in, with_entry}
 use Rattle.cmwq_chart.specs.declared.levels.Height.{Height}
 use Rattle.cmwq_chart.specs.declared.levels.Level.{Level}
 use Rattle.cmwq_chart.specs.Levels.{height_at, is_changed, changes_level, level_from, level_until, level_ended, levels_ended, levels_left, IsPlaceOf}
-use Rattle.cmwq_chart.proofs.Steps.{past_step, legal_step}
+use Rattle.cmwq_model.proofs.Growing.{past_more}
+use Rattle.cmwq_chart.proofs.Steps.{legal_step}
 use Rattle.cmwq_chart_levels.specs.Turns.{IsLevelAfter, IsChangeOf, IsFollowed, after_if, ended_if, ended_levels, level_after}
 use Rattle.cmwq_chart_levels.specs.declared.steps.Change.{Change}
 
@@ -70,7 +71,7 @@ pub entries_next : (entries : List Entry) (i : ℕ) (e : Entry) (h : History) �
 entries_next entries i e h less is so_far = ap (λ xs. xs ++ e ∷ []) so_far ∙ ap (λ x. take i entries ++ x ∷ []) is ∙ sym (take_more entries i e less)
 
 pub past_next : (entries : List Entry) (i : ℕ) (e : Entry) → i < length entries → e ≡ get_or entries i e → past_of (take (i + 1) entries) ≡ e ∷ past_of (take i entries)
-past_next entries i e less is = past_step entries i e less ∙ ap (λ x. x ∷ past_of (take i entries)) (sym is)
+past_next entries i e less is = past_more entries i e less ∙ ap (λ x. x ∷ past_of (take i entries)) (sym is)
 
 module _ (s : Layout) (entries : List Entry) (i : ℕ) (e : Entry) (h g : History) (less : i < length entries) (is : e ≡ get_or entries i e) (layout : h.layout ≡ s) (so_far : h.entries ≡ take i entries) (made : g ≡ with_entry h e) where
   same_layout : g.layout ≡ s

@@ -1,6 +1,5 @@
 pub mod Below
 pub mod Filling
-pub mod Flushed
 pub mod Halves
 pub mod Ranges
 pub mod Stacked

@@ -1,5 +1,5 @@
 //! What stands in each band.
-ghost use Rattle.std.specs.Prelude.{◌≡◌, List, ◌+◌, ◌<◌, ◌≤◌, ◌∷◌, ◌++◌, [], if◌then◌else◌, option_to_list, option_map, length, filter, flat_map, IfOk, OnOk, replicate, slice_set, None};
+ghost use Rattle.std.specs.Prelude.{◌≡◌, List, ◌+◌, ◌<◌, ◌≤◌, ◌∷◌, ◌++◌, [], if◌then◌else◌, length, filter, flat_map, IfOk, OnOk, replicate, slice_set, None};
 ghost use Rattle.cmwq_chart.specs.Marks.{AreMarks, IsMarked};
 ghost use Rattle.cmwq_chart_text.specs.Bands as spec;
 ghost use Rattle.cmwq_chart_text.specs.Figures.{most_rows, row_height, row_number};

@@ -1,5 +1,5 @@
 //! What is drawn, and in which rows.
-ghost use Rattle.std.specs.Prelude.{◌≡◌, ◌+◌, ◌<◌, ◌≤◌, ◌++◌, length, IfOk, OnOk, map};
+ghost use Rattle.std.specs.Prelude.{◌≡◌, ◌+◌, ◌<◌, ◌≤◌, ◌++◌, IfOk, OnOk, map};
 ghost use Rattle.cmwq_chart_text.specs.Figures as spec;
 ghost use Rattle.cmwq_chart_text.specs.declared.figures.Figure.TheVariants as figure;
 ghost use Rattle.cmwq_chart_text.specs.declared.figures.Row.TheVariants as row;

@@ -1,4 +1,4 @@
-ghost use Rattle.std.specs.Prelude.{◌≡◌, codes, true, false, IfOk, IfErr, IsSome, Some, map};
+ghost use Rattle.std.specs.Prelude.{◌≡◌, codes, true, false, IfOk, IfErr, IsSome, Some};
 ghost use Rattle.clap.specs.Words.{kind_of, app_of, new_app, rule_of, found_of, rows_of, with_rule, with_subcommand};
 ghost use Rattle.clap.specs.declared.builder.command.Command.TheViews.{out-Command as fields_of};
 ghost use Rattle.cmwq_cli.specs.Word.{without_words, with_word, with_flagged, with_lines, with_numbers, app, flag_rule, number_rule, number_found, has_flag, word_found, asked_found, texts, is_word_taken, word_matched};

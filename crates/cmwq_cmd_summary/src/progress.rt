@@ -1,7 +1,7 @@
 //! A history that is executed again, and summed up on the way.
 ghost use Rattle.std.specs.Prelude.{◌≡◌, ◌<◌, [], length, None, Ok, IfOk, IfSome, OnErr, IsTrue};
 ghost use Rattle.cmwq_model.specs.Prelude.{fits, most_room, width, IsLegal, Wants};
-ghost use Rattle.cmwq_core.specs.History.{past_in, next_entry, with_entry};
+ghost use Rattle.cmwq_core.specs.History.{past_in, with_entry};
 ghost use Rattle.cmwq_core.specs.Plans.{IsPlan};
 ghost use Rattle.cmwq_cmd_summary.specs.Summing.{summed_of, IsWanted};
 

@@ -1,5 +1,5 @@
 //! Rows that are spelled, in a buffer of their own.
-ghost use Rattle.std.specs.Prelude.{◌≡◌, ◌+◌, ◌≤◌, [], ◌++◌, length, decimal};
+ghost use Rattle.std.specs.Prelude.{◌≡◌, ◌+◌, ◌≤◌, [], ◌++◌, length};
 ghost use Rattle.cmwq_cmd_summary.specs.Page.{figure_text};
 
 use arrayvec::ArrayString;

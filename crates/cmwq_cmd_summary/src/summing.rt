@@ -1,5 +1,5 @@
 //! A history that is summed up while it is read.
-ghost use Rattle.std.specs.Prelude.{◌≡◌, None, Some, OnOk, IfOk, IfErr};
+ghost use Rattle.std.specs.Prelude.{None, Some, OnOk, IfOk, IfErr};
 ghost use Rattle.cmwq_cmd_history.specs.Judging.{IsVerdictOf};
 ghost use Rattle.cmwq_cmd_summary.specs.Summing.{IsProgress};
 

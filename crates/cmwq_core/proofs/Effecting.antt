@@ -1,5 +1,5 @@
 -- What an entry does, read off the book.
-use Rattle.cmwq_core.specs.Common.{◌≡◌, ℕ, List, ◌∷◌, length, Option, Some, None, refl, sym, ap, ◌∙◌, option_and_then, option_map_or, same_Some, CpuId, PoolId, Who, Caller, Worker, Reply, Entry, Queueing, Call, Booking, Layout, item_of, number_started, item_run, unstarted_queueing, queueing_at, cpu_for, is_unstarted, still_open, IsLegal, fits, may_make, has_numbers, booking_of, is_started, opening, owed, has_not_started, run, ending, queueing_run, ended_by, ends_as_told, runs_are_queueings, unstarted_found, next_unstarted, found, ◌-◌, ◌≤◌, ◌+◌, ◌*◌, ◌==◌, Bool, true, false, not, is_some, arith, nat_lt, nat_le, and_parts, ltb-true, fits_there, one, ends_unstarted, settles_booked, found_number, starting, starts_next}
+use Rattle.cmwq_core.specs.Common.{◌≡◌, ℕ, List, ◌∷◌, length, Option, Some, None, refl, sym, ap, ◌∙◌, option_and_then, option_map_or, same_Some, CpuId, PoolId, Who, Caller, Worker, Reply, Entry, Queueing, Call, Booking, Layout, item_of, number_started, item_run, unstarted_queueing, queueing_at, cpu_for, is_unstarted, still_open, IsLegal, fits, may_make, has_numbers, booking_of, is_started, opening, owed, has_not_started, run, ending, queueing_run, ended_by, ends_as_told, runs_are_queueings, found_unstarted, next_unstarted, found, ◌-◌, ◌≤◌, ◌+◌, ◌*◌, ◌==◌, Bool, true, false, not, is_some, arith, nat_lt, nat_le, and_parts, ltb-true, fits_there, one, ends_unstarted, settles_booked, found_number, starting, starts_next}
 use Rattle.cmwq_model.specs.declared.record.Start.{Start}
 use Rattle.cmwq_model.specs.declared.reply.Reply.TheVariants as reply
 use Rattle.cmwq_model.specs.declared.call.Call.TheVariants as call
@@ -33,7 +33,7 @@ starts_from s past e legal before = by e.reply refl
     at n h =
         let k = starts_next s past e n legal h in
         let x = k.queueing in
-        let found : queueing_at past x.number ≡ Some x = unstarted_found past x.item.0 x (next_unstarted s past before k.worker.pool x k.is_next) in
+        let found : queueing_at past x.number ≡ Some x = found_unstarted past x.item.0 x (next_unstarted s past before k.worker.pool x k.is_next) in
         ap (next_for s past) k.by_worker ∙ (k.is_next ∙ sym (ap (option_and_then (queueing_at past)) (h ∙ ap Some (sym k.number)) ∙ found))
 
     by : (r : Reply) → e.reply ≡ r → started_from r (next_for s past e.who) ≡ starting past e

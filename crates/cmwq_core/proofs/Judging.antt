@@ -1,10 +1,9 @@
 -- A history that is judged from its first entry on.
-use Rattle.cmwq_core.specs.Common.{◌≡◌, ◌+◌, ◌*◌, ◌^◌, ◌<◌, ◌≤◌, ℕ, true, refl, List, [], ◌∷◌, length, take, drop, get_or, reverse, sym, ap, ap₂, ◌∙◌, subst, arith, add-one, take_more, reverse-append, length-take-le, Entry, Call, Layout, now, ticks_told, has_time, most_time, IsLegal, past_of, entry_for, AllFit, Wants, IsFirstWrong, le-leb}
+use Rattle.cmwq_core.specs.Common.{◌≡◌, ◌+◌, ◌*◌, ◌^◌, ◌<◌, ◌≤◌, ℕ, true, refl, List, [], length, take, get_or, sym, ap, ap₂, arith, take_more, Entry, Call, Layout, now, ticks_told, has_time, most_time, IsLegal, past_of, AllFit, le-leb}
 use Rattle.cmwq_core.specs.declared.judge.TheConstants.{MOST_OWED}
-use Rattle.std.proofs.Math.Seq.{split_at}
-use Rattle.cmwq_model.specs.declared.verdict.Wanted.{Wanted}
 use Rattle.cmwq_model.specs.declared.call.Call.TheVariants as call
 use Rattle.cmwq_core.specs.History.{History, next_entry, with_entry}
+use Rattle.cmwq_model.proofs.Growing.{legal_more, past_more}
 
 -- the book beside the entries, when so many are judged
 abbrev pub book_at : Layout → List Entry → ℕ → History
@@ -27,41 +26,19 @@ unfolding IsLegal now
 judged_none entries b room fresh = record { legal = tt; soon = omega arith; book = ap₂ (λ (n : ℕ) (es : List Entry). let made : History = record { layout = b.layout; room = n; entries = es } in made) room fresh }
 
 module _ (s : Layout) (entries : List Entry) (k : ℕ) (d : Entry) where
-  past_more : k < length entries → past_of (take (k + 1) entries) ≡ get_or entries k d ∷ past_of (take k entries)
-  past_more h = ap reverse (take_more entries k d h) ∙ reverse-append (take k entries) (get_or entries k d ∷ [])
-
-  -- an entry that is right keeps the history legal, and the book beside it
-  legal_more : k < length entries → AllFit s entries → IsLegal s (past_of (take k entries))
-      → get_or entries k d ≡ entry_for s (past_of (take k entries)) (get_or entries k d).who (get_or entries k d).call → IsLegal s (past_of (take (k + 1) entries))
-  unfolding IsLegal
-  legal_more h fit legal right = subst (IsLegal s) (sym (past_more h)) (fit k d h, right, legal)
-
   book_more : k < length entries → with_entry (book_at s entries k) (get_or entries k d) ≡ book_at s entries (k + 1)
   book_more h = ap (λ (es : List Entry). let b : History = record { layout = s; room = length entries + MOST_OWED; entries = es } in b) (sym (take_more entries k d h))
 
   -- and the time is short
   soon_more : k < length entries → now (past_of (take k entries)) ≤ k * 2 ^ 32 → ticks_told (get_or entries k d).call < 2 ^ 32 → now (past_of (take (k + 1) entries)) ≤ (k + 1) * 2 ^ 32
   unfolding now
-  soon_more h soon few = rw (past_more h) (omega arith)
+  soon_more h soon few = rw (past_more entries k d h) (omega arith)
 
   pub judged_more : (b : History) → k < length entries → AllFit s entries → AreJudged s entries k b
       → get_or entries k d ≡ next_entry b (get_or entries k d).who (get_or entries k d).call → ticks_told (get_or entries k d).call < 2 ^ 32
       → AreJudged s entries (k + 1) (with_entry b (get_or entries k d))
   judged_more b h fit are right few = record {
-    legal = legal_more h fit are.legal (rw are.book at right);
+    legal = legal_more s entries k d h fit are.legal (rw are.book at right);
     book = rw are.book (book_more h);
     soon = soon_more h are.soon few;
-  }
-
-  -- an entry after a legal history that isn't right is the first that is wrong
-  pub first_wrong : (w : Wanted) → k < length entries → IsLegal s (past_of (take k entries)) → Wants s (past_of (take k entries)) (get_or entries k d) w
-      → IsFirstWrong s entries (record { at = k; wanted = w })
-  first_wrong w h legal wants = record {
-    before = take k entries;
-    entry = get_or entries k d;
-    rest = drop (k + 1) entries;
-    parts = rw add-one (split_at entries k d h);
-    place = sym (length-take-le k entries (omega arith));
-    is_legal = legal;
-    wants = wants;
   }

@@ -1,5 +1,5 @@
 -- The bits of an item, and the mark of an entry.
-use Rattle.cmwq_core.specs.Common.{◌≡◌, ℕ, ◌+◌, ◌<◌, find, ◌==◌, ◌||◌, ◌&&◌, Bool, true, false, List, ◌∷◌, length, Option, Some, None, is_some, refl, sym, ap, ap₂, ◌∙◌, subst, Contains, if◌then◌else◌, option_and_then, option_map, option_or, eqb-true, same_Some, ItemId, Reply, Entry, Queueing, Ticket, Layout, unended_tickets, is_at, is_of_item, item_of, item_at, item_called, settles, booking, booking_of, is_booked, number_started, number_finished, queueing_at, unstarted_queueing, is_pending, opening, IsLegal, bits, found, in_contained, item_marked, ending, queueing_run, found_known, found_number, run_is_active, IsEffect, item_number, Flight, with_started, with_unstarted, without_run, flight_of, starting, unstarted_found, starts_next, next_unstarted, legal_before}
+use Rattle.cmwq_core.specs.Common.{◌≡◌, ℕ, ◌+◌, ◌<◌, find, ◌==◌, ◌||◌, ◌&&◌, Bool, true, false, List, ◌∷◌, length, Option, Some, None, is_some, refl, sym, ap, ap₂, ◌∙◌, subst, Contains, if◌then◌else◌, option_and_then, option_map, option_or, eqb-true, same_Some, ItemId, Reply, Entry, Queueing, Ticket, Layout, unended_tickets, is_at, is_of_item, item_of, item_at, item_called, settles, booking, booking_of, is_booked, number_started, number_finished, queueing_at, unstarted_queueing, is_pending, opening, IsLegal, bits, found, in_contained, item_marked, ending, queueing_run, found_known, found_number, run_is_active, IsEffect, item_number, Flight, with_started, with_unstarted, without_run, flight_of, starting, found_unstarted, starts_next, next_unstarted, legal_before}
 use Rattle.cmwq_model.specs.declared.reply.Reply.TheVariants as reply
 use Rattle.cmwq_state.proofs.Applied.{open_there}
 use Rattle.cmwq_theory_steps.proofs.Marks.{others_stay, no_item}
@@ -89,7 +89,7 @@ item_out o = option_map (λ (x : Queueing). x.item.0) o
 start_found : (s : Layout) (past : List Entry) (e : Entry) (n : ℕ) → IsLegal s (e ∷ past) → IsLegal s past → number_started e.reply ≡ Some n → (x : Queueing) × (queueing_at past n ≡ Some x)
 start_found s past e n legal before h =
     let k = starts_next s past e n legal h in
-    (k.queueing, ap (queueing_at past) (sym k.number) ∙ unstarted_found past k.queueing.item.0 k.queueing (next_unstarted s past before k.worker.pool k.queueing k.is_next))
+    (k.queueing, ap (queueing_at past) (sym k.number) ∙ found_unstarted past k.queueing.item.0 k.queueing (next_unstarted s past before k.worker.pool k.queueing k.is_next))
 
 pub marks_other : (s : Layout) (past : List Entry) (e : Entry) → IsLegal s (e ∷ past) → IsLegal s past → item_of e ≡ None → item_out (option_or (starting past e) (ending past e)) ≡ item_marked past e
 marks_other s past e legal before none = by (number_started e.reply) refl ∙ sym (ap (λ o. option_or o (option_and_then (item_at past) (option_or (number_started e.reply) (number_finished e.reply)))) none)

@@ -25,7 +25,8 @@ pub use Rattle.cmwq_refinement.proofs.PlacesFit.{unended_tickets_fit}
 pub use Rattle.cmwq_refinement.specs.Flights.{flight_of, starting}
 pub use Rattle.cmwq_state.proofs.Steps.{fits_there, next_legal}
 pub use Rattle.cmwq_state.specs.Effects.{IsEffect}
-pub use Rattle.cmwq_theory_steps.proofs.EndsAsTold.{ends_as_told, runs_are_queueings, unstarted_found}
+pub use Rattle.cmwq_theory_steps.proofs.Ended.{found_unstarted}
+pub use Rattle.cmwq_theory_steps.proofs.EndsAsTold.{ends_as_told, runs_are_queueings}
 pub use Rattle.cmwq_theory_steps.proofs.RunsActive.{found_known, found_number, run_is_active}
 pub use Rattle.cmwq_theory_steps.proofs.Starts.{starts_next}
 pub use Rattle.cmwq_theory_steps.proofs.Unstarted.{next_unstarted}

@@ -17,7 +17,7 @@ ghost use Rattle.cmwq_refinement.specs.Flights.{starting};
 ghost use Rattle.cmwq_state.specs.Tables as tables;
 
 use crate::answers::answer;
-use cmwq_model::{Booking, Call, Entry, ItemId, Number, Place, Queueing, Reply, Ticket, Who};
+use cmwq_model::{Booking, Call, Entry, ItemId, Place, Queueing, Reply, Ticket, Who};
 use cmwq_state::{Effect, State};
 
 /// The item that is booked anew, or no more.

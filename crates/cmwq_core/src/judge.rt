@@ -1,6 +1,6 @@
 //! The verdict of a history.
 
-ghost use Rattle.std.specs.Prelude.{◌≡◌, ◌↔◌, ◌≤◌, ◌<◌, ◌+◌, ◌∷◌, true, [], length, None, IfOk, IfSome, OnOk, OnErr, IfErr, IsTrue};
+ghost use Rattle.std.specs.Prelude.{◌≡◌, ◌↔◌, ◌≤◌, ◌<◌, ◌+◌, true, [], length, None, IfOk, IfSome, OnOk, OnErr, IfErr, IsTrue};
 ghost use Rattle.cmwq_model.specs.Prelude.{fits, is_layout, IsLegal, past_of, entry_for, has_time, AllFit, Wants, IsFirstWrong};
 ghost use Rattle.cmwq_core.specs.History.{next_entry as entry_due, with_entry};
 ghost use Rattle.cmwq_core.specs.Judged.{seen_too};

@@ -1,6 +1,6 @@
 //! The bits of items, and the mark of an entry: the item that it may change, with the bits after it.
 
-ghost use Rattle.std.specs.Prelude.{◌≡◌, ℕ, ◌+◌, ◌<◌, ◌∷◌, Some, if◌then◌else◌, is_some, length};
+ghost use Rattle.std.specs.Prelude.{◌≡◌, ◌+◌, ◌<◌, ◌∷◌, Some, if◌then◌else◌, is_some};
 ghost use Rattle.cmwq_model.specs.Prelude.{is_booked, is_at, bits, past_of};
 ghost use Rattle.cmwq_theory_steps.specs.Marks.{item_marked};
 ghost use Rattle.cmwq_state.specs.Effects.{IsEffect};

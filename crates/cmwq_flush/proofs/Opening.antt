@@ -1,11 +1,10 @@
 -- What is open after a queueing of an item is opened, and after it ends.
 use Rattle.std.proofs.Common.{ap₂, inl, inr}
 use Rattle.cmwq_flush.specs.Common.{◌≡◌, ◌≢◌, ◌⊎◌, ℕ, ◌+◌, ◌<◌, ◌≤◌, Bool, true, false, not, cond, List, [], ◌∷◌, ◌++◌, length, get_or, set, Some, sym, ap, refl, ◌∙◌, arith, ⊎_elim, map, Contains, eqb, false≢true, cases_lt, zero, suc, replicate, length-map, get_or-map, get_or_past, get_or-set_same, get_or-set_other, ◌↔◌}
-use Rattle.std.specs.Prelude.{◌*◌, ◌&&◌, ◌||◌, nat_eq}
+use Rattle.std.specs.Prelude.{◌*◌, ◌&&◌, nat_eq}
 use Rattle.std.proofs.lemmas.List.{length-set, length-replicate, get_or-replicate, ext_get_or}
 use Rattle.std.proofs.lemmas.List.FromFn.{length-map-range_with_len, get_or-map-range_with_len}
-use Rattle.std.proofs.lemmas.Bool.{eq-eqb, ne_eqb, eqb-true}
-use Rattle.std.proofs.lemmas.List.Quantifiers.{position-Some}
+use Rattle.std.proofs.lemmas.Bool.{eq-eqb, ne_eqb, eqb-true, or_cases}
 use Rattle.std.proofs.lemmas.List.Sums.{position_or_len_is}
 use Rattle.cmwq_lemmas.proofs.Truth.{same_bools}
 use Rattle.cmwq_list.specs.Lists.{Listed, AreListedOnce, has_item, without_item, list_at, list_of, pushed, removed}
@@ -17,6 +16,8 @@ use Rattle.cmwq_flush.specs.Openings.{AreOpenings, is_listed, node_row, node_num
 use Rattle.cmwq_flush.proofs.Search.{filter_all}
 use Rattle.cmwq_flush.proofs.Nodes.{set_one, listed-pushed, listed-removed, rows-removed, node_in, in_list, number_there}
 use Rattle.cmwq_flush.proofs.NodeNumbers.{opened_at, opened_set, latest_first, latest_second, ended_first, ended_second, one_of, some_at, number_at_listed, number_at_free, number-pushed, number-kept, number-removed, number-stays}
+use Rattle.cmwq_flush.proofs.OverflowNodes.{none_listed}
+use Rattle.cmwq_list.proofs.Members.{owner_has}
 
 chosen : (b c : Bool) (x y : ℕ) → b ≡ c → cond b x y ≡ cond c x y
 chosen b c x y e = ap (λ d. cond d x y) e
@@ -51,12 +52,9 @@ module _ (lists : List (List ℕ)) (rows : List Row) (items i v : ℕ) (there : 
         (numbers-opened ∙ ap (λ ns. ns ++ r.number ∷ []) (sym (opened_at lists rows items i there))) others
 
 -- no number comes twice: a listed node is the new one, or was listed
-was_listed : (a b : Bool) → (a || b) ≡ true → (a ≡ true) ⊎ (b ≡ true)
-was_listed a b e = grind arith
-
 module _ (items : ℕ) (s : Listed) (rows : List Row) (l v : ℕ) (r : Row) (is : AreOpenings items s rows) (lt : l < length s.lists) (low : v < s.items) (free : is_listed s.lists v ≡ false) (latest : (w : ℕ) → is_listed s.lists w ≡ true → (node_row rows w).number < r.number) where
   listed : (w : ℕ) → is_listed (pushed s l v).lists w ≡ true → (is_listed s.lists w ≡ true) ⊎ (w ≡ v)
-  listed w h = ⊎_elim (λ (e : is_listed s.lists w ≡ true). inl e) (λ (e : nat_eq w v ≡ true). inr (eqb-true w v e)) (was_listed (is_listed s.lists w) (nat_eq w v) (sym (listed-pushed s.lists l v w lt) ∙ h))
+  listed w h = ⊎_elim (λ (e : is_listed s.lists w ≡ true). inl e) (λ (e : nat_eq w v ≡ true). inr (eqb-true w v e)) (or_cases (is_listed s.lists w) (nat_eq w v) (sym (listed-pushed s.lists l v w lt) ∙ h))
 
   same_row : (w : ℕ) → is_listed s.lists w ≡ true → node_row (set rows v r) w ≡ node_row rows w
   same_row w h = get_or-set_other rows v w r no_row (λ e. absurd (false≢true (sym free ∙ ap (is_listed s.lists) (sym e) ∙ h)))
@@ -155,16 +153,9 @@ module _ (items : ℕ) (s : Listed) (rows : List Row) (is : AreOpenings items s 
 
 -- ---- at first
 
-none_listed : (queues v : ℕ) → is_listed (replicate queues []) v ≡ false
-none_listed zero v = refl
-none_listed (suc queues) v = none_listed queues v
-
-no_rows_of : (queues : ℕ) (rows : List Row) → rows_of (replicate queues []) rows ≡ replicate queues []
-no_rows_of zero rows = refl
-no_rows_of (suc queues) rows = ap (λ ys. [] ∷ ys) (no_rows_of queues rows)
-
 pub rows_at_first : (queues : ℕ) (rows : List Row) → rows_of (replicate queues []) rows ≡ replicate queues []
-rows_at_first queues rows = no_rows_of queues rows
+rows_at_first zero rows = refl
+rows_at_first (suc queues) rows = ap (λ ys. [] ∷ ys) (rows_at_first queues rows)
 
 pub opened_at_first : (queues items : ℕ) (rows : List Row) → opened_by (replicate queues []) rows items ≡ replicate items []
 opened_at_first queues items rows = ext_get_or [] (opened_by (replicate queues []) rows items) (replicate items []) (length-map-range_with_len (numbers_of_nodes (replicate queues []) rows) 0 items ∙ sym (length-replicate items []))
@@ -180,9 +171,6 @@ openings_at_first queues items s rows e many = grind (arith, false≢true, none_
 
 -- ---- whether a number is open on a queue
 
-placed_at : (lists : List (List ℕ)) (v q : ℕ) → list_of lists v ≡ Some q → has_item v (list_at lists q) ≡ true
-placed_at lists v q e = (position-Some (has_item v) lists q [] e).1
-
 -- it is in the first list that has it
 first_place : (lists : List (List ℕ)) (v q : ℕ) → ((l : ℕ) → has_item v (list_at lists l) ≡ true → l ≡ q) → q < length lists → has_item v (list_at lists q) ≡ true → list_of lists v ≡ Some q
 first_place lists v q alone lt here = grind (arith, position_or_len_is)
@@ -191,7 +179,7 @@ module _ (items : ℕ) (s : Listed) (rows : List Row) (is : AreOpenings items s 
   pub open_on : (list_of s.lists v ≡ Some q) ↔ Contains (row_numbers (rows_at (rows_of s.lists rows) q)) n
   open_on =
       let it = node_is items s rows is i n v chosen_is is_open in (
-        (λ e. let there = number_there s.lists rows q v (placed_at s.lists v q e) in
+        (λ e. let there = number_there s.lists rows q v (owner_has s.lists v q e) in
             (there.0, rw length-map there.1, get_or-map row_number (rows_at (rows_of s.lists rows) q) there.0 (node_row rows v) n there.1 ∙ ap row_number there.2 ∙ it.1)),
         (λ found. let w = node_in s.lists rows q n found in
             let same : w.0 ≡ v = is.once w.0 v (in_list s.lists w.0 q w.1.here) it.0 (w.1.number ∙ sym it.1) in

@@ -1,12 +1,11 @@
 -- Which flushes are in overflow, as nodes move from one list to another.
 use Rattle.cmwq_flush.specs.Common.{◌≡◌, ◌≢◌, ℕ, ◌+◌, ◌<◌, ◌≤◌, Bool, true, false, not, cond, List, [], ◌∷◌, ◌++◌, length, get_or, set, zero, suc, replicate, Option, Some, None, IsSome, is_some, sym, ap, ap₂, refl, ◌∙◌, arith, ⊎_elim, map, find, All, Contains, ◌↔◌, ◌⊎◌, false≢true, cases_lt, get_or-map, length-map, length-append, map-set, map_push, get_or-set_same, get_or-set_other, range_with_len}
-use Rattle.std.specs.Prelude.{◌&&◌, ◌||◌, ◌==◌, nat_eq, slice_get, drop}
+use Rattle.std.specs.Prelude.{◌&&◌, ◌||◌, ◌==◌, nat_eq, slice_get}
 use Rattle.std.specs.List.{list_any, sum_by}
-use Rattle.std.proofs.lemmas.Bool.{or_parts, or_right, eq-eqb, eqb-true, eqb-false, cond-true, cond-false, leb-true, leb-false, ne_eqb}
-use Rattle.std.proofs.lemmas.List.{length-set, drop_more}
+use Rattle.std.proofs.lemmas.Bool.{or_parts, eq-eqb, eqb-true, eqb-false, leb-true, leb-false, ne_eqb, or_cases}
+use Rattle.std.proofs.lemmas.List.{length-set}
 use Rattle.std.proofs.lemmas.List.Sums.{sum_by-cons, sum_by-set}
 use Rattle.std.proofs.lemmas.List.Folds.{sum_by-replicate}
-use Rattle.std.proofs.lemmas.Option.{slice_get_within, get_or_from_slice_get}
 use Rattle.std.proofs.Common.{add-one, zero-add, subst}
 use Rattle.std.specs.List.{AllByRecursion}
 use Rattle.std.proofs.lemmas.List.Elements.{All-from_recursion}
@@ -67,15 +66,12 @@ nodes_moved s tickets changed l m v once are same lt fits here = record {
   free = let some = are.free in omega (arith, size);
   many = same ∙ are.many;
   known = λ w h. ⊎_elim (λ (old : is_listed left w ≡ true). are.known w (was w old)) (λ (e : nat_eq w v ≡ true). let at = eqb-true w v e in let low = are.known v (in_list s.lists v l here) in omega arith)
-      (either (is_listed left w) (nat_eq w v) (sym (listed-pushed left m v w inside) ∙ h));
+      (or_cases (is_listed left w) (nat_eq w v) (sym (listed-pushed left m v w inside) ∙ h));
   all = moved ∙ are.all;
 }
   where
     inside : m < length (map (without_item v) s.lists)
     inside = let n = length-map s.lists (without_item v) in omega arith
-
-    either : (a b : Bool) → (a || b) ≡ true → (a ≡ true) ⊎ (b ≡ true)
-    either a b e = grind arith
 
     first : (a b : Bool) → (a && b) ≡ true → a ≡ true
     first a b e = grind arith
@@ -251,23 +247,6 @@ ticket_gone tickets xs v t rise here is = gone xs (λ w h. told w h (nat_eq v w)
     gone [] h = refl
     gone (y ∷ ys) h = grind (arith, gone ys)
 
--- ---- a walk along a list to the first that passes
-
-pub has_there : (xs : List ℕ) (k v : ℕ) → slice_get xs k ≡ Some v → has_item v xs ≡ true
-has_there [] k v e = absurd (let bad : None ≡ Some v = e in cc)
-has_there (x ∷ xs) zero v e = let same : Some x ≡ Some v = e in ap (λ b. b || has_item v xs) (eq-eqb v x (let h : x ≡ v = cc in sym h))
-has_there (x ∷ xs) (suc k) v e = or_right (nat_eq v x) (has_item v xs) (has_there xs k v e)
-
-at_drop : (xs : List ℕ) (k v : ℕ) → slice_get xs k ≡ Some v → drop k xs ≡ v ∷ drop (k + 1) xs
-at_drop xs k v e = drop_more xs k v (slice_get_within xs k v e) ∙ ap (λ x. x ∷ drop (k + 1) xs) (get_or_from_slice_get xs k v v e)
-
-module _ (p : ℕ → Bool) (xs : List ℕ) (k v : ℕ) (at : slice_get xs k ≡ Some v) (left : find p xs ≡ find p (drop k xs)) where
-  pub found_here : p v ≡ true → Some v ≡ find p xs
-  found_here is = sym (left ∙ (ap (find p) (at_drop xs k v at) ∙ cond-true (p v) (Some v) (find p (drop (k + 1) xs)) is))
-
-  pub left_more : p v ≡ false → find p xs ≡ find p (drop (k + 1) xs)
-  left_more is = left ∙ (ap (find p) (at_drop xs k v at) ∙ cond-false (p v) (Some v) (find p (drop (k + 1) xs)) is)
-
 -- ---- at first
 
 abbrev pub free_nodes : ℕ → ℕ → List (List ℕ)
@@ -281,7 +260,7 @@ lacks_next (x ∷ xs) n below = let less = below.0 in ap₂ (λ a b. a || b) (ne
 all_below : (n : ℕ) → AllByRecursion (λ i. i < n) (range_with_len 0 n)
 all_below n = subst (λ m. AllByRecursion (λ i. i < m) (range_with_len 0 n)) (zero-add n) (range_below 0 n)
 
-none_listed : (queues v : ℕ) → is_listed (replicate queues []) v ≡ false
+pub none_listed : (queues v : ℕ) → is_listed (replicate queues []) v ≡ false
 none_listed zero v = refl
 none_listed (suc queues) v = none_listed queues v
 

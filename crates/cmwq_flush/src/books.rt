@@ -1,5 +1,5 @@
 ghost use Rattle.std.specs.List.{list_all};
-ghost use Rattle.std.specs.Prelude.{◌≡◌, [], ◌*◌, ◌<◌, ◌≤◌, nat_le, ◌↔◌, ℕ, List, All, AllPairs, Contains, IfOk, IfSome, IsTrue, length, replicate, slice_get};
+ghost use Rattle.std.specs.Prelude.{◌≡◌, [], ◌*◌, ◌<◌, ◌≤◌, nat_le, ◌↔◌, ℕ, All, Contains, IfOk, IfSome, IsTrue, length, replicate, slice_get};
 ghost use Rattle.cmwq_flush.specs.ItemNumbers.{IsItemReady, item_waits_for, numbers_open};
 ghost use Rattle.cmwq_flush.specs.Colouring.{IsToldByColours};
 ghost use Rattle.cmwq_flush.specs.FlushBook.{IsReady, flush_tickets, flushes_with_wait, flushes_without_wait, new_book};

@@ -1,4 +1,4 @@
-ghost use Rattle.std.specs.Prelude.{◌≡◌, ℕ, ◌+◌, ◌*◌, ◌<◌, ◌≤◌, ◌↔◌, ◌∷◌, ◌++◌, [], if◌then◌else◌, All, AllPairs, Contains, IfOk, IfSome, IsTrue, find, length, replicate, slice_get};
+ghost use Rattle.std.specs.Prelude.{◌≡◌, ℕ, ◌+◌, ◌*◌, ◌<◌, ◌↔◌, [], if◌then◌else◌, All, Contains, IfOk, IsTrue, find, length, replicate, slice_get};
 ghost use Rattle.cmwq_flush.specs.ItemNumbers.{is_up_to, numbers_open};
 ghost use Rattle.cmwq_flush.specs.Numbers.{AreRising};
 ghost use Rattle.cmwq_flush.specs.Rows.{row_numbers, rows_at, rows_with, rows_without};

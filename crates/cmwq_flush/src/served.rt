@@ -1,4 +1,4 @@
-ghost use Rattle.std.specs.Prelude.{◌≡◌, ◌<◌, ◌↔◌, All, AllPairs, Contains, IfSome, IfNone, IsTrue};
+ghost use Rattle.std.specs.Prelude.{◌<◌, ◌↔◌, All, AllPairs, Contains, IfSome, IfNone, IsTrue};
 ghost use Rattle.cmwq_flush.specs.Served.{IsOlderServed, LacksTicket, HasTicketAt, tickets_of_served};
 
 use cmwq_model::Number;

@@ -1,5 +1,5 @@
 //! Reads, writes and flushes that are tried again when they are interrupted.
-ghost use Rattle.std.specs.Prelude.{◌≡◌, ◌+◌, ◌<◌, ◌≤◌, length, take, IfOk, OnOk, OnErr};
+ghost use Rattle.std.specs.Prelude.{◌≡◌, ◌+◌, ◌<◌, ◌≤◌, length, OnOk, OnErr};
 ghost use Rattle.std.specs.Io.{ReadsAtMost};
 ghost use Rattle.std.specs.Io.KnownBytes.{ReadConsumes, Appends, WriteAppends, Keeps};
 ghost use Rattle.cmwq_io.specs.Counts.{Rises, Tries};

@@ -1,11 +1,11 @@
 -- What an item does: at most 64 actions, in turn. Each is a call, or opens a gate, or sleeps at one.
+use Rattle.cmwq_text.specs.Words.{◌>>=◌}
 use Rattle.std.specs.Prelude.{if◌then◌else◌, ◌∷◌, ◌++◌}
 use Rattle.cmwq_json_script.specs.Common.{ℕ, List, [], length, Option, Some, None, nat_lt, result_ok, Data, Items, as_array, in_turn}
 use Rattle.cmwq_json_script.specs.declared.word.Word.{Word}
 use Rattle.cmwq_json_script.specs.declared.word.Word.TheVariants as word
 use Rattle.cmwq_json_script.specs.declared.action.Action.{Action}
 use Rattle.cmwq_json_script.specs.declared.action.Action.TheVariants as action
-use Rattle.cmwq_json_script.specs.Then.{◌>>=◌}
 use Rattle.cmwq_json_script.specs.Lists.{whole, first_item, word_of_items}
 use Rattle.cmwq_json_script.specs.Known.{Known}
 use Rattle.cmwq_json_script.specs.Calls.{own_call_after}

@@ -1,9 +1,9 @@
 -- Calls: a list of a word and what it is about.
+use Rattle.cmwq_text.specs.Words.{◌>>=◌}
 use Rattle.cmwq_json_script.specs.Common.{ℕ, Option, None, Data, Items, as_array, Call, number_between}
 use Rattle.cmwq_model.specs.declared.call.Call.TheVariants as call
 use Rattle.cmwq_json_script.specs.declared.word.Word.{Word}
 use Rattle.cmwq_json_script.specs.declared.word.Word.TheVariants as word
-use Rattle.cmwq_json_script.specs.Then.{◌>>=◌}
 use Rattle.cmwq_json_script.specs.Lists.{whole, word_of_items, items_none, items_one, items_two, items_three, items_four}
 use Rattle.cmwq_json_script.specs.Known.{Known, item_known, queue_known, cpu_said}
 

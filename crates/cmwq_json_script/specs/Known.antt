@@ -1,7 +1,7 @@
 -- What calls may name: items and queues by their names, and CPUs by their numbers.
+use Rattle.cmwq_text.specs.Words.{◌>>=◌}
 use Rattle.std.specs.Prelude.{◌&&◌, if◌then◌else◌, ◌∷◌, ◌++◌}
 use Rattle.cmwq_json_script.specs.Common.{ℕ, not, List, [], length, Option, Some, None, codes, nat_lt, Data, Items, no_items, item, get, as_str, as_number, as_u64, ItemId, QueueId, CpuId, is_taken, name_said, number_of_name}
-use Rattle.cmwq_json_script.specs.Then.{◌>>=◌}
 
 pub record Known : Type 0 where
   pub items : List (List ℕ)

@@ -1,5 +1,4 @@
 pub mod Common
-pub mod Then
 pub mod Words
 pub mod Limits
 pub mod Lists

@@ -1,8 +1,8 @@
 -- Lists read from the front on: a reader gives a value and what is left of the list, if it can.
+use Rattle.cmwq_text.specs.Words.{◌>>=◌}
 use Rattle.std.specs.Prelude.{if◌then◌else◌}
 use Rattle.cmwq_json_script.specs.Common.{Bool, true, false, Option, Some, None, Data, Items, no_items, item, as_str}
 use Rattle.cmwq_json_script.specs.declared.word.Word.{Word}
-use Rattle.cmwq_json_script.specs.Then.{◌>>=◌}
 use Rattle.cmwq_json_script.specs.Words.{word_of}
 
 abbrev pub first_item : Items → Option (Data × Items)

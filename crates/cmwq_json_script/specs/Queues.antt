@@ -1,7 +1,7 @@
 -- Queues: each has a name of its own, its max_active and its flags. A freezable that is left out is false.
+use Rattle.cmwq_text.specs.Words.{◌>>=◌}
 use Rattle.std.specs.Prelude.{◌||◌, if◌then◌else◌, ◌∷◌}
 use Rattle.cmwq_json_script.specs.Common.{ℕ, Bool, false, List, [], Option, Some, None, codes, option_map_or, Data, get, as_bool, QueueShape, has_keys, Named, add_named, parts_said}
-use Rattle.cmwq_json_script.specs.Then.{◌>>=◌}
 
 abbrev pub has_queue_keys : Data → Bool
 has_queue_keys d =

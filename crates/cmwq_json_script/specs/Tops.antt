@@ -1,8 +1,8 @@
 -- The top of a script: its keys, its numbers and its lists.
+use Rattle.cmwq_text.specs.Words.{◌>>=◌}
 use Rattle.std.specs.Prelude.{◌≤◌, ◌||◌, if◌then◌else◌, ◌∷◌}
 use Rattle.cmwq_json_script.specs.Common.{ℕ, Bool, List, [], Option, Some, None, option_map, codes, option_map_or, Data, Items, get, as_array, has_keys, number_between}
 use Rattle.cmwq_json_script.specs.Limits.{cpus_in, workers_in, room_in}
-use Rattle.cmwq_json_script.specs.Then.{◌>>=◌}
 
 -- The history is written in the format of this version. With a journal it is written as it is made, and so many entries are kept at a time.
 pub record Top : Type 0 where

@@ -1,9 +1,8 @@
 //! What an item does: its actions in turn.
 
-ghost use Rattle.std.specs.Prelude.{◌≡◌, IfOk, option_map, map, if◌then◌else◌, Some, None};
+ghost use Rattle.std.specs.Prelude.{◌≡◌, IfOk, option_map, if◌then◌else◌, Some, None};
 ghost use Rattle.serde_json.specs.View.{view, items_view};
 ghost use Rattle.cmwq_json_script.specs.Lists.{whole, first_item};
-ghost use Rattle.cmwq_json_script.specs.Gates.{gate_said};
 ghost use Rattle.cmwq_json_script.specs.Calls as calls;
 ghost use Rattle.cmwq_json_script.specs.Actions as spec;
 

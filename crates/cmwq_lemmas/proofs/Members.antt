@@ -1,7 +1,7 @@
 -- Elements of lists.
 use Rattle.std.proofs.Common.{◌≡◌, ◌<◌, ℕ, zero, suc, length, get_or, arith, Bool, true, List, [], ◌∷◌, ◌++◌, filter, find, Option, Some, None, option_to_list, refl, ap, subst, ◌⊎◌, inl, inr, ⊎_elim}
 use Rattle.std.specs.Prelude.{Contains}
-use Rattle.std.specs.List.{AllByRecursion}
+use Rattle.std.specs.List.{AllByRecursion, list_any}
 use Rattle.std.proofs.lemmas.Option.{same_Some}
 
 module _ {X : Type 0} where
@@ -45,6 +45,11 @@ module _ {X : Type 0} where
   pub filter_in : (p : X → Bool) (xs : List X) (x : X) → In x xs → p x ≡ true → In x (filter p xs)
   filter_in p [] x h passes = absurd h
   filter_in p (y ∷ ys) x h passes = grind (arith, filter_in p ys x)
+
+  -- some of a list passes where one that is there does
+  pub any_in : (p : X → Bool) (xs : List X) (x : X) → In x xs → p x ≡ true → list_any p xs ≡ true
+  any_in p [] x here is = absurd here
+  any_in p (y ∷ ys) x here is = grind (arith, any_in p ys x)
 
   -- a list without elements
   pub none_in : (xs : List X) → ((x : X) → In x xs → ⊥) → xs ≡ []

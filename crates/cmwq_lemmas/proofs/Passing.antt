@@ -1,6 +1,7 @@
 -- What passes a test: some of a list or none, what is left of it, and how many numbers of a range.
 use Rattle.std.proofs.Common.{◌≡◌, ◌==◌, ◌<◌, ◌≤◌, ◌+◌, ℕ, zero, suc, Bool, true, false, cond, not, List, [], ◌∷◌, ◌++◌, ◌||◌, length, map, filter, find, count_by, Some, None, refl, ap, ◌∙◌, arith, eq-eqb}
 use Rattle.std.specs.List.{AllByRecursion, list_any, range_with_len, sum_by}
+use Rattle.std.specs.Option.{option_map}
 use Rattle.std.proofs.lemmas.Bool.{ne_eqb}
 use Rattle.std.proofs.lemmas.Bool.Decides.{nat_tests}
 use Rattle.std.proofs.lemmas.List.Filters.{length-filter_both, sum_by-filter_both}
@@ -23,6 +24,14 @@ counted_any p (x ∷ xs) h = grind (arith, count_by-cons p x xs, counted_any p x
 pub found_any : {X : Type 0} (p q : X → Bool) → ((x : X) → p x ≡ true → q x ≡ true) → (xs : List X) (z : X) → find p xs ≡ Some z → list_any q xs ≡ true
 found_any p q more [] z is = cc
 found_any p q more (x ∷ xs) z is = grind (arith, found_any p q more xs z, more x)
+
+pub any_found : {X : Type 0} (p q : X → Bool) (x : X) (xs : List X) → find p xs ≡ Some x → q x ≡ true → list_any q xs ≡ true
+any_found p q x [] found passes = cc
+any_found p q x (y ∷ xs) found passes = grind (arith, any_found p q x xs)
+
+pub none_pass : {X : Type 0} (p : X → Bool) (xs : List X) → list_any p xs ≡ false → AllByRecursion (λ x. p x ≡ false) xs
+none_pass p [] h = tt
+none_pass p (x ∷ xs) h = grind (arith, none_pass p xs)
 
 -- what is found stands there
 pub found_there : (p : ℕ → Bool) (xs : List ℕ) (z : ℕ) → find p xs ≡ Some z → list_any (λ j. j == z) xs ≡ true
@@ -72,6 +81,10 @@ one_fewer p xs h = omega (arith, length-filter_both p (λ x. not (p x)) (λ x. r
 pub filter_mapped : {X Y : Type 0} (f : X → Y) (p : Y → Bool) (r : X → Bool) (xs : List X) → AllByRecursion (λ x. p (f x) ≡ r x) xs → filter p (map f xs) ≡ map f (filter r xs)
 filter_mapped f p r [] h = refl
 filter_mapped f p r (x ∷ xs) h = grind (arith, filter_mapped f p r xs)
+
+pub find_mapped : {X Y : Type 0} (f : X → Y) (p : Y → Bool) (q : X → Bool) (xs : List X) → AllByRecursion (λ x. p (f x) ≡ q x) xs → find p (map f xs) ≡ option_map f (find q xs)
+find_mapped f p q [] h = refl
+find_mapped f p q (x ∷ xs) h = grind (arith, find_mapped f p q xs)
 
 pub all_mapped_pass : {X Y : Type 0} (f : X → Y) (p : Y → Bool) (xs : List X) → AllByRecursion (λ x. p (f x) ≡ true) xs → filter p (map f xs) ≡ map f xs
 all_mapped_pass f p [] h = refl

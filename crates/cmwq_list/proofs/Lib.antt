@@ -1,4 +1,5 @@
 pub mod Members
+pub mod Walking
 mod Between
 mod Rings
 mod Linking

@@ -1,5 +1,5 @@
--- Which items a list has, and what is left of it without one.
-use Rattle.std.proofs.Common.{◌≡◌, ◌≢◌, ℕ, ◌+◌, ◌<◌, ◌≤◌, true, false, ◌&&◌, ◌||◌, not, List, [], ◌∷◌, ◌++◌, length, refl, ap, ◌∙◌, arith}
+-- Which items a list has, which list has an item, and what is left of it without one.
+use Rattle.std.proofs.Common.{◌≡◌, ◌≢◌, ℕ, ◌+◌, ◌<◌, ◌≤◌, true, false, ◌&&◌, ◌||◌, not, List, [], ◌∷◌, ◌++◌, length, Some, refl, ap, ◌∙◌, arith}
 use Rattle.std.specs.Prelude.{nat_eq}
 use Rattle.std.specs.List.{IsDistinct, AllByRecursion}
 use Rattle.std.proofs.lemmas.Map.Keys.{IsDistinct-cons}
@@ -8,7 +8,12 @@ use Rattle.std.proofs.lemmas.Bool.{false≢true, or_parts, or_from}
 use Rattle.std.proofs.lemmas.List.Folds.{list_any-append}
 use Rattle.cmwq_lemmas.proofs.Lists.{All_map, filter_all}
 use Rattle.cmwq_lemmas.proofs.Truth.{or_false}
-use Rattle.cmwq_list.specs.Lists.{has_item, without_item, AreDistinct}
+use Rattle.cmwq_list.specs.Lists.{has_item, without_item, list_at, list_of, AreDistinct}
+use Rattle.std.proofs.lemmas.List.Quantifiers.{position-Some}
+
+-- the list that is told to have a number has it
+pub owner_has : (lists : List (List ℕ)) (i l : ℕ) → list_of lists i ≡ Some l → has_item i (list_at lists l) ≡ true
+owner_has lists i l e = (position-Some (has_item i) lists l [] e).1
 
 -- a number that a list lacks is not its first, and the rest lacks it
 pub lacks : (q x : ℕ) (xs : List ℕ) → has_item q (x ∷ xs) ≡ false → (x ≢ q) × (has_item q xs ≡ false)

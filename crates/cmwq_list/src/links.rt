@@ -1,7 +1,7 @@
 //! The links to the next and the previous item. Each list is a ring, which its sentinel closes: the sentinel stands before
 //! the first item and behind the last, so that neither an empty list nor its ends need a case of their own.
 
-ghost use Rattle.std.specs.Prelude.{◌≡◌, ◌≢◌, ◌++◌, ◌∷◌, [], ◌<◌, length, map, slice_set};
+ghost use Rattle.std.specs.Prelude.{◌≡◌, ◌++◌, ◌∷◌, [], ◌<◌, length, map, slice_set};
 ghost use Rattle.cmwq_list.specs.Lists.{list_at, without_item};
 ghost use Rattle.cmwq_list.specs.Links.{AreLinked, IsUnlisted, lists_of};
 

@@ -7,7 +7,7 @@ use Rattle.cmwq_monitor.specs.Calls.{Extends, own_entry}
 use Rattle.cmwq_monitor.specs.Steps.{InStep}
 use Rattle.cmwq_publish.proofs.Beginnings.{shorter_begins}
 use Rattle.cmwq_monitor.proofs.Beginnings.{prefix_of_prefix}
-use Rattle.cmwq_publish.proofs.Legally.{newest_is_first}
+use Rattle.cmwq_model.proofs.Growing.{one_more_is_newest}
 use Rattle.cmwq_monitor.proofs.Entries.{made_length, made_same, made_own}
 
 -- the entry of a mark may be published next
@@ -28,11 +28,11 @@ view_after s log v call = record { who = v.who; serial = v.serial + 1; seen = lo
 pub serial_after : (s : Layout) (log : List Entry) (v : View) (call : Call) → serial_of (past_of log) v.who ≡ v.serial → serial_of (past_of (log ++ own_entry s log v call ∷ [])) v.who ≡ v.serial + 1
 serial_after s log v call book =
     let e = own_entry s log v call in
-    ap (λ past. serial_of past v.who) (newest_is_first log e) ∙ (serials_rise (past_of log) e).0 ∙ ap (λ n. n + 1) book
+    ap (λ past. serial_of past v.who) (one_more_is_newest log e) ∙ (serials_rise (past_of log) e).0 ∙ ap (λ n. n + 1) book
 
 legal_after : (s : Layout) (log : List Entry) (v : View) (call : Call) → IsTrue (fits s v.who call) → IsLegal s (past_of log) → IsLegal s (past_of (log ++ own_entry s log v call ∷ []))
 unfolding IsLegal
-legal_after s log v call fit legal = rw (newest_is_first log (own_entry s log v call)) (fit, refl, legal)
+legal_after s log v call fit legal = rw (one_more_is_newest log (own_entry s log v call)) (fit, refl, legal)
 
 pub extends : (s : Layout) (v : View) (log : List Entry) (call : Call)
     → v.serial ≤ serial_of (past_of v.seen) v.who → InStep log v → IsPrefix v.seen (log ++ own_entry s log v call ∷ []) → IsTrue (fits s v.who call) → IsLegal s (past_of log)

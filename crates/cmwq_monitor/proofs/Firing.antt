@@ -1,5 +1,5 @@
 -- Fires, one after another.
-use Rattle.cmwq_monitor.specs.Common.{◌≡◌, ◌≢◌, ℕ, zero, suc, ◌+◌, ◌<◌, ◌≤◌, List, [], ◌∷◌, ◌++◌, false, true, true≢false, refl, ap, sym, ◌∙◌, subst, arith, inl, inr, append-nil, append_assoc, All, All-nil, All-cons, All-append, Reply, Entry, Layout, serial_of, IsLegal, past_of, has_room}
+use Rattle.cmwq_monitor.specs.Common.{◌≡◌, ◌≢◌, ℕ, zero, suc, ◌+◌, ◌<◌, ◌≤◌, [], ◌∷◌, ◌++◌, false, true, true≢false, refl, ap, sym, ◌∙◌, subst, arith, inl, inr, append-nil, append_assoc, All-nil, All-cons, All-append, Reply, Layout, serial_of, IsLegal, past_of, has_room}
 use Rattle.cmwq_model.specs.declared.call.Call.TheVariants as call
 use Rattle.cmwq_model.specs.declared.reply.Reply.TheVariants as reply
 use Rattle.cmwq_monitor.specs.Participants.{View, Gains, made_by}

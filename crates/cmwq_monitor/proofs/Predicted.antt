@@ -8,7 +8,7 @@ use Rattle.cmwq_theory_steps.proofs.Promised.{promised_need_no_more}
 use Rattle.cmwq_theory_steps.proofs.Starts.{starts_next}
 use Rattle.cmwq_theory_steps.proofs.Unstarted.{next_unstarted}
 use Rattle.cmwq_theory_steps.proofs.StartsListed.{IsFound}
-use Rattle.cmwq_theory_steps.proofs.EndsAsTold.{open_found}
+use Rattle.cmwq_theory_steps.proofs.Ended.{found_open}
 use Rattle.cmwq_lemmas.proofs.Members.{found, of_in}
 use Rattle.cmwq_refinement.proofs.PlacesFit.{open_there}
 use Rattle.cmwq_model.specs.declared.call.Call.TheVariants as call
@@ -67,7 +67,7 @@ start_names h who call m legal is starts =
     let un : unstarted_queueing past x.item.0 ≡ Some x = next_unstarted s past legal.2 st.worker.pool x st.is_next in
     let stands = (found (is_unstarted past x.item.0) (still_open past) x un).0 in
     let there = open_there s past x legal.2 stands in
-    let known : queueing_at past n.0 ≡ Some x = subst (λ k. queueing_at past k ≡ Some x) st.number (of_in (IsFound past) (still_open past) x (open_found past) stands) in
+    let known : queueing_at past n.0 ≡ Some x = subst (λ k. queueing_at past k ≡ Some x) st.number (of_in (IsFound past) (still_open past) x (found_open past) stands) in
     let named = is.starts n.0 n.1 in
     let same : named.queueing ≡ x = same_Some named.queueing x (sym named.is_known ∙ known) in
     (x.item, named.is_its ∙ ap (λ (y : Queueing). Some y.item) same, there.item, (n.0, x, n.1, known, refl))

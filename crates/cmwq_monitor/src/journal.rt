@@ -1,6 +1,5 @@
-ghost use Rattle.std.specs.Prelude.{◌≡◌, ◌++◌, [], length, OnErr, IfOk};
+ghost use Rattle.std.specs.Prelude.{◌≡◌, ◌++◌, length, OnErr, IfOk};
 ghost use Rattle.cmwq_model.specs.Prelude.{IsLegal, past_of};
-ghost use Rattle.cmwq_tail.specs.Tails.{all_given, kept_of};
 
 use crate::fault::RunFault;
 use cmwq_model::Entry;

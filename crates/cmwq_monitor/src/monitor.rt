@@ -1,11 +1,9 @@
 //! What a hub keeps under its lock: the Book, the published history, the ledger of entries, and who sleeps.
-ghost use Rattle.std.specs.Prelude.{◌≡◌, ◌≤◌, ◌<◌, ◌+◌, ◌++◌, ◌∷◌, ◌^◌, [], drop, length, OnErr, true, false, IsTrue, count_by, IfOk, IfErr, IfSome, MatchOption, MatchResult, MatchBool, Some, None};
-ghost use mathlib.Core.List.{IsPrefix};
+ghost use Rattle.std.specs.Prelude.{◌≡◌, ◌≤◌, ◌<◌, ◌+◌, ◌++◌, ◌∷◌, [], drop, length, OnErr, true, false, IsTrue, IfOk, IfErr, IfSome, MatchOption, MatchBool, Some, None};
 ghost use Rattle.cmwq_model.specs.declared.call.Call.{Call};
-ghost use Rattle.cmwq_model.specs.Prelude.{Layout, fits, past_of, IsLegal, has_room, is_done};
+ghost use Rattle.cmwq_model.specs.Prelude.{fits, past_of, IsLegal, is_done};
 ghost use Rattle.cmwq_model.specs.declared.call.Call.TheVariants as calls;
 ghost use Rattle.cmwq_model.specs.declared.reply.Reply.TheVariants as replies;
-ghost use Rattle.cmwq_core.specs.History.{takes};
 ghost use Rattle.cmwq_core.specs.Plans.{IsPlan};
 ghost use Rattle.cmwq_monitor.specs.Participants.{View, Gains, is_caller};
 ghost use Rattle.cmwq_monitor.specs.Held.{Held, held_at_first, IsOpenTo, GoesOn, LeavesHeld, is_over, active_in};
@@ -15,7 +13,6 @@ ghost use Rattle.cmwq_monitor.specs.Whole.{Stops};
 ghost use Rattle.cmwq_monitor.specs.Steps.{InStep, IsFiring, TellsFirst, Lacks, HasFired, HasFiredSome, WouldNot, IsViewKept, is_start, is_retire_reply, is_nothing};
 ghost use Rattle.cmwq_monitor.specs.Starts.{StartsOne};
 ghost use Rattle.cmwq_monitor.specs.Settled.{Settles};
-ghost use Rattle.cmwq_monitor.specs.declared.fault.RunFault.TheVariants as faults;
 
 use crate::fault::{RunFault, Shortage};
 use crate::journal::{Journal, Rest};
@@ -23,7 +20,7 @@ use crate::participant::Participant;
 use crate::sleepers::{Sleepers, Wakes};
 use cmwq_core::{Execution, Full, Plan};
 use cmwq_model::{Call, Entry, ItemId, NoMemory, Number, Queueing, Reply, Shape, Ticket, Who};
-use cmwq_publish::{HubName, Prefix, Publisher};
+use cmwq_publish::{HubName, Publisher};
 use cmwq_tail::Tail;
 use std::marker::Model;
 use std::sync::ledger::Share;
@@ -48,7 +45,6 @@ pub struct Monitor<N: HubName> {
 
 impl<N: HubName> Model for Monitor<N> {
     ghost use Rattle.std.specs.Prelude.{◌≡◌, length};
-    ghost use Rattle.cmwq_core.specs.History.{History};
     ghost use Rattle.cmwq_monitor.specs.Held.{Held};
 
     ghost Value = { Held };

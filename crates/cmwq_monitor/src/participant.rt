@@ -1,5 +1,5 @@
 //! The participant of a caller or a worker: who it is, how many entries it made, and the history as far as it has seen it.
-ghost use Rattle.std.specs.Prelude.{◌≡◌, ◌+◌, ◌≤◌, ◌++◌, ◌∷◌, [], length};
+ghost use Rattle.std.specs.Prelude.{◌≡◌, ◌+◌, ◌≤◌, [], length};
 ghost use mathlib.Core.List.{IsPrefix};
 ghost use Rattle.cmwq_model.specs.Prelude.{serial_of, past_of, IsLegal};
 ghost use Rattle.cmwq_core.specs.History.{IsThere};

@@ -1,5 +1,5 @@
 -- Counts over the workers of pools and CPUs, one more at a time.
-use Rattle.cmwq_plain.specs.Common.{◌≡◌, ℕ, ◌+◌, Bool, [], ◌∷◌, ◌++◌, map, count_by, if◌then◌else◌, refl, ap, ◌∙◌, arith, add-one, zero, zero-add, flat_map, range_with_len, append-nil, PoolId, WorkerId, Layout, worker_at, cpu_workers}
+use Rattle.cmwq_plain.specs.Common.{◌≡◌, ℕ, ◌+◌, Bool, [], ◌∷◌, ◌++◌, map, count_by, if◌then◌else◌, refl, ap, ◌∙◌, arith, add-one, zero-add, flat_map, range_with_len, append-nil, PoolId, WorkerId, Layout, worker_at, cpu_workers}
 use Rattle.std.proofs.lemmas.List.Concat.{flat_map-append}
 use Rattle.std.proofs.lemmas.List.FromFn.{sum_by-map-range_with_len_more}
 use Rattle.cmwq_lemmas.proofs.Lists.{range_more, count_append}

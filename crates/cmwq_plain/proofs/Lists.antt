@@ -1,6 +1,6 @@
 -- A list, and one element more where there is one.
-use Rattle.cmwq_plain.specs.Common.{◌≡◌, ◌+◌, Bool, false, List, [], ◌∷◌, ◌++◌, Some, None, filter, find, count_by, ◌||◌, if◌then◌else◌, ap, ◌∙◌, zero-add, length, length-append, option_or, list_any, append-nil, filter-append, find-append, list_any-append, sum_by-append}
-use Rattle.cmwq_lemmas.proofs.Truth.{or_false}
+use Rattle.cmwq_plain.specs.Common.{◌≡◌, ◌+◌, Bool, List, [], ◌∷◌, ◌++◌, Some, None, filter, find, count_by, if◌then◌else◌, ap, ◌∙◌, zero-add, length, length-append, option_or, list_any, append-nil, filter-append, find-append, sum_by-append}
+use Rattle.cmwq_lemmas.proofs.Passing.{last_any}
 
 pub filter_push_none : {X : Type 0} (p : X → Bool) (xs : List X) → filter p (xs ++ []) ≡ filter p xs ++ []
 filter_push_none p xs = filter-append p xs []
@@ -21,10 +21,7 @@ pub ruleset find_push = (find_push_none, find_push_some)
 pub any_push_none : {X : Type 0} (p : X → Bool) (xs : List X) → list_any p (xs ++ []) ≡ list_any p xs
 any_push_none p xs = ap (list_any p) (append-nil xs)
 
-pub any_push_some : {X : Type 0} (p : X → Bool) (xs : List X) (x : X) → list_any p (xs ++ x ∷ []) ≡ (list_any p xs || p x)
-any_push_some p xs x = list_any-append p xs (x ∷ []) ∙ ap (λ b. list_any p xs || b) (or_false (p x))
-
-pub ruleset any_push = (any_push_none, any_push_some)
+pub ruleset any_push = (any_push_none, last_any)
 
 pub count_push_none : {X : Type 0} (p : X → Bool) (xs : List X) → count_by p (xs ++ []) ≡ count_by p xs
 count_push_none p xs = ap (count_by p) (append-nil xs)

@@ -1,7 +1,6 @@
 ghost use Rattle.std.specs.Prelude.{◌≡◌, ◌<◌, ◌+◌, ◌++◌, length, option_to_list};
 ghost use Rattle.std.specs.List.{list_any};
 ghost use Rattle.cmwq_model.specs.Prelude.{standing, may_fire, is_soonest, first_due, is_booked_on};
-ghost use Rattle.cmwq_plain.specs.Past.{upto};
 ghost use Rattle.cmwq_plain.specs.Partial.{fireable, fireable_upto, standing_upto};
 
 use crate::bookings::stands;

@@ -8,7 +8,7 @@ use crate::entries::item_of;
 use crate::fate::{is_open, is_started};
 use crate::past::Past;
 use crate::runs::{item_run, run};
-use cmwq_model::{Call, CpuId, Entry, ItemId, Number, Place, Queueing, Reply, WorkerId};
+use cmwq_model::{Call, CpuId, Entry, ItemId, Number, Place, Queueing, WorkerId};
 
 /// The place that is asked for: it stands in the call, or in the item's booking.
 fn place_wanted(past: &Past<'_>, call: Call, item: u16) -> Option<Place>

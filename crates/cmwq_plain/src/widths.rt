@@ -1,5 +1,5 @@
 ghost use Rattle.std.specs.Prelude.{◌≡◌};
-ghost use Rattle.cmwq_model.specs.Prelude.{frozen_after, is_frozen, sets_max, width_told, width_set};
+ghost use Rattle.cmwq_model.specs.Prelude.{frozen_after, is_frozen, width_told, width_set};
 
 use crate::past::Past;
 use cmwq_model::{Call, Entry, Reply};

@@ -2,5 +2,4 @@ pub mod Noting
 pub mod Seeing
 pub mod Starting
 pub mod Tasks
-pub mod Walking
 pub mod Workers

@@ -12,7 +12,8 @@ use Rattle.cmwq_pool.specs.PoolState.{PoolState, task, is_task, next_task, pool_
 use Rattle.cmwq_pool.specs.Pools.{no_pool, pool_numbered, with_pool, lists_item, may_list}
 use Rattle.cmwq_pool.specs.Upkeep.{note_at, noted_task, pool_seen, pools_seen}
 use Rattle.cmwq_pool.proofs.Starting.{same_pool_state}
-use Rattle.cmwq_pool.proofs.Tasks.{any_item, no_owner, owner_has, taken, kept_notes, added, first_startable, filter_lacking, without_none}
+use Rattle.cmwq_pool.proofs.Tasks.{any_item, no_owner, taken, kept_notes, added, first_startable, filter_lacking}
+use Rattle.cmwq_list.proofs.Members.{without_none, owner_has}
 
 -- ---- each pool by its number
 

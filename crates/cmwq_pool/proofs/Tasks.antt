@@ -1,9 +1,8 @@
 -- What stands in the lists of pools, each item with what is noted of it.
-use Rattle.cmwq_pool.specs.Common.{◌≡◌, ℕ, ◌<◌, ◌&&◌, ◌||◌, Bool, true, false, cond, eqb, not, List, [], ◌∷◌, ◌++◌, length, set, map, filter, find, Option, Some, None, refl, sym, ap, ap₂, ◌∙◌, arith, is_some, option_map, nat_eq, list_any, get_or-set_same, get_or-set_other}
+use Rattle.cmwq_pool.specs.Common.{◌≡◌, ℕ, ◌<◌, ◌&&◌, ◌||◌, Bool, true, false, eqb, not, List, [], ◌∷◌, ◌++◌, length, set, map, filter, find, Option, Some, None, refl, sym, ap, ap₂, ◌∙◌, arith, is_some, option_map, nat_eq, list_any, get_or-set_same, get_or-set_other}
 use Rattle.std.proofs.lemmas.Bool.{and_parts, eqb-true, eqb-false, eq-eqb, or_parts, false≢true}
 use Rattle.std.proofs.lemmas.List.{get_or_past, map_push}
-use Rattle.std.proofs.lemmas.List.Sums.{passes_at_first, fails_before_first}
-use Rattle.std.proofs.lemmas.Option.{cond_some}
+use Rattle.std.proofs.lemmas.List.Sums.{fails_before_first}
 use Rattle.cmwq_lemmas.proofs.Truth.{not_chosen, same_bools, and_false, and_true}
 use Rattle.cmwq_list.specs.Lists.{Listed, AreListedOnce, list_at, list_of, has_item, without_item}
 use Rattle.cmwq_pool.specs.declared.note.Note.{Note}
@@ -12,16 +11,14 @@ use Rattle.cmwq_pool.specs.declared.slot.Slot.{Slot}
 use Rattle.cmwq_pool.specs.Slots.{is_task_of, slots_run_item}
 use Rattle.cmwq_pool.specs.PoolState.{task, is_task, is_other_task, is_task_startable}
 use Rattle.cmwq_pool.specs.Upkeep.{no_note, note_at, noted_task}
+use Rattle.cmwq_list.proofs.Members.{owner_has}
 
 flipped : (a b : ℕ) → eqb a b ≡ eqb b a
 flipped a b = same_bools (eqb a b) (eqb b a) (λ h. eq-eqb b a (sym (eqb-true a b h))) (λ h. eq-eqb a b (sym (eqb-true b a h)))
 
 -- ---- which list has an item
 
--- the first list that has it has it, and where there is none no list has it
-pub owner_has : (ls : List (List ℕ)) (i l : ℕ) → list_of ls i ≡ Some l → has_item i (list_at ls l) ≡ true
-owner_has ls i l h = grind (arith, cond_some, passes_at_first)
-
+-- where none is told to have it no list has it
 pub no_owner : (ls : List (List ℕ)) (i q : ℕ) → list_of ls i ≡ None → has_item i (list_at ls q) ≡ false
 no_owner ls i q h = grind (arith, not_chosen, fails_before_first, get_or_past)
 
@@ -31,10 +28,6 @@ in_no_list ls i nowhere = by (list_of ls i) refl
     by : (o : Option ℕ) → list_of ls i ≡ o → list_of ls i ≡ None
     by None h = h
     by (Some l) h = absurd (false≢true (sym (nowhere l) ∙ owner_has ls i l h))
-
-pub without_none : (i : ℕ) (xs : List ℕ) → has_item i xs ≡ false → without_item i xs ≡ xs
-without_none i [] h = refl
-without_none i (x ∷ xs) h = let parts = or_parts (nat_eq i x) (has_item i xs) h in ap₂ (λ (b : Bool) (ys : List ℕ). cond (not b) (x ∷ ys) ys) parts.0 (without_none i xs parts.1)
 
 -- ---- tasks of a list
 

@@ -1,4 +1,4 @@
-ghost use Rattle.std.specs.Prelude.{◌≡◌, ◌<◌, length, map, replicate, slice_set, IsTrue, IsSome, IfOk, IfSome, Some};
+ghost use Rattle.std.specs.Prelude.{◌≡◌, ◌<◌, length, map, replicate, slice_set, IsSome, IfOk, IfSome, Some};
 ghost use Rattle.std.specs.List.{range_with_len};
 ghost use Rattle.cmwq_pool.specs.Slots.{new_slot, slot_at, slots_runnable, slots_run_item, slots_enlisted_by, slots_started, slot_may_retire, slot_asleep, slot_awake, slot_free, slot_is_idle, slot_retired, with_enlisted, with_slot};
 

@@ -1,15 +1,9 @@
 -- Histories as they grow at their end.
-use Rattle.cmwq_publish.specs.Common.{◌≡◌, ℕ, ◌+◌, ◌≤◌, ◌==◌, List, [], ◌∷◌, ◌++◌, length, Bool, true, false, cond, refl, ap, sym, ◌∙◌, subst, arith, if◌then◌else◌, option_map, reverse-append, length-reverse, CallerId, Who, Caller, Worker, Entry, is_at, is_by, same_who, serial_of, Layout, booking, item_start, queueings, IsLegal, past_of, bits}
+use Rattle.cmwq_publish.specs.Common.{◌≡◌, ℕ, ◌+◌, ◌≤◌, ◌==◌, List, [], ◌∷◌, length, Bool, true, false, cond, refl, ap, sym, ◌∙◌, subst, arith, if◌then◌else◌, option_map, length-reverse, CallerId, Who, Caller, Worker, Entry, is_at, is_by, same_who, serial_of, Layout, booking, item_start, queueings, IsLegal, past_of, bits}
 use Rattle.std.proofs.lemmas.Bool.{eqb-true}
 use Rattle.std.proofs.lemmas.List.Sums.{count_by-le-length, sum_by-cons}
 use Rattle.cmwq_publish.specs.Marked.{caller_number_of}
-
-pub newest_is_first : (log : List Entry) (e : Entry) → past_of (log ++ e ∷ []) ≡ e ∷ past_of log
-newest_is_first log e = reverse-append log (e ∷ [])
-
-nothing_is_legal : (s : Layout) → IsLegal s []
-unfolding IsLegal
-nothing_is_legal s = tt
+use Rattle.cmwq_model.proofs.Growing.{nothing_is_legal}
 
 nothing_leaves_no_bits : (i : ℕ) → bits [] i ≡ 0
 unfolding booking queueings item_start

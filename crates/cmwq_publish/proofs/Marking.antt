@@ -9,8 +9,9 @@ use Rattle.cmwq_publish.specs.declared.versions.Publish.{Publish}
 use Rattle.cmwq_publish.specs.Marked.{bits_with_mark, counts_with_entry, put_at, caller_number_of}
 use Rattle.cmwq_publish.specs.Next.{IsNextMark}
 use Rattle.cmwq_publish.specs.Published.{HoldVersions, AreVersions, IsMadeBy, AreVersionsOf, FollowsVersions, Sees}
-use Rattle.cmwq_publish.proofs.Legally.{newest_is_first, none_is_legal, none_leave_no_bits, next_serial, own_serial}
+use Rattle.cmwq_publish.proofs.Legally.{none_is_legal, none_leave_no_bits, next_serial, own_serial}
 use Rattle.cmwq_publish.proofs.Places.{turns}
+use Rattle.cmwq_model.proofs.Growing.{one_more_is_newest}
 
 -- what the two copies have in common, and what a mark does to it
 abbrev pub State : Type 0
@@ -65,7 +66,7 @@ next_follows x s book log m op next of log_is item bits_is caller serial len boo
         λ c lt. is.serials_are c lt ∙ ap (λ l. serial_of (past_of l) (Caller (record { 0 = c }))) log_is in
         let leaves : (i : ℕ) → bits (m.entry ∷ past_of log) i ≡ (if is_named op.item i then m.bits else bits (past_of log) i) =
         λ i. subst (λ (t : Option ItemId). bits (m.entry ∷ past_of log) i ≡ (if is_named t i then m.bits else bits (past_of log) i)) (sym item) (next.bits_are i) in
-        let past : past_of y.seen.log ≡ m.entry ∷ past_of log = ap past_of seen ∙ newest_is_first log m.entry in
+        let past : past_of y.seen.log ≡ m.entry ∷ past_of log = ap past_of seen ∙ one_more_is_newest log m.entry in
         record {
           legal = rw (shape, past) next.legal;
           len_is = made.len ∙ len ∙ ap length (sym seen);

@@ -1,6 +1,6 @@
-ghost use Rattle.std.specs.Prelude.{◌≡◌, [], length, drop, nat_le, replicate, All, IfOk, MatchResult};
+ghost use Rattle.std.specs.Prelude.{◌≡◌, [], length, drop, nat_le, replicate, All, IfOk};
 ghost use Rattle.left_right.specs.Sides.{view};
-ghost use Rattle.cmwq_publish.specs.Published.{AreVersions, AreVersionsOf, IsOut, IsOurs};
+ghost use Rattle.cmwq_publish.specs.Published.{AreVersions, IsOut, IsOurs};
 
 use crate::log::{Head, Length, Log, Token};
 use crate::name::HubName;

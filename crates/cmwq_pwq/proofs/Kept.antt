@@ -15,6 +15,7 @@ use Rattle.cmwq_list.specs.Lists.{Listed, AreDistinct, AreListedOnce, has_item, 
 use Rattle.cmwq_pwq.specs.Pwqs.{IsNumberOfItem, is_other_waiting, place_of}
 use Rattle.cmwq_pwq.proofs.Passes.{on_itself, on_parts, one_place}
 use Rattle.cmwq_pwq.specs.Waiting.{AreWaitingKept, IsFirstTaken, IsRow, WaitingState, is_at_place, is_of_other, row_of}
+use Rattle.cmwq_lemmas.proofs.Passing.{none_pass}
 
 -- ---- lists of lists
 
@@ -247,11 +248,7 @@ module _ (rows : List Queueing) (x : Queueing) where
 
 -- where none passes, none is taken out
 pub rest_of_none : (n : ℕ) (ys : List Queueing) → list_any (has_number n) ys ≡ false → ys ≡ filter (is_other_waiting n) ys
-rest_of_none n ys fails = sym (filter_all (is_other_waiting n) ys (All_map _ _ ys (λ y e. ap not e) (none_pass ys fails)))
-  where
-    none_pass : (ys : List Queueing) → list_any (has_number n) ys ≡ false → AllByRecursion (λ y. has_number n y ≡ false) ys
-    none_pass [] h = tt
-    none_pass (y ∷ ys) h = let parts = or_parts (has_number n y) (list_any (has_number n) ys) h in (parts.0, none_pass ys parts.1)
+rest_of_none n ys fails = sym (filter_all (is_other_waiting n) ys (All_map _ _ ys (λ y e. ap not e) (none_pass (has_number n) ys fails)))
 
 -- ---- the first of a place
 

@@ -1,6 +1,6 @@
 //! The pass over what waits, which finds what becomes active.
 
-ghost use Rattle.std.specs.Prelude.{◌≡◌, ℕ, Bool, ◌*◌, ◌+◌, ◌<◌, [], length, vec_len, vec_capacity};
+ghost use Rattle.std.specs.Prelude.{◌≡◌, Bool, ◌*◌, ◌+◌, ◌<◌, [], length, vec_len, vec_capacity};
 ghost use Rattle.cmwq_model.specs.declared.record.Queueing.{Queueing};
 ghost use Rattle.cmwq_model.specs.Prelude.{most_cpus};
 ghost use Rattle.cmwq_pwq.specs.Pwqs.{ArePlaced, AreBelowMaxActive, Passes, place_of, width_by};

@@ -1,4 +1,4 @@
-ghost use Rattle.std.specs.Prelude.{◌≡◌, ℕ, Bool, ◌+◌, ◌*◌, ◌<◌, ◌≤◌, true, false, [], length, IfOk, IfSome};
+ghost use Rattle.std.specs.Prelude.{◌≡◌, ℕ, ◌+◌, ◌*◌, ◌<◌, ◌≤◌, true, false, [], length, IfOk, IfSome};
 ghost use Rattle.cmwq_model.specs.Prelude.{most_cpus};
 ghost use Rattle.cmwq_pwq.specs.Pwqs.{AreBehind, ArePlaced, IsPassed, IsPlacedIf, PwqState, MayEnd, MayEndInPwqs, MayOpen, MayOpenInPwqs, NoneWaitsAnew, count_of_same_pwq, pwqs_without_open, is_waiting, new_pwq_state, pwqs_with_open, place_of, pwqs_after_end, pwqs_after_opening, width_by};
 

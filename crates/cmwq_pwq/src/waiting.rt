@@ -1,6 +1,6 @@
 //! What waits to become active, by number and by pool workqueue.
 
-ghost use Rattle.std.specs.Prelude.{◌≡◌, ℕ, ◌+◌, ◌^◌, ◌≤◌, All, ◌<◌, [], ◌∷◌, ◌++◌, Some, None, false, true, take, drop, filter, length, option_and_then, slice_get, IfNone, IfOk, IfSome};
+ghost use Rattle.std.specs.Prelude.{◌≡◌, ℕ, ◌+◌, ◌≤◌, All, ◌<◌, [], ◌∷◌, ◌++◌, Some, None, false, true, take, drop, filter, length, option_and_then, slice_get, IfNone, IfOk, IfSome};
 ghost use Rattle.std.specs.List.{AllByRecursion, list_any};
 ghost use Rattle.cmwq_model.specs.declared.record.Queueing.{Queueing};
 ghost use Rattle.cmwq_model.specs.Prelude.{has_number, is_of, most_cpus};

@@ -1,5 +1,5 @@
 -- What an entry ends is a run or an unstarted queueing of its item, and what it starts is an unstarted one of an item without a run.
-use Rattle.cmwq_refinement.specs.Common.{◌≡◌, ℕ, true, false, List, ◌∷◌, Option, Some, None, refl, sym, ap, ◌∙◌, option_and_then, is_some, WorkerId, Who, Worker, Reply, Entry, Queueing, Start, Layout, item_of, item_at, number_started, number_finished, is_started, run, item_run, item_runs, unstarted_queueing, queueing_at, IsLegal, ending, queueing_run, ended_by, ends_as_told, unstarted_found, unstarted_is, finishes_run, runs_are_items, item_run_started, starts_known, start_is, started_was, runs_are_in_pools, found_known, found_number, arith}
+use Rattle.cmwq_refinement.specs.Common.{◌≡◌, ℕ, true, false, List, ◌∷◌, Option, Some, None, refl, sym, ap, ◌∙◌, option_and_then, is_some, WorkerId, Who, Worker, Reply, Entry, Queueing, Start, Layout, item_of, item_at, number_started, number_finished, is_started, run, item_run, item_runs, unstarted_queueing, queueing_at, IsLegal, ending, queueing_run, ended_by, ends_as_told, found_unstarted, unstarted_is, finishes_run, runs_are_items, item_run_started, starts_known, start_is, started_was, runs_are_in_pools, found_known, found_number, arith}
 use Rattle.cmwq_refinement.specs.Flights.{starting}
 
 -- the run of an item is this queueing
@@ -82,7 +82,7 @@ start_kind s past e legal = by (number_started e.reply) refl
         let was = started_was s past e k.item n legal h k.is_item in
         let x = was.0 in
         let waits = unstarted_is past k.item x was.1 in
-        let found = unstarted_found past k.item x was.1 in
+        let found = found_unstarted past k.item x was.1 in
         one_starts x (cc (h, was.2, found)) (record {
           worker = k.worker;
           by_worker = k.by_worker;

@@ -4,7 +4,7 @@ use Rattle.cmwq_refinement.proofs.Numbers.{In, found, number_of_queueing, of_in,
 use Rattle.cmwq_inflight.specs.Flights.{flights_without_run}
 use Rattle.cmwq_refinement.specs.Flights.{queueing_started, flight_of, starting, flights_after_end, flights_after_start, flights_after_opening}
 use Rattle.cmwq_refinement.proofs.TimerSteps.{set_row}
-use Rattle.cmwq_refinement.proofs.QueueingSteps.{QueueingStep, queueing_step, open_numbers_rise}
+use Rattle.cmwq_refinement.proofs.QueueingSteps.{queueing_step, open_numbers_rise}
 use Rattle.cmwq_refinement.proofs.QueueingSteps as queueing
 use Rattle.cmwq_refinement.proofs.FlightKinds.{none_ends, run_ends, unstarted_ends, end_kind, legal_before, none_starts, one_starts, start_kind}
 

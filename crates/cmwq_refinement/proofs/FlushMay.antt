@@ -1,5 +1,5 @@
 -- The calls that apply an entry of a legal history to a flush book may be made.
-use Rattle.cmwq_refinement.specs.Common.{◌≡◌, ◌<◌, ◌≤◌, ◌+◌, ℕ, Bool, false, cond, List, [], ◌∷◌, ◌++◌, length, filter, count_by, Option, Some, None, option_to_list, refl, ap, ◌∙◌, arith, ◌*◌, IsTrue, length-append, length-map, All-from_recursion, length-filter, count_by-le-length, Entry, Queueing, Ticket, Layout, is_layout, still_open, opening, unended_tickets, is_flush_of, IsLegal, tickets_of_served, FlushBook, flush_tickets, ending, is_kept, ticket_ended, count_by-cons, opening_number, two_for_each_item, unended_go_on, nat_tests, Call, flushes, sum_by-cons, nat_le, suc}
+use Rattle.cmwq_refinement.specs.Common.{◌≡◌, ◌<◌, ◌≤◌, ◌+◌, ℕ, Bool, false, cond, List, [], ◌∷◌, ◌++◌, length, filter, count_by, Option, Some, None, option_to_list, refl, ap, ◌∙◌, arith, ◌*◌, length-append, length-map, All-from_recursion, length-filter, count_by-le-length, Entry, Queueing, Ticket, Layout, still_open, opening, unended_tickets, is_flush_of, IsLegal, tickets_of_served, FlushBook, flush_tickets, ending, is_kept, ticket_ended, count_by-cons, opening_number, two_for_each_item, unended_go_on, nat_tests, Call, flushes, sum_by-cons, nat_le, suc}
 use Rattle.cmwq_refinement.proofs.Numbers.{all_kept, filter_in, in_contained, in_mapped, number_of_queueing, number_of_ticket, ticket_given}
 use Rattle.cmwq_flush.specs.FlushBooks.{book_in, overflow_count}
 use Rattle.cmwq_model.specs.declared.call.Call.TheVariants as call
@@ -51,8 +51,8 @@ module _ (s : Layout) (past : List Entry) (e : Entry) (q : ℕ) (b : FlushBook) 
       let kept = filter (is_kept e) (unended_tickets past) in
       omega (arith, length-append (tickets_of_served c.served) c.overflow, ap length stands.flushes_are, length-map (filter (is_flush_of q) kept) number_of_ticket, length-filter (is_flush_of q) kept)
 
-pub entries_apply_to_flushes : (s : Layout) (past : List Entry) (e : Entry) (q : ℕ) (b : FlushBook) → IsTrue (is_layout s) → IsLegal s (e ∷ past) → AreFlushes s past q b → MayApplyToFlushes past e q b
-entries_apply_to_flushes s past e q b inside legal is = record {
+pub entries_apply_to_flushes : (s : Layout) (past : List Entry) (e : Entry) (q : ℕ) (b : FlushBook) → IsLegal s (e ∷ past) → AreFlushes s past q b → MayApplyToFlushes past e q b
+entries_apply_to_flushes s past e q b legal is = record {
   ended = may_end past e q b (queueing_step s past e legal) is.opened;
   opened = may_open s past e q b (opening past e) legal is refl;
   done = may_be_done s past e q b (ticket_ended past e) legal is refl;

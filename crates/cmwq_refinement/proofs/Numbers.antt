@@ -1,10 +1,10 @@
 -- Lists of what has a number, and of the numbers; with what the other files name of lists and truth values from outside the crate, in one import.
 use Rattle.cmwq_refinement.specs.Common.{◌≡◌, ◌==◌, ◌<◌, ◌≤◌, ◌+◌, ℕ, zero, suc, Bool, true, false, cond, not, ◌&&◌, List, [], ◌∷◌, ◌++◌, length, map, filter, find, count_by, replicate, Some, nat_lt, refl, ap, ◌∙◌, subst, arith, ⊎_elim, option_map, AllByRecursion, list_any, range_with_len, ne_eqb, nat_tests, length-range_with_len, slice_get, without, All_map, count_by-cons, Option, None, option_to_list, append-nil, sum_by, sum_by-cons, All_append, All_each, All, none_found, find_none, recursion_from_All, All-from_recursion, ◌↔◌}
 pub use Rattle.cmwq_refinement.specs.ByNumber.{number_of_queueing, number_of_ticket, ticket_given}
-pub use Rattle.cmwq_lemmas.proofs.Members.{In, all_in, contained_in, filter_in, found, in_append, in_contained, in_filter, in_left, in_option, in_right, none_in, of_in, option_in}
+pub use Rattle.cmwq_lemmas.proofs.Members.{In, all_in, any_in, contained_in, filter_in, found, in_append, in_contained, in_filter, in_left, in_option, in_right, none_in, of_in, option_in}
 pub use Rattle.cmwq_lemmas.proofs.Rising.{RisesBy, find_is, rises_filter, rises_snoc, rises_unique}
-pub use Rattle.cmwq_lemmas.proofs.Passing.{all_found, all_kept, all_split, fewer_kept, filter_mapped, once_there}
-pub use Rattle.cmwq_lemmas.proofs.Lists.{All_both, All_push, filter_all, filter_shorter, range_below}
+pub use Rattle.cmwq_lemmas.proofs.Passing.{all_found, all_kept, all_split, fewer_kept, filter_mapped, find_mapped, none_pass, once_there}
+pub use Rattle.cmwq_lemmas.proofs.Lists.{All_both, All_push, all_mapped, filter_all, filter_shorter, range_below}
 pub use Rattle.cmwq_lemmas.proofs.Truth.{same_bools}
 pub use Rattle.cmwq_lemmas.proofs.Filters.{count_by-same, find_same}
 pub use Rattle.std.proofs.lemmas.Bool.{and_parts, cond_both, or_from, or_right, true_from_ne_false}
@@ -16,10 +16,6 @@ itself n = n
 pub without_none : (n : ℕ) (ns : List ℕ) → AllByRecursion (λ m. (m == n) ≡ false) ns → without n ns ≡ ns
 without_none n [] h = refl
 without_none n (m ∷ ms) h = grind (arith, without_none n ms)
-
-pub all_mapped : {X Y : Type 0} (f : X → Y) (P : Y → Type 0) (xs : List X) → AllByRecursion (λ x. P (f x)) xs → AllByRecursion P (map f xs)
-all_mapped f P [] h = tt
-all_mapped f P (x ∷ xs) h = (h.0, all_mapped f P xs h.1)
 
 module _ {X : Type 0} (number : X → ℕ) where
   pub numbers_rise : (xs : List X) → RisesBy number xs → RisesBy itself (map number xs)
@@ -101,14 +97,6 @@ module _ {X : Type 0} where
   pub all_more : (P : X → Type 0) (xs : List X) (o : Option X) → AllByRecursion P xs → ((x : X) → o ≡ Some x → P x) → AllByRecursion P (xs ++ option_to_list o)
   all_more P xs o h k = All_append P xs (option_to_list o) h (all_in P (option_to_list o) (λ x i. k x (in_option o x i)))
 
-  pub none_pass : (p : X → Bool) (xs : List X) → list_any p xs ≡ false → AllByRecursion (λ x. p x ≡ false) xs
-  none_pass p [] h = tt
-  none_pass p (x ∷ xs) h = grind (arith, none_pass p xs)
-
-  pub any_in : (p : X → Bool) (xs : List X) (x : X) → In x xs → p x ≡ true → list_any p xs ≡ true
-  any_in p [] x here is = absurd here
-  any_in p (y ∷ ys) x here is = grind (arith, any_in p ys x)
-
   pub in_any : (p : X → Bool) (xs : List X) → list_any p xs ≡ true → (x : X) × In x xs × (p x ≡ true)
   in_any p [] h = cc
   in_any p (y ∷ ys) h = grind (arith, in_any p ys)
@@ -127,10 +115,6 @@ module _ {X : Type 0} where
     (λ all. none_found p xs (All_map P (λ x. p x ≡ false) xs fails (recursion_from_All P xs all))),
     (λ none. All-from_recursion P xs (All_map (λ x. p x ≡ false) P xs holds (find_none p xs none))),
   )
-
-  pub find_mapped : {Y : Type 0} (f : X → Y) (p : Y → Bool) (q : X → Bool) (xs : List X) → AllByRecursion (λ x. p (f x) ≡ q x) xs → find p (map f xs) ≡ option_map f (find q xs)
-  find_mapped f p q [] h = refl
-  find_mapped f p q (x ∷ xs) h = grind (arith, find_mapped f p q xs)
 
 pub in_some : (ns : List ℕ) (n : ℕ) → In n ns → 0 < length ns
 in_some [] n h = absurd h

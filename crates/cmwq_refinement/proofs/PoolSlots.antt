@@ -1,6 +1,6 @@
 -- The slots of a pool, entry by entry.
-use Rattle.cmwq_refinement.specs.Common.{◌≡◌, ◌≢◌, ◌==◌, ◌<◌, ◌+◌, ℕ, Bool, true, false, not, ◌&&◌, ◌||◌, List, ◌∷◌, map, Option, Some, None, refl, sym, ap, ap₂, ◌∙◌, arith, ⊎_elim, option_map, if◌then◌else◌, eq-eqb, ne_eqb, cases_eq, and_parts, get_or-map-range_with_len, PoolId, WorkerId, Who, Caller, Worker, Reply, Entry, Queueing, Layout, indices, is_at, is_by, same_pool, same_who, number_started, run, is_asleep, asleep_after, queueing_at, next, worker_at, index_enlisted, is_in_pool, enlists, is_retired, is_enlisted, is_reserve, enlisted_by, IsLegal, run_after, starts_next, IsFound, queueings_found, queueing_at-older, workers_run_on, same_worker_itself, by_itself, same_starter, same_pool-true, Task, Slot, no_slot, slot_at, with_slot, slot_running, slot_enlisted, slot_asleep, slot_awake, slot_free, slot_retired, next_task, nat_tests, and_false}
-use Rattle.cmwq_refinement.proofs.Numbers.{all_found, cond_both, range_below}
+use Rattle.cmwq_refinement.specs.Common.{◌≡◌, ◌≢◌, ◌==◌, ℕ, Bool, true, false, not, ◌&&◌, ◌||◌, List, ◌∷◌, map, Option, Some, None, refl, sym, ap, ap₂, ◌∙◌, arith, ⊎_elim, option_map, if◌then◌else◌, eq-eqb, ne_eqb, cases_eq, and_parts, get_or-map-range_with_len, PoolId, WorkerId, Who, Caller, Worker, Reply, Entry, Queueing, Layout, indices, is_at, is_by, same_pool, same_who, number_started, run, is_asleep, asleep_after, queueing_at, next, worker_at, index_enlisted, is_in_pool, enlists, is_retired, is_enlisted, enlisted_by, IsLegal, run_after, starts_next, IsFound, queueings_found, queueing_at-older, workers_run_on, same_worker_itself, by_itself, same_starter, same_pool-true, Task, Slot, no_slot, slot_at, with_slot, slot_running, slot_enlisted, slot_asleep, slot_awake, slot_free, slot_retired, next_task, nat_tests, and_false}
+use Rattle.cmwq_refinement.proofs.Numbers.{cond_both}
 use Rattle.cmwq_model.specs.declared.reply.Reply.TheVariants as reply
 use Rattle.cmwq_theory_steps.proofs.Activated.{next_holds}
 use Rattle.cmwq_pool.specs.Slots.{slots_enlisted_by}
@@ -8,6 +8,7 @@ use Rattle.cmwq_refinement.specs.Pools.{task_for, run_task, slot_of, pool_of, st
 use Rattle.cmwq_refinement.proofs.TimerSteps.{set_row, same_rows}
 use Rattle.cmwq_refinement.proofs.PoolReads.{idle, busy, run_of, run_task_none, slot_is, starts_enlist_alike}
 use Rattle.cmwq_refinement.proofs.PoolNext.{worker_fits, next_task_is}
+use Rattle.cmwq_theory_steps.proofs.Starts.{reserve_there}
 
 -- ---- a run that goes on
 
@@ -102,16 +103,12 @@ start_refines s past e w n legal who is =
     let st = starts_task s past e w n legal who (ap number_started is) in
     rw (st.task, st.enlists ∙ ap index_enlisted is) (own_changes s past e w (reply.Started n) (slot_running (task_for s st.queueing)) (Some (task_for s st.queueing)) legal who is refl st.runs refl)
 
-enlisted_below : (s : Layout) (past : List Entry) (w : WorkerId) (y : ℕ) → enlisted_by s past w ≡ Some y → y < s.workers
-unfolding enlisted_by
-enlisted_below s past w y h = grind (arith, all_found (λ x. x < 0 + s.workers) (is_reserve past w.pool) (indices s) y (range_below 0 s.workers))
-
 enlist_refines : (s : Layout) (past : List Entry) (e : Entry) (w : WorkerId) (n y : ℕ) → IsLegal s (e ∷ past) → e.who ≡ Worker w → e.reply ≡ reply.StartedEnlist n y
     → map (slot_of s (e ∷ past) w.pool) (indices s) ≡ (start_next w.index (next_task (pool_of s past w.pool)) (pool_of s past w.pool)).slots
 unfolding IsLegal own_after
 enlist_refines s past e w n y legal who is =
     rw (st.task, enlists, ← first) (set_row between (slot_of s (e ∷ past) w.pool) s.workers y (slot_enlisted (slot_at (map between (indices s)) y))
-    (slot_now y true (eq-eqb y y refl) ∙ ap slot_enlisted (sym (get_or-map-range_with_len between 0 s.workers y y no_slot (enlisted_below s past w y (sym (starts_enlist_alike s past w legal.2) ∙ enlists)) (omega arith))))
+    (slot_now y true (eq-eqb y y refl) ∙ ap slot_enlisted (sym (get_or-map-range_with_len between 0 s.workers y y no_slot (reserve_there s past w y (sym (starts_enlist_alike s past w legal.2) ∙ enlists)) (omega arith))))
     (λ x differs. slot_now x false (ne_eqb y x (λ same. differs (sym same)))))
   where
     st : StartsTask s past e w n

@@ -1,5 +1,5 @@
 -- The tickets of callers, entry by entry: they are those of the longer history, each call may be made, and what they answer.
-use Rattle.cmwq_refinement.specs.Common.{◌≡◌, ◌<◌, ◌≤◌, ℕ, true, List, [], ◌∷◌, length, filter, find, IsTrue, Option, Some, None, is_some, option_to_list, nat_le, refl, sym, ap, ◌∙◌, arith, list_all, AllByRecursion, eqb-true, eq-eqb, nat_tests, length-map-range_with_len, length-filter, Call, Entry, Ticket, Layout, is_layout, has_numbers, tickets, unended_tickets, is_unended, is_held_by, is_crowded, is_ticket, ticket_of, is_cancelling, is_draining, is_being_destroyed, is_cancel_sync_of, is_drain_of, is_destroy_of, IsLegal, is_kept, ticket_ended, filter_same, unended_go_on, is_numbered, comes_before, any_ticket, may_give, new_tickets, count}
+use Rattle.cmwq_refinement.specs.Common.{◌≡◌, ◌<◌, ◌≤◌, ℕ, true, List, [], ◌∷◌, length, filter, find, Option, Some, None, is_some, option_to_list, nat_le, refl, sym, ap, ◌∙◌, arith, list_all, AllByRecursion, eqb-true, eq-eqb, nat_tests, length-map-range_with_len, length-filter, Call, Entry, Ticket, Layout, has_numbers, tickets, unended_tickets, is_unended, is_held_by, is_crowded, is_ticket, ticket_of, is_cancelling, is_draining, is_being_destroyed, is_cancel_sync_of, is_drain_of, is_destroy_of, IsLegal, is_kept, ticket_ended, filter_same, unended_go_on, is_numbered, comes_before, any_ticket, may_give, new_tickets, count}
 use Rattle.cmwq_refinement.proofs.Numbers.{In, all_in, all_kept, fewer_kept, filter_all, filter_in, find_is, in_right, number_of_ticket, of_in, option_in, rises_filter, rows_alike, ticket_given}
 use Rattle.cmwq_ticket.specs.Counts.{is_counted}
 use Rattle.cmwq_ticket.specs.Rows as row
@@ -76,9 +76,9 @@ rows_may_give s past e t legal h =
     let counted = fits_counted s t.call (ap (has_numbers s) is.call ∙ numbers_fit s past e legal) in
     grind (arith, nat_tests, there, row_is s.callers kept t.caller.0 there, length-map-range_with_len (tickets_held kept) 0 s.callers, older, few, counted)
 
-pub entries_apply_to_tickets : (s : Layout) (past : List Entry) (e : Entry) → IsTrue (is_layout s) → IsLegal s (e ∷ past) → MayApplyToTickets past e (tickets_of s past)
+pub entries_apply_to_tickets : (s : Layout) (past : List Entry) (e : Entry) → IsLegal s (e ∷ past) → MayApplyToTickets past e (tickets_of s past)
 unfolding IsLegal
-entries_apply_to_tickets s past e inside legal = record {
+entries_apply_to_tickets s past e legal = record {
   ended = may_end s past e legal.2;
   given = rw (after_ended s past e legal.2) (by (ticket_given past e) refl);
 }

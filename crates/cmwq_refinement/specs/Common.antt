@@ -41,9 +41,9 @@ pub use Rattle.cmwq_pool.specs.declared.slot.Slot.{Slot}
 pub use Rattle.cmwq_pool.specs.declared.task.Task.{Task}
 pub use Rattle.cmwq_theory_active.proofs.Rising.{open_rise, opening_number, queueings_below}
 pub use Rattle.cmwq_theory_steps.proofs.Causes.{cause_of}
-pub use Rattle.cmwq_theory_steps.proofs.Ended.{ends_which, one_ends}
+pub use Rattle.cmwq_theory_steps.proofs.Ended.{ends_which, one_ends, found_unstarted}
 pub use Rattle.cmwq_theory_steps.proofs.Endings.{open_go_on}
-pub use Rattle.cmwq_theory_steps.proofs.EndsAsTold.{ends_as_told, runs_are_queueings, unstarted_found}
+pub use Rattle.cmwq_theory_steps.proofs.EndsAsTold.{ends_as_told, runs_are_queueings}
 pub use Rattle.cmwq_theory_steps.proofs.Entries.{IsKnown, is_at-true, opening_item, queueings_known}
 pub use Rattle.cmwq_theory_steps.proofs.Fresh.{finishes_run, not_started_yet, unstarted_is}
 pub use Rattle.cmwq_theory_steps.proofs.ItemRuns.{before, item_run_started, last_start_cases, no_start, run_is, runs_are_items, same_worker-true, same_worker_itself, start_of_worker, starts_its_item, starts_known, starts_no_item}

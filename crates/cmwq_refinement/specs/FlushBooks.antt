@@ -1,6 +1,6 @@
 -- The flush book of a queue refines the queue's open queueings and its unended flushes.
 use Rattle.std.specs.Prelude.{◌≡◌, ◌<◌, ◌≤◌, ◌↔◌, ◌==◌, ◌*◌, if◌then◌else◌, ◌∷◌}
-use Rattle.cmwq_refinement.specs.Common.{ℕ, Bool, List, length, map, filter, count_by, [], Contains, true, Option, Some, None, slice_get, nat_lt, nat_le, IsTrue, AllByRecursion, QueueId, Entry, Queueing, Ticket, Layout, is_layout, still_open, opening, unended_tickets, is_flush_of, serving_from, is_older_flush, waits_for, IsLegal, ending, ticket_ended, Served, FlushBook, new_book, flush_tickets, CanOpen, flushes_with_open, flushes_without_open, flushes_with_wait, flushes_without_wait, IsServing}
+use Rattle.cmwq_refinement.specs.Common.{ℕ, Bool, List, length, map, filter, count_by, [], Contains, true, Option, Some, None, slice_get, nat_lt, nat_le, AllByRecursion, QueueId, Entry, Queueing, Ticket, Layout, still_open, opening, unended_tickets, is_flush_of, serving_from, is_older_flush, waits_for, IsLegal, ending, ticket_ended, Served, FlushBook, new_book, flush_tickets, CanOpen, flushes_with_open, flushes_without_open, flushes_with_wait, flushes_without_wait, IsServing}
 use Rattle.cmwq_model.specs.declared.call.Call.TheVariants as call
 use Rattle.cmwq_flush.specs.FlushBook.{IsLatestFlush, IsReady}
 use Rattle.cmwq_flush.specs.FlushBooks.{book_in, overflow_count}
@@ -120,7 +120,7 @@ pub record MayApplyToFlushes (past : List Entry) (e : Entry) (q : ℕ) (b : Flus
 
 -- so it is in a legal history whose layout is inside the limits
 abbrev pub EntriesApplyToFlushes : Type 0
-EntriesApplyToFlushes = (s : Layout) (past : List Entry) (e : Entry) (q : ℕ) (b : FlushBook) → IsTrue (is_layout s) → IsLegal s (e ∷ past) → AreFlushes s past q b → MayApplyToFlushes past e q b
+EntriesApplyToFlushes = (s : Layout) (past : List Entry) (e : Entry) (q : ℕ) (b : FlushBook) → IsLegal s (e ∷ past) → AreFlushes s past q b → MayApplyToFlushes past e q b
 
 -- where a ticket is given, there is room in overflow: those in overflow of all queues together are unended tickets, of which a caller has 64 at most
 pub record AreBegun (s : Layout) (past : List Entry) (e : Entry) (old new : List FlushBook) : Type 0 where

@@ -1,6 +1,6 @@
 -- The tickets of callers refine the unended tickets of a history.
 use Rattle.std.specs.Prelude.{◌≡◌, ◌<◌, ◌∷◌}
-use Rattle.cmwq_refinement.specs.Common.{ℕ, List, [], length, map, filter, find, Option, Some, None, IsSome, IsTrue, range_with_len, Who, Caller, Entry, Ticket, Layout, is_layout, unended_tickets, is_held_by, is_crowded, ticket_of, is_cancelling, is_draining, is_being_destroyed, IsLegal, ticket_ended, TicketBook, TicketRows, is_numbered, any_ticket, may_give, new_tickets, tickets_with, tickets_without, count}
+use Rattle.cmwq_refinement.specs.Common.{ℕ, List, [], length, map, filter, find, Option, Some, None, IsSome, IsTrue, range_with_len, Who, Caller, Entry, Ticket, Layout, unended_tickets, is_held_by, is_crowded, ticket_of, is_cancelling, is_draining, is_being_destroyed, IsLegal, ticket_ended, TicketBook, TicketRows, is_numbered, any_ticket, may_give, new_tickets, tickets_with, tickets_without, count}
 use Rattle.cmwq_ticket.specs.Rows as row
 use Rattle.cmwq_refinement.specs.ByNumber.{ticket_given}
 
@@ -54,7 +54,7 @@ pub record MayApplyToTickets (past : List Entry) (e : Entry) (b : TicketBook) : 
   pub given : MayGiveTicket (ticket_given past e) (tickets_after_end (ticket_ended past e) b)
 
 abbrev pub EntriesApplyToTickets : Type 0
-EntriesApplyToTickets = (s : Layout) (past : List Entry) (e : Entry) → IsTrue (is_layout s) → IsLegal s (e ∷ past) → MayApplyToTickets past e (tickets_of s past)
+EntriesApplyToTickets = (s : Layout) (past : List Entry) (e : Entry) → IsLegal s (e ∷ past) → MayApplyToTickets past e (tickets_of s past)
 
 -- there is a row for each caller, so that they may be asked of it
 abbrev pub RowsForCallers : Type 0

@@ -1,5 +1,5 @@
 //! A caller of a hub.
-ghost use Rattle.std.specs.Prelude.{◌≡◌, ◌<◌, [], length, true, false, IfOk, IfErr, MatchOption, Some, None};
+ghost use Rattle.std.specs.Prelude.{◌≡◌, ◌<◌, [], true, false, IfOk, IfErr, MatchOption, Some, None};
 ghost use mathlib.Core.List.{IsPrefix};
 ghost use Rattle.cmwq_model.specs.Prelude.{has_numbers, is_callers, past_of, IsLegal, bits};
 ghost use Rattle.cmwq_model.specs.declared.call.Call.TheVariants as calls;

@@ -1,7 +1,5 @@
 //! The hub: one monitor behind a lock.
-ghost use Rattle.std.specs.Prelude.{◌≡◌, ◌⊎◌, ◌<◌, ◌≤◌, ◌++◌, [], OnErr, true, false, IsTrue, IfOk, IfErr, IfSome, MatchOption, None, Some, slice_get};
-ghost use Rattle.std.specs.Sync.Mutex.{mutex_guard_value};
-ghost use mathlib.Core.List.{IsPrefix};
+ghost use Rattle.std.specs.Prelude.{◌≡◌, ◌⊎◌, ◌<◌, ◌++◌, [], OnErr, true, false, IsTrue, IfOk, IfErr, IfSome, MatchOption, None, Some};
 ghost use Rattle.cmwq_model.specs.declared.call.Call.TheVariants as calls;
 ghost use Rattle.cmwq_model.specs.declared.reply.Reply.TheVariants as replies;
 ghost use Rattle.cmwq_model.specs.Prelude.{fits, past_of, IsLegal};

@@ -1,8 +1,7 @@
 //! The callers and workers of a hub that nobody has yet.
-ghost use Rattle.std.specs.Prelude.{◌≡◌, ◌+◌, ◌<◌, ◌≤◌, [], IfOk, IfErr, MatchOption, MatchResult, None};
+ghost use Rattle.std.specs.Prelude.{◌≡◌, ◌+◌, ◌<◌, ◌≤◌, [], IfOk, IfErr, MatchOption, None};
 ghost use Rattle.cmwq_model.specs.declared.id.Who.TheVariants as whos;
 ghost use Rattle.cmwq_model.specs.Prelude.{Layout, most_cpus, most_workers};
-ghost use Rattle.cmwq_core.specs.History.{IsThere};
 ghost use Rattle.cmwq_monitor.specs.Participants.{newcomer};
 ghost use Rattle.cmwq_monitor.specs.declared.fault.RunFault.TheVariants.{NoPlace};
 ghost use Rattle.cmwq_rt.specs.Places.{Places, after_worker, all_free, AreCounts, shares};

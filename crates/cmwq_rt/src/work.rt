@@ -1,6 +1,6 @@
 //! What workers run.
-ghost use Rattle.std.specs.Prelude.{◌≡◌, ◌⊎◌, ◌<◌, true, false, IsTrue, IfOk, IfErr, None};
-ghost use Rattle.cmwq_model.specs.Prelude.{fits, has_numbers, is_workers};
+ghost use Rattle.std.specs.Prelude.{◌≡◌, ◌⊎◌, ◌<◌, true, false, IfOk, IfErr, None};
+ghost use Rattle.cmwq_model.specs.Prelude.{has_numbers, is_workers};
 ghost use Rattle.cmwq_model.specs.declared.call.Call.TheVariants as calls;
 ghost use Rattle.cmwq_monitor.specs.Participants.{is_caller};
 ghost use Rattle.cmwq_monitor.specs.Calls.{Extends};

@@ -1,5 +1,5 @@
 -- The texts that a journal leaves.
-use Rattle.std.proofs.Common.{Ok, Err, Result, refl}
+use Rattle.std.proofs.Common.{Ok, Err, Result}
 use Rattle.std.proofs.KnownBytes.{Keeps-refl, Appends-nil}
 use Rattle.std.specs.Io.KnownBytes.{Keeps}
 use Rattle.std.specs.Prelude.{OnOk, IfErr}

@@ -5,7 +5,7 @@ ghost use Rattle.cmwq_model.specs.declared.id.WorkerId as ids;
 ghost use Rattle.cmwq_model.specs.declared.id.Who.TheVariants as whos;
 ghost use Rattle.cmwq_monitor.specs.Participants.{newcomer};
 ghost use Rattle.cmwq_monitor.specs.Held.{active_in};
-ghost use Rattle.cmwq_rt.specs.Places.{worker_by_number, shares};
+ghost use Rattle.cmwq_rt.specs.Places.{shares};
 ghost use Rattle.cmwq_monitor.specs.declared.fault.RunFault.TheVariants.{Unfinished};
 ghost use Rattle.cmwq_rt.specs.Running.{breaks_off};
 ghost use Rattle.cmwq_rt_scripts.specs.Ended.{AllFollow, AllWorked, AreNewcomers, AreSilent, FollowedAt, FollowsIn, HaveEnded, HaveWorked, IsUnfinished, WorkedFrom, WorkedIn, is_silent};

@@ -1,5 +1,5 @@
 //! Whether calls may be scripts.
-ghost use Rattle.std.specs.Prelude.{◌≡◌, ◌<◌, ◌≤◌, ◌^◌, length, true, All, IsTrue, nat_le, ◌&&◌};
+ghost use Rattle.std.specs.Prelude.{◌≡◌, ◌<◌, ◌≤◌, ◌^◌, length, All, IsTrue, ◌&&◌};
 ghost use Rattle.std.specs.List.{list_all};
 ghost use Rattle.cmwq_model.specs.Prelude.{IsScripted, most_callers};
 ghost use Rattle.cmwq_rt_scripts.specs.Tested.{is_scripted, is_script, are_scripts};

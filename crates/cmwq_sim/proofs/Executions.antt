@@ -2,7 +2,7 @@
 use Rattle.cmwq_sim.specs.Common.{◌≡◌, ◌==◌, ◌<◌, ◌≤◌, ◌+◌, ◌*◌, ◌&&◌, ℕ, zero, suc, true, false, not, set, List, [], ◌∷◌, ◌++◌, length, drop, map, filter, find, fold, add-one, append-nil, Option, Some, None, refl, sym, ap, ap₂, ◌∙◌, subst, arith, option_map, AllByRecursion, range_with_len, list_any, map-append, get_or-set_same, get_or-set_other, length-set, eq-eqb, Who, Worker, Call, Entry, Queueing, WorkerId, has_time, has_room, entry_for, has_number, run, room_needed, runs_are_in_pools, History, past_in, next_entry, takes, with_entry, All_map, All_each, nat_tests, fold-append, if◌then◌else◌}
 use Rattle.std.proofs.Common.{subst₂}
 use Rattle.cmwq_model.specs.declared.call.Call.TheVariants as call
-use Rattle.cmwq_theory_steps.proofs.Growing.{one_more_is_newest}
+use Rattle.cmwq_model.proofs.Growing.{one_more_is_newest}
 use Rattle.cmwq_sim.specs.declared.scenario.LineKind.TheVariants as kind
 use Rattle.cmwq_sim.specs.declared.execution.Running.{Running}
 use Rattle.cmwq_sim.specs.declared.execution.Asleep.{Asleep}

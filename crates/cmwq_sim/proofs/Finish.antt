@@ -10,6 +10,7 @@ use Rattle.cmwq_sim.specs.Plan.{Plan, plan_queue, is_of_plan_queue}
 use Rattle.cmwq_sim.specs.Lines.{Moment, plan_items}
 use Rattle.cmwq_sim.specs.Shows.{layout_for, plan_worker, queueing_for, IsRunAt, Shows}
 use Rattle.cmwq_sim.proofs.TakeReads.{run_found}
+use Rattle.cmwq_lemmas.proofs.Passing.{find_mapped}
 
 -- of a list whose first w pass, the one just behind them is the first that doesn't
 first_behind : (f : Queueing → Bool) (rank : Queueing → ℕ) (w k : ℕ) (xs : List Queueing) → k ≤ w → AllByRecursion (λ x. f x ≡ nat_lt (rank x) w) xs → Ranked rank k xs
@@ -69,17 +70,13 @@ ends_run s past m slot e i h legal is = at (ending past e) refl
         let n : y.number ≡ i = same_Some y.number i (sym (ap (option_map (λ (x : Queueing). x.number)) some) ∙ number) in
         some ∙ ap Some (mapped s y (plan_items s) (subst (In y) h.queued there.0) ∙ ap (queueing_for s) n)
 
-find_mapped : (s : Plan) (q : ℕ) (xs : List ℕ) → find (is_on q 0) (map (queueing_for s) xs) ≡ option_map (queueing_for s) (find (is_of_plan_queue s q) xs)
-find_mapped s q [] = refl
-find_mapped s q (x ∷ xs) = grind (arith, find_mapped s q xs)
-
 pub finish_makes_ready : (s : Plan) (past : List Entry) (m : Moment) (slot : ℕ → ℕ) (e : Entry) (x i : ℕ) → Shows s past m slot → HasFirstWidths (layout_for s) past → ((q : ℕ) → width (layout_for s) past q ≡ first_width (layout_for s) q)
     → IsLegal (layout_for s) (e ∷ past) → e.reply ≡ reply.Finished i → IsRunAt past x i false
     → newly_active (layout_for s) past e ≡ option_to_list (option_map (queueing_for s) (find (is_of_plan_queue s (plan_queue s i)) m.behind))
 finish_makes_ready s past m slot e x i h old wide legal is r =
     newly_active_are (layout_for s) past e legal (ap keeps_widths is)
     ∙ ap₂ (λ a b. filter (waits (layout_for s) past) (option_to_list (behind_width (layout_for s) past a)) ++ filter (is_below_max_active_at_once (layout_for s) past e) (option_to_list b)) (ends_run s past m slot e i h legal is) opened
-    ∙ append-nil _ ∙ first_waiting s past i old wide way ∙ ap (λ xs. option_to_list (find (is_on (plan_queue s i) 0) xs)) h.behind ∙ ap option_to_list (find_mapped s (plan_queue s i) m.behind)
+    ∙ append-nil _ ∙ first_waiting s past i old wide way ∙ ap (λ xs. option_to_list (find (is_on (plan_queue s i) 0) xs)) h.behind ∙ ap option_to_list (find_mapped (queueing_for s) (is_on (plan_queue s i) 0) (is_of_plan_queue s (plan_queue s i)) m.behind (All_each _ m.behind (λ x. grind arith)))
   where
     opened : opening past e ≡ None
     opened = ap (λ r. if opens r then option_and_then (λ j. option_map (queued_at past j) (place_wanted past e.call j)) (item_of e) else None) is

@@ -1,14 +1,11 @@
 -- Of each pool's workers one is always enlisted and idle, or all are enlisted.
-use Rattle.cmwq_sim.specs.Common.{◌≡◌, ◌≢◌, ◌==◌, ◌<◌, ℕ, Bool, true, false, not, ◌&&◌, ◌||◌, List, [], ◌∷◌, find, Option, Some, None, refl, sym, ap, ap₂, ◌∙◌, subst, arith, is_some, if◌then◌else◌, AllByRecursion, eq-eqb, ne_eqb, and_parts, PoolId, WorkerId, Who, Worker, Reply, Entry, Layout, indices, is_at, is_by, same_who, same_pool, number_started, run, has_run, last_start, worker_at, index_enlisted, is_in_pool, is_retired, is_enlisted, is_idle, is_other_idle, is_reserve, enlisted_by, IsLegal, run_after, same_worker-true, workers_run_on, same_worker_itself}
+use Rattle.cmwq_sim.specs.Common.{◌≡◌, ◌≢◌, ◌==◌, ◌<◌, ℕ, Bool, true, false, not, ◌&&◌, ◌||◌, List, [], ◌∷◌, find, Option, Some, None, refl, sym, ap, ap₂, ◌∙◌, subst, arith, is_some, if◌then◌else◌, AllByRecursion, eq-eqb, ne_eqb, and_parts, PoolId, WorkerId, Worker, Reply, Entry, Layout, indices, is_at, is_by, same_who, same_pool, number_started, run, has_run, last_start, worker_at, index_enlisted, is_in_pool, is_retired, is_enlisted, is_idle, is_other_idle, is_reserve, enlisted_by, IsLegal, run_after, workers_run_on, same_worker_itself}
 use Rattle.cmwq_model.specs.declared.reply.Reply.TheVariants as reply
 use Rattle.cmwq_theory_steps.proofs.Starts.{starts_next}
 use Rattle.cmwq_theory_steps.proofs.Reasons.{retire_reason}
 use Rattle.cmwq_theory_steps.proofs.Causes.{cause_of}
 use Rattle.cmwq_sim.proofs.Lists.{one, none, any_below, none_found_any, and_false, both_ways, not-true, not-false}
-
--- whose entry it is
-by_whom : (e : Entry) (v w : WorkerId) → e.who ≡ Worker v → is_by (Worker w) e ≡ true → v ≡ w
-by_whom e v w who by = same_worker-true v w (sym (ap (λ (x : Who). same_who x (Worker w)) who) ∙ by)
+use Rattle.cmwq_theory_steps.proofs.OwedSteps.{by_whom}
 
 enlisted_go_on : (past : List Entry) (e : Entry) (w : WorkerId) → (is_by (Worker w) e && is_retired e.reply) ≡ false → is_enlisted past w ≡ true → is_enlisted (e ∷ past) w ≡ true
 unfolding is_enlisted

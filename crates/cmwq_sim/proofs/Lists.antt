@@ -1,6 +1,5 @@
 -- Lists: what is there, and what is left where some are taken out; with what the other proofs name of lists and truth values.
-use Rattle.cmwq_sim.specs.Common.{◌≡◌, ◌==◌, ◌<◌, ◌≤◌, ◌+◌, ℕ, zero, suc, Bool, true, false, cond, not, List, [], ◌∷◌, ◌++◌, ◌||◌, length, map, filter, find, count_by, Option, Some, None, refl, sym, ap, ◌∙◌, subst, arith, ⊎_elim, cases_eq, ne_eqb, eq-eqb, sum_by, AllByRecursion, list_any, range_with_len, nat_tests, count_by-cons, All_filter, All_map, found, of_in, sum_by_push}
-use Rattle.std.proofs.lemmas.List.Filters.{length-filter_both, sum_by-filter_both}
+use Rattle.cmwq_sim.specs.Common.{◌≡◌, ◌==◌, ◌<◌, ◌≤◌, ◌+◌, ℕ, zero, suc, Bool, true, false, cond, not, List, [], ◌∷◌, filter, find, count_by, Option, Some, None, refl, sym, subst, arith, ⊎_elim, cases_eq, AllByRecursion, list_any, range_with_len, nat_tests, count_by-cons}
 pub use Rattle.cmwq_lemmas.proofs.Lists.{All_push, count_append, count_by-head, filter_all, filter_shorter, find_none, found_passes, range_below, range_more}
 pub use Rattle.cmwq_lemmas.proofs.Passing.{all_found, all_kept, all_mapped_pass, all_split, any_counted, count_push, counted_any, fewer_kept, filter_mapped, found_any, found_there, last_any, less_kept, none_counted, none_found_any, none_kept, once_among, once_there, one_counted, one_fewer, one_there}
 pub use Rattle.cmwq_lemmas.proofs.Truth.{and_false, or_false}

@@ -13,6 +13,7 @@ use Rattle.cmwq_lemmas.proofs.Members.{in_left}
 use Rattle.cmwq_sim.proofs.Lists.{once_among, filter-append, false_from_ne_true, none-some, filter_all, range_more, count_append, range_below, count_push}
 use Rattle.cmwq_sim.proofs.Steps.{EndsNone, spares, all_survive, none_ends, active_as_before}
 use Rattle.cmwq_sim.proofs.FinishShown.{in_pool}
+use Rattle.cmwq_lemmas.proofs.Lists.{all_mapped}
 
 -- ---- answers yes
 
@@ -83,10 +84,6 @@ queue_call s i = call.Queue (record { 0 = i }) (record { 0 = plan_queue s i }) (
 abbrev pub caller : Who
 caller = Caller (record { 0 = 0 })
 
-all_mapped : (s : Plan) (P : Queueing → Type 0) (is : List ℕ) → AllByRecursion (λ i. P (queueing_for s i)) is → AllByRecursion P (map (queueing_for s) is)
-all_mapped s P [] all = tt
-all_mapped s P (i ∷ is) all = (all.0, all_mapped s P is all.1)
-
 module _ (s : Plan) (k : ℕ) (past : List Entry) (m : Moment) (h : ShowsQueued s k past m) where
   abbrev pub entry : Entry
   entry = entry_for (layout_for s) past caller (queue_call s k)
@@ -96,7 +93,7 @@ module _ (s : Plan) (k : ℕ) (past : List Entry) (m : Moment) (h : ShowsQueued 
   has_place = nat_lt (count_by (is_of_plan_queue s (plan_queue s k)) (m.ready ++ m.behind)) (plan_width s (plan_queue s k))
 
   numbered : AllByRecursion (λ (x : Queueing). x.number < k) (queueings past)
-  numbered = subst (AllByRecursion (λ (x : Queueing). x.number < k)) (sym h.queued) (all_mapped s (λ (x : Queueing). x.number < k) (range_with_len 0 k) (All_map (λ i. i < 0 + k) (λ i. i < k) (range_with_len 0 k) (λ i less. omega arith) (range_below 0 k)))
+  numbered = subst (AllByRecursion (λ (x : Queueing). x.number < k)) (sym h.queued) (all_mapped (queueing_for s) (λ (x : Queueing). x.number < k) (range_with_len 0 k) (All_map (λ i. i < 0 + k) (λ i. i < k) (range_with_len 0 k) (λ i less. omega arith) (range_below 0 k)))
 
   all_open : still_open past ≡ queueings past
   all_open = filter_all (is_live past) (queueings past) (All_map (λ (x : Queueing). x.number < k) (λ x. is_live past x ≡ true) (queueings past) (λ x less. stays_open past x.item.0 x.number h.all ∙ lt-ltb x.number (length past) (omega (arith, h.many))) numbered)
@@ -106,7 +103,7 @@ module _ (s : Plan) (k : ℕ) (past : List Entry) (m : Moment) (h : ShowsQueued 
 
   free : unstarted_queueing past k ≡ None
   free = none_found (is_unstarted past k) (still_open past) (subst (AllByRecursion (λ x. is_unstarted past k x ≡ false)) (sym open_are)
-      (all_mapped s (λ x. is_unstarted past k x ≡ false) (range_with_len 0 k) (All_map (λ i. i < 0 + k) (λ i. is_unstarted past k (queueing_for s i) ≡ false) (range_with_len 0 k) (λ i less. ap (λ b. b && not (is_started past i)) (ne_eqb i k (λ same. absurd (omega arith)))) (range_below 0 k))))
+      (all_mapped (queueing_for s) (λ x. is_unstarted past k x ≡ false) (range_with_len 0 k) (All_map (λ i. i < 0 + k) (λ i. is_unstarted past k (queueing_for s i) ≡ false) (range_with_len 0 k) (λ i less. ap (λ b. b && not (is_started past i)) (ne_eqb i k (λ same. absurd (omega arith)))) (range_below 0 k))))
 
   pub answered : answer (layout_for s) past caller (queue_call s k) ≡ reply.Yes k
   unfolding answer queue_answer

@@ -1,6 +1,6 @@
 //! A scenario replayed over the book, millisecond by millisecond.
 
-ghost use Rattle.std.specs.Prelude.{◌≡◌, ℕ, drop, MatchOption, ◌≤◌, ◌<◌, ◌+◌, ◌++◌, ◌∷◌, [], ◌==◌, ◌&&◌, not, map, find, filter, option_map, length, IsTrue, IfOk, OnOk, IfSome, IsNone};
+ghost use Rattle.std.specs.Prelude.{◌≡◌, ℕ, drop, MatchOption, ◌≤◌, ◌<◌, ◌+◌, ◌++◌, ◌∷◌, [], ◌==◌, ◌&&◌, not, map, find, filter, IsTrue, IfOk, OnOk, IfSome, IsNone};
 ghost use Rattle.std.specs.List.{AllByRecursion};
 ghost use Rattle.cmwq_model.specs.declared.id.Who.TheVariants as who;
 ghost use Rattle.cmwq_model.specs.Prelude.{fits, number_started};

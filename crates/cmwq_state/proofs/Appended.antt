@@ -1,12 +1,11 @@
 -- A state to which an effect was applied is one entry further on.
-use Rattle.cmwq_state.specs.Common.{◌≡◌, ℕ, ◌+◌, ◌≤◌, true, List, [], ◌∷◌, ◌++◌, length, ap, arith, length-append, Entry, Call, Layout, fits, serial_of, ticks_told, now, has_time, most_time, IsLegal, past_of, leb-true, length-reverse}
-use Rattle.cmwq_model.specs.declared.call.Call.TheVariants as call
+use Rattle.cmwq_state.specs.Common.{◌≡◌, ℕ, ◌+◌, ◌≤◌, true, List, [], ◌∷◌, ◌++◌, length, ap, arith, length-append, Entry, Call, Layout, fits, serial_of, ticks_told, now, has_time, most_time, IsLegal, past_of, length-reverse}
 use Rattle.cmwq_state.specs.Tables.{IsThere}
 use Rattle.cmwq_state.specs.State.{Parts, AreParts, IsState}
 use Rattle.cmwq_state.specs.Effects.{IsEffect, IsNextEffect}
 use Rattle.cmwq_state.specs.declared.effect.Effect.{Effect}
 use Rattle.cmwq_state.proofs.Steps.{fits_there}
-use Rattle.cmwq_theory_steps.proofs.Growing.{one_more_is_newest}
+use Rattle.cmwq_model.proofs.Growing.{one_more_is_newest}
 
 pub effect_fits : (s : Layout) (past : List Entry) (f : Effect) → IsEffect s past f → fits s f.entry.who f.entry.call ≡ true
 unfolding IsLegal
@@ -20,7 +19,7 @@ unfolding IsLegal
 effect_serial s past f is = ap (λ (x : Entry). x.serial) is.legal.1
 
 -- the time after a call that has time is within its room
-time_within : (past : List Entry) (c : Call) (time : ℕ) → time ≡ now past → time ≤ most_time → has_time past c ≡ true → time + ticks_told c ≤ most_time
+pub time_within : (past : List Entry) (c : Call) (time : ℕ) → time ≡ now past → time ≤ most_time → has_time past c ≡ true → time + ticks_told c ≤ most_time
 time_within past c time is within h = grind arith
 
 -- the effect of an entry for which there is room is that of the next entry

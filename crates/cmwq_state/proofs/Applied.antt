@@ -1,6 +1,5 @@
 -- The parts to which an effect is applied are those of the longer history, and it may be applied to them.
-use Rattle.cmwq_state.specs.Common.{◌≡◌, ℕ, ◌*◌, ◌<◌, ◌≤◌, Bool, true, false, ◌&&◌, ◌==◌, ⊎_elim, List, [], ◌∷◌, length, filter, Option, Some, None, refl, sym, ap, ap₂, ◌∙◌, subst, arith, IsTrue, nat_lt, nat_le, if◌then◌else◌, is_some, IfSome, PoolId, Entry, Queueing, Booking, QueueShape, Call, Ticket, Layout, is_layout, pool_at, item_of, settles, due_in, booking_of, still_open, opening, IsLegal, newly_active, is_below_max_active, has_numbers, number_finished, PoolState, lists_item, no_pool, FlushBook, TimerRows, ending, is_ended, pools_refine, flushes_refine, numbers_refine, opened_are_there, open_are_there, In, all_in, in_filter, found, in_contained, eq-eqb, is_in, MayAllBeAdded, PwqState, IsPassed, IsPlacedIf, is_waiting, ArePlaced, width_by, and_parts, ltb-true, eqb-true, false_from_ne_true, cases_lt, All-from_recursion, waits, candidates, newly_are, filter_none, ticket_ended, ended_ready, unended_fit, Flight, tickets_refine, entries_apply_to_tickets, flights_refine, entries_apply_to_flights, pool_after_activation, pool_after_cancel, pool_after_worker, pool_before_activation, pool_of, AreFlushes, MayBeDoneInFlushes, MayBeginInFlushes, MayEndInFlushes, MayOpenInFlushes, flushes_after_begun, flushes_after_done, flushes_after_end, flushes_after_opening, flushes_after_queueings, MayEndInNumbers, MayOpenInNumbers, numbers_after_end, numbers_after_opening, numbers_of, MayBeSet, timers_after_settling, timers_of, MayEndInFlight, MayOpenInFlight, MayStartInFlight, flights_after, flights_after_end, flights_after_opening, flights_after_start, flights_of, MayEndTicket, MayGiveTicket, tickets_after_end, tickets_after_giving, tickets_of, MayEndInPwqs, MayOpenInPwqs, pwqs_after_end, pwqs_after_opening}
-use Rattle.cmwq_theory_steps.proofs.Standing.{due_settles}
+use Rattle.cmwq_state.specs.Common.{◌≡◌, ℕ, ◌*◌, ◌<◌, ◌≤◌, Bool, true, false, ⊎_elim, List, [], ◌∷◌, length, filter, Option, Some, None, refl, sym, ap, ap₂, ◌∙◌, subst, arith, nat_lt, if◌then◌else◌, is_some, IfSome, PoolId, Entry, Queueing, QueueShape, Call, Ticket, Layout, item_of, settles, booking_of, still_open, opening, IsLegal, newly_active, is_below_max_active, has_numbers, number_finished, PoolState, lists_item, no_pool, FlushBook, TimerRows, ending, is_ended, pools_refine, flushes_refine, numbers_refine, opened_are_there, open_are_there, In, all_in, in_filter, found, in_contained, eq-eqb, is_in, MayAllBeAdded, PwqState, IsPassed, IsPlacedIf, is_waiting, ArePlaced, width_by, ltb-true, false_from_ne_true, cases_lt, All-from_recursion, waits, candidates, newly_are, filter_none, ticket_ended, ended_ready, unended_fit, Flight, tickets_refine, entries_apply_to_tickets, flights_refine, entries_apply_to_flights, pool_after_activation, pool_after_cancel, pool_after_worker, pool_before_activation, pool_of, AreFlushes, MayBeDoneInFlushes, MayBeginInFlushes, MayEndInFlushes, MayOpenInFlushes, flushes_after_begun, flushes_after_done, flushes_after_end, flushes_after_opening, flushes_after_queueings, MayEndInNumbers, MayOpenInNumbers, numbers_after_end, numbers_after_opening, numbers_of, MayBeSet, timers_after_settling, timers_of, MayEndInFlight, MayOpenInFlight, MayStartInFlight, flights_after, flights_after_end, flights_after_opening, flights_after_start, flights_of, MayEndTicket, MayGiveTicket, tickets_after_end, tickets_after_giving, tickets_of, MayEndInPwqs, MayOpenInPwqs, pwqs_after_end, pwqs_after_opening}
 use Rattle.cmwq_ticket.specs.Rows.{TicketBook}
 use Rattle.cmwq_theory_active.proofs.Rising.{opening_number}
 use Rattle.cmwq_refinement.specs.Places as places
@@ -14,7 +13,6 @@ use Rattle.cmwq_refinement.proofs.FlushMay.{entries_apply_to_flushes, given_flus
 use Rattle.cmwq_refinement.proofs.TimerMay.{timers_refine, timers_may_be_set}
 use Rattle.cmwq_refinement.proofs.ItemNumberMay.{entries_apply_to_numbers}
 use Rattle.cmwq_refinement.proofs.PoolAdds.{active_may_be_added, items_are_listed_once}
-use mathlib.Core.Bool.{beq}
 use Rattle.cmwq_refinement.proofs.PlacesFit.{open_there as open_in_there}
 use Rattle.cmwq_model.specs.declared.call.Call.TheVariants as call
 use Rattle.cmwq_model.specs.Tickets.{flushes as flushes_queue}
@@ -157,8 +155,8 @@ open_there s past f x is before h = open_are_there s past x before (in_contained
 pub may_cancel : (s : Layout) (past : List Entry) (f : Effect) (old : List PoolState) → IsEffect s past f → IsLegal s past → length old ≡ 2 * s.cpus → MayCancelInPools f.ended s.queues old
 may_cancel s past f old is before many = grind (arith, open_there)
 
-pub may_end_books : (s : Layout) (past : List Entry) (f : Effect) (old : FlushState) → IsTrue (is_layout s) → IsEffect s past f → IsLegal s past → AreBooks s past old → MayEndInBooks f.ended old
-may_end_books s past f old inside is before are = by f.ended refl
+pub may_end_books : (s : Layout) (past : List Entry) (f : Effect) (old : FlushState) → IsEffect s past f → IsLegal s past → AreBooks s past old → MayEndInBooks f.ended old
+may_end_books s past f old is before are = by f.ended refl
   where
     of_item : MayEndInNumbers f.ended old.opened
     of_item = rw (is.ended, are.numbers) (entries_apply_to_numbers s past f.entry is.legal).ended
@@ -168,14 +166,14 @@ may_end_books s past f old inside is before are = by f.ended refl
     by (Some x) h =
         let there = open_there s past f x is before h in
         let q = x.place.queue.0 in
-        let may = (entries_apply_to_flushes s past f.entry q (book_in old.books q) inside is.legal (are.each q there.queue)).ended in
+        let may = (entries_apply_to_flushes s past f.entry q (book_in old.books q) is.legal (are.each q there.queue)).ended in
         let same : ending past f.entry ≡ Some x = sym is.ended ∙ h in
         let mine = subst (λ o. MayEndInFlushes o q (book_in old.books q)) same may in
         record { queue = rw are.many there.queue; on = mine (eq-eqb q q refl); of = subst (λ o. MayEndInNumbers o old.opened) h of_item }
 
-pub may_open_books : (s : Layout) (past : List Entry) (f : Effect) (old mid : FlushState) → length past < 9223372036854775808 → IsTrue (is_layout s) → IsEffect s past f → AreBooks s past old
+pub may_open_books : (s : Layout) (past : List Entry) (f : Effect) (old mid : FlushState) → length past < 9223372036854775808 → IsEffect s past f → AreBooks s past old
     → EachBook (flushes_after_end f.ended) old mid → mid.opened ≡ numbers_after_end f.ended old.opened → MayOpenInBooks f.opened mid
-may_open_books s past f old mid few inside is are applied ended = by f.opened refl
+may_open_books s past f old mid few is are applied ended = by f.opened refl
   where
     of_item : MayOpenInNumbers f.opened mid.opened
     of_item = rw (ended, is.opened, is.ended, are.numbers) (entries_apply_to_numbers s past f.entry is.legal).opened
@@ -199,7 +197,7 @@ may_open_books s past f old mid few inside is are applied ended = by f.opened re
         let same : opening past f.entry ≡ Some x = sym is.opened ∙ h in
         let there = opened_are_there s past f.entry x is.legal same in
         let q = x.place.queue.0 in
-        let may = (entries_apply_to_flushes s past f.entry q (book_in old.books q) inside is.legal (are.each q there.queue)).opened in
+        let may = (entries_apply_to_flushes s past f.entry q (book_in old.books q) is.legal (are.each q there.queue)).opened in
         let mine = subst (λ o. MayOpenInFlushes o q (flushes_after_end (ending past f.entry) q (book_in old.books q))) same may in
         let number : x.number ≡ length past = opening_number past f.entry x same in
         let item = subst (λ o. MayOpenInNumbers o mid.opened) h of_item in
@@ -216,8 +214,8 @@ may_set_timers s past f is = rw (is.settled, is.booked) (set_by f.entry past (ti
 queue_there : (s : Layout) (q : ℕ) → nat_lt q (length s.queues) ≡ true → (n : ℕ) → n ≡ length s.queues → q < n
 queue_there s q h n many = rw many (ltb-true q (length s.queues) h)
 
-pub may_be_done : (s : Layout) (past : List Entry) (f : Effect) (old mid late : FlushState) → IsTrue (is_layout s) → IsEffect s past f → IsLegal s past → AreBooks s past old → EachBook (flushes_after_end f.ended) old mid → EachBook (flushes_after_opening f.opened) mid late → MayBeDoneInBooks f.done late
-may_be_done s past f old mid late inside is before are first second = by f.done refl
+pub may_be_done : (s : Layout) (past : List Entry) (f : Effect) (old mid late : FlushState) → IsEffect s past f → IsLegal s past → AreBooks s past old → EachBook (flushes_after_end f.ended) old mid → EachBook (flushes_after_opening f.opened) mid late → MayBeDoneInBooks f.done late
+may_be_done s past f old mid late is before are first second = by f.done refl
   where
     many : length late.books ≡ length s.queues
     many = second.many ∙ (first.many ∙ are.many)
@@ -225,7 +223,7 @@ may_be_done s past f old mid late inside is before are first second = by f.done 
     may : (t : Ticket) (q : ℕ) → f.done ≡ Some t → q < length s.queues → MayBeDoneInFlushes (Some t) q (book_in late.books q)
     may t q h here =
         let applied : book_in late.books q ≡ flushes_after_queueings past f.entry q (book_in old.books q) = second.each q ∙ ap₂ (λ o b. flushes_after_opening o q b) is.opened (first.each q ∙ ap (λ o. flushes_after_end o q (book_in old.books q)) is.ended) in
-        let m = (entries_apply_to_flushes s past f.entry q (book_in old.books q) inside is.legal (are.each q here)).done in
+        let m = (entries_apply_to_flushes s past f.entry q (book_in old.books q) is.legal (are.each q here)).done in
         rw applied (subst (λ o. MayBeDoneInFlushes o q (flushes_after_queueings past f.entry q (book_in old.books q))) (sym is.done ∙ h) m)
 
     by_call : (t : Ticket) → f.done ≡ Some t → (c : Call) → t.call ≡ c → has_numbers s c ≡ true → MayEndFlush c t.number late
@@ -238,8 +236,8 @@ may_be_done s past f old mid late inside is before are first second = by f.done 
     by None h = tt
     by (Some t) h = by_call t h t.call refl (unended_fit s past t before (ended_ready s past f.entry t is.legal (sym is.done ∙ h)).stands)
 
-pub may_begin : (s : Layout) (past : List Entry) (f : Effect) (old mid late end : FlushState) → IsTrue (is_layout s) → IsEffect s past f → AreBooks s past old → EachBook (flushes_after_end f.ended) old mid → EachBook (flushes_after_opening f.opened) mid late → EachBook (flushes_after_done f.done) late end → MayBeginInBooks f.begun end
-may_begin s past f old mid late end inside is are first second third = by f.begun refl
+pub may_begin : (s : Layout) (past : List Entry) (f : Effect) (old mid late end : FlushState) → IsEffect s past f → AreBooks s past old → EachBook (flushes_after_end f.ended) old mid → EachBook (flushes_after_opening f.opened) mid late → EachBook (flushes_after_done f.done) late end → MayBeginInBooks f.begun end
+may_begin s past f old mid late end is are first second third = by f.begun refl
   where
     many : length end.books ≡ length old.books
     many = third.many ∙ (second.many ∙ first.many)
@@ -249,7 +247,7 @@ may_begin s past f old mid late end inside is are first second third = by f.begu
 
     latest : (t : Ticket) (q : ℕ) → f.begun ≡ Some t → q < length s.queues → MayBeginInFlushes (Some t) q (book_in end.books q)
     latest t q h here =
-        let m = (entries_apply_to_flushes s past f.entry q (book_in old.books q) inside is.legal (are.each q here)).begun in
+        let m = (entries_apply_to_flushes s past f.entry q (book_in old.books q) is.legal (are.each q here)).begun in
         rw (applied q) (subst (λ o. MayBeginInFlushes o q (flushes_after_done (ticket_ended past f.entry) q (flushes_after_queueings past f.entry q (book_in old.books q)))) (sym is.begun ∙ h) m)
 
     room : (t : Ticket) → f.begun ≡ Some t → overflow_count end.books < end.room
@@ -312,11 +310,11 @@ pub may_open_flights : (s : Layout) (past : List Entry) (f : Effect) → IsEffec
     → MayOpenInFlight f.opened (flights_after_start f.started (flights_after_end f.entry.reply f.ended (flights_of s past)))
 may_open_flights s past f is = rw (is.ended, is.started, is.opened) (entries_apply_to_flights s past f.entry is.legal).opened
 
-pub may_end_tickets : (s : Layout) (past : List Entry) (f : Effect) → IsTrue (is_layout s) → IsEffect s past f → MayEndTicket f.done (tickets_of s past)
-may_end_tickets s past f inside is = rw is.done (entries_apply_to_tickets s past f.entry inside is.legal).ended
+pub may_end_tickets : (s : Layout) (past : List Entry) (f : Effect) → IsEffect s past f → MayEndTicket f.done (tickets_of s past)
+may_end_tickets s past f is = rw is.done (entries_apply_to_tickets s past f.entry is.legal).ended
 
-pub may_give_tickets : (s : Layout) (past : List Entry) (f : Effect) → IsTrue (is_layout s) → IsEffect s past f → MayGiveTicket f.begun (tickets_after_end f.done (tickets_of s past))
-may_give_tickets s past f inside is = rw (is.done, is.begun) (entries_apply_to_tickets s past f.entry inside is.legal).given
+pub may_give_tickets : (s : Layout) (past : List Entry) (f : Effect) → IsEffect s past f → MayGiveTicket f.begun (tickets_after_end f.done (tickets_of s past))
+may_give_tickets s past f is = rw (is.done, is.begun) (entries_apply_to_tickets s past f.entry is.legal).given
 
 pub may_lose_queue : (s : Layout) (past : List Entry) (f : Effect) (gone : List Bool) → IsEffect s past f → IsLegal s past → AreGone s past gone → MayLoseQueue f.done gone
 may_lose_queue s past f gone is before are = subst (λ o. MayLoseQueue o gone) (sym is.done) (may_lose_destroyed s past f.entry gone is.legal before are)

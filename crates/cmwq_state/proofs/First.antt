@@ -1,5 +1,5 @@
 -- The parts of a new book are those of no entries.
-use Rattle.cmwq_state.specs.Common.{◌≡◌, ℕ, Bool, ◌*◌, ◌≤◌, true, false, List, [], length, replicate, refl, sym, ◌∙◌, arith, None, subst, get_or-replicate, length-replicate, Layout, is_layout, most_room, now, IsLegal, queueings, tickets, is_gone, PoolState, no_pool, new_pool_state, new_book, AreFlushes, pools_at_first, flushes_at_first, numbers_at_first, no_timers_at_first, active_count, TimerRows, no_tickets_at_first, Flight, no_flight, no_flights_at_first, PwqState, new_pwq_state, place_of, place_inside, most_cpus}
+use Rattle.cmwq_state.specs.Common.{◌≡◌, ℕ, Bool, ◌*◌, ◌≤◌, true, false, List, [], length, replicate, refl, sym, ◌∙◌, arith, None, subst, get_or-replicate, length-replicate, Layout, is_layout, most_room, now, IsLegal, queueings, tickets, is_gone, PoolState, no_pool, new_pool_state, new_book, AreFlushes, pools_at_first, flushes_at_first, numbers_at_first, no_timers_at_first, active_count, TimerRows, no_tickets_at_first, Flight, no_flight, no_flights_at_first, PwqState, new_pwq_state, place_inside}
 use Rattle.cmwq_ticket.specs.Rows.{TicketBook, new_tickets}
 use Rattle.cmwq_state.specs.Tables.{pool_place, who_place, who_places}
 use Rattle.cmwq_flush.specs.FlushBooks.{FlushState, new_flush_state, no_book}

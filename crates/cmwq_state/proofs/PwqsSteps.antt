@@ -1,5 +1,5 @@
 -- The pool workqueues to which an entry is applied are those of the longer history.
-use Rattle.cmwq_state.specs.Common.{◌≡◌, ℕ, ◌+◌, ◌*◌, ◌-◌, ◌<◌, ◌≤◌, Bool, true, false, not, ◌&&◌, ◌||◌, ◌==◌, append-nil, ⊎_elim, inl, List, [], ◌∷◌, ◌++◌, length, filter, count_by, cond, Option, Some, None, option_to_list, refl, sym, ap, ap₂, ◌∙◌, subst, arith, nat_lt, AllByRecursion, list_any, slice_set, if◌then◌else◌, eq-eqb, eqb-true, false_from_ne_true, not-true, not-false, same_Some, option_map_or, All-from_recursion, length-set, Entry, Queueing, Layout, width, still_open, opening, has_number, is_below_max_active, is_active, newly_active, IsLegal, All_map, All_filter, one, is_on, active_count, survives, ending, waits, stay_count, waiting, candidates, has_none, ends_active_on, filter_same, candidates_are, newly_are, waiting_goes_on, number_of_queueing, open_there, In, of_in, all_in, in_right, in_filter, filter_in, opened_are_there, PwqState, count_at, count_of_same_pwq, place_of, is_waiting, is_other_waiting, pwqs_without_open, pwqs_after_end, pwqs_after_opening, MayEndInPwqs, MayOpenInPwqs, AreBelowMaxActive, Passes, IsPlaced, ArePlaced, count_set, place_inside, on_itself, on_parts, most_cpus}
+use Rattle.cmwq_state.specs.Common.{◌≡◌, ℕ, ◌+◌, ◌*◌, ◌-◌, ◌<◌, ◌≤◌, Bool, true, false, not, ◌&&◌, ◌==◌, append-nil, inl, List, [], ◌∷◌, ◌++◌, length, filter, count_by, cond, Option, Some, None, option_to_list, refl, sym, ap, ap₂, ◌∙◌, subst, arith, nat_lt, AllByRecursion, list_any, slice_set, if◌then◌else◌, eq-eqb, eqb-true, false_from_ne_true, not-true, not-false, same_Some, option_map_or, All-from_recursion, length-set, Entry, Queueing, Layout, width, still_open, opening, has_number, is_below_max_active, is_active, newly_active, IsLegal, All_map, All_filter, one, is_on, active_count, survives, ending, waits, stay_count, waiting, candidates, has_none, filter_same, candidates_are, newly_are, waiting_goes_on, number_of_queueing, open_there, In, of_in, all_in, in_right, in_filter, filter_in, opened_are_there, PwqState, count_at, count_of_same_pwq, place_of, is_waiting, is_other_waiting, pwqs_without_open, pwqs_after_end, pwqs_after_opening, MayEndInPwqs, MayOpenInPwqs, AreBelowMaxActive, Passes, IsPlaced, ArePlaced, count_set, place_inside, on_itself, on_parts, most_cpus}
 use Rattle.std.proofs.lemmas.List.Folds.{list_any_none}
 use Rattle.cmwq_theory_steps.proofs.Way.{way_by_picked}
 use Rattle.cmwq_theory_steps.proofs.ActiveCounts.{stays_counted, active_count_goes_on}
@@ -10,12 +10,7 @@ use Rattle.cmwq_state.specs.Pwqs.{ArePwqsOf}
 use Rattle.cmwq_state.proofs.PwqsItems.{none_left, number_of_item}
 use Rattle.std.proofs.lemmas.Bool.{false≢true}
 use Rattle.cmwq_lemmas.proofs.Lists.{filter_all}
-
--- ---- lists
-
-any_in : {X : Type 0} (p : X → Bool) (xs : List X) (x : X) → In x xs → p x ≡ true → list_any p xs ≡ true
-any_in p [] x h k = absurd h
-any_in p (y ∷ ys) x h k = grind (arith, any_in p ys x)
+use Rattle.cmwq_lemmas.proofs.Members.{any_in}
 
 -- ---- what waits has this number where it is this one
 

@@ -1,6 +1,6 @@
 -- The parts to which one more entry is applied are those of the longer history.
-use Rattle.cmwq_state.specs.Common.{◌≡◌, ◌≢◌, ℕ, ◌+◌, ◌*◌, ◌<◌, ◌≤◌, Bool, true, false, List, ◌∷◌, length, refl, sym, ap, ◌∙◌, arith, slice_set, slice_index_or, if◌then◌else◌, get_or-set_other, length-set, PoolId, Who, Caller, Worker, Entry, Layout, same_who, serial_of, PoolState, serials_go_on, one, most_callers, most_workers, pool_numbered}
-use Rattle.std.proofs.lemmas.Grind.{common_steps, get_or-set_at}
+use Rattle.cmwq_state.specs.Common.{◌≡◌, ◌≢◌, ℕ, ◌+◌, ◌*◌, ◌<◌, ◌≤◌, Bool, true, false, List, ◌∷◌, length, refl, sym, ap, ◌∙◌, arith, slice_set, slice_index_or, get_or-set_other, length-set, PoolId, Who, Entry, Layout, same_who, serial_of, PoolState, serials_go_on, one, most_callers, most_workers, pool_numbered}
+use Rattle.std.proofs.lemmas.Grind.{get_or-set_at}
 use Rattle.cmwq_refinement.specs.Pools as pools
 use Rattle.cmwq_model.proofs.Limits.{Limits}
 use Rattle.cmwq_state.specs.Tables.{IsThere, who_place, who_places, pool_place, ArePools, AreSerials}

@@ -1,6 +1,6 @@
 //! The parts of a new state.
 
-ghost use Rattle.std.specs.Prelude.{◌≡◌, ◌*◌, ◌<◌, ◌≤◌, None, false, IfOk, length, map, replicate, vec_capacity};
+ghost use Rattle.std.specs.Prelude.{◌≡◌, ◌*◌, ◌<◌, ◌≤◌, None, false, IfOk, length, map, replicate};
 ghost use Rattle.cmwq_pool.specs.PoolState.{new_pool_state};
 ghost use Rattle.cmwq_flush.specs.FlushBooks.{new_flush_state};
 ghost use Rattle.cmwq_ticket.specs.Rows.{new_tickets};

@@ -1,6 +1,6 @@
 //! The state, the reads of workers and counts, and the entry that is appended.
 
-ghost use Rattle.std.specs.Prelude.{◌≡◌, ◌<◌, ◌≤◌, ◌+◌, ◌^◌, ◌&&◌, [], true, length, count_by, nat_le, IfOk};
+ghost use Rattle.std.specs.Prelude.{◌≡◌, ◌<◌, ◌≤◌, ◌+◌, ◌&&◌, [], true, length, count_by, nat_le, IfOk};
 ghost use Rattle.cmwq_model.specs.Prelude.{is_layout, layout_of, most_room, past_of, IsLegal, still_open, room_needed, owed, has_time, most_time, is_active};
 ghost use Rattle.cmwq_model.specs.Calls as calls;
 ghost use Rattle.cmwq_state.specs.Tables as tables;

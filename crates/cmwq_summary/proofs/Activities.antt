@@ -29,6 +29,7 @@ use Rattle.cmwq_summary.specs.declared.told.Told.{Told}
 use Rattle.cmwq_summary.specs.Summed.{IsNext}
 use Rattle.cmwq_summary.specs.Figures.{worker_number}
 use Rattle.cmwq_summary.specs.Spent.{asleep_entries, asleep_ticks, awake_entries, awake_ticks, spent}
+use Rattle.cmwq_theory_steps.proofs.OwedSteps.{same_starter}
 
 -- ---- at first
 
@@ -182,9 +183,6 @@ by_itself s past e w a legal who is =
     let woke : e.reply ≡ reply.Woke → runs_asleep past w ≡ true = λ h. let why = wake_reason s past e.who e.call e.reply cause h in subst (λ v. runs_asleep past v ≡ true) (same why.0 why.1) why.3 in
     let now = by_reply e.reply (run past w) (is_asleep past w) a.doing is.runs is.sleeps slept woke in
     (ap₂ (λ (o : Option ℕ) (b : Bool). is_some o && not b) run_is sleep_is ∙ now.0, ap₂ (λ (o : Option ℕ) (b : Bool). is_some o && b) run_is sleep_is ∙ now.1)
-  where
-    same_starter : (v w : WorkerId) → Worker v ≡ Worker w → v ≡ w
-    same_starter v w h = cc
 
 -- ---- workers by their numbers
 

@@ -8,7 +8,7 @@ use Rattle.std.specs.Prelude.{option_map, slice_get}
 use Rattle.std.specs.Option.{option_map_or}
 use Rattle.cmwq_model.specs.declared.entry.Entry.{Entry}
 use Rattle.cmwq_model.specs.declared.record.Ticket.{Ticket}
-use Rattle.cmwq_model.specs.Prelude.{Layout, is_layout, now, is_held_by, ticket_in, unended_tickets, IsLegal}
+use Rattle.cmwq_model.specs.Prelude.{Layout, now, is_held_by, ticket_in, unended_tickets, IsLegal}
 use Rattle.cmwq_lemmas.proofs.Members.{In, of_in, in_filter, option_in, found}
 use Rattle.cmwq_ticket.specs.Rows.{TicketBook, TicketRows, is_numbered, is_other_ticket, is_row_crowded, tickets_of_caller, comes_before}
 use Rattle.cmwq_ticket.specs.Counts.{is_counted}
@@ -132,9 +132,9 @@ module _ (s : Layout) (past : List Entry) (e : Entry) (legal : IsLegal s (e ∷ 
       ∙ ap (λ (rs : GivingRows). without_giving rs (ticket_ended past e)) same))
 
   -- a caller has room for what it is given
-  pub givings_fit : is_layout s ≡ true → HasRoomForGiving (without_giving (givings_of s past) (ticket_ended past e)) (option_map caller_number (ticket_in e (length past)))
-  givings_fit inside = subst (λ (rs : GivingRows). HasRoomForGiving rs (option_map caller_number (ticket_in e (length past)))) (after_end past (ticket_ended past e) (tickets_of s past))
-      (by (ticket_given past e) (entries_apply_to_tickets s past e inside legal).given)
+  pub givings_fit : HasRoomForGiving (without_giving (givings_of s past) (ticket_ended past e)) (option_map caller_number (ticket_in e (length past)))
+  givings_fit = subst (λ (rs : GivingRows). HasRoomForGiving rs (option_map caller_number (ticket_in e (length past)))) (after_end past (ticket_ended past e) (tickets_of s past))
+      (by (ticket_given past e) (entries_apply_to_tickets s past e legal).given)
     where
       book : TicketBook
       book = tickets_after_end (ticket_ended past e) (tickets_of s past)
@@ -163,8 +163,8 @@ module _ (s : Layout) (past : List Entry) (e : Entry) (legal : IsLegal s (e ∷ 
       let here : In t (filter (is_ended_by e) (unended_tickets past)) = subst (In t) (sym (one_ticket_ends past e)) (option_in (ticket_ended past e) t is) in
       of_in (λ u. u.number < length past) (unended_tickets past) t (unended_below past) (in_filter (is_ended_by e) (unended_tickets past) t here).0
 
-  pub ended_waits_are : is_layout s ≡ true → IsExtent (ended_wait each_entry) (ended_wait each_tick) past e (option_map caller_number (ticket_ended past e)) (waited_till_end (givings_of s past) (ticket_ended past e) (behind (e ∷ past)))
-  ended_waits_are inside = by (ticket_ended past e) refl (entries_apply_to_tickets s past e inside legal).ended
+  pub ended_waits_are : IsExtent (ended_wait each_entry) (ended_wait each_tick) past e (option_map caller_number (ticket_ended past e)) (waited_till_end (givings_of s past) (ticket_ended past e) (behind (e ∷ past)))
+  ended_waits_are = by (ticket_ended past e) refl (entries_apply_to_tickets s past e legal).ended
     where
       since : (Entry → ℕ) → Option Ticket → ℕ
       since amount o = option_map_or (λ (t : Ticket). added_since amount (e ∷ past) t.number) o 0

@@ -1,20 +1,13 @@
 -- The time after an entry.
 use Rattle.std.proofs.Common.{◌≡◌, ℕ, ◌+◌, ◌<◌, ◌≤◌, true, List, ◌∷◌, length, ap₂, arith}
-use Rattle.std.proofs.lemmas.Bool.{leb-true}
 use Rattle.std.proofs.lemmas.List.{length-reverse}
-use Rattle.cmwq_model.specs.declared.call.Call.{Call}
-use Rattle.cmwq_model.specs.declared.call.Call.TheVariants as call
 use Rattle.cmwq_model.specs.declared.entry.Entry.{Entry}
 use Rattle.cmwq_summary.specs.declared.span.Span.{Span}
 use Rattle.cmwq_summary.specs.declared.told.Told.{Told}
 use Rattle.cmwq_summary.specs.Activities.{behind}
 use Rattle.cmwq_summary.specs.Summed.{IsNext, IsTold}
 use Rattle.cmwq_model.specs.Prelude.{Layout, is_layout, ticks_told, now, has_time, most_time, past_of, IsLegal}
-
--- after a call that has time it is within its room
-pub time_within : (past : List Entry) (c : Call) (time : ℕ) → time ≡ now past → time ≤ most_time → has_time past c ≡ true → time + ticks_told c ≤ most_time
-time_within past (call.Tick t) time is within h = let fits = leb-true (now past + t) most_time h in omega arith
-time_within past c time is within h = omega arith
+use Rattle.cmwq_state.proofs.Appended.{time_within}
 
 pub time_more : (past : List Entry) (e : Entry) (time ticks : ℕ) → time ≡ now past → ticks ≡ ticks_told e.call → time + ticks ≡ now (e ∷ past)
 unfolding now

@@ -1,6 +1,6 @@
 //! When the tickets were given that are unended.
 ghost use Rattle.std.specs.Prelude.{◌≡◌, ◌++◌, ◌∷◌, [], ◌<◌, length, filter, find, replicate, slice_get, vec_capacity, IfOk};
-ghost use Rattle.cmwq_summary.specs.Givings.{givings_to, is_giving, is_other_giving, since_giving, waited_till_end, waits_since, with_giving, without_giving, HasRoomForGiving};
+ghost use Rattle.cmwq_summary.specs.Givings.{is_giving, is_other_giving, since_giving, waited_till_end, waits_since, with_giving, without_giving, HasRoomForGiving};
 
 use crate::span::{NO_TIME, Span};
 use cmwq_model::{NoMemory, Number, Ticket};

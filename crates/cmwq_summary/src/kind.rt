@@ -1,6 +1,6 @@
 //! The kinds of calls and replies, as small numbers.
-ghost use Rattle.std.specs.Prelude.{◌≡◌, ◌<◌};
-ghost use Rattle.cmwq_summary.specs.Kinds.{call_kind, call_kinds, reply_kind, reply_kinds};
+ghost use Rattle.std.specs.Prelude.{◌≡◌};
+ghost use Rattle.cmwq_summary.specs.Kinds.{call_kind, reply_kind};
 
 use cmwq_model::{Call, Reply};
 

@@ -1,5 +1,5 @@
 //! Entries by call and by reply.
-ghost use Rattle.std.specs.Prelude.{◌≡◌, ◌<◌, [], ◌∷◌, List, length, IfOk};
+ghost use Rattle.std.specs.Prelude.{◌<◌, [], ◌∷◌, List, length, IfOk};
 ghost use Rattle.cmwq_model.specs.declared.entry.Entry as entries;
 ghost use Rattle.cmwq_summary.specs.Parts.{AreKinds};
 

@@ -1,5 +1,5 @@
 //! Queueings, starts and cancels by queue and CPU, and how long the starts were waited for.
-ghost use Rattle.std.specs.Prelude.{◌≡◌, ◌<◌, ◌*◌, ℕ, [], ◌∷◌, List, length, option_map, IfOk};
+ghost use Rattle.std.specs.Prelude.{◌≡◌, ◌<◌, ◌*◌, [], ◌∷◌, List, length, option_map, IfOk};
 ghost use Rattle.cmwq_model.specs.declared.entry.Entry as entries;
 ghost use Rattle.cmwq_summary.specs.Figures.{place_number};
 ghost use Rattle.cmwq_summary.specs.Parts.{ArePlaces};

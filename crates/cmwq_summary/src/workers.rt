@@ -1,5 +1,5 @@
 //! Runs by worker, and how long they were awake and asleep.
-ghost use Rattle.std.specs.Prelude.{◌≡◌, ◌<◌, ◌*◌, ℕ, [], ◌∷◌, List, length, option_map, vec_len, IfOk};
+ghost use Rattle.std.specs.Prelude.{◌≡◌, ◌<◌, ◌*◌, [], ◌∷◌, List, option_map, vec_len, IfOk};
 ghost use Rattle.cmwq_model.specs.declared.entry.Entry as entries;
 ghost use Rattle.cmwq_model.specs.declared.record.Start as starts;
 ghost use Rattle.cmwq_model.specs.Runs as runs;

@@ -1,7 +1,7 @@
 //! An execution, and the tail of its entries.
 ghost use Rattle.std.specs.Prelude.{◌≡◌, ◌≤◌, ◌<◌, ◌+◌, [], length, count_by, None, Some, IfOk, IfErr, OnErr, IsTrue, true};
 ghost use Rattle.std.specs.Vec.{vec_capacity};
-ghost use Rattle.cmwq_model.specs.Prelude.{fits, most_room, IsLegal, still_open, is_active};
+ghost use Rattle.cmwq_model.specs.Prelude.{fits, IsLegal, still_open, is_active};
 ghost use Rattle.cmwq_model.specs.Calls as calls;
 ghost use Rattle.cmwq_model.specs.Legal as legal;
 ghost use Rattle.cmwq_state.specs.Tables as tables;

@@ -1,7 +1,6 @@
 //! Schedules that ask much of a hub.
 
 ghost use Rattle.std.specs.Prelude.{◌<◌};
-ghost use Rattle.cmwq_rt.specs.Later.{Later};
 
 use crate::fixture::{entries_of_others, make, plain_queue, shape};
 use crate::harness::{Act, run};

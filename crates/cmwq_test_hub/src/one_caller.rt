@@ -3,9 +3,9 @@
 ghost use Rattle.std.specs.Prelude.{◌≡◌};
 
 use crate::fixture::{
-    Scene, answer, begin_flush, bits, compare, end_alone, fault, make, on_a_hub, plain_queue, shape,
+    Scene, answer, begin_flush, bits, compare, end_alone, fault, on_a_hub, plain_queue, shape,
 };
-use cmwq_model::{Call, Counts, ItemId, QueueId, QueueShape, Reply, Shape};
+use cmwq_model::{Counts, ItemId, QueueId, QueueShape, Reply, Shape};
 use cmwq_rt::{Caller, Hub, HubName, Participants, RunFault};
 use std::process::Abort;
 use std::sync::Wait;

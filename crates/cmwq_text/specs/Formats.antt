@@ -3,13 +3,13 @@
 -- line `history 3`, and is as one of format 2 but for its limits, those of its lines, its room and its numbers, and for its last line, which says how
 -- many entries stand before it. A file of calls has no line of a format and the limits of the older ones, or begins with the line `calls 3` and has
 -- those of format 3.
+use Rattle.cmwq_text.specs.Words.{◌>>=◌}
 use Rattle.std.specs.Prelude.{◌&&◌, ◌||◌, ◌==◌, if◌then◌else◌}
 use Rattle.cmwq_text.specs.Common.{ℕ, Bool, true, false, not, List, Option, Some, None, codes, nat_le, bytes_eq, Call, Reply, Entry, Who, Counts, QueueShape, most_queues, most_room, greatest, most_time}
 use Rattle.cmwq_model.specs.declared.call.Call.TheVariants as call
 use Rattle.cmwq_model.specs.declared.reply.Reply.TheVariants as reply
 use Rattle.cmwq_text.specs.CallText.{call_read}
 use Rattle.cmwq_text.specs.Numbers.{greatest_number}
-use Rattle.cmwq_text.specs.Words.{◌>>=◌}
 use Rattle.cmwq_text.specs.ShapeText.{counts_read, queue_of_history}
 use Rattle.cmwq_text.specs.EntryText.{entry_of}
 

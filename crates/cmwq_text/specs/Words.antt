@@ -1,14 +1,14 @@
 -- A line as its words, and reading from the first word on: a reader gives a value and the words that are left, if it can.
-use Rattle.std.specs.Prelude.{◌==◌, if◌then◌else◌, ◌∷◌, ◌++◌}
+use Rattle.std.specs.Prelude.{◌==◌, if◌then◌else◌, option_and_then, ◌∷◌, ◌++◌}
 use Rattle.cmwq_text.specs.Common.{ℕ, Bool, true, false, List, [], Option, Some, None, slice_split, join_with_byte, bytes_eq, greatest, greatest_byte, greatest_long, greatest_short}
 use Rattle.std.specs.Option.{option_map}
 use denote.Ref.{Bor}
 use Rattle.cmwq_text.specs.Numbers.{number_read, byte_of, short_of, greatest_number}
 
 infixl 10 ◌>>=◌
+-- one reading after another, where the one before it says something
 abbrev pub ◌>>=◌ : {A B : Type 0} → Option A → (A → Option B) → Option B
-None >>= f = None
-(Some x) >>= f = f x
+o >>= f = option_and_then f o
 
 -- 32 is the space and 10 the line feed
 abbrev pub is_space : ℕ → Bool

@@ -2,7 +2,7 @@
 use Rattle.cmwq_theory_laws.specs.Common.{◌≡◌, ◌<◌, Bool, true, false, nat_lt, List, [], ◌∷◌, ◌++◌, length, reverse, refl, sym, ap, ◌∙◌, subst, append_assoc, arith, reverse-append, ltb-true, nat_tests, Entry, Illegal, Layout, IsLegal, past_of, entry_for, Wants, IsFirstWrong}
 use Rattle.cmwq_model.specs.declared.verdict.Wanted.{Wanted}
 use Rattle.cmwq_model.specs.declared.verdict.Wanted.TheVariants as wanted
-use Rattle.cmwq_theory_steps.proofs.Growing.{older_are_legal}
+use Rattle.cmwq_model.proofs.Growing.{older_are_legal}
 
 -- ---- a first wrong entry is of no legal history
 

@@ -18,7 +18,7 @@ use Rattle.cmwq_theory_steps.proofs.PendingSteps.{none_opened}
 use Rattle.cmwq_theory_steps.proofs.Pools.{PlacedAt, as_booked, books_at, freely, opens_at}
 use Rattle.cmwq_theory_steps.proofs.Standing.{made_for}
 use Rattle.cmwq_theory_steps.proofs.StateSteps.{opens_as_asked}
-use Rattle.cmwq_theory_laws.proofs.Settled.{any_found, none_any}
+use Rattle.cmwq_lemmas.proofs.Passing.{any_found, none_pass}
 use Rattle.cmwq_theory_steps.proofs.Refusals.{none_mapped}
 
 -- ---- what an entry books is on a queue that isn't draining, and isn't gone
@@ -90,7 +90,7 @@ its_booking (e ∷ past) i P b all h = at (settles e.reply && is_of_item i e) re
 
 none_standing : (past : List Entry) (q : ℕ) → list_any (is_booked_on q) (standing past) ≡ false → NoneBooked past q
 none_standing past q h i b is =
-    let k = its_booking past i (λ a. stands past a ≡ true → (a.place.queue.0 == q) ≡ false) b (All_unfilter (λ a. (a.place.queue.0 == q) ≡ false) (stands past) (bookings past) (none_any (is_booked_on q) (standing past) h)) is in
+    let k = its_booking past i (λ a. stands past a ≡ true → (a.place.queue.0 == q) ≡ false) b (All_unfilter (λ a. (a.place.queue.0 == q) ≡ false) (stands past) (bookings past) (none_pass (is_booked_on q) (standing past) h)) is in
     k.1 (ap (λ o. is_at (option_map number_booked o) b.number) (ap (booking past) k.0 ∙ is) ∙ eq-eqb b.number b.number refl)
 
 -- ---- the invariant

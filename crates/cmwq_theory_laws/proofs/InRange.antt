@@ -1,13 +1,13 @@
 -- The replies of a legal history fit its layout, and its numbers are inside their ranges.
-use Rattle.cmwq_theory_laws.specs.Common.{◌≡◌, ◌<◌, ◌≤◌, ◌+◌, ◌*◌, ℕ, Bool, true, false, ◌&&◌, List, [], ◌∷◌, length, find, Option, Some, None, refl, sym, ap, ap₂, subst, arith, option_map, if◌then◌else◌, IsTrue, reverse, All, AllByRecursion, list_any, le-leb, lt-ltb, reverse-append, reverse-reverse, length-reverse, All-from_recursion, recursion_from_All, WorkerId, Who, Call, Reply, Entry, Queueing, Start, Layout, is_layout, indices, reply_fits, entry_fits, IsWho, IsCall, IsReply, IsEntry, greatest, is_by, serial_of, ticks_told, now, run, item_run, still_open, unstarted_queueing, next, holds_up, least_waited, waits_for, enlisted_by, is_other_idle, is_reserve, IsLegal, past_of, most_time, has_time, All_append, find_holds, next_holds, IsKnown, known_more, queueings_known, IsOpenOne, open_known, unstarted_is, started_older, run_is, items_are_run, due_own, Cause, cause_of, legal_fits}
+use Rattle.cmwq_theory_laws.specs.Common.{◌≡◌, ◌<◌, ◌≤◌, ◌+◌, ◌*◌, ℕ, true, ◌&&◌, List, [], ◌∷◌, length, find, Option, Some, None, refl, sym, ap, ap₂, subst, arith, option_map, IsTrue, reverse, All, AllByRecursion, le-leb, lt-ltb, reverse-append, reverse-reverse, length-reverse, All-from_recursion, recursion_from_All, WorkerId, Who, Call, Reply, Entry, Queueing, Start, Layout, is_layout, reply_fits, entry_fits, IsWho, IsCall, IsReply, IsEntry, greatest, is_by, serial_of, ticks_told, now, run, item_run, still_open, unstarted_queueing, next, holds_up, least_waited, waits_for, IsLegal, past_of, most_time, has_time, All_append, find_holds, next_holds, IsKnown, known_more, queueings_known, IsOpenOne, open_known, unstarted_is, started_older, run_is, items_are_run, due_own, Cause, cause_of, legal_fits}
 use Rattle.cmwq_model.proofs.Limits.{limits_of}
 use Rattle.cmwq_model.specs.Prelude.{most_items, most_workers}
 use Rattle.cmwq_model.specs.declared.call.Call.TheVariants as call
 use Rattle.cmwq_theory_steps.proofs.Causes as cause
 use Rattle.std.proofs.lemmas.List.Sums.{count_by-le-length}
 use Rattle.std.proofs.lemmas.Option.{same_Some}
-use Rattle.cmwq_lemmas.proofs.Lists.{range_below}
 use Rattle.cmwq_theory_steps.proofs.OwedItems.{booked_within}
+use Rattle.cmwq_theory_steps.proofs.Starts.{reserve_there}
 
 -- ---- numbers of queueings are those of older entries
 
@@ -39,14 +39,6 @@ waited_older s past k n (call.CancelSync i) legal h = item_older s past i.0 n le
 waited_older s past k n c legal h = least_older past k n c h
 
 -- ---- items and workers are of the layout
-
-reserve_there : (s : Layout) (past : List Entry) (w : WorkerId) (y : ℕ) → enlisted_by s past w ≡ Some y → y < s.workers
-unfolding enlisted_by
-reserve_there s past w y h = at (list_any (is_other_idle past w) (indices s)) h
-  where
-    at : (b : Bool) → (if b then None else find (is_reserve past w.pool) (indices s)) ≡ Some y → y < s.workers
-    at true k = cc
-    at false k = omega (arith, (find_holds (λ z. z < 0 + s.workers) (is_reserve past w.pool) (indices s) y (range_below 0 s.workers) k).holds)
 
 -- ---- the reply that an entry gets
 

@@ -1,18 +1,10 @@
 -- Where the end of a cancel_sync is answered done, its item neither is pending nor runs after that.
-use Rattle.cmwq_theory_laws.specs.Common.{AllByRecursion, or_parts, arith, ◌≡◌, ℕ, Bool, true, false, ◌&&◌, List, [], ◌∷◌, find, Option, Some, None, refl, ap, ◌∙◌, sym, option_map, is_some, if◌then◌else◌, list_any, eq-eqb, Entry, Start, Layout, entry_at, is_of_item, settles, number_started, item_run, item_runs, start_in, is_pending, unended_tickets, is_ticket, is_cancelling, cancels_sync, is_cancel_sync_of, waits_for, IsLegal, IsDone, no_start, starts_no_item, items_run_on, ends_ticket, ready_call, ended_call}
+use Rattle.cmwq_theory_laws.specs.Common.{◌≡◌, ℕ, true, false, ◌&&◌, List, [], ◌∷◌, Option, Some, None, refl, ap, ◌∙◌, sym, option_map, is_some, if◌then◌else◌, eq-eqb, Entry, Start, Layout, entry_at, is_of_item, settles, number_started, item_run, item_runs, start_in, is_pending, unended_tickets, is_ticket, is_cancelling, cancels_sync, is_cancel_sync_of, waits_for, IsLegal, IsDone, no_start, starts_no_item, items_run_on, ends_ticket, ready_call, ended_call}
 use Rattle.cmwq_model.specs.declared.call.Call.TheVariants as call
 use Rattle.cmwq_theory_laws.specs.Headline.{CancelsSettle}
 use Rattle.cmwq_theory_steps.specs.RunSteps.{ends_run}
 use Rattle.cmwq_theory_laws.proofs.Cancelling.{cancelling_idle, stays_idle}
-
--- what is found is there
-pub any_found : {X : Type 0} (p q : X → Bool) (x : X) (xs : List X) → find p xs ≡ Some x → q x ≡ true → list_any q xs ≡ true
-any_found p q x [] found passes = cc
-any_found p q x (y ∷ xs) found passes = grind (arith, any_found p q x xs)
-
-pub none_any : {X : Type 0} (p : X → Bool) (xs : List X) → list_any p xs ≡ false → AllByRecursion (λ x. p x ≡ false) xs
-none_any p [] h = tt
-none_any p (x ∷ xs) h = let parts = or_parts (p x) (list_any p xs) h in (parts.0, none_any p xs parts.1)
+use Rattle.cmwq_lemmas.proofs.Passing.{any_found}
 
 -- the cancel_sync whose end is answered done was unended until then
 was_cancelling : (s : Layout) (past : List Entry) (e : Entry) (t i : ℕ) (begun : Entry) → IsLegal s (e ∷ past) → IsDone e t → entry_at past t ≡ Some begun → begun.call ≡ call.CancelSync (record { 0 = i }) → is_cancelling past i ≡ true

@@ -8,6 +8,7 @@ use Rattle.std.proofs.lemmas.Cmp.{nat_eq_equiv}
 use Rattle.std.proofs.lemmas.Map.Made.{length-le_from_is_member}
 use Rattle.cmwq_theory_laws.specs.Headline.{runs_queue_on, RunsWithinActive}
 use Rattle.cmwq_theory_steps.proofs.RunsActive.{found_known, found_number, run_is_active}
+use Rattle.cmwq_lemmas.proofs.Lists.{all_mapped}
 
 -- ---- numbers
 
@@ -64,10 +65,6 @@ numbers_differ s past q c w v legal rw rv other = false_from_ne_true _ (λ is.
     let item = ap (item_at past) (sym (eqb-true (run_number past w) (run_number past v) is)) ∙ rw.item in
     let one : w ≡ v = (one_worker s past w v (run_number past w) (run_number past v) rw.queueing.item.0 legal rw.runs rv.runs rw.item item).0 in
     both_ways _ other (subst (λ u. same_worker w u ≡ true) one (same_worker_itself w)))
-
-all_mapped : (f : WorkerId → ℕ) (P : ℕ → Type 0) (ws : List WorkerId) → AllByRecursion (λ w. P (f w)) ws → AllByRecursion P (map f ws)
-all_mapped f P [] h = tt
-all_mapped f P (w ∷ ws) h = (h.0, all_mapped f P ws h.1)
 
 numbers_distinct : (s : Layout) (past : List Entry) (q c : ℕ) (ws : List WorkerId) → IsLegal s past → IsDistinct same_worker ws → AllByRecursion (RunsOn s past q c) ws → IsDistinct (◌==◌) (map (run_number past) ws)
 unfolding IsDistinct

@@ -1,12 +1,12 @@
 -- The queueing that an entry ends, read off its reply, and an item's run as a queueing.
-use Rattle.cmwq_theory_steps.specs.Common.{◌∷◌, item_of, unstarted_queueing, ◌≡◌, ℕ, List, Some, AllByRecursion, Entry, Queueing, Start, Layout, item_run, still_open, IsLegal}
+use Rattle.cmwq_theory_steps.specs.Common.{◌∷◌, item_of, ◌≡◌, ℕ, List, Some, Entry, Queueing, Start, Layout, item_run, IsLegal}
 use Rattle.cmwq_theory_steps.specs.ItemQueueings.{IsRunOf, ended_by}
 use Rattle.cmwq_theory_steps.specs.Endings.{ending}
 use Rattle.cmwq_theory_steps.proofs.StartsListed.{IsFound}
 use Rattle.cmwq_theory_steps.proofs.RunsActive.{found_known, found_number}
 use Rattle.cmwq_theory_steps.proofs.ItemSteps.{items_are_run}
 use Rattle.cmwq_theory_steps.proofs.Pools.{runs_are_in_pools}
-use Rattle.cmwq_theory_steps.proofs.Ended.{ends_of, found_open, found_unstarted}
+use Rattle.cmwq_theory_steps.proofs.Ended.{ends_of}
 
 -- ---- an item's run
 
@@ -17,14 +17,6 @@ runs_are_queueings s past legal i start h =
     let known = found_known past start.number r.queueing r.found in
     let number = found_number past start.number r.queueing r.found in
     record { queueing = r.queueing; found = r.found; live = r.live; item = cc (known.item, number, is.1); pool = r.pool }
-
--- ---- queueings that are found
-
-pub open_found : (past : List Entry) → AllByRecursion (IsFound past) (still_open past)
-open_found past = found_open past
-
-pub unstarted_found : (past : List Entry) (i : ℕ) (x : Queueing) → unstarted_queueing past i ≡ Some x → IsFound past x
-unstarted_found past i x h = found_unstarted past i x h
 
 pub same_by_number : (past : List Entry) (x y : Queueing) → IsFound past x → IsFound past y → x.number ≡ y.number → x ≡ y
 same_by_number past x y hx hy same = cc

@@ -10,7 +10,6 @@ pub mod Entries
 pub mod Fresh
 pub mod Fronts
 pub mod Given
-pub mod Growing
 pub mod Inversions
 pub mod ItemRuns
 pub mod ItemSteps

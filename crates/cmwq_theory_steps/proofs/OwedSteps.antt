@@ -56,6 +56,9 @@ has_run_on s past e w b legal h = ap is_some (workers_run_on s past e w legal �
 pub by_itself : (e : Entry) (w : WorkerId) → e.who ≡ Worker w → is_by (Worker w) e ≡ true
 by_itself e w who = ap (λ (x : Who). same_who x (Worker w)) who ∙ same_worker_itself w
 
+pub by_whom : (e : Entry) (v w : WorkerId) → e.who ≡ Worker v → is_by (Worker w) e ≡ true → v ≡ w
+by_whom e v w who by = same_worker-true v w (sym (ap (λ (x : Who). same_who x (Worker w)) who) ∙ by)
+
 pub same_starter : (v w : WorkerId) → Worker v ≡ Worker w → v ≡ w
 same_starter v w h = cc
 

@@ -17,11 +17,12 @@ use Rattle.cmwq_theory_steps.proofs.Pending.{own_item, opening_opens, opens_sett
 use Rattle.cmwq_theory_steps.proofs.Pools.{started_was}
 use Rattle.cmwq_theory_steps.proofs.StateSteps.{opens_as_asked, books_as_asked}
 use Rattle.cmwq_theory_steps.proofs.Unstarted.{unstarted_goes_on}
-use Rattle.cmwq_theory_steps.proofs.EndsAsTold.{same_by_number, unstarted_found}
+use Rattle.cmwq_theory_steps.proofs.EndsAsTold.{same_by_number}
 use Rattle.cmwq_theory_steps.proofs.Starts.{starts_next}
 use Rattle.cmwq_lemmas.proofs.Truth.{same_bools}
 use Rattle.std.proofs.lemmas.Bool.{and_parts, both_ways, false_from_ne_true}
 use Rattle.std.proofs.lemmas.Option.{same_Some}
+use Rattle.cmwq_theory_steps.proofs.Ended.{found_unstarted}
 
 -- the test of a number is true where the numbers are the same, and false where that can't be
 told_apart : (n m : ℕ) (b : Bool) → (b ≡ true → n ≡ m) → (n ≡ m → b ≡ true) → (n == m) ≡ b
@@ -96,7 +97,7 @@ taken_back_is s past e i x legal u = at (number_cancelled e.reply) refl
 
         back : n ≡ x.number → is_of_item i e ≡ true
         back number =
-            let one = same_by_number past t.queueing x (unstarted_found past t.item t.queueing t.is_unstarted) (unstarted_found past i x u) (t.number ∙ number) in
+            let one = same_by_number past t.queueing x (found_unstarted past t.item t.queueing t.is_unstarted) (found_unstarted past i x u) (t.number ∙ number) in
             let mine : t.item ≡ i = sym (unstarted_is past t.item t.queueing t.is_unstarted).item ∙ ap (λ (y : Queueing). y.item.0) one ∙ (unstarted_is past i x u).item in
             ap (λ o. is_at o i) item ∙ eq-eqb t.item i mine
 

@@ -2,7 +2,7 @@
 pub use Rattle.std.proofs.Common.{Bool, List, None, Option, Some, [], add-zero, ap, append-nil, ap₂, arith, cond, count_by, drop, false, filter, find, if◌then◌else◌, inl, inr, length, length-append, map, max, min, nat_le, nat_lt, not, option_to_list, refl, subst, suc, sym, take, true, zero, zero-add, ℕ, ◌&&◌, ◌++◌, ◌+◌, ◌-◌, ◌<◌, ◌==◌, ◌||◌, ◌∙◌, ◌∷◌, ◌≡◌, ◌≤◌}
 pub use Rattle.std.proofs.lemmas.Bool.{and_parts, cases_lt, eq-eqb, eqb-true, false_from_ne_true, le-ltb, lt-ltb, ltb-false, ltb-true, or_right}
 pub use Rattle.std.proofs.lemmas.Bool.Decides.{eqb_tells, nat_tests}
-pub use Rattle.std.proofs.lemmas.List.{length-take, reverse-append, reverse-reverse}
+pub use Rattle.std.proofs.lemmas.List.{length-take}
 pub use Rattle.std.proofs.lemmas.List.Elements.{All-from_recursion, Contains-append_left, Contains-append_right, filter-append}
 pub use Rattle.std.proofs.lemmas.List.Filters.{length-filter_both, sum_by-filter_both}
 pub use Rattle.std.proofs.lemmas.List.Folds.{find-append}

@@ -1,6 +1,5 @@
 -- What the nodes of each level keep is the first of all items below them.
-use Rattle.std.proofs.Common.{◌≡◌, ◌⊎◌, inl, inr, ℕ, zero, suc, ◌+◌, ◌*◌, ◌/◌, ◌<◌, ◌≤◌, Bool, true, false, List, [], ◌∷◌, length, Option, Some, None, refl, ap, subst, arith, ⊎_elim, cond}
-use Rattle.std.specs.Prelude.{option_map}
+use Rattle.std.proofs.Common.{◌≡◌, ◌⊎◌, inl, inr, ℕ, zero, suc, ◌+◌, ◌*◌, ◌/◌, ◌<◌, ◌≤◌, Bool, true, false, List, [], ◌∷◌, length, Option, Some, None, refl, subst, arith, ⊎_elim, cond}
 use Rattle.std.proofs.lemmas.Bool.{cases_lt}
 use Rattle.std.proofs.lemmas.Bool.Decides.{nat_tests}
 use Rattle.std.proofs.lemmas.List.{get_or_past}
@@ -9,7 +8,7 @@ use Rattle.cmwq_timer.specs.declared.candidate.Candidate.{Candidate}
 use Rattle.cmwq_timer.specs.Due.{is_sooner, timer_may_fire}
 use Rattle.cmwq_timer.specs.Rows.{TimerRows, timer_of, NoneMayFire, IsFirstToFire}
 use Rattle.cmwq_timer.specs.Tournament.{Nodes, node_at, candidate_at, node_above, any_timer, sooner, IsSoonest, IsLevel, AreLevels, IsFirst, IsFirstUnder}
-use Rattle.cmwq_timer.proofs.Soonest.{not_both, sooner_chain, sooner_on}
+use Rattle.cmwq_timer.proofs.Soonest.{not_both, sooner_chain, sooner_on, row_past, node_past}
 
 -- ---- the first of the items at one place or another
 
@@ -52,12 +51,6 @@ row_inside rows i t at = ⊎_elim (λ l. l) (λ g. absurd (not_both (timer_of ro
 pub rows_under : (rows : TimerRows) (k : ℕ) → IsFirstUnder any_timer rows 0 k (candidate_at rows k)
 rows_under rows k = grind arith
 
-pub rows_past : (rows : TimerRows) (k : ℕ) → length rows ≤ k → candidate_at rows k ≡ None
-rows_past rows k past = ap (option_map (λ (t : Timer). record { item = record { 0 = k }; timer = t })) (get_or_past rows k None past)
-
-pub nodes_past : (level : List (Option Candidate)) (k : ℕ) → length level ≤ k → node_at level k ≡ None
-nodes_past level k past = get_or_past level k None past
-
 module _ (rows : TimerRows) (l many : ℕ) (below : Nodes) (level : List (Option Candidate))
     (is : IsLevel many below level) (under : (k : ℕ) → IsFirstUnder any_timer rows l k (below k)) (past : (k : ℕ) → many ≤ k → below k ≡ None) where
   -- an item below a node that keeps none isn't booked
@@ -88,20 +81,20 @@ module _ (rows : TimerRows) (l many : ℕ) (below : Nodes) (level : List (Option
   outside k far = let covers = is.covers in λ i t at p same. unbooked i t (past (node_above l i) (omega (arith, same))) at
 
   pub level_under : (k : ℕ) → IsFirstUnder any_timer rows (suc l) k (node_at level k)
-  level_under k = ⊎_elim (λ low. inside k (node_at level k) (is.each k low)) (λ far. rw (nodes_past level k far) (outside k far)) (cases_lt k (length level))
+  level_under k = ⊎_elim (λ low. inside k (node_at level k) (is.each k low)) (λ far. rw (node_past level k far) (outside k far)) (cases_lt k (length level))
 
 module _ (rows : TimerRows) (lows middles highs : List (Option Candidate)) (top : Option Candidate) (are : AreLevels rows lows middles highs top) where
   pub lows_under : (k : ℕ) → IsFirstUnder any_timer rows 1 k (node_at lows k)
-  lows_under = level_under rows 0 (length rows) (candidate_at rows) lows are.low (rows_under rows) (rows_past rows)
+  lows_under = level_under rows 0 (length rows) (candidate_at rows) lows are.low (rows_under rows) (row_past rows)
 
   pub middles_under : (k : ℕ) → IsFirstUnder any_timer rows 2 k (node_at middles k)
-  middles_under = level_under rows 1 (length lows) (node_at lows) middles are.middle lows_under (nodes_past lows)
+  middles_under = level_under rows 1 (length lows) (node_at lows) middles are.middle lows_under (node_past lows)
 
   pub highs_under : (k : ℕ) → IsFirstUnder any_timer rows 3 k (node_at highs k)
-  highs_under = level_under rows 2 (length middles) (node_at middles) highs are.high middles_under (nodes_past middles)
+  highs_under = level_under rows 2 (length middles) (node_at middles) highs are.high middles_under (node_past middles)
 
   pub last_under : (k : ℕ) → IsFirstUnder any_timer rows 4 k (node_at (top ∷ []) k)
-  last_under = level_under rows 3 (length highs) (node_at highs) (top ∷ []) are.last highs_under (nodes_past highs)
+  last_under = level_under rows 3 (length highs) (node_at highs) (top ∷ []) are.last highs_under (node_past highs)
 
 -- ---- the search below a node
 

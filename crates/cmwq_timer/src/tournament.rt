@@ -1,7 +1,7 @@
 //! A tournament of all timers: of each sixteen nodes of a level, the next level keeps the one that fires first. So what a booking
 //! changes, and which timer is the first of all, takes some steps for each level, however many items there are.
 
-ghost use Rattle.std.specs.Prelude.{◌≡◌, ◌^◌, ◌<◌, ◌≤◌, None, IfOk, length, replicate, slice_set, slice_index_or};
+ghost use Rattle.std.specs.Prelude.{◌≡◌, ◌^◌, ◌<◌, ◌≤◌, None, IfOk, length, replicate, slice_set};
 ghost use Rattle.cmwq_timer.specs.Due.{timer_may_fire};
 ghost use Rattle.cmwq_timer.specs.Rows.{timer_of};
 ghost use Rattle.cmwq_timer.specs.Tournament.{IsFirstUnder, any_timer};

@@ -1,5 +1,5 @@
 //! Trace events as JSON values.
-ghost use Rattle.std.specs.Prelude.{◌≡◌, ◌+◌, ◌-◌, ◌≤◌, IfOk};
+ghost use Rattle.std.specs.Prelude.{◌≡◌, ◌+◌, ◌-◌, IfOk};
 ghost use Rattle.serde_json.specs.View.{view};
 ghost use Rattle.cmwq_trace.specs.Events as spec;
 

@@ -1,5 +1,6 @@
 use Rattle.std.proofs.Common.{refl, arith}
-use Rattle.cmwq_core.proofs.Judging.{first_wrong, judged_none, judged_more, time_for}
+use Rattle.cmwq_core.proofs.Judging.{judged_none, judged_more, time_for}
+use Rattle.cmwq_model.proofs.Growing.{first_wrong}
 use Rattle.cmwq_core.proofs.judge.verdict.Goals as goal
 
 pub loop-at-init : goal.loop-at-init

@@ -2,7 +2,7 @@ use Rattle.cmwq_flush.specs.Common.{sym, ◌∙◌, arith}
 use Rattle.std.proofs.lemmas.Bool.{lt-leb}
 use Rattle.cmwq_list.specs.Lists.{list_at}
 use Rattle.cmwq_flush.specs.Overflow.{is_from, ticket_of_node}
-use Rattle.cmwq_flush.proofs.OverflowNodes.{has_there, found_here, left_more}
+use Rattle.cmwq_list.proofs.Walking.{has_there, found_here, left_more}
 use Rattle.cmwq_flush.proofs.overflow.first_from.Goals as goal
 
 pub bounds-tickets-node : goal.bounds-tickets-node

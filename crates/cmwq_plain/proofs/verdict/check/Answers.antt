@@ -1,9 +1,9 @@
 use Rattle.std.proofs.Common.{refl}
-use Rattle.cmwq_plain.proofs.Verdicts.{legal_none, legal_more, first_wrong}
+use Rattle.cmwq_model.proofs.Growing.{first_wrong, legal_more, nothing_is_legal}
 use Rattle.cmwq_plain.proofs.verdict.check.Goals as goal
 
 pub loop-at-init : goal.loop-at-init
-loop-at-init c = legal_none c.args.shape.now
+loop-at-init c = nothing_is_legal c.args.shape.now
 
 pub returns-in-Some-clause-illegal : goal.returns-in-Some-clause-illegal
 returns-in-Some-clause-illegal c =

@@ -1,7 +1,7 @@
 use Rattle.std.proofs.Common.{sym, ap, ◌∙◌, not}
 use Rattle.cmwq_list.specs.Lists.{list_at}
 use Rattle.cmwq_pool.specs.Slots.{slots_run_item}
-use Rattle.cmwq_pool.proofs.Walking.{has_there, found_here, left_more}
+use Rattle.cmwq_list.proofs.Walking.{has_there, found_here, left_more}
 use Rattle.cmwq_pool.proofs.listing.first_free.Goals as goal
 
 pub returns-then-not-run_item-clause-first : goal.returns-then-not-run_item-clause-first

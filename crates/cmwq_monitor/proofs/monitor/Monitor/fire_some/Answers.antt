@@ -1,4 +1,4 @@
-use Rattle.cmwq_monitor.specs.Common.{◌≡◌, ap, sym, ◌∙◌, refl, arith, subst, inl}
+use Rattle.cmwq_monitor.specs.Common.{ap, sym, ◌∙◌, refl, arith, subst, inl}
 use Rattle.cmwq_model.specs.declared.call.Call.TheVariants as calls
 use Rattle.cmwq_monitor.specs.Participants.{is_caller}
 use Rattle.cmwq_monitor.specs.Steps.{Lacks}

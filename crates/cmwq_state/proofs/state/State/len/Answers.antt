@@ -1,4 +1,4 @@
-use Rattle.cmwq_state.specs.Common.{◌≡◌, length, arith, length-reverse, past_of}
+use Rattle.cmwq_state.specs.Common.{arith, length-reverse}
 use Rattle.cmwq_state.proofs.state.State.len.Goals as goal
 
 pub returns-clause-needed : goal.returns-clause-needed

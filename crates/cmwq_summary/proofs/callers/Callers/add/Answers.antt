@@ -21,7 +21,7 @@ add-requires-2 c = let few = c.requires.2.few in record { few = counts_few by_ti
 pub add-requires-4 : goal.add-requires-4
 add-requires-4 c =
     let s = c.requires.0 in let past = c.requires.1 in let next = c.requires.2 in
-    rw (c.remove.ensures, c.requires.4.givings, next.told.ended_ticket, c.ticket_caller-caller.ensures (length past)) (givings_fit s past c.args.told.now.entry next.legal next.inside)
+    rw (c.remove.ensures, c.requires.4.givings, next.told.ended_ticket, c.ticket_caller-caller.ensures (length past)) (givings_fit s past c.args.told.now.entry next.legal)
 
 pub returns : goal.returns
 returns c s past next now are =
@@ -33,6 +33,6 @@ returns c s past next now are =
     record {
       calls = told_tally by_calling s.callers past e _ _ _ c.caller_in.ensures c.add.ensures are.calls;
       tickets = told_tally by_ticket s.callers past e _ _ _ caller c.add-2.ensures are.tickets;
-      longest = rw (c.add-3.ensures, holder, wait) (longest_goes_on by_ticket_ended (ended_wait each_entry) (ended_wait each_tick) s.callers past e _ _ _ refl (ended_waits_are s past e next.legal next.inside) are.longest);
+      longest = rw (c.add-3.ensures, holder, wait) (longest_goes_on by_ticket_ended (ended_wait each_entry) (ended_wait each_tick) s.callers past e _ _ _ refl (ended_waits_are s past e next.legal) are.longest);
       givings = rw (c.add-4.ensures, c.remove.ensures, are.givings, told.ended_ticket, caller, number, now) (givings_go_on s past e next.legal);
     }

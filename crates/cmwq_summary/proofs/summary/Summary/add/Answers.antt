@@ -1,8 +1,9 @@
 use Rattle.std.proofs.Common.{◌≡◌, ◌∙◌}
 use Rattle.cmwq_model.specs.Prelude.{past_of, ticks_told}
-use Rattle.cmwq_theory_steps.proofs.Growing.{one_more_is_newest}
+use Rattle.cmwq_model.proofs.Growing.{one_more_is_newest}
 use Rattle.cmwq_summary.specs.Summed.{IsNext}
-use Rattle.cmwq_summary.proofs.Times.{next_is, now_behind, time_within, time_more}
+use Rattle.cmwq_summary.proofs.Times.{next_is, now_behind, time_more}
+use Rattle.cmwq_state.proofs.Appended.{time_within}
 use Rattle.cmwq_summary.proofs.summary.Summary.add.Goals as goal
 
 pub add-requires-3 : goal.add-requires-3

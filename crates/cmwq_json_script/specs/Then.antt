@@ -1,6 +1,0 @@
--- One reading after another, where the one before it says something.
-use Rattle.std.specs.Prelude.{Option, option_and_then}
-
-infixl 10 ◌>>=◌
-abbrev pub ◌>>=◌ : {A B : Type 0} → Option A → (A → Option B) → Option B
-o >>= f = option_and_then f o
