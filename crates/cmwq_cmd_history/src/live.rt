@@ -133,7 +133,7 @@ fn live<S: Source, O: Sink>(
     ended
 }
 
-/// The same from a first stage on, which stays the caller's, so that it is let go at one place, however this ends.
+/// The same from the first stage on, which stays the caller's, so that it is let go at one place, however this ends.
 fn answer_lines<S: Source, O: Sink>(
     alloc: Global,
     input: &mut S,

@@ -41,6 +41,7 @@ impl Progress {
         let execution = Execution::new(alloc, &shape, ALL_ROOM)?;
         match Summary::new(alloc, shape) {
             Ok(summary) => Ok(Progress { execution, summary }),
+            // (by `end`, since the prover would else look at all its vectors here)
             Err(failed) => {
                 execution.end();
                 Err(failed)

@@ -10,9 +10,10 @@ use std::sync::{Condvar, MutexGuard, Wait};
 /// How often one who spins looks whether it is notified, before it sleeps.
 const LOOKS: u32 = 1_000;
 
-/// Who has slept so many times since a spin was of use spins now and then alone: once in `SELDOM` times.
+/// Who has slept so many times since a spin was of use spins only now and then.
 const PATIENCE: u32 = 4;
 
+/// It spins then once in so many times.
 const SELDOM: u32 = 64;
 
 /// What one caller or worker sleeps at. Its own thread alone changes what stands beside the condvar.

@@ -89,6 +89,7 @@ impl<N: HubName> Hub<N> {
         }
     }
 
+    /// Wakes whom the monitor named, behind the lock, so that nobody wakes only to wait for it.
     fn notify(&self, wakes: Option<Wakes>) {
         if let Some(wakes) = wakes {
             self.condvars.notify(&wakes);
