@@ -3,8 +3,8 @@ use Rattle.std.proofs.Common.{◌≡◌, ℕ, ◌-◌, ◌<◌, ◌≤◌, ◌==
 use Rattle.std.specs.Prelude.{if◌then◌else◌}
 use Rattle.std.specs.List.{AllByRecursion}
 use Rattle.std.proofs.lemmas.Bool.{eqb-true, lt-ltb, ltb-true, and_parts}
-use Rattle.cmwq_lemmas.proofs.Lists.{All_append, All_map}
-use Rattle.cmwq_lemmas.proofs.Members.{In, in_left, in_right, option_in, in_contained, contained_in}
+use Rattle.cmwq_lemmas.proofs.Lists.{All_append, All_map, All_flat, same_tail}
+use Rattle.cmwq_lemmas.proofs.Members.{In, in_left, in_right, option_in, in_contained, contained_in, flat_in, in_mapped}
 use Rattle.cmwq_model.specs.declared.entry.Entry.{Entry}
 use Rattle.cmwq_model.specs.declared.record.Place.{Place}
 use Rattle.cmwq_model.specs.Prelude.{Layout}
@@ -13,7 +13,6 @@ use Rattle.cmwq_chart.specs.declared.levels.Level.{Level}
 use Rattle.cmwq_chart.specs.Levels.{height_at, is_same_height, is_changed, changes_level, level_from, level_until, level_ended, levels_ended_by, levels_ended, levels_left, levels_of}
 use Rattle.cmwq_chart_laws.specs.BarLaws.{StandsIn}
 use Rattle.cmwq_chart_laws.specs.LevelLaws.{Covers, IsTrueAfter, IsTrueWhereItIs, LevelsAreTrue, HasLevelAt, PlacesHaveLevels}
-use Rattle.cmwq_chart_laws.proofs.Listed.{flat_in, map_in, All_flat, same_tail}
 
 -- ---- heights
 
@@ -189,7 +188,7 @@ has_level s places p i past e before (inr k) =
     let l : Level = level_until s past None p in
     record {
       level = l;
-      listed = in_contained (levels_of s past places) l (in_right (levels_ended s past places) (levels_left s past places) l (map_in (level_until s past None) places p i));
+      listed = in_contained (levels_of s past places) l (in_right (levels_ended s past places) (levels_left s past places) l (in_mapped (level_until s past None) places p i));
       of_place = refl;
       covers = record { begun = k; not_over = tt };
     }

@@ -1,7 +1,6 @@
 pub mod Finishes
 pub mod OneBar
 pub mod Asleep
-pub mod Listed
 pub mod LevelsStand
 pub mod OneLevel
 pub mod UsedPlaces

@@ -12,7 +12,7 @@ use Rattle.cmwq_model.specs.declared.id.Who.{Who}
 use Rattle.cmwq_model.specs.declared.id.Who.TheVariants.{Caller, Worker}
 use Rattle.cmwq_model.specs.declared.id.WorkerId.{WorkerId}
 use Rattle.cmwq_model.specs.Prelude.{Layout, finishes, number_started, number_finished, item_at, start_in, run, has_run, worker_of, IsLegal}
-use Rattle.cmwq_lemmas.proofs.Lists.{All_map, All_append}
+use Rattle.cmwq_lemmas.proofs.Lists.{All_map, All_append, same_tail}
 use Rattle.cmwq_theory_steps.proofs.Entries.{item_at-older, is_at-true}
 use Rattle.cmwq_theory_steps.proofs.Fresh.{finishes_run}
 use Rattle.cmwq_theory_steps.proofs.ItemRuns.{one_worker, starts_known, start_of_worker}
@@ -22,7 +22,6 @@ use Rattle.cmwq_chart.specs.Bars.{finish_place, bar_from, bar_of, bars_in, bars_
 use Rattle.cmwq_chart_laws.specs.BarLaws.{FinishesAt, EndsWell, begins_at, HasOneBar, StartsHaveOneBar, IsOfStart, BarsAreOfStarts, EndsBefore, AreApart, LanesAreApart}
 use Rattle.cmwq_model.proofs.Growing.{older_are_legal}
 use Rattle.cmwq_chart_laws.proofs.Finishes.{finish_within, finish_stays, not_yet, goes_on}
-use Rattle.cmwq_chart_laws.proofs.Listed.{same_tail}
 
 items_stay : (after past : List Entry) (n : ℕ) → n < length past → item_at (after ++ past) n ≡ item_at past n
 items_stay [] past n less = refl

@@ -3,7 +3,7 @@ use Rattle.std.proofs.Common.{◌≡◌, ℕ, ◌-◌, ◌<◌, Bool, true, fals
 use Rattle.std.specs.Prelude.{if◌then◌else◌}
 use Rattle.std.specs.List.{AllByRecursion}
 use Rattle.std.proofs.lemmas.Bool.{lt-ltb, le-ltb}
-use Rattle.cmwq_lemmas.proofs.Lists.{All_append, All_map}
+use Rattle.cmwq_lemmas.proofs.Lists.{All_append, All_map, All_flat}
 use Rattle.cmwq_model.specs.declared.entry.Entry.{Entry}
 use Rattle.cmwq_model.specs.declared.record.Place.{Place}
 use Rattle.cmwq_model.specs.Prelude.{Layout}
@@ -11,7 +11,6 @@ use Rattle.cmwq_chart.specs.declared.levels.Level.{Level}
 use Rattle.cmwq_chart.specs.Levels.{height_at, changes_level, level_from, level_until, level_ended, levels_ended_by, levels_ended, levels_left, levels_of}
 use Rattle.cmwq_chart_laws.specs.LevelLaws.{Covers, AreOne, LevelsAreAlone}
 use Rattle.cmwq_chart_laws.proofs.LevelsStand.{changed_later, from_within, over_by}
-use Rattle.cmwq_chart_laws.proofs.Listed.{All_flat}
 
 -- the level of a place that covers an entry, among those that have ended and among all
 unfoldable pub ended_cover : Layout → List Entry → Place → ℕ → Level

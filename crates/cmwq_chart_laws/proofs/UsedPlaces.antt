@@ -5,7 +5,7 @@ use Rattle.std.specs.List.{AllByRecursion, range_with_len}
 use Rattle.std.proofs.lemmas.Bool.{eq-eqb}
 use Rattle.std.proofs.lemmas.List.FromFn.{length-range_with_len, get_or-range_with_len}
 use Rattle.cmwq_lemmas.proofs.Lists.{All_append}
-use Rattle.cmwq_lemmas.proofs.Members.{In, of_in, all_in, any_in, in_at, in_option, filter_in, in_contained}
+use Rattle.cmwq_lemmas.proofs.Members.{In, of_in, all_in, any_in, in_at, in_option, filter_in, in_contained, in_mapped, flat_in}
 use Rattle.cmwq_model.specs.declared.entry.Entry.{Entry}
 use Rattle.cmwq_model.specs.declared.record.Queueing.{Queueing}
 use Rattle.cmwq_model.specs.Prelude.{Layout, IsLegal, opening, queueings}
@@ -13,7 +13,6 @@ use Rattle.cmwq_refinement.specs.Places.{IsQueueingThere}
 use Rattle.cmwq_refinement.proofs.PlacesFit.{opened_are_there}
 use Rattle.cmwq_chart.specs.Levels.{is_of_place, has_queueings, place_on, places_of_queue, places_of}
 use Rattle.cmwq_chart_laws.specs.LevelLaws.{UsedPlacesAreShown}
-use Rattle.cmwq_chart_laws.proofs.Listed.{map_in, flat_in}
 
 range_in : (n k : ℕ) → k < n → In k (range_with_len 0 n)
 range_in n k less = in_at (range_with_len 0 n) k k (let long = length-range_with_len 0 n in omega arith) (get_or-range_with_len 0 n k k less ∙ zero-add k)
@@ -30,7 +29,7 @@ unfolding places_of
 shown s xs x i there =
     let q : ℕ = x.place.queue.0 in
     let c : ℕ = x.place.cpu.0 in
-    let on_cpu : In x.place (places_of_queue s q) = map_in (place_on q) (range_with_len 0 s.cpus) c (range_in s.cpus c there.cpu) in
+    let on_cpu : In x.place (places_of_queue s q) = in_mapped (place_on q) (range_with_len 0 s.cpus) c (range_in s.cpus c there.cpu) in
     let of_queue : In x.place (flat_map (places_of_queue s) (range_with_len 0 (length s.queues))) =
     flat_in (places_of_queue s) (range_with_len 0 (length s.queues)) q x.place (range_in (length s.queues) q there.queue) on_cpu in
     let itself : is_of_place x.place x ≡ true = ap₂ (λ a b. a && b) (eq-eqb q q refl) (eq-eqb c c refl) in

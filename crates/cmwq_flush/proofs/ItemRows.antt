@@ -2,7 +2,9 @@
 use Rattle.cmwq_flush.specs.Common.{◌≡◌, ℕ, ◌<◌, ◌≤◌, Bool, true, false, not, cond, List, [], ◌∷◌, suc, Option, Some, None, IfSome, is_some, refl, arith, ⊎_elim, find, All, ◌↔◌, cases_lt, false≢true, nat_tests}
 use Rattle.cmwq_flush.specs.Numbers.{AreRising}
 use Rattle.cmwq_flush.specs.ItemNumbers.{is_up_to}
+use Rattle.cmwq_lemmas.proofs.Lists.{find_none as all_fail}
 use Rattle.cmwq_flush.proofs.Search.{find_none}
+use Rattle.std.proofs.lemmas.List.Elements.{All-from_recursion}
 
 all_above : (n x : ℕ) (ns : List ℕ) → AreRising (x ∷ ns) → n ≤ x → All (λ m. n ≤ m) (x ∷ ns)
 all_above n x ns rise le k d lt = ⊎_elim (λ (later : 0 < k). let above = rise 0 k d later lt in omega arith) (λ (first : k ≤ 0). let here : k ≡ 0 = omega arith in rw here le) (cases_lt 0 k)
@@ -19,8 +21,7 @@ first_is_least t [] o e rise = rw e tt
 first_is_least t (x ∷ ns) o e rise = rw e (least_by (is_up_to t x) t x ns refl rise)
 
 none_found : (p : ℕ → Bool) (ns : List ℕ) → find p ns ≡ None → All (λ n. p n ≡ false) ns
-none_found p [] e = λ k d lt. absurd (omega arith)
-none_found p (x ∷ ns) e = grind (arith, none_found p ns)
+none_found p ns e = All-from_recursion (λ n. p n ≡ false) ns (all_fail p ns e)
 
 nothing : (o : Option ℕ) → is_some o ≡ false → o ≡ None
 nothing o e = grind arith

@@ -13,11 +13,12 @@ use Rattle.cmwq_flush.specs.Numbers.{without}
 use Rattle.cmwq_flush.specs.Rows.{no_row, row_number, row_numbers, rows_at, without_row, is_other_row}
 use Rattle.cmwq_flush.specs.ItemNumbers.{numbers_open}
 use Rattle.cmwq_flush.specs.Openings.{AreOpenings, is_listed, node_row, node_number, rows_of, by_age, numbers_of_nodes, opened_by, has_number}
-use Rattle.cmwq_flush.proofs.Search.{filter_all}
+use Rattle.cmwq_lemmas.proofs.Lists.{filter_all}
 use Rattle.cmwq_flush.proofs.Nodes.{set_one, listed-pushed, listed-removed, rows-removed, node_in, in_list, number_there}
 use Rattle.cmwq_flush.proofs.NodeNumbers.{opened_at, opened_set, latest_first, latest_second, ended_first, ended_second, one_of, some_at, number_at_listed, number_at_free, number-pushed, number-kept, number-removed, number-stays}
 use Rattle.cmwq_flush.proofs.OverflowNodes.{none_listed}
 use Rattle.cmwq_list.proofs.Members.{owner_has}
+use Rattle.std.proofs.lemmas.List.Elements.{recursion_from_All}
 
 chosen : (b c : Bool) (x y : ℕ) → b ≡ c → cond b x y ≡ cond c x y
 chosen b c x y e = ap (λ d. cond d x y) e
@@ -141,8 +142,8 @@ module _ (items : ℕ) (s : Listed) (rows : List Row) (is : AreOpenings items s 
     has_it l found = let w = node_in s.lists rows l n found in ap (λ x. has_item x (list_at s.lists l)) (sym (only_it w.0 (in_list s.lists w.0 l w.1.here) w.1.number)) ∙ w.1.here
 
     lacks_it : (l : ℕ) → l ≢ q → without_row n (rows_at (rows_of s.lists rows) l) ≡ rows_at (rows_of s.lists rows) l
-    lacks_it l differs = filter_all (is_other_row n) (rows_at (rows_of s.lists rows) l) (λ k d lt. ap not (ne_eqb (get_or (rows_at (rows_of s.lists rows) l) k d).number n (λ same.
-        differs (once.apart v l q (has_it l (k, rw length-map lt, get_or-map row_number (rows_at (rows_of s.lists rows) l) k d n lt ∙ same)) (has_it q here)))))
+    lacks_it l differs = filter_all (is_other_row n) (rows_at (rows_of s.lists rows) l) (recursion_from_All (λ r. is_other_row n r ≡ true) (rows_at (rows_of s.lists rows) l) (λ k d lt. ap not (ne_eqb (get_or (rows_at (rows_of s.lists rows) l) k d).number n (λ same.
+        differs (once.apart v l q (has_it l (k, rw length-map lt, get_or-map row_number (rows_at (rows_of s.lists rows) l) k d n lt ∙ same)) (has_it q here))))))
 
     pub closed_in_one : map (without_row n) (rows_of s.lists rows) ≡ set (rows_of s.lists rows) q (without_row n (rows_at (rows_of s.lists rows) q))
     closed_in_one = set_one (without_row n) (rows_of s.lists rows) q (rows_if (rows_of s.lists rows) q n here) lacks_it

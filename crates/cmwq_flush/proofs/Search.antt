@@ -1,19 +1,17 @@
 -- What a binary search finds among elements whose keys rise, and what is left when the one it found is removed.
-use Rattle.cmwq_flush.specs.Common.{◌≡◌, ◌≢◌, ℕ, ◌-◌, ◌<◌, ◌≤◌, Bool, true, false, not, eqb, ltb, List, [], ◌∷◌, length, get_or, zero, suc, Option, Some, None, Result, IfSome, IfNone, IsSome, sym, ap, refl, ◌∙◌, arith, ⊎_elim, map, filter, find, All, AllPairs, Contains, ◌↔◌, HoldsAt, remove, IsSearchInRange, IsBinarySearchResult, cases_lt, nat_tests, get_or-map, length-map, All-tail, All-head}
+use Rattle.cmwq_flush.specs.Common.{◌≡◌, ◌≢◌, ℕ, ◌-◌, ◌<◌, ◌≤◌, Bool, true, false, not, eqb, ltb, List, [], ◌∷◌, length, get_or, zero, suc, Option, Some, None, Result, IfSome, IfNone, IsSome, sym, ap, refl, ◌∙◌, arith, ⊎_elim, map, filter, find, All, AllPairs, Contains, ◌↔◌, HoldsAt, remove, IsSearchInRange, IsBinarySearchResult, cases_lt, nat_tests, get_or-map, length-map}
 use Rattle.std.specs.Result.{result_ok}
 use Rattle.std.specs.Ordering.{nat_cmp}
-
--- a filter that all pass keeps the list
-pub filter_all : {X : Type 0} (p : X → Bool) (xs : List X) → All (λ x. p x ≡ true) xs → filter p xs ≡ xs
-filter_all p [] all = refl
-filter_all p (x ∷ xs) all = rw (All-head (λ x. p x ≡ true) x xs all) (ap (λ ys. x ∷ ys) (filter_all p xs (All-tail (λ x. p x ≡ true) x xs all)))
+use Rattle.std.proofs.lemmas.List.Elements.{recursion_from_All}
+use Rattle.cmwq_lemmas.proofs.Lists.{filter_all}
+use Rattle.cmwq_lemmas.proofs.Filters.{none_found}
 
 -- the removal of the one element that fails a test is the filter by the test
 pub remove_is_filter : {X : Type 0} (p : X → Bool) (xs : List X) (i : ℕ) → i < length xs → ((d : X) → p (get_or xs i d) ≡ false) → ((k : ℕ) (d : X) → k < length xs → k ≢ i → p (get_or xs k d) ≡ true) → remove xs i ≡ filter p xs
 remove_is_filter p [] i in_range fails others = absurd (omega arith)
 remove_is_filter p (x ∷ xs) zero in_range fails others =
     let rest : All (λ y. p y ≡ true) xs = λ k d lt. others (suc k) d (omega arith) (omega arith) in
-    rw (fails x) (sym (filter_all p xs rest))
+    rw (fails x) (sym (filter_all p xs (recursion_from_All (λ y. p y ≡ true) xs rest)))
 remove_is_filter p (x ∷ xs) (suc i) in_range fails others =
     let rest = remove_is_filter p xs i (omega arith) fails (λ k d lt differs. others (suc k) d (omega arith) (λ same. differs (omega arith))) in
     rw (others 0 x (omega arith) (omega arith)) (ap (λ ys. x ∷ ys) rest)
@@ -27,10 +25,7 @@ find_first p (x ∷ xs) (suc i) d lt passes before =
     rw fails (find_first p xs i d (omega arith) passes (λ k below. before (suc k) (omega arith)))
 
 pub find_none : {X : Type 0} (p : X → Bool) (xs : List X) → All (λ x. p x ≡ false) xs → find p xs ≡ None
-find_none p [] all = refl
-find_none p (x ∷ xs) all =
-    let fails : p x ≡ false = All-head (λ x. p x ≡ false) x xs all in
-    rw fails (find_none p xs (All-tail (λ x. p x ≡ false) x xs all))
+find_none p xs all = none_found p xs (recursion_from_All (λ x. p x ≡ false) xs all)
 
 module _ {X : Type 0} (key : X → ℕ) (xs : List X) (n : ℕ) where
   abbrev pub IsAt : ℕ → Type 0

@@ -4,3 +4,5 @@ pub mod Truth
 pub mod Members
 pub mod Rising
 pub mod Passing
+pub mod Numbers
+pub mod Pushed

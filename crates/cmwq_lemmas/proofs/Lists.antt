@@ -1,7 +1,10 @@
 -- Lists: what holds of each element, counts, and ranges of numbers.
-use Rattle.std.proofs.Common.{◌≡◌, ◌+◌, ◌<◌, ◌≤◌, ℕ, zero, suc, Bool, true, false, cond, ◌&&◌, List, [], ◌∷◌, ◌++◌, length, map, filter, find, count_by, Some, None, refl, sym, ap, ap₂, ◌∙◌, subst, zero-add, arith}
+use Rattle.std.proofs.Common.{◌≡◌, ◌+◌, ◌<◌, ◌≤◌, ℕ, zero, suc, Bool, true, false, cond, ◌&&◌, List, [], ◌∷◌, ◌++◌, length, map, filter, find, count_by, Option, Some, None, option_to_list, replicate, refl, sym, ap, ap₂, ◌∙◌, subst, zero-add, arith}
 use Rattle.std.proofs.lemmas.List.Sums.{sum_by-append, sum_by-cons}
+use Rattle.std.specs.Prelude.{flat_map}
 use Rattle.std.specs.List.{AllByRecursion, range_with_len}
+use Rattle.std.proofs.lemmas.List.Concat.{flat_map-cons}
+use Rattle.std.proofs.lemmas.List.FromFn.{length-range_with_len}
 
 module _ {X : Type 0} where
   pub All_map : (P Q : X → Type 0) (xs : List X) → ((x : X) → P x → Q x) → AllByRecursion P xs → AllByRecursion Q xs
@@ -82,3 +85,22 @@ count_append p = sum_by-append (λ x. cond (p x) 1 0)
 pub range_below : (a k : ℕ) → AllByRecursion (λ i. i < a + k) (range_with_len a k)
 range_below a zero = tt
 range_below a (suc k) = (omega arith, subst (λ n. AllByRecursion (λ i. i < n) (range_with_len (a + 1) k)) (omega arith) (range_below (a + 1) k))
+
+pub All_flat : {X Y : Type 0} (P : Y → Type 0) (f : X → List Y) (xs : List X) → ((x : X) → AllByRecursion P (f x)) → AllByRecursion P (flat_map f xs)
+All_flat P f [] each = tt
+All_flat P f (z ∷ zs) each = subst (AllByRecursion P) (sym (flat_map-cons f z zs)) (All_append P (f z) (flat_map f zs) (each z) (All_flat P f zs each))
+
+pub of_option : {X : Type 0} (P : X → Type 0) (o : Option X) → ((x : X) → o ≡ Some x → P x) → AllByRecursion P (option_to_list o)
+of_option P None h = tt
+of_option P (Some x) h = (h x refl, tt)
+
+pub same_tail : {X : Type 0} (x y : X) (k l : List X) → x ∷ k ≡ y ∷ l → k ≡ l
+same_tail x y k l h = cc
+
+-- rows that are one
+pub rows_alike : {X : Type 0} (f : ℕ → X) (v : X) (n : ℕ) → ((x : ℕ) → f x ≡ v) → map f (range_with_len 0 n) ≡ replicate n v
+rows_alike f v n each = alike (range_with_len 0 n) ∙ ap (λ k. replicate k v) (length-range_with_len 0 n)
+  where
+    alike : (xs : List ℕ) → map f xs ≡ replicate (length xs) v
+    alike [] = refl
+    alike (x ∷ xs) = grind (arith, alike xs, each x)

@@ -1,15 +1,18 @@
 -- What passes a test: some of a list or none, what is left of it, and how many numbers of a range.
-use Rattle.std.proofs.Common.{◌≡◌, ◌==◌, ◌<◌, ◌≤◌, ◌+◌, ℕ, zero, suc, Bool, true, false, cond, not, List, [], ◌∷◌, ◌++◌, ◌||◌, length, map, filter, find, count_by, Some, None, refl, ap, ◌∙◌, arith, eq-eqb}
+use Rattle.std.proofs.Common.{◌≡◌, ◌==◌, ◌<◌, ◌≤◌, ◌+◌, ℕ, zero, suc, Bool, true, false, cond, not, List, [], ◌∷◌, ◌++◌, ◌||◌, length, map, filter, find, count_by, Some, None, refl, ap, ◌∙◌, arith, eq-eqb, Option, sym, subst, ⊎_elim, ◌↔◌}
 use Rattle.std.specs.List.{AllByRecursion, list_any, range_with_len, sum_by}
 use Rattle.std.specs.Option.{option_map}
-use Rattle.std.proofs.lemmas.Bool.{ne_eqb}
+use Rattle.std.proofs.lemmas.Bool.{ne_eqb, cases_eq}
 use Rattle.std.proofs.lemmas.Bool.Decides.{nat_tests}
 use Rattle.std.proofs.lemmas.List.Filters.{length-filter_both, sum_by-filter_both}
 use Rattle.std.proofs.lemmas.List.Folds.{list_any-append}
 use Rattle.std.proofs.lemmas.List.Sums.{length-filter, sum_by_push}
-use Rattle.cmwq_lemmas.proofs.Lists.{All_filter, All_map, count_by-cons}
+use Rattle.cmwq_lemmas.proofs.Lists.{All_filter, All_map, count_by-cons, count_by-head, find_none, range_below}
 use Rattle.cmwq_lemmas.proofs.Members.{found, of_in}
 use Rattle.cmwq_lemmas.proofs.Truth.{or_false}
+use Rattle.std.specs.Prelude.{All}
+use Rattle.std.proofs.lemmas.List.Elements.{All-from_recursion, recursion_from_All}
+use Rattle.cmwq_lemmas.proofs.Filters.{none_found}
 
 -- ---- some pass, or none
 
@@ -64,10 +67,32 @@ pub none_found_any : {X : Type 0} (p : X → Bool) (xs : List X) → find p xs �
 none_found_any p [] is = refl
 none_found_any p (x ∷ xs) is = grind (arith, none_found_any p xs)
 
+-- none is found where each is so that it doesn't pass
+pub all_unfound : {X : Type 0} (P : X → Type 0) (p : X → Bool) (xs : List X) → ((x : X) → P x → p x ≡ false) → ((x : X) → p x ≡ false → P x) → All P xs ↔ (find p xs ≡ None)
+all_unfound P p xs fails holds = (
+  (λ all. none_found p xs (All_map P (λ x. p x ≡ false) xs fails (recursion_from_All P xs all))),
+  (λ none. All-from_recursion P xs (All_map (λ x. p x ≡ false) P xs holds (find_none p xs none))),
+)
+
 pub count_push : {X : Type 0} (p : X → Bool) (xs : List X) (x : X) → count_by p (xs ++ x ∷ []) ≡ count_by p xs + cond (p x) 1 0
 count_push p = sum_by_push (λ x. cond (p x) 1 0)
 
 -- ---- some are taken out
+
+-- of items, those with a number
+module _ {X : Type 0} (item : X → ℕ) where
+  pub taken_out : (i z : ℕ) (xs : List X) → count_by (λ x. item x == i) (filter (λ x. not (item x == z)) xs) + cond (z == i) (count_by (λ x. item x == z) xs) 0 ≡ count_by (λ x. item x == i) xs
+  taken_out i z [] = grind arith
+  taken_out i z (y ∷ ys) =
+      let a = count_by-head (λ x. item x == i) y (filter (λ x. not (item x == z)) ys) (not (item y == z)) in
+      let b = count_by-cons (λ x. item x == i) y ys in
+      let c = count_by-cons (λ x. item x == z) y ys in
+      let d = taken_out i z ys in
+      grind (arith, nat_tests)
+
+  pub others_there : (n i : ℕ) (xs : List X) → (n == i) ≡ false → list_any (λ x. item x == n) (filter (λ x. not (item x == i)) xs) ≡ list_any (λ x. item x == n) xs
+  others_there n i [] h = refl
+  others_there n i (x ∷ xs) h = grind (arith, nat_tests, others_there n i xs)
 
 pub less_kept : {X : Type 0} (f : X → ℕ) (q : X → Bool) (xs : List X) → sum_by f (filter q xs) ≤ sum_by f xs
 less_kept f q xs = omega (arith, sum_by-filter_both q (λ x. not (q x)) (λ x. refl) f xs)
@@ -109,3 +134,19 @@ once_among a (suc k) i = grind (arith, nat_tests, count_by-cons (λ j. j == i) a
 
 pub once_there : (i a k : ℕ) → a ≤ i → i < a + k → count_by (λ j. j == i) (range_with_len a k) ≡ 1
 once_there i a k low high = let a1 = once_among a k i in let b = one_counted (λ j. j == i) a k i low high (eq-eqb i i refl) in omega arith
+
+range_each : (P : ℕ → Type 0) (a n : ℕ) → AllByRecursion P (range_with_len a n) → (x : ℕ) → a ≤ x → x < a + n → P x
+range_each P a zero all x low high = absurd (omega arith)
+range_each P a (suc n) all x low high = ⊎_elim (λ same. subst P (sym same) all.0) (λ differs. range_each P (a + 1) n all.1 x (omega arith) (omega arith)) (cases_eq x a)
+
+-- the first number below n that passes, or that none passes
+pub data Any (p : ℕ → Bool) (n : ℕ) : Type 0 where
+  one : (x : ℕ) → x < n → p x ≡ true → find p (range_with_len 0 n) ≡ Some x → Any p n
+  none : ((x : ℕ) → x < n → p x ≡ false) → find p (range_with_len 0 n) ≡ None → Any p n
+
+pub any_below : (p : ℕ → Bool) (n : ℕ) → Any p n
+any_below p n = at (find p (range_with_len 0 n)) refl
+  where
+    at : (o : Option ℕ) → find p (range_with_len 0 n) ≡ o → Any p n
+    at (Some x) is = let k = all_found (λ i. i < 0 + n) p (range_with_len 0 n) x (range_below 0 n) is in one x (omega (arith, k.0)) k.1 is
+    at None is = none (λ x less. range_each (λ i. p i ≡ false) 0 n (find_none p (range_with_len 0 n) is) x (omega arith) (omega arith)) is

@@ -34,7 +34,7 @@ fn is_ahead(queueing: &Queueing, other: &Queueing) -> bool
 }
 
 /// Whether the entry with this number opened one that is still open and ahead of this.
-#[tactic(auto, using(crate::proofs::Lists::filter_push, crate::proofs::Lists::count_push), unfolding(crate::specs::Partial::ahead_upto, crate::specs::Past::open_upto))]
+#[tactic(auto, using(cmwq_lemmas::proofs::Pushed::filter_push, cmwq_lemmas::proofs::Pushed::count_push), unfolding(crate::specs::Partial::ahead_upto, crate::specs::Past::open_upto))]
 fn is_ahead_at(past: &Past<'_>, queueing: &Queueing, number: usize) -> bool
     requires { number < length past.now }
     ensures { ahead_upto past.now queueing.now (number + 1)

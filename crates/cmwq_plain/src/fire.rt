@@ -16,7 +16,7 @@ fn may_fire(past: &Past<'_>, made: &Booking) -> bool
 }
 
 /// The booking that the entry with this number made, if it may fire.
-#[tactic(auto, using(crate::proofs::Parts::ends, crate::proofs::Lists::filter_push, crate::proofs::Steps::bookings_step), unfolding(crate::specs::Partial::fireable_upto))]
+#[tactic(auto, using(crate::proofs::Parts::ends, cmwq_lemmas::proofs::Pushed::filter_push, crate::proofs::Steps::bookings_step), unfolding(crate::specs::Partial::fireable_upto))]
 fn fireable_at(past: &Past<'_>, number: usize) -> Option<Booking>
     requires { number < length past.now }
     ensures { fireable_upto past.now (number + 1)
@@ -35,7 +35,7 @@ fn fireable_at(past: &Past<'_>, number: usize) -> Option<Booking>
 }
 
 /// Whether nothing that may fire is due before this booking.
-#[tactic(auto, using(crate::proofs::Lists::any_push, crate::proofs::Steps::fireable_ends))]
+#[tactic(auto, using(cmwq_lemmas::proofs::Pushed::any_push, crate::proofs::Steps::fireable_ends))]
 fn is_soonest(past: &Past<'_>, made: &Booking) -> bool
     ensures { result ≡ is_soonest (fireable past.now) made.now }
 {
@@ -51,7 +51,7 @@ fn is_soonest(past: &Past<'_>, made: &Booking) -> bool
 }
 
 /// The booking that fires first.
-#[tactic(auto, using(crate::proofs::Lists::find_push, crate::proofs::Steps::fireable_ends), unfolding(cmwq_model::specs::Answer::first_due))]
+#[tactic(auto, using(cmwq_lemmas::proofs::Pushed::find_push, crate::proofs::Steps::fireable_ends), unfolding(cmwq_model::specs::Answer::first_due))]
 pub fn first_due(past: &Past<'_>) -> Option<Booking>
     ensures { result ≡ first_due past.now }
 {
@@ -67,7 +67,7 @@ pub fn first_due(past: &Past<'_>) -> Option<Booking>
 }
 
 /// The booking that the entry with this number made, if it stands.
-#[tactic(auto, using(crate::proofs::Parts::ends, crate::proofs::Lists::filter_push, crate::proofs::Steps::bookings_step), unfolding(crate::specs::Partial::standing_upto))]
+#[tactic(auto, using(crate::proofs::Parts::ends, cmwq_lemmas::proofs::Pushed::filter_push, crate::proofs::Steps::bookings_step), unfolding(crate::specs::Partial::standing_upto))]
 fn standing_at(past: &Past<'_>, number: usize) -> Option<Booking>
     requires { number < length past.now }
     ensures { standing_upto past.now (number + 1)
@@ -86,7 +86,7 @@ fn standing_at(past: &Past<'_>, number: usize) -> Option<Booking>
 }
 
 /// Whether an item is delayed on the queue.
-#[tactic(auto, using(crate::proofs::Lists::any_push, crate::proofs::Steps::standing_ends))]
+#[tactic(auto, using(cmwq_lemmas::proofs::Pushed::any_push, crate::proofs::Steps::standing_ends))]
 pub fn has_timers(past: &Past<'_>, queue: u8) -> bool
     ensures { result ≡ list_any (is_booked_on queue) (standing past.now) }
 {

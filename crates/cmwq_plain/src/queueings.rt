@@ -73,7 +73,7 @@ pub fn is_live(past: &Past<'_>, queueing: &Queueing) -> bool
 }
 
 /// What the entry with this number opened, if that is still open.
-#[tactic(auto, using(crate::proofs::Lists::filter_push), unfolding(crate::specs::Past::open_upto))]
+#[tactic(auto, using(cmwq_lemmas::proofs::Pushed::filter_push), unfolding(crate::specs::Past::open_upto))]
 pub fn open_at(past: &Past<'_>, number: usize) -> Option<Queueing>
     requires { number < length past.now }
     ensures { open_upto past.now (number + 1)
@@ -98,7 +98,7 @@ fn is_unstarted(past: &Past<'_>, item: u16, queueing: &Queueing) -> bool
 }
 
 /// The item's open queueing that hasn't started.
-#[tactic(auto, using(crate::proofs::Lists::find_push, crate::proofs::PastSteps::open_ends))]
+#[tactic(auto, using(cmwq_lemmas::proofs::Pushed::find_push, crate::proofs::PastSteps::open_ends))]
 pub fn unstarted(past: &Past<'_>, item: u16) -> Option<Queueing>
     ensures { result ≡ unstarted_queueing past.now item }
 {
@@ -121,7 +121,7 @@ pub fn is_pending(past: &Past<'_>, item: u16) -> bool
 }
 
 /// Whether the item has an open queueing.
-#[tactic(auto, using(crate::proofs::Lists::find_push, crate::proofs::PastSteps::open_ends))]
+#[tactic(auto, using(cmwq_lemmas::proofs::Pushed::find_push, crate::proofs::PastSteps::open_ends))]
 pub fn is_item_open(past: &Past<'_>, item: u16) -> bool
     ensures { result ≡ is_item_open past.now item }
 {
@@ -137,7 +137,7 @@ pub fn is_item_open(past: &Past<'_>, item: u16) -> bool
 }
 
 /// The queueing with this number.
-#[tactic(auto, using(crate::proofs::Parts::ends, crate::proofs::Lists::find_push, crate::proofs::PastSteps::queueings_none))]
+#[tactic(auto, using(crate::proofs::Parts::ends, cmwq_lemmas::proofs::Pushed::find_push, crate::proofs::PastSteps::queueings_none))]
 pub fn queueing_at(past: &Past<'_>, number: Number) -> Option<Queueing>
     ensures { result ≡ queueing_at past.now number }
 {

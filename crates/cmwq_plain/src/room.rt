@@ -18,7 +18,7 @@ use cmwq_model::{Call, CpuId, PoolId, Shape, WorkerId};
 const MOST_TIME: u64 = 4_611_686_018_427_387_904;
 
 /// How many open queueings haven't started.
-#[tactic(auto, using(crate::proofs::Lists::count_push, crate::proofs::PastSteps::open_ends))]
+#[tactic(auto, using(cmwq_lemmas::proofs::Pushed::count_push, crate::proofs::PastSteps::open_ends))]
 fn count_unstarted(past: &Past<'_>) -> usize
     ensures count { result ≡ count_by (has_not_started past.now) (still_open past.now) }
     ensures small { result ≤ 1000001 }
@@ -35,7 +35,7 @@ fn count_unstarted(past: &Past<'_>) -> usize
 }
 
 /// How many tickets are unended.
-#[tactic(auto, using(crate::proofs::Lists::length_push, crate::proofs::PastSteps::unended_ends))]
+#[tactic(auto, using(cmwq_lemmas::proofs::Pushed::length_push, crate::proofs::PastSteps::unended_ends))]
 fn count_unended(past: &Past<'_>) -> usize
     ensures count { result ≡ length (unended_tickets past.now) }
     ensures small { result ≤ 1000001 }

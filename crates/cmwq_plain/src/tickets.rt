@@ -39,7 +39,7 @@ fn ticket_at(past: &Past<'_>, number: usize) -> Option<Ticket>
 }
 
 /// The ticket that the entry with this number gave, if it is unended.
-#[tactic(auto, using(crate::proofs::Lists::filter_push), unfolding(crate::specs::Past::unended_upto))]
+#[tactic(auto, using(cmwq_lemmas::proofs::Pushed::filter_push), unfolding(crate::specs::Past::unended_upto))]
 pub fn unended_at(past: &Past<'_>, number: usize) -> Option<Ticket>
     requires { number < length past.now }
     ensures { unended_upto past.now (number + 1)
@@ -58,7 +58,7 @@ pub fn unended_at(past: &Past<'_>, number: usize) -> Option<Ticket>
 }
 
 /// Whether a cancel_sync of the item is unended.
-#[tactic(auto, using(crate::proofs::Lists::any_push, crate::proofs::PastSteps::unended_ends))]
+#[tactic(auto, using(cmwq_lemmas::proofs::Pushed::any_push, crate::proofs::PastSteps::unended_ends))]
 pub fn is_cancelling(past: &Past<'_>, item: u16) -> bool
     ensures { result ≡ is_cancelling past.now item }
 {
@@ -83,7 +83,7 @@ fn cancels_sync(item: u16, call: Call) -> bool
 }
 
 /// Whether a drain of the queue is unended.
-#[tactic(auto, using(crate::proofs::Lists::any_push, crate::proofs::PastSteps::unended_ends))]
+#[tactic(auto, using(cmwq_lemmas::proofs::Pushed::any_push, crate::proofs::PastSteps::unended_ends))]
 pub fn is_draining(past: &Past<'_>, queue: u8) -> bool
     ensures { result ≡ is_draining past.now queue }
 {
@@ -108,7 +108,7 @@ fn drains(queue: u8, call: Call) -> bool
 }
 
 /// Whether a destroy of the queue is unended.
-#[tactic(auto, using(crate::proofs::Lists::any_push, crate::proofs::PastSteps::unended_ends))]
+#[tactic(auto, using(cmwq_lemmas::proofs::Pushed::any_push, crate::proofs::PastSteps::unended_ends))]
 pub fn is_being_destroyed(past: &Past<'_>, queue: u8) -> bool
     ensures { result ≡ is_being_destroyed past.now queue }
 {
@@ -180,7 +180,7 @@ fn is_held_by(who: Who, ticket: &Ticket) -> bool
 }
 
 /// Whether the caller has as many unended tickets as it may have.
-#[tactic(auto, using(crate::proofs::Lists::count_push, crate::proofs::PastSteps::unended_ends))]
+#[tactic(auto, using(cmwq_lemmas::proofs::Pushed::count_push, crate::proofs::PastSteps::unended_ends))]
 pub fn is_crowded(past: &Past<'_>, who: Who) -> bool
     ensures { result ≡ is_crowded past.now who }
 {
@@ -196,7 +196,7 @@ pub fn is_crowded(past: &Past<'_>, who: Who) -> bool
 }
 
 /// This caller's unended ticket with this number.
-#[tactic(auto, using(crate::proofs::Lists::find_push, crate::proofs::PastSteps::unended_ends))]
+#[tactic(auto, using(cmwq_lemmas::proofs::Pushed::find_push, crate::proofs::PastSteps::unended_ends))]
 pub fn ticket_of(past: &Past<'_>, who: Who, number: Number) -> Option<Ticket>
     ensures { result ≡ ticket_of past.now who number }
 {

@@ -9,7 +9,7 @@ use crate::tickets::{flushes, unended_at};
 use cmwq_model::{Call, Number, Queueing};
 
 /// Whether fewer than 15 older flushes of the queue are unended.
-#[tactic(auto, using(crate::proofs::Lists::count_push, crate::proofs::PastSteps::unended_ends))]
+#[tactic(auto, using(cmwq_lemmas::proofs::Pushed::count_push, crate::proofs::PastSteps::unended_ends))]
 fn is_served_after(past: &Past<'_>, queue: u8, number: Number) -> bool
     ensures { result ≡ is_served_after past.now queue number }
 {
@@ -83,7 +83,7 @@ fn holds_up(
 }
 
 /// The least queueing that the ticket waits for.
-#[tactic(auto, using(crate::proofs::Lists::find_push, crate::proofs::PastSteps::open_ends))]
+#[tactic(auto, using(cmwq_lemmas::proofs::Pushed::find_push, crate::proofs::PastSteps::open_ends))]
 fn least_waited(past: &Past<'_>, number: Number, call: Call) -> Option<Number>
     ensures { result ≡ least_waited past.now number call }
 {

@@ -4,7 +4,7 @@ use Rattle.cmwq_theory_steps.proofs.Lemmas.{add-one, all_kept, count_append, cou
 use Rattle.cmwq_theory_steps.specs.Places.{is_on, open_on, active_ended, active_count}
 use Rattle.cmwq_theory_steps.proofs.Fronts.{IsFront, front_filter, front_append, front_same, front_or, front_taken, count_or, count_split}
 use Rattle.cmwq_theory_steps.proofs.Ranks.{is_below, Ranked, ranked_of}
-use Rattle.cmwq_theory_steps.proofs.Options.{of_option}
+use Rattle.cmwq_lemmas.proofs.Lists.{of_option}
 
 -- ---- what is below max_active is a front, as long as the queue is wide
 

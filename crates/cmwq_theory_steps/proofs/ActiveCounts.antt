@@ -12,7 +12,8 @@ use Rattle.cmwq_theory_steps.proofs.Promoted.{newly_of_open, newly_active_on, tu
 use Rattle.cmwq_theory_steps.proofs.Endings.{open_go_on}
 use Rattle.cmwq_theory_steps.proofs.Ended.{one_ends}
 use Rattle.cmwq_theory_steps.proofs.Waiting.{newly_are, waiting_goes_on}
-use Rattle.cmwq_theory_steps.proofs.Options.{of_option, count_option}
+use Rattle.cmwq_theory_steps.proofs.Options.{count_option}
+use Rattle.cmwq_lemmas.proofs.Lists.{of_option}
 
 -- ---- where the first so many pass, the rest fail
 

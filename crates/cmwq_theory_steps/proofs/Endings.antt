@@ -2,8 +2,8 @@
 use Rattle.cmwq_theory_steps.specs.Common.{◌≡◌, ◌<◌, ℕ, true, ◌&&◌, not, List, ◌∷◌, ◌++◌, length, filter, Some, option_to_list, nat_lt, sym, ap, ap₂, ◌∙◌, arith, lt-ltb, filter-append, Entry, Queueing, Layout, is_of_item, finishes, takes_back, replaces, is_started, is_cancelled, is_open, queueings, is_live, still_open, opening, IsLegal, All_map, IsBelow, queueings_below, opening_number}
 use Rattle.cmwq_theory_steps.proofs.Lemmas.{filter_all, filter_same, filter_twice}
 use Rattle.cmwq_theory_steps.specs.Endings.{survives}
-use Rattle.cmwq_theory_steps.proofs.Options.{of_option}
 use Rattle.cmwq_theory_steps.proofs.Fresh.{open_at_once}
+use Rattle.cmwq_lemmas.proofs.Lists.{of_option}
 
 -- of a queueing of item i with number n
 pub open_step : (past : List Entry) (e : Entry) (i n : ℕ) → n < length past

@@ -2,8 +2,8 @@
 use Rattle.cmwq_theory_steps.specs.Common.{◌≡◌, ◌<◌, ℕ, List, [], ◌∷◌, length, Some, option_to_list, ap, ◌∙◌, arith, AllByRecursion, eqb-true, Who, Entry, Ticket, entry_at, tickets, unended_tickets, is_unended, ticket_in, ticket_of, is_ticket, All_map, All_append}
 use Rattle.cmwq_theory_steps.proofs.Lemmas.{all_kept}
 use Rattle.cmwq_theory_steps.proofs.Activated.{find_holds}
-use Rattle.cmwq_theory_steps.proofs.Options.{of_option}
 use Rattle.cmwq_theory_steps.proofs.Entries.{entry_at-older, entry_at-newest}
+use Rattle.cmwq_lemmas.proofs.Lists.{of_option}
 
 pub record IsGiven (past : List Entry) (t : Ticket) : Type 0 where
   pub begun : Entry

@@ -4,7 +4,7 @@ use Rattle.cmwq_theory_steps.proofs.Lemmas.{all_kept, flip, same_Some}
 use Rattle.cmwq_theory_steps.specs.Endings.{survives, is_ended, ending}
 use Rattle.cmwq_theory_steps.specs.Histories.{one}
 use Rattle.cmwq_theory_steps.specs.Pending.{is_run_of}
-use Rattle.cmwq_theory_steps.proofs.Options.{of_option, length_option}
+use Rattle.cmwq_theory_steps.proofs.Options.{length_option}
 use Rattle.cmwq_theory_steps.proofs.OfEachKind.{no_longer}
 use Rattle.cmwq_theory_steps.proofs.Entries.{opening_item}
 use Rattle.cmwq_theory_steps.proofs.Endings.{open_go_on}
@@ -14,6 +14,7 @@ use Rattle.cmwq_theory_steps.proofs.OneRun.{one_run}
 use Rattle.cmwq_theory_steps.proofs.Causes.{cause_of}
 use Rattle.cmwq_theory_steps.proofs.Reasons.{legal_fits}
 use Rattle.cmwq_theory_steps.proofs.OwedItems.{settles_item}
+use Rattle.cmwq_lemmas.proofs.Lists.{of_option}
 
 -- ---- after one more entry
 

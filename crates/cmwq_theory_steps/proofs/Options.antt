@@ -1,12 +1,8 @@
 -- What an option holds, as a list.
-use Rattle.cmwq_theory_steps.specs.Common.{◌≡◌, Bool, false, [], length, Option, Some, None, option_to_list, count_by, refl, arith, AllByRecursion, option_map_or, is_some, count_by-cons}
+use Rattle.cmwq_theory_steps.specs.Common.{◌≡◌, Bool, false, [], length, Option, Some, None, option_to_list, count_by, refl, arith, option_map_or, is_some, count_by-cons}
 use Rattle.cmwq_theory_steps.specs.Histories.{one}
 
 module _ {X : Type 0} where
-  pub of_option : (P : X → Type 0) (o : Option X) → ((x : X) → o ≡ Some x → P x) → AllByRecursion P (option_to_list o)
-  of_option P None h = tt
-  of_option P (Some x) h = (h x refl, tt)
-
   pub count_option : (p : X → Bool) (o : Option X) → count_by p (option_to_list o) ≡ one (option_map_or p o false)
   count_option p None = refl
   count_option p (Some x) = grind (arith, count_by-cons p x [])

@@ -1,7 +1,7 @@
 -- Only a take starts a queueing, by an idle worker, and then the next of its pool; whom it enlists is a worker of the layout.
-use Rattle.cmwq_theory_steps.specs.Common.{◌≡◌, ◌+◌, ◌<◌, ℕ, List, ◌∷◌, Some, arith, WorkerId, Entry, Layout, enlisted_by, number_started, IsLegal}
+use Rattle.cmwq_theory_steps.specs.Common.{◌≡◌, ◌+◌, ◌<◌, ℕ, List, ◌∷◌, Some, arith, WorkerId, Entry, Layout, number_started, IsLegal}
 use Rattle.cmwq_model.specs.Layout.{indices}
-use Rattle.cmwq_model.specs.Workers.{is_reserve}
+use Rattle.cmwq_model.specs.Workers.{enlisted_by, is_reserve}
 use Rattle.cmwq_lemmas.proofs.Lists.{range_below}
 use Rattle.cmwq_lemmas.proofs.Passing.{all_found}
 use Rattle.cmwq_theory_steps.specs.Reasons.{StartsNext}

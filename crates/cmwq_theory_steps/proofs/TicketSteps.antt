@@ -9,7 +9,8 @@ use Rattle.cmwq_theory_steps.proofs.Activated.{find_holds}
 use Rattle.cmwq_theory_steps.proofs.Given.{IsGiven, tickets_given, unended_given, ticket_is}
 use Rattle.cmwq_theory_steps.proofs.Causes.{cause_of}
 use Rattle.cmwq_theory_steps.proofs.Reasons.{done_reason}
-use Rattle.cmwq_theory_steps.proofs.Options.{count_option, of_option}
+use Rattle.cmwq_theory_steps.proofs.Options.{count_option}
+use Rattle.cmwq_lemmas.proofs.Lists.{of_option}
 
 -- ---- what is given is not ended yet
 

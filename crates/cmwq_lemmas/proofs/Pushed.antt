@@ -1,5 +1,10 @@
 -- A list, and one element more where there is one.
-use Rattle.cmwq_plain.specs.Common.{◌≡◌, ◌+◌, Bool, List, [], ◌∷◌, ◌++◌, Some, None, filter, find, count_by, if◌then◌else◌, ap, ◌∙◌, zero-add, length, length-append, option_or, list_any, append-nil, filter-append, find-append, sum_by-append}
+use Rattle.std.proofs.Common.{◌≡◌, ◌+◌, Bool, List, [], ◌∷◌, ◌++◌, Some, None, filter, find, count_by, if◌then◌else◌, ap, ◌∙◌, zero-add, length, length-append, append-nil}
+use Rattle.std.specs.List.{list_any}
+use Rattle.std.specs.Option.{option_or}
+use Rattle.std.proofs.lemmas.List.Elements.{filter-append}
+use Rattle.std.proofs.lemmas.List.Folds.{find-append}
+use Rattle.std.proofs.lemmas.List.Sums.{sum_by-append}
 use Rattle.cmwq_lemmas.proofs.Passing.{last_any}
 
 pub filter_push_none : {X : Type 0} (p : X → Bool) (xs : List X) → filter p (xs ++ []) ≡ filter p xs ++ []
