@@ -4,6 +4,7 @@ use Rattle.std.proofs.Math.Seq.{take-append-add, take-length}
 use Rattle.std.proofs.lemmas.List.Concat.{flat_map-cons}
 use Rattle.std.proofs.lemmas.Grind.{flat_map-append}
 use Rattle.cmwq_io.specs.Moves.{AppendsFront}
+use Rattle.std.proofs.KnownBytes.{Appends-kept}
 
 take_behind : (xs ys zs : List ℕ) (n : ℕ) → take (length xs + min n (length ys)) (xs ++ (ys ++ zs)) ≡ xs ++ take n ys
 take_behind xs ys zs n =
@@ -33,10 +34,6 @@ front_before a b xs ys q = (min q.0 (length xs), subst (Appends a b) (sym (take-
 pub front_after : (a b c : Option (List ℕ)) (xs ys : List ℕ) → Appends a b xs → AppendsFront b c ys → AppendsFront a c (xs ++ ys)
 front_after a b c xs ys p q = subst (AppendsFront a c) (ap (λ l. xs ++ l) (append-nil ys)) (front_behind a b c xs ys [] p q)
 
--- what was appended stays where all bytes are kept
-pub appends_keeps : (a b c : Option (List ℕ)) (xs : List ℕ) → Appends a b xs → Keeps b c → Appends a c xs
-appends_keeps a b c xs p k = grind arith
-
 -- a whole text is a front of itself
 pub front_whole : (a b c : Option (List ℕ)) (xs : List ℕ) → Appends a b xs → Keeps b c → AppendsFront a c xs
-front_whole a b c xs p k = (length xs, subst (Appends a c) (sym (take-length xs)) (appends_keeps a b c xs p k))
+front_whole a b c xs p k = (length xs, subst (Appends a c) (sym (take-length xs)) (Appends-kept a b c xs p k))

@@ -13,7 +13,7 @@ pub use Rattle.std.specs.Io.KnownBytes.{Appends, Keeps, prepend_known}
 pub use Rattle.std.specs.List.{All, join_with_byte, list_all, position_or_len, slice_split}
 pub use Rattle.std.specs.Prelude.{IfOk, IfSome, IsTrue, codes, flat_map, if◌then◌else◌, is_some, map}
 pub use Rattle.std.specs.Str.{bytes_eq}
-pub use Rattle.cmwq_io.proofs.KnownBytes.{Appends-trans}
+pub use Rattle.std.proofs.KnownBytes.{Appends-trans}
 pub use Rattle.cmwq_io.specs.Feeds.{has_feed, is_feed}
 pub use Rattle.cmwq_io.specs.FirstLine.{TakesKnownLine, TakesLine, first_line}
 pub use Rattle.cmwq_io.specs.declared.lines.Found.TheVariants.{Cut, End, Long, Whole}

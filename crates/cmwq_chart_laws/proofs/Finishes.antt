@@ -19,6 +19,7 @@ use Rattle.cmwq_theory_steps.proofs.StartsListed.{starts_anew}
 use Rattle.cmwq_theory_laws.proofs.EndedOnce.{finished_started}
 use Rattle.cmwq_chart.specs.Bars.{finish_place}
 use Rattle.cmwq_theory_steps.proofs.OwedSteps.{by_whom}
+use Rattle.cmwq_lemmas.proofs.Truth.{or_true}
 
 -- ---- places
 
@@ -42,12 +43,8 @@ unfolding finish_place
 finished_by [] n t h = cc
 finished_by (e ∷ past) n t h = here (finished_by past n) (finish_place past n) refl (finishes n e) h
   where
-    any : (b : Bool) → (b || true) ≡ true
-    any true = refl
-    any false = refl
-
     here : ((u : ℕ) → finish_place past n ≡ Some u → is_finished past n ≡ true) → (o : Option ℕ) → finish_place past n ≡ o → (b : Bool) → option_or o (if b then Some (length past) else None) ≡ Some t → (b || is_finished past n) ≡ true
-    here earlier (Some u) is b k = ap (λ f. b || f) (earlier u is) ∙ any b
+    here earlier (Some u) is b k = ap (λ f. b || f) (earlier u is) ∙ or_true b
     here earlier None is true k = refl
     here earlier None is false k = cc
 

@@ -1,7 +1,7 @@
 -- A template is the characters before its first hole, that hole, and a template again.
-use Rattle.std.proofs.Common.{◌≡◌, ℕ, ◌+◌, ◌<◌, ◌≤◌, ◌==◌, ◌||◌, suc, Bool, true, false, List, [], ◌∷◌, ◌++◌, length, get_or, take, drop, append-nil, ◌-◌, add-one, drop-cons, if◌then◌else◌, refl, sym, ap, ap₂, ◌∙◌, arith}
+use Rattle.std.proofs.Common.{◌≡◌, ℕ, ◌+◌, ◌<◌, ◌≤◌, ◌==◌, ◌||◌, suc, Bool, true, false, List, [], ◌∷◌, ◌++◌, length, get_or, take, drop, append-nil, ◌-◌, if◌then◌else◌, refl, sym, ap, ap₂, ◌∙◌, arith}
 use Rattle.std.specs.Prelude.{slice_index_or, decimal, ◌%◌}
-use Rattle.std.proofs.lemmas.List.{length-drop}
+use Rattle.std.proofs.lemmas.List.{length-drop, drop_more}
 use Rattle.std.proofs.Math.ListN.{drop_of_length-le}
 use Rattle.std.proofs.Math.Seq.{take-length}
 use Rattle.cmwq_chart_text.specs.Filled.{is_hole, piece, filled_from, plain_length}
@@ -50,12 +50,9 @@ unfolding filled_from
 none_filled numbers k = refl
 
 -- one character more before the first hole
-drop_at : (template : List ℕ) (k d : ℕ) → k < length template → drop k template ≡ get_or template k d ∷ drop (k + 1) template
-drop_at template k d h = rw (add-one, drop-cons template k d) refl
-
 pub plain_at : (template : List ℕ) (k d : ℕ) → k < length template → plain_length (drop k template) ≡ (if is_hole (get_or template k d) then 0 else 1 + plain_length (drop (k + 1) template))
 unfolding plain_length
-plain_at template k d h = ap plain_length (drop_at template k d h)
+plain_at template k d h = ap plain_length (drop_more template k d h)
 
 pub plain_end : (template : List ℕ) (k : ℕ) → length template ≤ k → plain_length (drop k template) ≡ 0
 unfolding plain_length
@@ -70,12 +67,12 @@ module _ (template numbers : List ℕ) (k p : ℕ) (is : p ≡ plain_length temp
   all_plain h = front_parts ∙ ap (λ l. take p template ++ filled_from l numbers k) (drop_of_length-le template h) ∙ ap (λ l. take p template ++ l) (none_filled numbers k) ∙ append-nil (take p template)
 
   pub hole_there : p < length template → is_hole (get_or template p 0) ≡ true
-  hole_there h = hole_first template (drop (p + 1) template) (get_or template p 0) (ap (λ j. drop j template) (sym is) ∙ drop_at template p 0 h)
+  hole_there h = hole_first template (drop (p + 1) template) (get_or template p 0) (ap (λ j. drop j template) (sym is) ∙ drop_more template p 0 h)
 
   pub hole_parts : (rest : List ℕ) → p < length template → rest ≡ drop (p + 1) template
       → filled_from template numbers k ≡ take p template ++ (piece (get_or template p 0) (slice_index_or numbers k 0) ++ filled_from rest numbers (k + 1))
   hole_parts rest h same =
-      front_parts ∙ ap (λ l. take p template ++ filled_from l numbers k) (drop_at template p 0 h)
+      front_parts ∙ ap (λ l. take p template ++ filled_from l numbers k) (drop_more template p 0 h)
       ∙ ap (λ l. take p template ++ l) (hole_filled (drop (p + 1) template) numbers (get_or template p 0) k (hole_there h))
       ∙ ap (λ l. take p template ++ (piece (get_or template p 0) (slice_index_or numbers k 0) ++ filled_from l numbers (k + 1))) (sym same)
 

@@ -18,7 +18,7 @@ pub use Rattle.cmwq_base.specs.Pieces.{pieces}
 pub use Rattle.cmwq_base.specs.Stages.{contents_of, stage_of}
 pub use Rattle.cmwq_base.specs.declared.refusal.Refusal.{Refusal}
 pub use Rattle.cmwq_core.specs.History.{History, next_entry, past_in, takes, with_entry}
-pub use Rattle.cmwq_io.proofs.KnownBytes.{Appends-trans}
+pub use Rattle.std.proofs.KnownBytes.{Appends-trans}
 pub use Rattle.cmwq_io.specs.Feeds.{has_feed}
 pub use Rattle.cmwq_io.specs.FirstLine.{TakesKnownLine, TakesLine}
 pub use Rattle.cmwq_io.specs.Moves.{AppendsFront}

@@ -3,7 +3,7 @@ use Rattle.std.proofs.Common.{◌≡◌, ℕ, zero, suc, ◌+◌, ◌-◌, ◌<�
 use native.Mathlib.Numerals.{unary_clauses}
 use Rattle.std.specs.Io.KnownBytes.{Appends}
 use Rattle.cmwq_io.specs.Moves.{AppendsFront}
-use Rattle.cmwq_io.proofs.KnownBytes.{Appends-trans}
+use Rattle.std.proofs.KnownBytes.{Appends-trans}
 use Rattle.cmwq_base.proofs.Fronts.{front_behind}
 use Rattle.cmwq_cmd_summary.specs.Page.{rows_text}
 

@@ -4,7 +4,7 @@ use Rattle.cmwq_flush.specs.Common.{◌≡◌, ◌≢◌, ◌⊎◌, ℕ, ◌+�
 use Rattle.std.specs.Prelude.{◌*◌, ◌&&◌, nat_eq}
 use Rattle.std.proofs.lemmas.List.{length-set, length-replicate, get_or-replicate, ext_get_or}
 use Rattle.std.proofs.lemmas.List.FromFn.{length-map-range_with_len, get_or-map-range_with_len}
-use Rattle.std.proofs.lemmas.Bool.{eq-eqb, ne_eqb, eqb-true, or_cases}
+use Rattle.std.proofs.lemmas.Bool.{eq-eqb, ne_eqb, eqb-true, or_cases, and_parts}
 use Rattle.std.proofs.lemmas.List.Sums.{position_or_len_is}
 use Rattle.cmwq_lemmas.proofs.Truth.{same_bools}
 use Rattle.cmwq_list.specs.Lists.{Listed, AreListedOnce, has_item, without_item, list_at, list_of, pushed, removed}
@@ -80,9 +80,6 @@ module _ (items : ℕ) (s : Listed) (rows : List Row) (l v : ℕ) (r : Row) (is 
 
 -- ---- a queueing ends
 
-both_true : (a b : Bool) → (a && b) ≡ true → (a ≡ true) × (b ≡ true)
-both_true a b e = grind arith
-
 there_if : (xs : List (List ℕ)) (i n : ℕ) → Contains (get_or xs i []) n → i < length xs
 there_if xs i n found = ⊎_elim (λ (lt : i < length xs). lt) (λ (past : length xs ≤ i). let none : get_or xs i [] ≡ [] = get_or_past xs i [] past in let empty = rw none at found in absurd (omega (arith, empty.1))) (cases_lt i (length xs))
 
@@ -102,7 +99,7 @@ module _ (items : ℕ) (s : Listed) (rows : List Row) (is : AreOpenings items s 
       by : (b : Bool) → has_number s.lists rows (2 * i) n ≡ b → (is_listed s.lists v ≡ true) × ((node_row rows v).number ≡ n)
       by true e =
           let at = chosen_is ∙ chosen _ _ (2 * i) (2 * i + 1) e in
-          let parts = both_true (is_listed s.lists (2 * i)) (eqb (node_row rows (2 * i)).number n) e in
+          let parts = and_parts (is_listed s.lists (2 * i)) (eqb (node_row rows (2 * i)).number n) e in
           (ap (is_listed s.lists) at ∙ parts.0, ap (λ w. (node_row rows w).number) at ∙ eqb-true (node_row rows (2 * i)).number n parts.1)
       by false e =
           let at = chosen_is ∙ chosen _ _ (2 * i) (2 * i + 1) e in
@@ -134,7 +131,7 @@ module _ (items : ℕ) (s : Listed) (rows : List Row) (is : AreOpenings items s 
       (numbers_closed ∙ ap (without n) (sym (opened_at s.lists rows items i there))) others_stay
 
   pub openings_removed : AreOpenings items (removed s v) rows
-  openings_removed = grind (arith, once, both_true, listed-removed)
+  openings_removed = grind (arith, once, and_parts, listed-removed)
 
   -- the number stands in one queue's list
   module _ (once : AreListedOnce s) (q : ℕ) (here : Contains (row_numbers (rows_at (rows_of s.lists rows) q)) n) where

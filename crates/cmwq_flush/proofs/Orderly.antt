@@ -1,5 +1,5 @@
 -- What each call keeps of the order of a flush book.
-use Rattle.cmwq_flush.specs.Common.{◌≡◌, ℕ, ◌+◌, ◌-◌, ◌<◌, ◌≤◌, Bool, List, [], ◌∷◌, ◌++◌, length, suc, ⊎_elim, refl, ◌∙◌, arith, All, AllPairs, map, filter, remove, IsNonDecreasingBy, append_assoc, map_push, map-append, take-map, drop-map, length-map, length-append, get_or_append_left, get_or-append-add, get_or-map, All-push, All-weaker, All-filter, All-take, All-drop, All-append, length-remove, remove-append_left, all_pairs_push, all_pairs_remove, length-filter, count_by-le-length, cases_lt, IsNonDecreasingBy-push}
+use Rattle.cmwq_flush.specs.Common.{◌≡◌, ℕ, ◌+◌, ◌-◌, ◌<◌, ◌≤◌, Bool, List, [], ◌∷◌, ◌++◌, length, suc, ⊎_elim, refl, ◌∙◌, arith, All, AllPairs, map, filter, remove, IsNonDecreasingBy, append_assoc, map_push, map-append, take-map, drop-map, length-map, length-append, get_or_append_left, get_or-append-add, get_or-map, All-push, All-weaker, All-filter, All-take, All-drop, All-append, length-remove, remove-append_left, all_pairs_push, all_pairs_remove, cases_lt, IsNonDecreasingBy-push}
 use Rattle.std.proofs.lemmas.List.Kept.{AllPairs-filter, AllPairs-cons}
 use Rattle.cmwq_flush.specs.declared.served.Served.{Served}
 use Rattle.cmwq_flush.specs.declared.openings.Row.{Row}
@@ -73,9 +73,6 @@ rising_filter p (x ∷ xs) ys rise =
     let above : All (IsBelowNumber x) (xs ++ ys) = λ k d lt. rise 0 (suc k) d (omega arith) (omega arith) in
     let tail : AreRising (xs ++ ys) = λ i j d lt within. rise (suc i) (suc j) d (omega arith) (omega arith) in
     AllPairs-cons IsBelowNumber x (xs ++ filter p ys) (All-append (IsBelowNumber x) xs (filter p ys) (All_left (IsBelowNumber x) xs ys above) (All-filter p (IsBelowNumber x) ys (All_right (IsBelowNumber x) xs ys above))) (rising_filter p xs ys tail)
-
-pub length_filter_le : (p : ℕ → Bool) (xs : List ℕ) → length (filter p xs) ≤ length xs
-length_filter_le p xs = rw length-filter (count_by-le-length p xs)
 
 pub map-remove : {X Y : Type 0} (f : X → Y) (xs : List X) (i : ℕ) → map f (remove xs i) ≡ remove (map f xs) i
 map-remove f xs i = rw (map-append, take-map, drop-map) refl

@@ -2,7 +2,7 @@
 use Rattle.cmwq_flush.specs.Common.{◌≡◌, ◌≢◌, ℕ, ◌+◌, ◌<◌, ◌≤◌, Bool, true, false, not, cond, List, [], ◌∷◌, ◌++◌, length, get_or, set, zero, suc, replicate, Option, Some, None, IsSome, is_some, sym, ap, ap₂, refl, ◌∙◌, arith, ⊎_elim, map, find, All, Contains, ◌↔◌, ◌⊎◌, false≢true, cases_lt, get_or-map, length-map, length-append, map-set, map_push, get_or-set_same, get_or-set_other, range_with_len}
 use Rattle.std.specs.Prelude.{◌&&◌, ◌||◌, ◌==◌, nat_eq, slice_get}
 use Rattle.std.specs.List.{list_any, sum_by}
-use Rattle.std.proofs.lemmas.Bool.{or_parts, eq-eqb, eqb-true, eqb-false, leb-true, leb-false, ne_eqb, or_cases}
+use Rattle.std.proofs.lemmas.Bool.{or_parts, eq-eqb, eqb-true, eqb-false, leb-true, leb-false, ne_eqb, or_cases, and_parts}
 use Rattle.std.proofs.lemmas.List.{length-set}
 use Rattle.std.proofs.lemmas.List.Sums.{sum_by-cons, sum_by-set}
 use Rattle.std.proofs.lemmas.List.Folds.{sum_by-replicate}
@@ -73,11 +73,8 @@ nodes_moved s tickets changed l m v once are same lt fits here = record {
     inside : m < length (map (without_item v) s.lists)
     inside = let n = length-map s.lists (without_item v) in omega arith
 
-    first : (a b : Bool) → (a && b) ≡ true → a ≡ true
-    first a b e = grind arith
-
     was : (w : ℕ) → is_listed (map (without_item v) s.lists) w ≡ true → is_listed s.lists w ≡ true
-    was w h = first (is_listed s.lists w) (not (nat_eq w v)) (sym (listed-removed s.lists v w) ∙ h)
+    was w h = (and_parts (is_listed s.lists w) (not (nat_eq w v)) (sym (listed-removed s.lists v w) ∙ h)).0
 
     left : List (List ℕ)
     left = map (without_item v) s.lists

@@ -9,8 +9,9 @@ use Rattle.cmwq_flush.specs.Served.{ticket_of_served, tickets_of_served, IsOlder
 use Rattle.cmwq_flush.specs.FlushBook.{FlushBook, new_book, flush_from, flush_tickets, served_of, IsReady, IsLatestFlush, served_with_oldest, without_oldest, serve_oldest, flushes_without_wait}
 use Rattle.cmwq_flush.specs.Colouring.{IsOrderly, IsColouring, IsRight, IsToldByColours, AreUnused}
 use Rattle.cmwq_flush.proofs.Search.{find_at_key, find_absent, absent_is_none, remove_at}
-use Rattle.cmwq_flush.proofs.Orderly.{orderly_opened, orderly_ended, orderly_overflow, orderly_served, orderly_removed, orderly_left, rising_served, rising_overflow, length_filter_le, All_left, All_right}
+use Rattle.cmwq_flush.proofs.Orderly.{orderly_opened, orderly_ended, orderly_overflow, orderly_served, orderly_removed, orderly_left, rising_served, rising_overflow, All_left, All_right}
 use Rattle.cmwq_flush.proofs.Recolouring.{colouring_opened, colouring_ended, colouring_served, colouring_removed}
+use Rattle.cmwq_lemmas.proofs.Lists.{filter_shorter}
 
 split : (t : Bool) (r : Row) (rows : List Row) (ns : List ℕ) → row_numbers rows ≡ ns → row_numbers (cond t (r ∷ rows) rows) ≡ cond t (row_number r ∷ ns) ns
 split t r rows ns e = grind arith
@@ -82,7 +83,7 @@ right_end b rows colours i lt ready is =
 pub right_left : (b : FlushBook) (rows : List Row) (colours : List ℕ) (t : ℕ) → IsRight b rows colours → IsRight (record b { overflow = without t b.overflow }) rows colours
 right_left b rows colours t is = record {
   orderly = orderly_left b rows t is.orderly;
-  serving = λ some. is.serving (let shorter = length_filter_le (is_other_number t) b.overflow in omega arith);
+  serving = λ some. is.serving (let shorter = filter_shorter (is_other_number t) b.overflow in omega arith);
   colouring = is.colouring;
 }
 

@@ -10,8 +10,9 @@ use Rattle.cmwq_json_script.specs.Calls.{own_call_after}
 use Rattle.cmwq_json_script.specs.Gates.{with_gate, gate_said}
 use Rattle.cmwq_json_script.specs.Actions.{only_gate, gate_after, call_action_after, action_after, action_said, Does, with_action, add_action, does_said}
 use Rattle.cmwq_json_script.specs.Scripts.{IsAction}
-use Rattle.cmwq_json_script.proofs.Readings.{any_read, then_holds, when_read, list_read, whole_holds, all_weaker}
+use Rattle.cmwq_json_script.proofs.Readings.{any_read, then_holds, when_read, list_read, whole_holds}
 use Rattle.cmwq_json_script.proofs.CallLimits.{AreIn, IsOwn, own_call_in}
+use Rattle.cmwq_lemmas.proofs.Lists.{All_map}
 
 -- there are no fewer gates than before, and not too many
 pub record Grows (before after : List (List ℕ)) : Type 0 where
@@ -41,7 +42,7 @@ action_grows s n m more (action.Open gate) h = omega arith
 action_grows s n m more (action.SleepAt gate) h = omega arith
 
 pub actions_grow : (s : Layout) (n m : ℕ) → n ≤ m → (actions : List Action) → AllByRecursion (IsAction s n) actions → AllByRecursion (IsAction s m) actions
-actions_grow s n m more actions = all_weaker (IsAction s n) (IsAction s m) (action_grows s n m more) actions
+actions_grow s n m more actions = All_map (IsAction s n) (IsAction s m) actions (action_grows s n m more)
 
 -- actions, and the gates after them where there were these before
 pub record AreActions (s : Layout) (before : List (List ℕ)) (m : Does) : Type 0 where

@@ -7,9 +7,10 @@ use Rattle.cmwq_json_script.specs.Queues.{has_queue_keys, freezable_said, queue_
 use Rattle.cmwq_json_script.specs.Calls.{call_said}
 use Rattle.cmwq_json_script.specs.Callers.{add_few, add_call, calls_said, add_caller}
 use Rattle.cmwq_json_script.specs.Scripts.{IsAction, AreCalls}
-use Rattle.cmwq_json_script.proofs.Readings.{any_read, then_holds, when_read, list_read, all_weaker}
+use Rattle.cmwq_json_script.proofs.Readings.{any_read, then_holds, when_read, list_read}
 use Rattle.cmwq_json_script.proofs.CallLimits.{AreIn, said_is_scripted}
 use Rattle.cmwq_json_script.proofs.ActionLimits.{AreActions, actions_grow, does_in}
+use Rattle.cmwq_lemmas.proofs.Lists.{All_map}
 
 named_kept : {X : Type 0} (most : ℕ) (P : X → Type 0) (before : Named X) (x : List ℕ × X) → AreKept most P before → P x.1 → IfSome (add_named most before x) (AreKept most P)
 named_kept {X} most P before x k one = at (add_named most before x) (λ after is. added most P before after x k one is)
@@ -64,7 +65,7 @@ module _ (most : ℕ) (known : Known) (s : Layout) (are : AreIn known s) where
       let grown : AreKept most (AllByRecursion (IsAction s (length said.1.gates))) before.items = record {
         same = k.items.same;
         few = k.items.few;
-        values = all_weaker (AllByRecursion (IsAction s (length before.gates))) (AllByRecursion (IsAction s (length said.1.gates))) (actions_grow s (length before.gates) (length said.1.gates) more) before.items.values k.items.values;
+        values = All_map (AllByRecursion (IsAction s (length before.gates))) (AllByRecursion (IsAction s (length said.1.gates))) before.items.values (actions_grow s (length before.gates) (length said.1.gates) more) k.items.values;
       } in
       then_holds (AreKept most (AllByRecursion (IsAction s (length said.1.gates)))) (AreItems most s) _ (add_named most before.items (said.0, said.1.actions))
       (named_kept most (AllByRecursion (IsAction s (length said.1.gates))) before.items (said.0, said.1.actions) grown h.each) (λ items l. record { items = l; few_gates = h.gates.few k.few_gates })

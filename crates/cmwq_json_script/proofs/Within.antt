@@ -12,10 +12,11 @@ use Rattle.cmwq_json_script.specs.Tops.{Top, AreJournalSettings}
 use Rattle.cmwq_json_script.specs.Runs.{some_of, queues_said, items_said, callers_said, known_in, layout_in, run_in}
 use Rattle.cmwq_json_script.specs.Scripts.{run_of, IsAction, AreCalls, IsRunWithin, MayRun}
 use Rattle.cmwq_json_script.specs.Views.{work_of, calls_of}
-use Rattle.cmwq_json_script.proofs.Readings.{all_weaker, all_unmapped}
+use Rattle.cmwq_json_script.proofs.Readings.{all_unmapped}
 use Rattle.cmwq_json_script.proofs.CallLimits.{AreIn}
 use Rattle.cmwq_json_script.proofs.PartLimits.{IsWide, queues_kept, items_kept, items_named, names_are_known, callers_kept}
 use Rattle.std.proofs.lemmas.Bool.{and_from}
+use Rattle.cmwq_lemmas.proofs.Lists.{All_map}
 
 -- a part has at least one member, and none is refused
 pub some_read : {S : Type 0} (refused : ℕ → Refused) (count : S → ℕ) (r : Result S ℕ) (s : S) → some_of refused count r ≡ Ok s → (r ≡ Ok s) × (0 < count s)
@@ -120,11 +121,11 @@ may_run script r =
       few_callers = omega arith;
       callers = omega arith;
       calls = All-from_recursion _ script.callers.items (all_unmapped (λ calls. All (IsScripted script.shape) calls × (length calls < 2 ^ 32)) (λ calls. calls.items) script.callers.items
-          (all_weaker (AreCalls script.shape) (λ calls. All (IsScripted script.shape) calls × (length calls < 2 ^ 32)) (λ calls h. (All-from_recursion (IsScripted script.shape) calls h.0, few (length calls) h.1)) (calls_of script.callers) r.calls));
+          (All_map (AreCalls script.shape) (λ calls. All (IsScripted script.shape) calls × (length calls < 2 ^ 32)) (calls_of script.callers) (λ calls h. (All-from_recursion (IsScripted script.shape) calls h.0, few (length calls) h.1)) r.calls));
       items = omega arith;
       does = subst (λ n. All (λ actions. All (IsAction script.shape n) actions.items) script.does.items) gates
           (All-from_recursion _ script.does.items (all_unmapped (All (IsAction script.shape (length (map string_bytes script.gates.items)))) (λ actions. actions.items) script.does.items
-          (all_weaker (AllByRecursion (IsAction script.shape (length (map string_bytes script.gates.items)))) (All (IsAction script.shape (length (map string_bytes script.gates.items)))) (All-from_recursion (IsAction script.shape (length (map string_bytes script.gates.items)))) (map (λ actions. actions.items) script.does.items) r.does)));
+          (All_map (AllByRecursion (IsAction script.shape (length (map string_bytes script.gates.items)))) (All (IsAction script.shape (length (map string_bytes script.gates.items)))) (map (λ actions. actions.items) script.does.items) (All-from_recursion (IsAction script.shape (length (map string_bytes script.gates.items)))) r.does)));
       few_gates = omega arith;
       recorded = r.recorded;
     }

@@ -3,7 +3,6 @@ use Rattle.std.proofs.Common.{Ok, Err, Result}
 use Rattle.std.proofs.KnownBytes.{Keeps-refl, Appends-nil}
 use Rattle.std.specs.Io.KnownBytes.{Keeps}
 use Rattle.std.specs.Prelude.{OnOk, IfErr}
-use Rattle.cmwq_model.specs.Prelude.{past_of}
 unfoldable use Rattle.cmwq_model.specs.Prelude.{IsLegal}
 use Rattle.cmwq_text.specs.HistoryText.{text_of_format}
 use Rattle.cmwq_rt_journal.specs.Common.{◌≡◌, ◌+◌, ℕ, List, [], length, Option, sym, ap, ◌∙◌, subst, arith, Appends, AppendsFront, Entry, Layout, body_text, last_text, front_before, front_after, front_whole}
@@ -11,17 +10,14 @@ use Rattle.cmwq_rt_journal.specs.Faults.{Broke, EndBroke, ending_text}
 use Rattle.cmwq_rt_journal.specs.Kept.{HasKept, WritesFront}
 use Rattle.cmwq_rt_journal.specs.declared.fault.JournalFault.{JournalFault}
 use Rattle.cmwq_rt_journal.specs.declared.fault.JournalFault.TheVariants.{Late, Write, Hub}
+use Rattle.cmwq_model.proofs.Growing.{nothing_is_legal}
 
 -- nothing is a front of any text
 nothing_is_front : (a b : Option (List ℕ)) (text : List ℕ) → b ≡ a → AppendsFront a b text
 nothing_is_front a b text same = subst (λ c. AppendsFront a c text) (sym same) (0, Appends-nil a)
 
-no_entry_is_legal : (s : Layout) → IsLegal s (past_of [])
-unfolding IsLegal
-no_entry_is_legal s = tt
-
 pub nothing_written : (s : Layout) (a b : Option (List ℕ)) → b ≡ a → WritesFront s a b
-nothing_written s a b same = ([], no_entry_is_legal s, nothing_is_front a b (text_of_format 3 s []) same)
+nothing_written s a b same = ([], nothing_is_legal s, nothing_is_front a b (text_of_format 3 s []) same)
 
 -- a body is a front of the whole text
 body_is_front : (s : Layout) (seen : List Entry) (a b c : Option (List ℕ)) → Appends a b (body_text 3 s seen) → Keeps b c → AppendsFront a c (text_of_format 3 s seen)

@@ -4,7 +4,7 @@ pub use Rattle.std.proofs.lemmas.Result.{err_from_is_err_and}
 pub use Rattle.std.specs.Io.KnownBytes.{Appends}
 pub use Rattle.std.specs.Prelude.{Bool, [], false, true}
 pub use Rattle.cmwq_base.proofs.Fronts.{front_after, front_at, front_before, front_whole}
-pub use Rattle.cmwq_io.proofs.KnownBytes.{Appends-trans}
+pub use Rattle.std.proofs.KnownBytes.{Appends-trans}
 pub use Rattle.cmwq_io.specs.Moves.{AppendsFront}
 pub use Rattle.cmwq_model.specs.Prelude.{Layout}
 pub use Rattle.cmwq_model.specs.declared.entry.Entry.{Entry}

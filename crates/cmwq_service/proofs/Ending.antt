@@ -14,6 +14,7 @@ use Rattle.cmwq_service.specs.declared.fault.Fault.{Fault}
 use Rattle.cmwq_service.specs.Serving.{Conduct, HasCalled, CalledIn, IsRest, IsRestOfServed, IsServed, caller_at, own_callers}
 use Rattle.cmwq_service.specs.Calls.{Continues}
 use Rattle.cmwq_monitor.specs.Held.{active_in}
+use Rattle.cmwq_model.proofs.Growing.{nothing_is_legal}
 
 one : (s : Layout) (does : Conduct) (k n : ℕ) (v w : View) (h : List Entry) (o : Result (Unit {0}) Fault) → o ≡ Ok tt → k ≡ n → Settles h v w → HasCalled s does k v o → CalledIn s does n h
 one s does k n v w h o ok same settled called =
@@ -38,12 +39,8 @@ pub has_called : (s : Layout) (does : Conduct) (k : ℕ) (a v : View) (o : Resul
 has_called s does k a v o fresh so did =
     ∥∥₁_map so (λ x. record { continues = subst (λ b. Continues b v) fresh x; did = subst (λ b. OnOk o (does k s b v)) fresh did })
 
-no_entry_is_legal : (s : Layout) → IsLegal s (past_of [])
-unfolding IsLegal
-no_entry_is_legal s = tt
-
 pub nothing_made : (s : Layout) (es : List Entry) → es ≡ [] → IsReliable s (past_of es)
-nothing_made s es none = subst (λ xs. IsReliable s (past_of xs)) (sym none) (reliable s (past_of []) (no_entry_is_legal s))
+nothing_made s es none = subst (λ xs. IsReliable s (past_of xs)) (sym none) (reliable s (past_of []) (nothing_is_legal s))
 
 -- nothing was handed over before the rest
 all_is_rest : (h es : List Entry) (first : ℕ) → es ≡ drop first h → first ≡ 0 → h ≡ es

@@ -1,11 +1,12 @@
 -- What a book reads off its parts is what the definitions say.
-use Rattle.cmwq_state.specs.Common.{◌≡◌, ℕ, ◌<◌, Bool, true, false, not, ◌||◌, ◌==◌, List, [], ◌∷◌, length, map, find, cond, Option, Some, None, is_some, refl, sym, ap, ap₂, ◌∙◌, subst, nat_le, option_map_or, option_and_then, option_map, Who, Worker, Entry, Queueing, Booking, Start, Layout, is_at, item_at, booking, run, item_run, unstarted_queueing, queueing_at, queue_of, runs_elsewhere, still_open, is_item_open, is_of, IsLegal, queueings, is_live, has_number, unended_tickets, ticket_of, is_ticket, is_crowded, is_held_by, queueing_run, runs_are_queueings, in_standing, standing_fits, timer_row, timer_for, filter, ◌++◌, option_to_list, same_Some, AllByRecursion, count_by-none, none_found, found_known, found_number, runs_are_items, Task, number_of_queueing, task_for, run_task, found, filter_in, open_there, Flight, flight_at, flight_of, flights_of, flights_for_items}
+use Rattle.cmwq_state.specs.Common.{◌≡◌, ℕ, ◌<◌, Bool, true, false, not, ◌||◌, ◌==◌, List, [], ◌∷◌, length, map, find, cond, Option, Some, None, is_some, refl, sym, ap, ap₂, ◌∙◌, subst, nat_le, option_map_or, option_and_then, option_map, Who, Worker, Entry, Queueing, Booking, Start, Layout, is_at, item_at, booking, run, item_run, unstarted_queueing, queueing_at, queue_of, runs_elsewhere, still_open, is_item_open, is_of, IsLegal, queueings, is_live, has_number, unended_tickets, ticket_of, is_ticket, is_crowded, is_held_by, queueing_run, runs_are_queueings, in_standing, standing_fits, timer_row, timer_for, filter, ◌++◌, option_to_list, same_Some, count_by-none, none_found, found_known, found_number, runs_are_items, Task, number_of_queueing, task_for, run_task, found, filter_in, open_there, Flight, flight_at, flight_of, flights_of, flights_for_items}
 use Rattle.cmwq_model.specs.declared.id.WorkerId.{WorkerId}
 use Rattle.cmwq_timer.specs.declared.timer.Timer.{Timer}
 use Rattle.cmwq_refinement.proofs.ItemNumbers.{run_then_unstarted}
 use Rattle.cmwq_refinement.proofs.FlightRefine.{row_of as flight_row}
 use Rattle.cmwq_state.specs.Flights.{run_open}
 use Rattle.cmwq_lemmas.proofs.Truth.{and_false}
+use Rattle.cmwq_lemmas.proofs.Lists.{All_each}
 
 pub some_mapped : {X Y : Type 0} (f : X → Y) (o : Option X) → is_some (option_map f o) ≡ is_some o
 some_mapped f None = refl
@@ -32,15 +33,11 @@ elsewhere_none s past i q legal none = ap (λ o. option_map_or (λ (x : Queueing
 
 -- ---- tickets
 
-never : {X : Type 0} (p : X → Bool) (xs : List X) → ((x : X) → p x ≡ false) → AllByRecursion (λ x. p x ≡ false) xs
-never p [] h = tt
-never p (x ∷ xs) h = (h x, never p xs h)
-
 pub no_ticket : (past : List Entry) {who : Who} {w : WorkerId} (n : ℕ) → who ≡ Worker w → None ≡ ticket_of past who n
-no_ticket past {who} {w} n h = rw h (sym (none_found (is_ticket (Worker w) n) (unended_tickets past) (never (is_ticket (Worker w) n) (unended_tickets past) (λ t. and_false (t.number == n)))))
+no_ticket past {who} {w} n h = rw h (sym (none_found (is_ticket (Worker w) n) (unended_tickets past) (All_each (λ t. is_ticket (Worker w) n t ≡ false) (unended_tickets past) (λ t. and_false (t.number == n)))))
 
 pub not_crowded : (past : List Entry) {who : Who} {w : WorkerId} → who ≡ Worker w → false ≡ is_crowded past who
-not_crowded past {who} {w} h = rw h (sym (ap (nat_le 64) (count_by-none (is_held_by (Worker w)) (unended_tickets past) (never (is_held_by (Worker w)) (unended_tickets past) (λ t. refl)))))
+not_crowded past {who} {w} h = rw h (sym (ap (nat_le 64) (count_by-none (is_held_by (Worker w)) (unended_tickets past) (All_each (λ t. is_held_by (Worker w) t ≡ false) (unended_tickets past) (λ t. refl)))))
 
 -- ---- an item is open where it runs or has an unstarted queueing
 

@@ -1,6 +1,6 @@
 use Rattle.std.proofs.Common.{◌+◌, ◌++◌}
 use Rattle.std.proofs.lemmas.Result.{err_from_is_err_and}
-use Rattle.cmwq_io.proofs.KnownBytes.{Appends-trans}
+use Rattle.std.proofs.KnownBytes.{Appends-trans}
 use Rattle.cmwq_base.proofs.Fronts.{front_before, front_after}
 use Rattle.cmwq_chart_text.specs.declared.band_text.Layer.TheVariants.{Shapes, Captions, Levels}
 use Rattle.cmwq_chart_text.specs.declared.band_text.Names.TheVariants.{Callers, Places}

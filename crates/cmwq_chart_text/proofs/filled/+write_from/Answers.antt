@@ -2,7 +2,7 @@ use Rattle.std.proofs.Common.{◌+◌, ◌-◌, length, take, drop, sym, subst, 
 use Rattle.std.proofs.lemmas.Result.{err_from_is_err_and}
 use Rattle.std.specs.Io.KnownBytes.{Appends}
 use Rattle.cmwq_io.specs.Moves.{AppendsFront}
-use Rattle.cmwq_io.proofs.KnownBytes.{Appends-trans}
+use Rattle.std.proofs.KnownBytes.{Appends-trans}
 use Rattle.cmwq_base.proofs.Fronts.{front_before, front_after}
 use Rattle.cmwq_chart_text.specs.Filled.{filled_from}
 use Rattle.cmwq_chart_text.proofs.Filling.{front_parts, all_plain, hole_there, hole_parts, rest_taken}

@@ -1,7 +1,7 @@
 use Rattle.std.proofs.Common.{◌++◌, length}
 use Rattle.std.proofs.lemmas.Result.{err_from_is_err_and}
-use Rattle.cmwq_io.proofs.KnownBytes.{Appends-trans}
-use Rattle.cmwq_base.proofs.Fronts.{appends_keeps, front_before, front_after, front_whole}
+use Rattle.std.proofs.KnownBytes.{Appends-trans, Appends-kept}
+use Rattle.cmwq_base.proofs.Fronts.{front_before, front_after, front_whole}
 use Rattle.cmwq_chart_text.specs.FrameText.{picture_end}
 use Rattle.cmwq_chart_text.specs.PictureText.{bands_text, picture_text}
 use Rattle.cmwq_chart_text.proofs.picture.write_picture.Goals as goal
@@ -33,4 +33,4 @@ returns-in_err-flush_all-clause-err g c =
 
 pub returns-clause-ok : goal.returns-clause-ok
 unfolding picture_text
-returns-clause-ok g c = appends_keeps _ _ _ _ (Appends-trans _ _ _ _ _ (rw (c.bands_height.ensures.top) at c.in_ok-write_head.ensures.ok) (Appends-trans _ _ _ _ _ c.in_ok-write_bands.ensures.ok c.in_ok-write_end.ensures.ok)) c.in_ok-flush_all.ensures.bytes
+returns-clause-ok g c = Appends-kept _ _ _ _ (Appends-trans _ _ _ _ _ (rw (c.bands_height.ensures.top) at c.in_ok-write_head.ensures.ok) (Appends-trans _ _ _ _ _ c.in_ok-write_bands.ensures.ok c.in_ok-write_end.ensures.ok)) c.in_ok-flush_all.ensures.bytes

@@ -1,6 +1,6 @@
 use Rattle.std.specs.Prelude.{flat_map}
 use Rattle.std.proofs.lemmas.Result.{err_from_is_err_and}
-use Rattle.cmwq_io.proofs.KnownBytes.{Appends-trans}
+use Rattle.std.proofs.KnownBytes.{Appends-trans}
 use Rattle.cmwq_base.proofs.Fronts.{front_before, front_after, front_whole}
 use Rattle.cmwq_core.specs.History.{past_in}
 use Rattle.cmwq_cmd_summary.specs.Page.{rows_of_table}
