@@ -23,8 +23,9 @@ use Rattle.cmwq_chart_levels.specs.declared.affected.AffectedPlaces.{AffectedPla
 use Rattle.cmwq_chart_levels.specs.declared.affected.AffectedPlaces.TheVariants.{Nowhere, Within, Everywhere}
 use Rattle.cmwq_chart_levels.specs.declared.steps.Change.{Change}
 use Rattle.cmwq_chart_levels.specs.Turns.{is_one_of_place, IsFollowed, IsLevelAfter, ended_levels, level_after}
-use Rattle.cmwq_chart_levels.specs.Affected.{is_width, keeps_width, moves_at, affects, has_level_number, AreRanges, AreAffected, IsOnlyWithin}
+use Rattle.cmwq_chart_levels.specs.Affected.{is_width, keeps_width, moves_at, affects, has_level_number, AreAffected, IsOnlyWithin}
 use Rattle.cmwq_chart_levels.proofs.Unmoved.{height_stays, none_left, stays_level}
+use Rattle.std.proofs.lemmas.Bool.{or_parts}
 
 -- ---- an entry that keeps the width of a queue
 
@@ -69,21 +70,10 @@ fewer f g less Everywhere h = tt
 elsewhere : (p at : Place) → (level_number p == level_number at) ≡ false → same_place p at ≡ false
 elsewhere p at h = same_bools _ _ (λ k. grind (arith, nat_tests)) (λ k. cc)
 
-neither : (a b : Bool) → (a || b) ≡ false → (a ≡ false) × (b ≡ false)
-neither false false h = (refl, refl)
-neither false true h = cc
-neither true b h = cc
-
-pub one_moved : (change : Change) (x : Queueing) (a : AffectedPlaces) → (change.opened ≡ Some x) × (change.ended ≡ None) → AreAffected (has_level_number (level_number x.place) (level_number x.place)) a → AreAffected (moves_at change) a
-one_moved change x a is h = fewer _ (moves_at change) (λ p none. let at : same_place p x.place ≡ false = elsewhere p x.place (neither _ _ none).0 in rw (is.0, is.1, at) refl) a h
-
-pub one_ended : (change : Change) (x : Queueing) (a : AffectedPlaces) → (change.opened ≡ None) × (change.ended ≡ Some x) → AreAffected (has_level_number (level_number x.place) (level_number x.place)) a → AreAffected (moves_at change) a
-one_ended change x a is h = fewer _ (moves_at change) (λ p none. let at : same_place p x.place ≡ false = elsewhere p x.place (neither _ _ none).0 in rw (is.0, is.1, at) refl) a h
-
 pub both_moved : (change : Change) (x y : Queueing) (a : AffectedPlaces) → (change.opened ≡ Some x) × (change.ended ≡ Some y) → AreAffected (has_level_number (level_number x.place) (level_number y.place)) a → AreAffected (moves_at change) a
 both_moved change x y a is h = fewer _ (moves_at change) (λ p none.
-    let first : same_place p x.place ≡ false = elsewhere p x.place (neither _ _ none).0 in
-    let second : same_place p y.place ≡ false = elsewhere p y.place (neither _ _ none).1 in
+    let first : same_place p x.place ≡ false = elsewhere p x.place (or_parts _ _ none).0 in
+    let second : same_place p y.place ≡ false = elsewhere p y.place (or_parts _ _ none).1 in
     rw (is.0, is.1, first, second) refl) a h
 
 -- ---- what of the levels is outside
@@ -112,19 +102,6 @@ module _ (h : _) (past : List Entry) (e : Entry) (change : Change) (followed : I
 
   pub high_stays : (xs : List Level) (range : PlaceRange) (i j : ℕ) → All (IsOnlyWithin (affects e change) range) xs → All (λ l. range.end ≤ level_number l.place) (drop j (drop i xs)) → All Stays (drop j (drop i xs))
   high_stays xs range i j only from = λ k d less. ((All-drop (IsOnlyWithin (affects e change) range) j (drop i xs) (All-drop (IsOnlyWithin (affects e change) range) i xs only)) k d less).behind (from k d less)
-
-  -- each of two ranges is all of a part
-  pub low_within : (xs : List Level) (first second : PlaceRange) (i : ℕ) → AreRanges (affects e change) first second → All (IsLevelAfter h.layout past) xs → All (λ l. level_number l.place < second.from) (take i xs)
-      → All (IsOnlyWithin (affects e change) first) (take i xs)
-  low_within xs first second i ranges go below = λ k d less.
-      let goes = (All-take (IsLevelAfter h.layout past) i xs go) k d less in
-      record { before = ranges.before _ goes.inside.1; behind = λ n. ranges.between _ goes.inside.1 n (below k d less) }
-
-  pub high_within : (xs : List Level) (first second : PlaceRange) (i : ℕ) → AreRanges (affects e change) first second → All (IsLevelAfter h.layout past) xs → All (λ l. second.from ≤ level_number l.place) (drop i xs)
-      → All (IsOnlyWithin (affects e change) second) (drop i xs)
-  high_within xs first second i ranges go from = λ k d less.
-      let goes = (All-drop (IsLevelAfter h.layout past) i xs go) k d less in
-      record { before = λ n. absurd (omega (arith, from k d less, n)); behind = ranges.behind _ goes.inside.1 }
 
   -- so it is enough to turn those inside
   pub range_turned : (xs part : List Level) (i j : ℕ) → All (IsLevelAfter h.layout past) xs → All Stays (take i xs) → All Stays (drop j (drop i xs)) → part ≡ map (level_after h.layout (e ∷ past)) (take j (drop i xs))

@@ -44,11 +44,6 @@ module _ (p : Page) (rows : List Row) (figures : List Figure) (from end : ℕ) w
       subst (λ k. map (content_in p rows those) (range_with_len a k) ≡ map (content_in p rows figures) (range_with_len a k)) (sym one)
       (map-range_with_len_more (content_in p rows those) a n (a + n) refl ∙ ap₂ (λ l s. l ++ s ∷ []) before last ∙ sym (map-range_with_len_more (content_in p rows figures) a n (a + n) refl))
 
-  pub no_bands : (old : List Content) → end ≤ from → old ≡ old ++ band_contents_between p rows figures from end
-  no_bands old over =
-      let none : end - from ≡ 0 = omega arith in
-      sym (ap (λ n. old ++ map (content_in p rows figures) (range_with_len from n)) none ∙ append-nil old)
-
   pub one_band : (old : List Content) → end - from ≡ 1 → old ++ content_of rows those ∷ [] ≡ old ++ band_contents_between p rows figures from end
   one_band old one =
       let next : end ≡ from + 1 = omega arith in

@@ -1,6 +1,6 @@
 -- What is read of a line is inside the ranges of its types: a number above its limit is refused, and an id above its type's greatest number is
 -- read as that number.
-use Rattle.cmwq_text.specs.Common.{◌≡◌, ℕ, ◌≤◌, Bool, true, nat_le, ◌&&◌, ◌||◌, List, Option, Some, None, arith, subst, cond, ◌∙◌, if◌then◌else◌, le-leb, same_Some, ItemId, QueueId, CpuId, Who, Call, Reply, Entry, greatest, greatest_long, greatest_byte, greatest_short, IsWho, IsCall, IsReply, IsEntry}
+use Rattle.cmwq_text.specs.Common.{◌≡◌, ℕ, ◌≤◌, Bool, true, nat_le, ◌||◌, List, Option, Some, None, arith, subst, cond, ◌∙◌, if◌then◌else◌, le-leb, same_Some, ItemId, QueueId, CpuId, Who, Call, Reply, Entry, greatest, greatest_long, greatest_byte, greatest_short, IsWho, IsCall, IsReply, IsEntry}
 use Rattle.std.specs.Cmp.Derive.{both_true}
 use Rattle.cmwq_model.specs.declared.call.Call.TheVariants as call
 use Rattle.cmwq_model.specs.declared.reply.Reply.TheVariants as reply
@@ -8,9 +8,9 @@ use Rattle.cmwq_text.specs.Numbers.{greatest_number}
 use Rattle.cmwq_text.specs.declared.keyword.Keyword.{Keyword}
 use Rattle.cmwq_text.specs.declared.keyword.Keyword.TheVariants as word
 use Rattle.cmwq_text.specs.Numbers.{number_read, held_at_most, byte_of, short_of}
-use Rattle.cmwq_text.specs.Words.{has_no_word, byte_in, short_in, number_in, wide_in, long_in, take_none, take_one, take_two, take_three, take_four}
+use Rattle.cmwq_text.specs.Words.{byte_in, short_in, number_in, wide_in, long_in, take_none, take_one, take_two, take_three, take_four}
 use Rattle.cmwq_text.specs.IdText.{item, queue_numbered, cpu, item_in, queue_in, cpu_in, caller_read, worker_read, who_read, who_in}
-use Rattle.cmwq_text.specs.CallText.{call_read_after, call_in, may_say, call_read}
+use Rattle.cmwq_text.specs.CallText.{call_read_after, call_in, call_read}
 use Rattle.cmwq_text.specs.ReplyText.{ticket_with, ticket_after, started_with, started_after, reply_after, reply_in}
 use Rattle.cmwq_text.specs.EntryText.{entry_of}
 use Rattle.cmwq_text.specs.Formats.{is_short, is_short_call, is_short_reply, is_short_entry, number_limit, by_age, allows_call, call_of_format, allows_entry, entry_of_format}
@@ -211,9 +211,6 @@ pub reply_inside : (ws : List (List ℕ)) (x : Reply × List (List ℕ)) → rep
 reply_inside ws x e = grind (arith, bind_some, reply_after_inside)
 
 -- ---- whole lines
-
-abbrev call_at_end : Who → Call × List (List ℕ) → Option (Who × Call)
-call_at_end who c = cond (has_no_word c.1 && may_say who c.0) (Some (who, c.0)) None
 
 pub call_line_inside : (line : List ℕ) (x : Who × Call) → call_read line ≡ Some x → IsWho x.0 × (IsCall greatest_number) x.1
 unfolding call_read
