@@ -7,6 +7,7 @@ use cmwq_model::ItemId;
 use cmwq_rt::{Hub, HubName, HubParts, RunFault};
 use cmwq_rt_journal::{JournalFault, drop_journal, end_journal, keep_journal};
 use std::marker::Brand;
+use std::mem::drop;
 use std::process::Abort;
 use std::sync::Wait;
 use std::time::{Clock, Duration};
@@ -23,6 +24,7 @@ fn lag_under<N: HubName, R: Wait + Clock + Abort + AllocGlobal>(rt: &R, parts: H
     let (hub, participants) = Hub::<N>::open(parts);
     let mut participants = participants;
     let mut caller = participants.caller().expect(rt, "a caller");
+    drop(participants);
     let mut journal = journal_of(rt, &hub, KEPT);
     let mut early = journal_of(rt, &hub, KEPT);
     for _ in 0..100 {
@@ -64,6 +66,7 @@ fn lag_under<N: HubName, R: Wait + Clock + Abort + AllocGlobal>(rt: &R, parts: H
     assert_eq!(rt; ended, Some(JournalFault::Hub { fault, written: 0 }));
     assert!(rt; end_journal(&journal, &rest, &mut output).is_ok());
     assert!(rt; is_whole(rt, &output));
+    drop((journal, early, late, output, rest));
 }
 
 fn lag<R: Wait + Clock + Abort + AllocGlobal>(rt: &R) {

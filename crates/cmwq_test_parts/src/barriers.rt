@@ -1,5 +1,6 @@
 use cmwq_flush::*;
 use cmwq_model::{ItemId, Number, QueueId};
+use std::mem::drop;
 use std::process::Abort;
 use std::test::Fail;
 
@@ -53,6 +54,7 @@ fn waits_for_run_and_unstarted_queueing(rt: HostRuntime) -> Result<(), Fail> {
     waits_for(&rt, &books, ITEM, 1, None);
     waits_for(&rt, &books, ITEM, 3, None);
     waits_for(&rt, &books, ITEM, 4, Some(4));
+    drop(books);
     Ok(())
 }
 
@@ -62,6 +64,7 @@ fn waits_for_unstarted_queueing_alone(rt: HostRuntime) -> Result<(), Fail> {
     close(&rt, &mut books, ITEM, 0);
     waits_for(&rt, &books, ITEM, 1, None);
     waits_for(&rt, &books, ITEM, 3, Some(2));
+    drop(books);
     Ok(())
 }
 
@@ -75,5 +78,6 @@ fn waits_for_queueing_of_the_same_entry(rt: HostRuntime) -> Result<(), Fail> {
     assert!(rt; !books.has_item(ItemId(2)), "no such item");
     close(&rt, &mut books, item, 5);
     waits_for(&rt, &books, item, 5, None);
+    drop(books);
     Ok(())
 }

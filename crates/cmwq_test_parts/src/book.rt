@@ -3,8 +3,12 @@ ghost use Rattle.std.specs.Prelude.{◌≡◌};
 use crate::fixture::{CALLER, FLUSH, WORKER, queue, shape};
 use cmwq_core::*;
 use cmwq_model::{Call, ItemId, Reply, Shape, Who};
+use std::mem::drop;
 use std::process::Abort;
 use std::test::Fail;
+
+/// The item that is queued first.
+const ITEM: Option<ItemId> = Some(ItemId(0));
 
 /// The end of the flush that is the fourth entry.
 const END: Call = Call::End { ticket: 3 };
@@ -43,21 +47,23 @@ fn would_reply(rt: &impl Abort, shape: &Shape, book: &Book, who: Who, call: Call
     );
 }
 
-/// The item whose bits a call that fits would change, with its bits after it, if there is room.
+/// Whose bits a call that fits would change, and what they are after it; `None` where there is no room.
 fn would_mark(
     rt: &impl Abort,
     shape: &Shape,
     book: &Book,
     who: Who,
     call: Call,
-) -> Option<(Option<ItemId>, u8)>
+    wanted: Option<(Option<ItemId>, u8)>,
+)
     requires { book.now.layout ≡ shape.now }
 {
     assert!(rt; shape.fits(who, call), "the call fits");
-    match book.would(who, call) {
+    let mark = match book.would(who, call) {
         Ok(mark) => Some((mark.item, mark.bits)),
         Err(Full) => None,
-    }
+    };
+    assert!(rt; mark == wanted);
 }
 
 fn bits_are(rt: &impl Abort, shape: &Shape, book: &Book, item: u16, bits: u8)
@@ -87,6 +93,11 @@ fn serial(rt: &impl Abort, shape: &Shape, book: &Book, who: Who) -> u64
 /// The numbers of open queueings and of active ones.
 fn counts_are(rt: &impl Abort, book: &Book, open: u32, active: u32) {
     assert_eq!(rt; (book.open_count(), book.active_count()), (open, active));
+}
+
+/// How many entries there are, and open queueings.
+fn has_entries(rt: &impl Abort, book: &Book, entries: u64, open: u32) {
+    assert_eq!(rt; (book.len(), book.open_count()), (entries, open));
 }
 
 fn has_nine_entries(rt: &impl Abort, book: Book) {
@@ -163,14 +174,12 @@ fn marks_tell_the_bits_after(rt: HostRuntime) -> Result<(), Fail> {
     let shape = shape(&rt, 0)?;
     let mut book = Book::new(rt.alloc(), &shape, 100)?;
     would_reply(&rt, &shape, &book, CALLER, queue(0), Reply::Yes(0));
-    let mark = would_mark(&rt, &shape, &book, CALLER, queue(0));
-    assert!(rt; mark == Some((Some(ItemId(0)), 1)));
-    assert_eq!(rt; book.len(), 0);
+    would_mark(&rt, &shape, &book, CALLER, queue(0), Some((ITEM, 1)));
+    has_entries(&rt, &book, 0, 0);
     replies(&rt, &shape, &mut book, CALLER, queue(0), Reply::Yes(0));
-    let mark = would_mark(&rt, &shape, &book, WORKER, Call::Take);
-    assert!(rt; mark == Some((Some(ItemId(0)), 2)));
-    let mark = would_mark(&rt, &shape, &book, CALLER, FLUSH);
-    assert!(rt; mark == Some((None, 0)));
+    would_mark(&rt, &shape, &book, WORKER, Call::Take, Some((ITEM, 2)));
+    would_mark(&rt, &shape, &book, CALLER, FLUSH, Some((None, 0)));
+    drop(book);
     Ok(())
 }
 
@@ -180,9 +189,9 @@ fn full_leaves_room_to_end(rt: HostRuntime) -> Result<(), Fail> {
     let shape = shape(&rt, 0)?;
     let mut book = Book::new(rt.alloc(), &shape, 3)?;
     replies(&rt, &shape, &mut book, CALLER, queue(0), Reply::Yes(0));
-    assert!(rt; would_mark(&rt, &shape, &book, CALLER, queue(1)).is_none());
+    would_mark(&rt, &shape, &book, CALLER, queue(1), None);
     has_no_room(&rt, &shape, &mut book, CALLER, queue(1));
-    assert_eq!(rt; (book.len(), book.open_count()), (1, 1));
+    has_entries(&rt, &book, 1, 1);
     replies(
         &rt,
         &shape,
@@ -200,6 +209,7 @@ fn full_leaves_room_to_end(rt: HostRuntime) -> Result<(), Fail> {
         Reply::Finished(0),
     );
     has_no_room(&rt, &shape, &mut book, CALLER, queue(1));
-    assert_eq!(rt; (book.len(), book.open_count()), (3, 0));
+    has_entries(&rt, &book, 3, 0);
+    drop(book);
     Ok(())
 }

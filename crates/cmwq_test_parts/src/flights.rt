@@ -1,5 +1,6 @@
 use cmwq_inflight::*;
 use cmwq_model::{CpuId, ItemId, Number, Place, QueueId, Queueing};
+use std::mem::drop;
 use std::process::Abort;
 use std::test::Fail;
 
@@ -90,6 +91,7 @@ fn an_item_is_queued_again_while_it_runs(rt: HostRuntime) -> Result<(), Fail> {
     take_back(&rt, &mut flights, ItemId(1));
     numbers_are(&rt, &flights, 1, None, None);
     assert_eq!(rt; flights.open_count(), 0);
+    drop(flights);
     Ok(())
 }
 
@@ -115,6 +117,7 @@ fn two_of_as_many_items_as_may_be(rt: HostRuntime) -> Result<(), Fail> {
         open_place(&rt, &flights, item)?;
     }
     assert_eq!(rt; flights.open_count(), 256);
+    drop(flights);
     Ok(())
 }
 
@@ -126,5 +129,6 @@ fn long_numbers_are_told_apart(rt: HostRuntime) -> Result<(), Fail> {
     open(&rt, &mut flights, queueing(1, 4_294_967_303));
     numbers_are(&rt, &flights, 0, None, Some(7));
     numbers_are(&rt, &flights, 1, None, Some(4_294_967_303));
+    drop(flights);
     Ok(())
 }

@@ -2,6 +2,7 @@ ghost use Rattle.std.specs.Prelude.{◌<◌};
 
 use cmwq_flush::*;
 use cmwq_model::{ItemId, Number, QueueId};
+use std::mem::drop;
 use std::process::Abort;
 use std::test::Fail;
 
@@ -110,6 +111,7 @@ fn sixteen_flushes(rt: HostRuntime) -> Result<(), Fail> {
     end_all(&rt, &mut books, 2, 14);
     go_round(&rt, &mut books);
     least_is(&rt, &books, QUEUE, None);
+    drop(books);
     Ok(())
 }
 
@@ -128,6 +130,7 @@ fn forty_flushes(rt: HostRuntime) -> Result<(), Fail> {
     end_all(&rt, &mut books, 16, 40);
     assert!(rt; books.has_queue(QUEUE));
     assert!(rt; !books.stands(QUEUE, 40));
+    drop(books);
     Ok(())
 }
 
@@ -156,6 +159,7 @@ fn two_queues(rt: HostRuntime) -> Result<(), Fail> {
         !books.may_open(QUEUE, item_of(7), 5),
         "numbers come rising"
     );
+    drop(books);
     Ok(())
 }
 
@@ -298,6 +302,7 @@ fn as_many_as_may_be(rt: HostRuntime) -> Result<(), Fail> {
         may_begin(&rt, &books, OTHER, 2575),
         "the oldest left the overflow"
     );
+    drop(books);
     Ok(())
 }
 
@@ -333,6 +338,7 @@ fn two_overflows(rt: HostRuntime) -> Result<(), Fail> {
     }
     assert!(rt; books.has_queue(OTHER));
     assert!(rt; !books.stands(OTHER, 36) && books.stands(OTHER, 38));
+    drop(books);
     Ok(())
 }
 
@@ -349,5 +355,6 @@ fn two_of_each_item(rt: HostRuntime) -> Result<(), Fail> {
     assert!(rt; !books.may_open(QUEUE, ItemId(65_534), 131_070));
     begin(&rt, &mut books, QUEUE, 131_070);
     assert!(rt; !is_ready(&rt, &books, QUEUE, 131_070));
+    drop(books);
     Ok(())
 }

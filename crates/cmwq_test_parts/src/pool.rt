@@ -1,5 +1,6 @@
 use cmwq_model::{ItemId, Number};
 use cmwq_pool::Pools;
+use std::mem::drop;
 use std::process::Abort;
 use std::test::Fail;
 
@@ -180,6 +181,7 @@ fn retires_while_enough_are_idle(rt: HostRuntime) -> Result<(), Fail> {
     assert!(rt; !pools.slot(POOL, 3).enlisted);
     assert!(rt; pools.slot(POOL, 1).runs_asleep());
     assert!(rt; pools.slot(POOL, 2).is_idle());
+    drop(pools);
     Ok(())
 }
 
@@ -196,6 +198,7 @@ fn intensive_runs_hold_nobody(rt: HostRuntime) -> Result<(), Fail> {
         (Event::Start(2, None), shows(None, 0, NOBODY)),
     ];
     tell_all(&rt, &mut pools, &told);
+    drop(pools);
     Ok(())
 }
 
@@ -218,6 +221,7 @@ fn a_running_item_is_not_started_again(rt: HostRuntime) -> Result<(), Fail> {
     tell_all(&rt, &mut pools, &told);
     assert!(rt; may_add(&rt, &pools, POOL, ItemId(1)));
     assert!(rt; !may_add(&rt, &pools, POOL, ItemId(2)));
+    drop(pools);
     Ok(())
 }
 
@@ -238,6 +242,7 @@ fn pools_list_and_run_apart(rt: HostRuntime) -> Result<(), Fail> {
     remove(&rt, &mut pools, 0, 7, ItemId(1));
     assert_eq!(rt; next(&rt, &pools, 0), None);
     assert_eq!(rt; next(&rt, &pools, 1), Some(6));
+    drop(pools);
     Ok(())
 }
 
@@ -259,6 +264,7 @@ fn as_many_as_may_be(rt: HostRuntime) -> Result<(), Fail> {
     remove(&rt, &mut pools, 127, 64, ItemId(64));
     assert_eq!(rt; next(&rt, &pools, 127), Some(65));
     assert_eq!(rt; finish_first(&rt, &mut pools), 0);
+    drop(pools);
     Ok(())
 }
 
@@ -277,6 +283,7 @@ fn more_workers_than_a_shape_has(rt: HostRuntime) -> Result<(), Fail> {
         sleep(&rt, &mut pools, 0, worker);
     }
     assert_eq!(rt; runnable(&rt, &pools, 0), 0);
+    drop(pools);
     Ok(())
 }
 

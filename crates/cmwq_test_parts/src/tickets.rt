@@ -3,6 +3,7 @@ ghost use Rattle.cmwq_ticket.specs.Rows.{ticket_of_caller};
 
 use cmwq_model::{Call, CallerId, ItemId, Number, QueueId, Ticket};
 use cmwq_ticket::*;
+use std::mem::drop;
 use std::process::Abort;
 use std::test::Fail;
 
@@ -68,19 +69,22 @@ fn gives_rising_numbers_to_its_callers(rt: HostRuntime) -> Result<(), Fail> {
     let strange = ticket(2, FLUSH, 9);
     assert!(rt; !tickets.may_give(&strange), "there are two callers");
     assert_eq!(rt; tickets.len(), 3);
+    drop(tickets);
     Ok(())
 }
 
 #[test]
 fn finds_until_the_end(rt: HostRuntime) -> Result<(), Fail> {
     let mut tickets = three_given(&rt)?;
-    let found = find(&rt, &tickets, 0, 7).ok_or("no ticket")?;
-    assert!(rt; found.number == 7 && found.caller == CallerId(0));
+    assert!(rt;
+        find(&rt, &tickets, 0, 7).is_some_and(|it| it.number == 7 && it.caller == CallerId(0))
+    );
     assert!(rt; find(&rt, &tickets, 1, 7).is_none());
-    assert_eq!(rt; tickets.any(4).ok_or("no ticket")?.caller, CallerId(1));
+    assert!(rt; tickets.any(4).is_some_and(|it| it.caller == CallerId(1)));
     end(&rt, &mut tickets, 0, 3);
     assert!(rt; find(&rt, &tickets, 0, 3).is_none() && tickets.any(3).is_none());
     assert_eq!(rt; tickets.len(), 2);
+    drop(tickets);
     Ok(())
 }
 
@@ -102,6 +106,7 @@ fn knows_what_is_cancelled(rt: HostRuntime) -> Result<(), Fail> {
     assert!(rt; !tickets.is_cancelling(ItemId(254)) && !tickets.is_cancelling(ItemId(256)));
     end(&rt, &mut tickets, 1, 2);
     is_done(&rt, &tickets, false, true, false);
+    drop(tickets);
     Ok(())
 }
 
@@ -116,6 +121,7 @@ fn knows_what_is_drained(rt: HostRuntime) -> Result<(), Fail> {
     assert!(rt; !tickets.is_being_destroyed(QueueId(62)));
     end(&rt, &mut tickets, 0, 4);
     is_done(&rt, &tickets, false, false, false);
+    drop(tickets);
     Ok(())
 }
 
@@ -141,6 +147,7 @@ fn as_many_as_may_be(rt: HostRuntime) -> Result<(), Fail> {
         end(&rt, &mut tickets, (number % 64) as u8, number);
     }
     assert!(rt; tickets.is_empty() && !tickets.is_cancelling(ItemId(255)));
+    drop(tickets);
     Ok(())
 }
 
@@ -156,6 +163,7 @@ fn a_long_number_is_found_as_it_is(rt: HostRuntime) -> Result<(), Fail> {
     assert!(rt; find(&rt, &tickets, 0, LONG - (1 << 32)).is_none());
     end(&rt, &mut tickets, 0, LONG);
     assert!(rt; tickets.is_empty());
+    drop(tickets);
     Ok(())
 }
 
@@ -176,5 +184,7 @@ fn the_last_of_each_is_counted(rt: HostRuntime) -> Result<(), Fail> {
     let few = Tickets::new(rt.alloc(), 1, 3, 2)?;
     assert!(rt; few.may_give(&ticket(0, cancel(2), 0)) && few.may_give(&ticket(0, drain(1), 0)));
     assert!(rt; !few.may_give(&ticket(0, cancel(3), 0)) && !few.may_give(&ticket(0, drain(2), 0)));
+    drop(all);
+    drop(few);
     Ok(())
 }

@@ -1,5 +1,6 @@
 use cmwq_model::{CpuId, ItemId, Number, Place, QueueId};
 use cmwq_timer::*;
+use std::mem::drop;
 use std::process::Abort;
 use std::test::Fail;
 
@@ -52,6 +53,7 @@ fn nothing_is_booked_at_first(rt: HostRuntime) -> Result<(), Fail> {
     assert_eq!(rt; timers.items(), 4);
     assert_eq!(rt; booked(&rt, &timers, 0), None);
     first_is(&rt, &timers, 9, &FREE, None);
+    drop(timers);
     Ok(())
 }
 
@@ -60,6 +62,7 @@ fn tells_what_is_booked(rt: HostRuntime) -> Result<(), Fail> {
     let timers = three_booked(&rt)?;
     assert_eq!(rt; booked(&rt, &timers, 3), Some(5));
     assert!(rt; timers.is_booked_on(QueueId(3)) && !timers.is_booked_on(QueueId(2)));
+    drop(timers);
     Ok(())
 }
 
@@ -85,6 +88,7 @@ fn fires_by_tick_and_then_by_booking(rt: HostRuntime) -> Result<(), Fail> {
     // booked anew on another queue
     book(&rt, &mut timers, 1, 3, 5, 13);
     first_is(&rt, &timers, 9, &HELD, None);
+    drop(timers);
     Ok(())
 }
 
@@ -94,6 +98,7 @@ fn as_many_items_as_may_be(rt: HostRuntime) -> Result<(), Fail> {
     book(&rt, &mut timers, 65_534, 255, u64::MAX, 7);
     first_is(&rt, &timers, u64::MAX, &FREE, Some(ItemId(65_534)));
     assert!(rt; timers.is_booked_on(QueueId(255)));
+    drop(timers);
     Ok(())
 }
 
@@ -108,6 +113,7 @@ fn looks_past_what_is_held_back(rt: HostRuntime) -> Result<(), Fail> {
     first_is(&rt, &timers, 1, &HELD, None);
     first_is(&rt, &timers, 9, &HELD, Some(ItemId(19_999)));
     first_is(&rt, &timers, 9, &FREE, Some(ItemId(0)));
+    drop(timers);
     Ok(())
 }
 
@@ -122,5 +128,6 @@ fn a_late_timer_with_a_long_number(rt: HostRuntime) -> Result<(), Fail> {
     first_is(&rt, &timers, 4_999_999_999, &FREE, None);
     first_is(&rt, &timers, 5_000_000_000, &FREE, Some(ItemId(0)));
     assert_eq!(rt; booked(&rt, &timers, 0), Some(5_000_000_000));
+    drop(timers);
     Ok(())
 }
