@@ -1,11 +1,10 @@
 -- The places of all queueings are shown.
-use Rattle.std.proofs.Common.{◌≡◌, ℕ, ◌<◌, true, ◌&&◌, List, [], ◌∷◌, length, option_to_list, refl, ap₂, ◌∙◌, arith, zero-add}
+use Rattle.std.proofs.Common.{◌≡◌, ℕ, ◌<◌, true, ◌&&◌, List, [], ◌∷◌, length, option_to_list, refl, ap₂, arith}
 use Rattle.std.specs.Prelude.{flat_map, Contains}
 use Rattle.std.specs.List.{AllByRecursion, range_with_len}
 use Rattle.std.proofs.lemmas.Bool.{eq-eqb}
-use Rattle.std.proofs.lemmas.List.FromFn.{length-range_with_len, get_or-range_with_len}
 use Rattle.cmwq_lemmas.proofs.Lists.{All_append}
-use Rattle.cmwq_lemmas.proofs.Members.{In, of_in, all_in, any_in, in_at, in_option, filter_in, in_contained, in_mapped, flat_in}
+use Rattle.cmwq_lemmas.proofs.Members.{In, of_in, all_in, any_in, in_range, in_option, filter_in, in_contained, in_mapped, flat_in}
 use Rattle.cmwq_model.specs.declared.entry.Entry.{Entry}
 use Rattle.cmwq_model.specs.declared.record.Queueing.{Queueing}
 use Rattle.cmwq_model.specs.Prelude.{Layout, IsLegal, opening, queueings}
@@ -14,8 +13,9 @@ use Rattle.cmwq_refinement.proofs.PlacesFit.{opened_are_there}
 use Rattle.cmwq_chart.specs.Levels.{is_of_place, has_queueings, place_on, places_of_queue, places_of}
 use Rattle.cmwq_chart_laws.specs.LevelLaws.{UsedPlacesAreShown}
 
+-- a number below n
 range_in : (n k : ℕ) → k < n → In k (range_with_len 0 n)
-range_in n k less = in_at (range_with_len 0 n) k k (let long = length-range_with_len 0 n in omega arith) (get_or-range_with_len 0 n k k less ∙ zero-add k)
+range_in n k less = in_range 0 n k (omega arith) (omega arith)
 
 all_there : (s : Layout) (past : List Entry) → IsLegal s past → AllByRecursion (IsQueueingThere s) (queueings past)
 unfolding queueings IsLegal
