@@ -3,7 +3,7 @@ use Rattle.cmwq_base.specs.Common.{◌≡◌, inl, inr, ◌+◌, ◌≤◌, ◌=
 use Rattle.cmwq_text.specs.IdText.{who_text}
 use Rattle.cmwq_text.specs.Laws.{IsLineOf}
 use Rattle.cmwq_base.specs.Pieces.{pieces}
-use Rattle.cmwq_base.specs.Files.{File, IsSound, Stage, Kind, begin, opened, head, body, ended, shape_made, and_then, begun, queue_line, item_line, end_in, or_ended, body_line, first_item, after_head, after_line, at_end, without_end, after_pieces, after_text, file_of}
+use Rattle.cmwq_base.specs.Files.{File, IsSound, Stage, Kind, begin, opened, head, body, ended, shape_made, and_then, after_shape_line, queue_line, item_line, end_of_format, or_ended, body_line, first_body_line, after_head, after_whole_line, at_end, without_end, after_pieces, after_text, file_of}
 use Rattle.cmwq_base.specs.Kinds.{calls_kind, call_file_of, history_kind, history_file_of}
 use Rattle.cmwq_base.specs.FileLaws.{HistoriesReadAgain, OldHistoriesReadAgain, CallFilesReadAgain}
 use Rattle.cmwq_base.specs.declared.refusal.Refusal.TheVariants as refusal
@@ -16,7 +16,7 @@ record IsAgain {X : Type 0} (k : Kind X) (v : ℕ) (text : X → List ℕ) (s : 
   whole : IsWholeLine (text x) line
   read : k.item_of v line ≡ Some x
   other : begins_queue line ≡ false
-  no_end : end_in k v line ≡ None
+  no_end : end_of_format k v line ≡ None
   inside : k.fits_in s x ≡ true
 
 -- the kind reads the line of the queue again
@@ -32,7 +32,7 @@ pub pieces_behind : (bytes line rest : List ℕ) → IsWholeLine bytes line → 
 pieces_behind bytes line rest w = grind (arith, append_assoc, slice_split_at)
 
 module _ {X : Type 0} (k : Kind X) where
-  line_goes : (n : ℕ) (stage next : Stage X) (bytes line rest : List ℕ) → IsWholeLine bytes line → after_line k n stage line ≡ Ok next → after_text k n stage (bytes ++ rest) ≡ after_text k (n + 1) next rest
+  line_goes : (n : ℕ) (stage next : Stage X) (bytes line rest : List ℕ) → IsWholeLine bytes line → after_whole_line k n stage line ≡ Ok next → after_text k n stage (bytes ++ rest) ≡ after_text k (n + 1) next rest
   line_goes n stage next bytes line rest w h =
       let some = pieces_some rest in
       ap (after_pieces k n stage) (pieces_behind bytes line rest w)
@@ -43,8 +43,8 @@ counts_again : (v : ℕ) (c : Counts) → IsTrue (are_counts c.cpus c.workers c.
 unfolding counts_of_format
 counts_again v c inside allowed = rw (counts_read_again c (join_words (counts_words c)) inside (whole_counts c inside).is, allowed) refl
 
-begun_goes : {X : Type 0} (n v : ℕ) (c : Counts) → IsTrue (are_counts c.cpus c.workers c.callers c.items c.room) → IsTrue (allows_counts v c) → begun {X = X} n v (counts_of_format v (join_words (counts_words c))) ≡ Ok (head v c [])
-begun_goes n v c inside room = ap (begun n v) (counts_again v c inside room)
+begun_goes : {X : Type 0} (n v : ℕ) (c : Counts) → IsTrue (are_counts c.cpus c.workers c.callers c.items c.room) → IsTrue (allows_counts v c) → after_shape_line {X = X} n v (counts_of_format v (join_words (counts_words c))) ≡ Ok (head v c [])
+begun_goes n v c inside room = ap (after_shape_line n v) (counts_again v c inside room)
 
 module _ {X : Type 0} (k : Kind X) (v : ℕ) (text : X → List ℕ) (last : ℕ → List ℕ) (ends : Ends k v last) where
   -- ---- lines of the kind
@@ -57,8 +57,8 @@ module _ {X : Type 0} (k : Kind X) (v : ℕ) (text : X → List ℕ) (last : ℕ
   unfolding body_line
   line_body n s xs x a room = ap (or_ended k n v s xs a.line) a.no_end ∙ item_goes n s xs x a room
 
-  body_goes : (n : ℕ) (s : Layout) (xs : List X) (x : X) (a : IsAgain k v text s x) → length xs + 1 ≤ line_limit v → after_line k n (body v s xs) a.line ≡ Ok (body v s (xs ++ x ∷ []))
-  unfolding after_line
+  body_goes : (n : ℕ) (s : Layout) (xs : List X) (x : X) (a : IsAgain k v text s x) → length xs + 1 ≤ line_limit v → after_whole_line k n (body v s xs) a.line ≡ Ok (body v s (xs ++ x ∷ []))
+  unfolding after_whole_line
   body_goes n s xs x a room = line_body n s xs x a room
 
   items_end : (n : ℕ) (s : Layout) (xs ys : List X) → length xs + length ys ≤ line_limit v → All (IsAgain k v text s) ys
@@ -78,8 +78,8 @@ module _ {X : Type 0} (k : Kind X) (v : ℕ) (text : X → List ℕ) (last : ℕ
 
   -- ---- lines of queues
 
-  queue_goes : (n : ℕ) (c : Counts) (qs : List QueueShape) (q : QueueShape) → ReadsQueue k v q → IsTrue (is_queue q) → length qs + 1 ≤ queue_limit v → after_line k n (head v c qs) (join_words (queue_words q)) ≡ Ok (head v c (qs ++ q ∷ []))
-  unfolding after_line after_head
+  queue_goes : (n : ℕ) (c : Counts) (qs : List QueueShape) (q : QueueShape) → ReadsQueue k v q → IsTrue (is_queue q) → length qs + 1 ≤ queue_limit v → after_whole_line k n (head v c qs) (join_words (queue_words q)) ≡ Ok (head v c (qs ++ q ∷ []))
+  unfolding after_whole_line after_head
   queue_goes n c qs q reads inside room = rw (lt-leb (queue_limit v) (length qs) (omega arith), reads (join_words (queue_words q)) inside (whole_queue q inside).is) refl
 
   -- what is read of the rest behind all queues is read of it with their lines before it
@@ -95,11 +95,11 @@ module _ {X : Type 0} (k : Kind X) (v : ℕ) (text : X → List ℕ) (last : ℕ
 
   -- ---- the first line that is none of a queue, or the end
 
-  first_goes : (n : ℕ) (c : Counts) (qs : List QueueShape) (x : X) (a : IsAgain k v text (layout_of c qs) x) → 1 ≤ line_limit v → is_layout (layout_of c qs) ≡ true → after_line k n (head v c qs) a.line ≡ Ok (body v (layout_of c qs) (x ∷ []))
-  unfolding after_line after_head
+  first_goes : (n : ℕ) (c : Counts) (qs : List QueueShape) (x : X) (a : IsAgain k v text (layout_of c qs) x) → 1 ≤ line_limit v → is_layout (layout_of c qs) ≡ true → after_whole_line k n (head v c qs) a.line ≡ Ok (body v (layout_of c qs) (x ∷ []))
+  unfolding after_whole_line after_head
   first_goes n c qs x a room inside =
-      ap (λ b. if b then queue_line k n v c qs a.line else first_item k n v (shape_made c qs) a.line) a.other
-      ∙ ap (λ b. first_item k n v (if b then Some (layout_of c qs) else None) a.line) inside
+      ap (λ b. if b then queue_line k n v c qs a.line else first_body_line k n v (shape_made c qs) a.line) a.other
+      ∙ ap (λ b. first_body_line k n v (if b then Some (layout_of c qs) else None) a.line) inside
       ∙ line_body n (layout_of c qs) [] x a (omega arith)
 
   head_ends : (n : ℕ) (c : Counts) (qs : List QueueShape) (ys : List X) → is_layout (layout_of c qs) ≡ true → length ys ≤ line_limit v → All (IsAgain k v text (layout_of c qs)) ys
@@ -116,7 +116,7 @@ module _ {X : Type 0} (k : Kind X) (v : ℕ) (text : X → List ℕ) (last : ℕ
   -- ---- the whole
 
   -- from the shape line on
-  shape_read_again : (n : ℕ) (stage : Stage X) (f : File X) → f.version ≡ v → ((c : Counts) → IsTrue (are_counts c.cpus c.workers c.callers c.items c.room) → IsTrue (allows_counts v c) → after_line k n stage (join_words (counts_words c)) ≡ Ok (head v c []))
+  shape_read_again : (n : ℕ) (stage : Stage X) (f : File X) → f.version ≡ v → ((c : Counts) → IsTrue (are_counts c.cpus c.workers c.callers c.items c.room) → IsTrue (allows_counts v c) → after_whole_line k n stage (join_words (counts_words c)) ≡ Ok (head v c []))
       → All (ReadsQueue k v) f.layout.queues → is_layout f.layout ≡ true → IsSound k f → All (IsAgain k v text f.layout) f.items
       → after_text k n stage (shape_text f.layout ++ (flat_map text f.items ++ last (length f.items))) ≡ Ok f
   shape_read_again n stage f is_version begins reads inside sound each =
@@ -139,7 +139,7 @@ module _ {X : Type 0} (k : Kind X) (v : ℕ) (text : X → List ℕ) (last : ℕ
 
 -- ---- histories
 
-none_in : (v : ℕ) (line : List ℕ) → end_of line ≡ None → end_in history_kind v line ≡ None
+none_in : (v : ℕ) (line : List ℕ) → end_of line ≡ None → end_of_format history_kind v line ≡ None
 none_in v line none = grind arith
 
 entry_again : (v : ℕ) (s : Layout) (e : Entry) → (IsEntry greatest_number) e → entry_fits s e ≡ true → allows_entry v e ≡ true → IsAgain history_kind v entry_text s e
@@ -158,8 +158,8 @@ queue_again v q allowed line is spelled = rw ((queues_read_again q line is spell
 shape_says_none : (c : Counts) → (history_kind.says_format 2 (join_words (counts_words c)) ≡ false) × (history_kind.says_format 3 (join_words (counts_words c)) ≡ false)
 shape_says_none c = (refl, refl)
 
-old_begins : (c : Counts) → IsTrue (are_counts c.cpus c.workers c.callers c.items c.room) → IsTrue (allows_counts 1 c) → after_line history_kind 1 begin (join_words (counts_words c)) ≡ Ok (head 1 c [])
-unfolding after_line
+old_begins : (c : Counts) → IsTrue (are_counts c.cpus c.workers c.callers c.items c.room) → IsTrue (allows_counts 1 c) → after_whole_line history_kind 1 begin (join_words (counts_words c)) ≡ Ok (head 1 c [])
+unfolding after_whole_line
 old_begins c inside room = rw ((shape_says_none c).0, (shape_says_none c).1) (begun_goes 1 1 c inside room)
 
 -- ---- the last line of a history
@@ -180,19 +180,19 @@ ended_is_all : (n v : ℕ) (s : Layout) (xs : List Entry) → after_text history
 unfolding after_pieces at_end
 ended_is_all n v s xs = refl
 
-end_read : (v n : ℕ) → n ≤ greatest_number → needs_end v ≡ true → end_in history_kind v (join_words (end_words n)) ≡ Some n
+end_read : (v n : ℕ) → n ≤ greatest_number → needs_end v ≡ true → end_of_format history_kind v (join_words (end_words n)) ≡ Some n
 end_read v n le needed = ap (λ b. if b then end_of (join_words (end_words n)) else None) needed ∙ ends_read_again n (join_words (end_words n)) le (whole_end n le).is
 
 pub body_ends : (n v : ℕ) (s : Layout) (xs : List Entry) → length xs ≤ greatest_number → needs_end v ≡ true → body_line history_kind n v s xs (join_words (end_words (length xs))) ≡ Ok (ended v s xs)
 unfolding body_line
 body_ends n v s xs le needed = ap (or_ended history_kind n v s xs (join_words (end_words (length xs)))) (end_read v (length xs) le needed) ∙ ap (λ b. if b then Ok (ended v s xs) else Err (refusal.BadLine n)) (eq-eqb (length xs) (length xs) refl)
 
-pub body_goes_over : (n v : ℕ) (s : Layout) (xs : List Entry) → length xs ≤ greatest_number → needs_end v ≡ true → after_line history_kind n (body v s xs) (join_words (end_words (length xs))) ≡ Ok (ended v s xs)
-unfolding after_line
+pub body_goes_over : (n v : ℕ) (s : Layout) (xs : List Entry) → length xs ≤ greatest_number → needs_end v ≡ true → after_whole_line history_kind n (body v s xs) (join_words (end_words (length xs))) ≡ Ok (ended v s xs)
+unfolding after_whole_line
 body_goes_over n v s xs le needed = body_ends n v s xs le needed
 
-pub head_goes_over : (n v : ℕ) (c : Counts) (qs : List QueueShape) → needs_end v ≡ true → is_layout (layout_of c qs) ≡ true → after_line history_kind n (head v c qs) (join_words (end_words 0)) ≡ Ok (ended v (layout_of c qs) [])
-unfolding after_line after_head
+pub head_goes_over : (n v : ℕ) (c : Counts) (qs : List QueueShape) → needs_end v ≡ true → is_layout (layout_of c qs) ≡ true → after_whole_line history_kind n (head v c qs) (join_words (end_words 0)) ≡ Ok (ended v (layout_of c qs) [])
+unfolding after_whole_line after_head
 head_goes_over n v c qs needed inside = grind (arith, body_ends)
 
 -- what stands behind the entries of a history, in any format
@@ -222,16 +222,16 @@ old_histories_read_again f is_version of_format inside sound each =
     ∙ shape_read_again history_kind 1 entry_text (last_text 1) (history_ends 1) 1 begin f is_version old_begins (λ i d lt. queue_again 1 _ (old.0 i d lt)) inside sound
     (λ i d lt. entry_again 1 f.layout _ (wide_entry _ (each i d lt)) (sound.fitting i d lt) (old.1 i d lt))
 
-begins : (v : ℕ) (c : Counts) → IsTrue (are_counts c.cpus c.workers c.callers c.items c.room) → IsTrue (allows_counts v c) → after_line history_kind 2 (opened v) (join_words (counts_words c)) ≡ Ok (head v c [])
-unfolding after_line
+begins : (v : ℕ) (c : Counts) → IsTrue (are_counts c.cpus c.workers c.callers c.items c.room) → IsTrue (allows_counts v c) → after_whole_line history_kind 2 (opened v) (join_words (counts_words c)) ≡ Ok (head v c [])
+unfolding after_whole_line
 begins v c inside room = begun_goes 2 v c inside room
 
-says : after_line history_kind 1 begin (codes "history 2") ≡ Ok (opened 2)
-unfolding after_line
+says : after_whole_line history_kind 1 begin (codes "history 2") ≡ Ok (opened 2)
+unfolding after_whole_line
 says = refl
 
-long_says : after_line history_kind 1 begin (codes "history 3") ≡ Ok (opened 3)
-unfolding after_line
+long_says : after_whole_line history_kind 1 begin (codes "history 3") ≡ Ok (opened 3)
+unfolding after_whole_line
 long_says = refl
 
 -- format 2 has all entries with short numbers
@@ -239,7 +239,7 @@ pub new_allows : (e : Entry) → (IsEntry greatest) e → allows_entry 2 e ≡ t
 new_allows e h = rw (short_entry_is e h) refl
 
 -- in a format whose first line says it, and which has all queues and these entries
-newer_read_again : (v : ℕ) (f : File Entry) → f.version ≡ v → IsWholeLine (version_text v) (version_name v) → after_line history_kind 1 begin (version_name v) ≡ Ok (opened v)
+newer_read_again : (v : ℕ) (f : File Entry) → f.version ≡ v → IsWholeLine (version_text v) (version_name v) → after_whole_line history_kind 1 begin (version_name v) ≡ Ok (opened v)
     → ((q : QueueShape) → allows_queue v q ≡ true) → All (λ e. allows_entry v e ≡ true) f.items
     → IsTrue (is_layout f.layout) → IsSound history_kind f → All (IsEntry greatest_number) f.items → history_file_of (text_of_format v f.layout f.items) ≡ Ok f
 unfolding file_of
@@ -286,16 +286,16 @@ call_again v s x h k inside =
 shape_says_no_calls : (c : Counts) → calls_kind.says_format 3 (join_words (counts_words c)) ≡ false
 shape_says_no_calls c = refl
 
-old_calls_begin : (c : Counts) → IsTrue (are_counts c.cpus c.workers c.callers c.items c.room) → IsTrue (allows_counts 1 c) → after_line calls_kind 1 begin (join_words (counts_words c)) ≡ Ok (head 1 c [])
-unfolding after_line
+old_calls_begin : (c : Counts) → IsTrue (are_counts c.cpus c.workers c.callers c.items c.room) → IsTrue (allows_counts 1 c) → after_whole_line calls_kind 1 begin (join_words (counts_words c)) ≡ Ok (head 1 c [])
+unfolding after_whole_line
 old_calls_begin c inside room = rw (shape_says_no_calls c) (begun_goes 1 1 c inside room)
 
-calls_begin : (v : ℕ) (c : Counts) → IsTrue (are_counts c.cpus c.workers c.callers c.items c.room) → IsTrue (allows_counts v c) → after_line calls_kind 2 (opened v) (join_words (counts_words c)) ≡ Ok (head v c [])
-unfolding after_line
+calls_begin : (v : ℕ) (c : Counts) → IsTrue (are_counts c.cpus c.workers c.callers c.items c.room) → IsTrue (allows_counts v c) → after_whole_line calls_kind 2 (opened v) (join_words (counts_words c)) ≡ Ok (head v c [])
+unfolding after_whole_line
 calls_begin v c inside room = begun_goes 2 v c inside room
 
-calls_say : after_line calls_kind 1 begin calls_name ≡ Ok (opened 3)
-unfolding after_line
+calls_say : after_whole_line calls_kind 1 begin calls_name ≡ Ok (opened 3)
+unfolding after_whole_line
 calls_say = refl
 
 calls_end : (v : ℕ) → Ends calls_kind v (λ m. [])
@@ -305,7 +305,7 @@ calls_end v = grind arith
 module _ (f : File (Who × Call)) (inside : IsTrue (is_layout f.layout)) (sound : IsSound calls_kind f) (each : All (λ x. IsWho x.0 × (IsCall (number_limit f.version)) x.1) f.items) where
   -- from the shape line on
   calls_again : (v n : ℕ) (stage : Stage (Who × Call)) → f.version ≡ v
-      → ((c : Counts) → IsTrue (are_counts c.cpus c.workers c.callers c.items c.room) → IsTrue (allows_counts v c) → after_line calls_kind n stage (join_words (counts_words c)) ≡ Ok (head v c []))
+      → ((c : Counts) → IsTrue (are_counts c.cpus c.workers c.callers c.items c.room) → IsTrue (allows_counts v c) → after_whole_line calls_kind n stage (join_words (counts_words c)) ≡ Ok (head v c []))
       → after_text calls_kind n stage (shape_text f.layout ++ flat_map call_line f.items) ≡ Ok f
   calls_again v n stage is begins =
       let numbers = subst (λ v. All (λ x. IsWho x.0 × (IsCall (number_limit v)) x.1) f.items) is each in

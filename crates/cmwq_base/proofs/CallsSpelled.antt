@@ -3,7 +3,7 @@ use Rattle.cmwq_base.specs.Common.{◌≡◌, ◌+◌, ℕ, Bool, true, false, L
 use Rattle.cmwq_base.specs.declared.refusal.Refusal.{Refusal}
 use Rattle.cmwq_base.specs.declared.refusal.Refusal.TheVariants as refusal
 use Rattle.cmwq_base.specs.Pieces.{pieces}
-use Rattle.cmwq_base.specs.Files.{File, Stage, begin, opened, head, body, ended, is_long, shape_made, and_then, begun, with_queue, queue_line, with_item, item_line, body_line, first_item, after_head, after_line, at_end, without_items, after_last, after_pieces, file_of}
+use Rattle.cmwq_base.specs.Files.{File, Stage, begin, opened, head, body, ended, is_long, shape_made, and_then, after_shape_line, with_queue, queue_line, with_body_item, item_line, body_line, first_body_line, after_head, after_whole_line, at_end, without_items, after_last, after_pieces, file_of}
 use Rattle.cmwq_base.specs.Kinds.{calls_kind}
 use Rattle.cmwq_base.specs.FileLaws.{queue_taken, IsTextOfCalls, CallFilesSpelledSo}
 use Rattle.cmwq_base.proofs.Progress.{counts_are_read}
@@ -52,7 +52,7 @@ module _ (n v : ℕ) (front line : List ℕ) where
   abbrev longer : List ℕ
   longer = front ++ (line ++ 10 ∷ [])
 
-  begun_goes : (o : Option Counts) (next : CallStage) → front ≡ calls_version_text v → counts_of_format v line ≡ o → begun n v o ≡ Ok next → IsFront next longer
+  begun_goes : (o : Option Counts) (next : CallStage) → front ≡ calls_version_text v → counts_of_format v line ≡ o → after_shape_line n v o ≡ Ok next → IsFront next longer
   begun_goes None next before is h = cc
   begun_goes (Some c) next before is h =
       let same : head v c [] ≡ next = cc in
@@ -88,12 +88,12 @@ module _ (n v : ℕ) (front line : List ℕ) where
       subst (λ st. IsFront st longer) same (record { queues = before.queues; text = text; taken = before.taken })
   item_goes s xs x next false before is fitting h = cc
 
-  with_item_goes : (s : Layout) (xs : List (Who × Call)) (o : Option (Who × Call)) (next : CallStage) → IsFront (body v s xs) front → call_of_format v line ≡ o → with_item calls_kind n v s xs o ≡ Ok next → IsFront next longer
+  with_item_goes : (s : Layout) (xs : List (Who × Call)) (o : Option (Who × Call)) (next : CallStage) → IsFront (body v s xs) front → call_of_format v line ≡ o → with_body_item calls_kind n v s xs o ≡ Ok next → IsFront next longer
   with_item_goes s xs None next before is h = cc
   with_item_goes s xs (Some x) next before is h = item_goes s xs x next (fits s x.0 x.1) before is refl h
 
   item_line_if : (s : Layout) (xs : List (Who × Call)) (next : CallStage) (b : Bool) → IsFront (body v s xs) front
-      → (if b then Err refusal.TooLong else with_item calls_kind n v s xs (call_of_format v line)) ≡ Ok next → IsFront next longer
+      → (if b then Err refusal.TooLong else with_body_item calls_kind n v s xs (call_of_format v line)) ≡ Ok next → IsFront next longer
   item_line_if s xs next true before h = cc
   item_line_if s xs next false before h = with_item_goes s xs (call_of_format v line) next before refl h
 
@@ -102,7 +102,7 @@ module _ (n v : ℕ) (front line : List ℕ) where
   item_line_goes s xs next before h = item_line_if s xs next (nat_le (line_limit v) (length xs)) before h
 
   first_item_goes : (c : Counts) (taken : List QueueShape) (next : CallStage) (b : Bool) → IsFront (head v c taken) front → is_layout (layout_of c taken) ≡ b
-      → first_item calls_kind n v (if b then Some (layout_of c taken) else None) line ≡ Ok next → IsFront next longer
+      → first_body_line calls_kind n v (if b then Some (layout_of c taken) else None) line ≡ Ok next → IsFront next longer
   unfolding body_line
   first_item_goes c taken next true before inside h =
       let text = before.text ∙ ap (λ t. calls_version_text v ++ t) (sym (append-nil (counts_text c ++ flat_map queue_text before.queues))) in
@@ -110,11 +110,11 @@ module _ (n v : ℕ) (front line : List ℕ) where
   first_item_goes c taken next false before inside h = cc
 
   head_goes : (c : Counts) (taken : List QueueShape) (next : CallStage) (b : Bool) → IsFront (head v c taken) front
-      → (if b then queue_line calls_kind n v c taken line else first_item calls_kind n v (shape_made c taken) line) ≡ Ok next → IsFront next longer
+      → (if b then queue_line calls_kind n v c taken line else first_body_line calls_kind n v (shape_made c taken) line) ≡ Ok next → IsFront next longer
   head_goes c taken next true before h = queue_line_goes c taken next (nat_le (queue_limit v) (length taken)) before h
   head_goes c taken next false before h = first_item_goes c taken next (is_layout (layout_of c taken)) before refl h
 
-first_goes : (n : ℕ) (front line : List ℕ) (next : CallStage) (b : Bool) → front ≡ [] → bytes_eq line calls_name ≡ b → (if b then Ok (opened 3) else begun n 1 (counts_of_format 1 line)) ≡ Ok next
+first_goes : (n : ℕ) (front line : List ℕ) (next : CallStage) (b : Bool) → front ≡ [] → bytes_eq line calls_name ≡ b → (if b then Ok (opened 3) else after_shape_line n 1 (counts_of_format 1 line)) ≡ Ok next
     → IsFront next (front ++ (line ++ 10 ∷ []))
 first_goes n front line next true empty is h =
     let same : opened 3 ≡ next = cc in
@@ -122,8 +122,8 @@ first_goes n front line next true empty is h =
     subst (λ st. IsFront st (front ++ (line ++ 10 ∷ []))) same (record { queues = []; text = text; taken = tt })
 first_goes n front line next false empty is h = begun_goes n 1 front line (counts_of_format 1 line) next empty refl h
 
-line_goes : (n : ℕ) (stage next : CallStage) (front line : List ℕ) → IsFront stage front → after_line calls_kind n stage line ≡ Ok next → IsFront next (front ++ (line ++ 10 ∷ []))
-unfolding after_line after_head body_line
+line_goes : (n : ℕ) (stage next : CallStage) (front line : List ℕ) → IsFront stage front → after_whole_line calls_kind n stage line ≡ Ok next → IsFront next (front ++ (line ++ 10 ∷ []))
+unfolding after_whole_line after_head body_line
 line_goes n begin next front line before h = first_goes n front line next (bytes_eq line calls_name) before.text refl h
 line_goes n (opened v) next front line before h = begun_goes n v front line (counts_of_format v line) next before.text refl h
 line_goes n (head v c taken) next front line before h = head_goes n v front line c taken next (begins_queue line) before h
@@ -164,7 +164,7 @@ pieces_spell [] n stage front f before h = last_is_all n stage front [] f before
 pieces_spell (last ∷ []) n stage front f before h = last_is_all n stage front last f before h
 pieces_spell (line ∷ more ∷ rest) n stage front f before h =
     let goes : CallStage → Result (File (Who × Call)) Refusal = λ next. after_pieces calls_kind (n + 1) next (more ∷ rest) in
-    let step = next_goes goes (after_line calls_kind n stage line) f (short_goes (is_long line) (and_then goes (after_line calls_kind n stage line)) f h) in
+    let step = next_goes goes (after_whole_line calls_kind n stage line) f (short_goes (is_long line) (and_then goes (after_whole_line calls_kind n stage line)) f h) in
     let behind : List ℕ = join_with_byte 10 (more ∷ rest) in
     let split : (front ++ (line ++ 10 ∷ [])) ++ behind ≡ front ++ (line ++ 10 ∷ behind) = simp append_assoc in
     subst (IsTextOfCalls f) split (pieces_spell (more ∷ rest) (n + 1) step.0 (front ++ (line ++ 10 ∷ [])) f (line_goes n stage step.0 front line before step.1) step.2)

@@ -3,7 +3,7 @@ use Rattle.cmwq_base.specs.Common.{◌≡◌, inl, inr, ◌+◌, ◌<◌, ◌≤
 use Rattle.cmwq_io.specs.declared.lines.Found.{Found}
 use Rattle.cmwq_base.specs.declared.refusal.Refusal.{Refusal}
 use Rattle.cmwq_base.specs.declared.refusal.Refusal.TheVariants as refusal
-use Rattle.cmwq_base.specs.Files.{File, IsVersionOf, IsSound, Stage, begin, opened, head, body, ended, Kind, as_front, shape_made, and_then, begun, with_queue, queue_line, with_item, item_line, end_in, or_ended, body_line, first_item, after_head, after_line, after_cut, is_ended, at_end, at_cut, without_end, without_items, after_text, file_of}
+use Rattle.cmwq_base.specs.Files.{File, IsVersionOf, IsSound, Stage, begin, opened, head, body, ended, Kind, as_front, shape_made, and_then, after_shape_line, with_queue, queue_line, with_body_item, item_line, end_of_format, or_ended, body_line, first_body_line, after_head, after_whole_line, after_cut, is_file_ended, at_end, at_cut, without_end, without_items, after_text, file_of}
 use Rattle.cmwq_base.specs.Gives.{Refuses, GivesAs, Fails, Gives}
 use Rattle.cmwq_base.specs.Stages.{lines_taken, IsSaid, IsStageWithin}
 use Rattle.cmwq_base.proofs.Limits.{none_passes}
@@ -35,7 +35,7 @@ pub record Grows {X : Type 0} (k : Kind X) (old new : Stage X) : Type 0 where
   pub within : IsStageWithin k old → IsStageWithin k new
 
 module _ {X : Type 0} (k : Kind X) (n : ℕ) where
-  begun_grows : (v : ℕ) (stage : Stage X) (line : List ℕ) (o : Option Counts) (next : Stage X) → counts_of_format v line ≡ o → lines_taken stage + 1 ≤ 2 → (IsStageWithin k stage → IsVersionOf k v) → begun n v o ≡ Ok next → Grows k stage next
+  begun_grows : (v : ℕ) (stage : Stage X) (line : List ℕ) (o : Option Counts) (next : Stage X) → counts_of_format v line ≡ o → lines_taken stage + 1 ≤ 2 → (IsStageWithin k stage → IsVersionOf k v) → after_shape_line n v o ≡ Ok next → Grows k stage next
   begun_grows v stage line None next read lines is_version h = cc
   begun_grows v stage line (Some c) next read lines is_version h =
       let is : head v c [] ≡ next = cc in
@@ -46,12 +46,12 @@ module _ {X : Type 0} (k : Kind X) (n : ℕ) where
   opened_grows : (v : ℕ) (line : List ℕ) (next : Stage X) → 2 ≤ v → v ≤ 3 → k.says_format v line ≡ true → opened v ≡ next → Grows k begin next
   opened_grows v line next low high says is = grind arith
 
-  third_grows : (line : List ℕ) (next : Stage X) (b : Bool) → k.says_format 3 line ≡ b → (if b then Ok (opened 3) else begun n 1 (counts_of_format 1 line)) ≡ Ok next → Grows k begin next
+  third_grows : (line : List ℕ) (next : Stage X) (b : Bool) → k.says_format 3 line ≡ b → (if b then Ok (opened 3) else after_shape_line n 1 (counts_of_format 1 line)) ≡ Ok next → Grows k begin next
   third_grows line next true says h = let is : opened 3 ≡ next = cc in opened_grows 3 line next (omega arith) (omega arith) says is
   third_grows line next false says h = begun_grows 1 begin line (counts_of_format 1 line) next refl (omega arith) (λ _. (omega arith, omega arith, inl refl)) h
 
   first_grows : (line : List ℕ) (next : Stage X) (b : Bool) → k.says_format 2 line ≡ b
-      → (if b then Ok (opened 2) else if k.says_format 3 line then Ok (opened 3) else begun n 1 (counts_of_format 1 line)) ≡ Ok next → Grows k begin next
+      → (if b then Ok (opened 2) else if k.says_format 3 line then Ok (opened 3) else after_shape_line n 1 (counts_of_format 1 line)) ≡ Ok next → Grows k begin next
   first_grows line next true says h = let is : opened 2 ≡ next = cc in opened_grows 2 line next (omega arith) (omega arith) says is
   first_grows line next false says h = third_grows line next (k.says_format 3 line) refl h
 
@@ -74,12 +74,12 @@ module _ {X : Type 0} (k : Kind X) (n : ℕ) where
       subst (Grows k (body v s xs)) is (record { count = omega arith; within = λ w. (w.0, w.1, w.2, w.3, omega arith, All-push (λ y. IsTrue (k.fits_in s y)) xs x w.5 fitting) })
   item_grows v s xs x next false fitting room h = cc
 
-  with_item_grows : (v : ℕ) (s : Layout) (xs : List X) (o : Option X) (next : Stage X) → length xs < line_limit v → with_item k n v s xs o ≡ Ok next → Grows k (body v s xs) next
+  with_item_grows : (v : ℕ) (s : Layout) (xs : List X) (o : Option X) (next : Stage X) → length xs < line_limit v → with_body_item k n v s xs o ≡ Ok next → Grows k (body v s xs) next
   with_item_grows v s xs None next room h = cc
   with_item_grows v s xs (Some x) next room h = item_grows v s xs x next (k.fits_in s x) refl room h
 
   item_line_if : (v : ℕ) (s : Layout) (xs : List X) (line : List ℕ) (next : Stage X) (b : Bool) → nat_le (line_limit v) (length xs) ≡ b
-      → (if b then Err refusal.TooLong else with_item k n v s xs (k.item_of v line)) ≡ Ok next → Grows k (body v s xs) next
+      → (if b then Err refusal.TooLong else with_body_item k n v s xs (k.item_of v line)) ≡ Ok next → Grows k (body v s xs) next
   item_line_if v s xs line next true full h = cc
   item_line_if v s xs line next false full h = with_item_grows v s xs (k.item_of v line) next (grind (arith, nat_tests)) h
 
@@ -90,26 +90,26 @@ module _ {X : Type 0} (k : Kind X) (n : ℕ) where
   ended_grows : (v : ℕ) (s : Layout) (xs : List X) (next : Stage X) (b : Bool) → k.needs_end v ≡ true → (if b then Ok (ended v s xs) else Err (refusal.BadLine n)) ≡ Ok next → Grows k (body v s xs) next
   ended_grows v s xs next b needed h = grind arith
 
-  or_ended_grows : (v : ℕ) (s : Layout) (xs : List X) (line : List ℕ) (o : Option ℕ) (next : Stage X) → end_in k v line ≡ o → or_ended k n v s xs line o ≡ Ok next → Grows k (body v s xs) next
+  or_ended_grows : (v : ℕ) (s : Layout) (xs : List X) (line : List ℕ) (o : Option ℕ) (next : Stage X) → end_of_format k v line ≡ o → or_ended k n v s xs line o ≡ Ok next → Grows k (body v s xs) next
   or_ended_grows v s xs line None next is h = item_line_grows v s xs line next h
   or_ended_grows v s xs line (Some m) next is h = ended_grows v s xs next (m == length xs) (chosen (k.needs_end v) (end_of line) m is).0 h
 
   body_line_grows : (v : ℕ) (s : Layout) (xs : List X) (line : List ℕ) (next : Stage X) → body_line k n v s xs line ≡ Ok next → Grows k (body v s xs) next
   unfolding body_line
-  body_line_grows v s xs line next h = or_ended_grows v s xs line (end_in k v line) next refl h
+  body_line_grows v s xs line next h = or_ended_grows v s xs line (end_of_format k v line) next refl h
 
-  first_item_grows : (v : ℕ) (c : Counts) (qs : List QueueShape) (line : List ℕ) (next : Stage X) (b : Bool) → first_item k n v (if b then Some (layout_of c qs) else None) line ≡ Ok next → Grows k (head v c qs) next
+  first_item_grows : (v : ℕ) (c : Counts) (qs : List QueueShape) (line : List ℕ) (next : Stage X) (b : Bool) → first_body_line k n v (if b then Some (layout_of c qs) else None) line ≡ Ok next → Grows k (head v c qs) next
   first_item_grows v c qs line next true h =
       let g = body_line_grows v (layout_of c qs) [] line next h in
       record { count = let more = g.count in omega arith; within = λ w. g.within (w.0, w.1, w.2, w.3, omega arith, All-nil (λ x. IsTrue (k.fits_in (layout_of c qs) x))) }
   first_item_grows v c qs line next false h = cc
 
-  head_grows : (v : ℕ) (c : Counts) (qs : List QueueShape) (line : List ℕ) (next : Stage X) (b : Bool) → (if b then queue_line k n v c qs line else first_item k n v (shape_made c qs) line) ≡ Ok next → Grows k (head v c qs) next
+  head_grows : (v : ℕ) (c : Counts) (qs : List QueueShape) (line : List ℕ) (next : Stage X) (b : Bool) → (if b then queue_line k n v c qs line else first_body_line k n v (shape_made c qs) line) ≡ Ok next → Grows k (head v c qs) next
   head_grows v c qs line next true h = queue_line_grows v c qs line next (nat_le (queue_limit v) (length qs)) refl h
   head_grows v c qs line next false h = first_item_grows v c qs line next (is_layout (layout_of c qs)) h
 
-  pub line_grows : (stage next : Stage X) (line : List ℕ) → after_line k n stage line ≡ Ok next → Grows k stage next
-  unfolding after_line after_head
+  pub line_grows : (stage next : Stage X) (line : List ℕ) → after_whole_line k n stage line ≡ Ok next → Grows k stage next
+  unfolding after_whole_line after_head
   line_grows begin next line h = first_grows line next (k.says_format 2 line) refl h
   line_grows (opened v) next line h =
       begun_grows v (opened v) line (counts_of_format v line) next refl (omega arith) (λ (w : IsSaid k v). (omega (arith, w.low), w.high, inr (w.line, w.says))) h
@@ -127,20 +127,20 @@ module _ {X : Type 0} (k : Kind X) (n : ℕ) (stage : Stage X) where
   fails_on : (e : Refusal) (r : Result (Stage X) Refusal) (f : Stage X → Result (File X) Refusal) → Refuses e r → Fails e (and_then f r)
   fails_on e r f h = grind arith
 
-  pub whole_goes : (old before after : Option (List ℕ)) (line : List ℕ) (next : Stage X) → SameRead k old before n stage → TakesKnownLine before after Whole line → after_line k n stage line ≡ Ok next
+  pub whole_goes : (old before after : Option (List ℕ)) (line : List ℕ) (next : Stage X) → SameRead k old before n stage → TakesKnownLine before after Whole line → after_whole_line k n stage line ≡ Ok next
       → SameRead k old after (n + 1) next
   whole_goes None before after line next h t e = tt
   whole_goes (Some text) None after line next h t e = absurd h
   whole_goes (Some text) (Some b) None line next h t e = absurd t
   whole_goes (Some text) (Some b) (Some a) line next h t e = h ∙ text_whole k n stage b a line t ∙ ap (and_then (λ st. after_text k (n + 1) st a)) e
 
-  pub whole_fails : (old before after : Option (List ℕ)) (line : List ℕ) (e : Refusal) → SameRead k old before n stage → TakesKnownLine before after Whole line → Refuses e (after_line k n stage line)
+  pub whole_fails : (old before after : Option (List ℕ)) (line : List ℕ) (e : Refusal) → SameRead k old before n stage → TakesKnownLine before after Whole line → Refuses e (after_whole_line k n stage line)
       → IfSome old (λ text. Fails e (file_of k text))
   whole_fails None before after line e h t f = tt
   whole_fails (Some text) None after line e h t f = absurd h
   whole_fails (Some text) (Some b) None line e h t f = absurd t
   whole_fails (Some text) (Some b) (Some a) line e h t f =
-      subst (Fails e) (sym (h ∙ text_whole k n stage b a line t)) (fails_on e (after_line k n stage line) (λ st. after_text k (n + 1) st a) f)
+      subst (Fails e) (sym (h ∙ text_whole k n stage b a line t)) (fails_on e (after_whole_line k n stage line) (λ st. after_text k (n + 1) st a) f)
 
   pub long_fails : (old before after : Option (List ℕ)) (line : List ℕ) → SameRead k old before n stage → TakesKnownLine before after Long line → IfSome old (λ text. file_of k text ≡ Err refusal.TooLong)
   long_fails None before after line h t = tt
@@ -152,7 +152,7 @@ module _ {X : Type 0} (k : Kind X) (n : ℕ) (stage : Stage X) where
   unfolding after_cut
   is_cut stage r h = grind arith
 
-  pub cut_fails : (old before after : Option (List ℕ)) (line : List ℕ) (e : Refusal) → (k.is_front && not (is_ended stage)) ≡ false → SameRead k old before n stage → TakesKnownLine before after Cut line → e ≡ after_cut n stage → IfSome old (λ text. Fails e (file_of k text))
+  pub cut_fails : (old before after : Option (List ℕ)) (line : List ℕ) (e : Refusal) → (k.is_front && not (is_file_ended stage)) ≡ false → SameRead k old before n stage → TakesKnownLine before after Cut line → e ≡ after_cut n stage → IfSome old (λ text. Fails e (file_of k text))
   cut_fails None before after line e kept h t is = tt
   cut_fails (Some text) None after line e kept h t is = absurd h
   cut_fails (Some text) (Some b) None line e kept h t is = absurd t
@@ -168,7 +168,7 @@ module _ {X : Type 0} (k : Kind X) (n : ℕ) (stage : Stage X) where
   end_gives view r old before after line h t g = grind (arith, text_end)
 
 module _ {X : Type 0} (k : Kind X) (n : ℕ) (stage : Stage X) where
-  pub cut_gives : {Y : Type 0} (view : Y → File X) (r : Result Y Refusal) (old before after : Option (List ℕ)) (line : List ℕ) → (k.is_front && not (is_ended stage)) ≡ true → SameRead k old before n stage → TakesKnownLine before after Cut line
+  pub cut_gives : {Y : Type 0} (view : Y → File X) (r : Result Y Refusal) (old before after : Option (List ℕ)) (line : List ℕ) → (k.is_front && not (is_file_ended stage)) ≡ true → SameRead k old before n stage → TakesKnownLine before after Cut line
       → GivesAs view r (at_end k n stage) → IfSome old (λ text. Gives view r (file_of k text))
   cut_gives view r None before after line left h t g = tt
   cut_gives view r (Some text) None after line left h t g = absurd h
@@ -178,8 +178,8 @@ module _ {X : Type 0} (k : Kind X) (n : ℕ) (stage : Stage X) where
       makes_gives k n stage view r (file_of k text) (subst (GivesAs view r) (sym (h ∙ text_cut k n stage b a line t ∙ over)) g)
 
 -- whole lines are read alike
-pub line_alike : {X : Type 0} (front : Bool) (k : Kind X) (n : ℕ) (stage : Stage X) (line : List ℕ) → after_line (as_front front k) n stage line ≡ after_line k n stage line
-unfolding after_line after_head body_line item_line
+pub line_alike : {X : Type 0} (front : Bool) (k : Kind X) (n : ℕ) (stage : Stage X) (line : List ℕ) → after_whole_line (as_front front k) n stage line ≡ after_whole_line k n stage line
+unfolding after_whole_line after_head body_line item_line
 line_alike front k n stage line = grind arith
 
 -- only the source's own failure is a read fault, and no reader gives a write fault

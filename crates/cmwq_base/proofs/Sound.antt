@@ -4,7 +4,7 @@ use Rattle.cmwq_base.specs.Common.{◌≡◌, ◌⊎◌, inl, inr, ◌+◌, ℕ,
 use Rattle.cmwq_base.specs.declared.refusal.Refusal.{Refusal}
 use Rattle.cmwq_base.specs.declared.refusal.Refusal.TheVariants as refusal
 use Rattle.cmwq_base.specs.Pieces.{pieces}
-use Rattle.cmwq_base.specs.Files.{File, IsVersionOf, IsSound, Kind, as_front, Stage, begin, opened, head, body, ended, is_long, shape_made, and_then, begun, with_queue, queue_line, with_item, item_line, end_in, or_ended, body_line, first_item, after_head, after_line, after_cut, is_ended, at_end, without_items, after_last, after_pieces, file_of}
+use Rattle.cmwq_base.specs.Files.{File, IsVersionOf, IsSound, Kind, as_front, Stage, begin, opened, head, body, ended, is_long, shape_made, and_then, after_shape_line, with_queue, queue_line, with_body_item, item_line, end_of_format, or_ended, body_line, first_body_line, after_head, after_whole_line, after_cut, is_file_ended, at_end, without_items, after_last, after_pieces, file_of}
 use Rattle.cmwq_base.specs.Kinds.{calls_kind, call_file_of, history_kind, history_file_of, front_file_of}
 use Rattle.cmwq_base.specs.Stages.{IsStageWithin}
 use Rattle.cmwq_base.proofs.Progress.{line_grows, ends_with, end_sound}
@@ -27,7 +27,7 @@ module _ {X : Type 0} where
 -- ---- a text that is read is read through stages, one for each line
 
 module _ {X : Type 0} (k : Kind X) (Holds : Stage X → Type 0)
-    (kept : (n : ℕ) (stage next : Stage X) (line : List ℕ) → Holds stage → after_line k n stage line ≡ Ok next → Holds next) where
+    (kept : (n : ℕ) (stage next : Stage X) (line : List ℕ) → Holds stage → after_whole_line k n stage line ≡ Ok next → Holds next) where
   -- the last stage, at whose end the file was
   record EndsAt (f : File X) : Type 0 where
     number : ℕ
@@ -43,7 +43,7 @@ module _ {X : Type 0} (k : Kind X) (Holds : Stage X → Type 0)
 
   last_ends : (n : ℕ) (stage : Stage X) (last : List ℕ) (f : File X) → Holds stage → after_last k n stage last ≡ Ok f → EndsAt f
   last_ends n stage [] f holds h = record { number = n; stage = stage; holds = holds; is = h }
-  last_ends n stage (b ∷ bs) f holds h = cut_ends n stage f (is_long (b ∷ bs)) (k.is_front && not (is_ended stage)) holds h
+  last_ends n stage (b ∷ bs) f holds h = cut_ends n stage f (is_long (b ∷ bs)) (k.is_front && not (is_file_ended stage)) holds h
 
   pieces_end : (ps : List (List ℕ)) (n : ℕ) (stage : Stage X) (f : File X) → Holds stage → after_pieces k n stage ps ≡ Ok f → EndsAt f
   unfolding after_pieces
@@ -51,7 +51,7 @@ module _ {X : Type 0} (k : Kind X) (Holds : Stage X → Type 0)
   pieces_end (last ∷ []) n stage f holds h = last_ends n stage last f holds h
   pieces_end (line ∷ more ∷ rest) n stage f holds h =
       let goes : Stage X → Result (File X) Refusal = λ next. after_pieces k (n + 1) next (more ∷ rest) in
-      let step = next_goes goes (after_line k n stage line) f (short_goes (is_long line) (and_then goes (after_line k n stage line)) f h) in
+      let step = next_goes goes (after_whole_line k n stage line) f (short_goes (is_long line) (and_then goes (after_whole_line k n stage line)) f h) in
       pieces_end (more ∷ rest) (n + 1) step.0 f (kept n stage step.0 line holds step.1) step.2
 
   text_ends : (text : List ℕ) (f : File X) → Holds begin → file_of k text ≡ Ok f → EndsAt f
@@ -75,15 +75,15 @@ module _ {X : Type 0} (k : Kind X) (P : ℕ → X → Type 0) (reads : (v : ℕ)
   Has (body v s items) = IsTrue (is_layout s) × All (P v) items
   Has (ended v s items) = IsTrue (is_layout s) × All (P v) items
 
-  begun_has : (n v : ℕ) (o : Option Counts) (next : Stage X) → begun n v o ≡ Ok next → Has next
+  begun_has : (n v : ℕ) (o : Option Counts) (next : Stage X) → after_shape_line n v o ≡ Ok next → Has next
   begun_has n v None next h = cc
   begun_has n v (Some c) next h = let is : head v c [] ≡ next = cc in subst Has is tt
 
-  third_has : (n : ℕ) (line : List ℕ) (next : Stage X) (b : Bool) → (if b then Ok (opened 3) else begun n 1 (counts_of_format 1 line)) ≡ Ok next → Has next
+  third_has : (n : ℕ) (line : List ℕ) (next : Stage X) (b : Bool) → (if b then Ok (opened 3) else after_shape_line n 1 (counts_of_format 1 line)) ≡ Ok next → Has next
   third_has n line next true h = let is : opened 3 ≡ next = cc in subst Has is tt
   third_has n line next false h = begun_has n 1 (counts_of_format 1 line) next h
 
-  first_has : (n : ℕ) (line : List ℕ) (next : Stage X) (b : Bool) → (if b then Ok (opened 2) else if k.says_format 3 line then Ok (opened 3) else begun n 1 (counts_of_format 1 line)) ≡ Ok next → Has next
+  first_has : (n : ℕ) (line : List ℕ) (next : Stage X) (b : Bool) → (if b then Ok (opened 2) else if k.says_format 3 line then Ok (opened 3) else after_shape_line n 1 (counts_of_format 1 line)) ≡ Ok next → Has next
   first_has n line next true h = let is : opened 2 ≡ next = cc in subst Has is tt
   first_has n line next false h = third_has n line next (k.says_format 3 line) h
 
@@ -104,12 +104,12 @@ module _ {X : Type 0} (k : Kind X) (P : ℕ → X → Type 0) (reads : (v : ℕ)
   item_has n v s xs x next false own has h = cc
 
   with_item_has : (n v : ℕ) (s : Layout) (xs : List X) (line : List ℕ) (o : Option X) (next : Stage X) → k.item_of v line ≡ o → Has (body v s xs)
-      → with_item k n v s xs o ≡ Ok next → Has next
+      → with_body_item k n v s xs o ≡ Ok next → Has next
   with_item_has n v s xs line None next is has h = cc
   with_item_has n v s xs line (Some x) next is has h = item_has n v s xs x next (k.fits_in s x) (reads v line x is) has h
 
   item_line_if : (n v : ℕ) (s : Layout) (xs : List X) (line : List ℕ) (next : Stage X) (b : Bool) → Has (body v s xs)
-      → (if b then Err refusal.TooLong else with_item k n v s xs (k.item_of v line)) ≡ Ok next → Has next
+      → (if b then Err refusal.TooLong else with_body_item k n v s xs (k.item_of v line)) ≡ Ok next → Has next
   item_line_if n v s xs line next true has h = cc
   item_line_if n v s xs line next false has h = with_item_has n v s xs line (k.item_of v line) next refl has h
 
@@ -127,20 +127,20 @@ module _ {X : Type 0} (k : Kind X) (P : ℕ → X → Type 0) (reads : (v : ℕ)
 
   body_line_has : (n v : ℕ) (s : Layout) (xs : List X) (line : List ℕ) (next : Stage X) → Has (body v s xs) → body_line k n v s xs line ≡ Ok next → Has next
   unfolding body_line
-  body_line_has n v s xs line next has h = or_ended_has n v s xs line (end_in k v line) next has h
+  body_line_has n v s xs line next has h = or_ended_has n v s xs line (end_of_format k v line) next has h
 
   first_item_has : (n v : ℕ) (c : Counts) (qs : List QueueShape) (line : List ℕ) (next : Stage X) (b : Bool) → is_layout (layout_of c qs) ≡ b
-      → first_item k n v (if b then Some (layout_of c qs) else None) line ≡ Ok next → Has next
+      → first_body_line k n v (if b then Some (layout_of c qs) else None) line ≡ Ok next → Has next
   first_item_has n v c qs line next true inside h = body_line_has n v (layout_of c qs) [] line next (inside, All-nil (P v)) h
   first_item_has n v c qs line next false inside h = cc
 
   head_has : (n v : ℕ) (c : Counts) (qs : List QueueShape) (line : List ℕ) (next : Stage X) (b : Bool)
-      → (if b then queue_line k n v c qs line else first_item k n v (shape_made c qs) line) ≡ Ok next → Has next
+      → (if b then queue_line k n v c qs line else first_body_line k n v (shape_made c qs) line) ≡ Ok next → Has next
   head_has n v c qs line next true h = queue_line_has n v c qs line next (nat_le (queue_limit v) (length qs)) h
   head_has n v c qs line next false h = first_item_has n v c qs line next (is_layout (layout_of c qs)) refl h
 
-  line_has : (n : ℕ) (stage next : Stage X) (line : List ℕ) → Has stage → after_line k n stage line ≡ Ok next → Has next
-  unfolding after_line after_head
+  line_has : (n : ℕ) (stage next : Stage X) (line : List ℕ) → Has stage → after_whole_line k n stage line ≡ Ok next → Has next
+  unfolding after_whole_line after_head
   line_has n begin next line has h = first_has n line next (k.says_format 2 line) h
   line_has n (opened v) next line has h = begun_has n v (counts_of_format v line) next h
   line_has n (head v c qs) next line has h = head_has n v c qs line next (begins_queue line) h
@@ -174,7 +174,7 @@ module _ {X : Type 0} (k : Kind X) (P : ℕ → X → Type 0) (reads : (v : ℕ)
   abbrev Stands : Stage X → Type 0
   Stands stage = IsStageWithin k stage × Has stage
 
-  line_stands : (n : ℕ) (stage next : Stage X) (line : List ℕ) → Stands stage → after_line k n stage line ≡ Ok next → Stands next
+  line_stands : (n : ℕ) (stage next : Stage X) (line : List ℕ) → Stands stage → after_whole_line k n stage line ≡ Ok next → Stands next
   line_stands n stage next line stands h = ((line_grows k n stage next line h).within stands.0, line_has n stage next line stands.1 h)
 
   pub file_is_read : (text : List ℕ) (f : File X) → file_of k text ≡ Ok f → IsReadOf k P f

@@ -3,7 +3,7 @@ use Rattle.cmwq_base.specs.Common.{◌≡◌, ◌+◌, ◌==◌, ℕ, Bool, true
 use Rattle.cmwq_base.specs.declared.refusal.Refusal.{Refusal}
 use Rattle.cmwq_base.specs.declared.refusal.Refusal.TheVariants as refusal
 use Rattle.cmwq_base.specs.Pieces.{pieces}
-use Rattle.cmwq_base.specs.Files.{File, Stage, begin, opened, head, body, ended, is_long, shape_made, and_then, begun, with_queue, queue_line, with_item, item_line, end_in, or_ended, body_line, first_item, after_head, after_line, at_end, without_end, without_items, after_last, after_pieces, file_of}
+use Rattle.cmwq_base.specs.Files.{File, Stage, begin, opened, head, body, ended, is_long, shape_made, and_then, after_shape_line, with_queue, queue_line, with_body_item, item_line, end_of_format, or_ended, body_line, first_body_line, after_head, after_whole_line, at_end, without_end, without_items, after_last, after_pieces, file_of}
 use Rattle.cmwq_base.specs.Kinds.{history_kind, history_file_of}
 use Rattle.cmwq_base.proofs.Progress.{counts_are_read}
 use Rattle.cmwq_base.proofs.Sound.{no_cut, short_goes, next_goes}
@@ -54,7 +54,7 @@ entry_read v line e h =
 -- ---- one line
 
 module _ (n v : ℕ) where
-  begun_spells : (stage : Stage Entry) (line : List ℕ) (o : Option Counts) (next : Stage Entry) → written stage ≡ version_text v → counts_of_format v line ≡ o → begun n v o ≡ Ok next → Spells stage next line
+  begun_spells : (stage : Stage Entry) (line : List ℕ) (o : Option Counts) (next : Stage Entry) → written stage ≡ version_text v → counts_of_format v line ≡ o → after_shape_line n v o ≡ Ok next → Spells stage next line
   begun_spells stage line None next before is h = cc
   begun_spells stage line (Some c) next before is h =
       let same : head v c [] ≡ next = cc in
@@ -83,12 +83,12 @@ module _ (n v : ℕ) where
       subst (λ st. Spells (body v s xs) st line) same (record { text = text; inside = (inside.0, inside.1, All-push (λ e. IsTrue (allows_entry v e)) xs e inside.2 read.1) })
   item_spells s xs line e next false inside is fitting h = cc
 
-  with_item_spells : (s : Layout) (xs : List Entry) (line : List ℕ) (o : Option Entry) (next : Stage Entry) → IsInside (body v s xs) → entry_of_format v line ≡ o → with_item history_kind n v s xs o ≡ Ok next → Spells (body v s xs) next line
+  with_item_spells : (s : Layout) (xs : List Entry) (line : List ℕ) (o : Option Entry) (next : Stage Entry) → IsInside (body v s xs) → entry_of_format v line ≡ o → with_body_item history_kind n v s xs o ≡ Ok next → Spells (body v s xs) next line
   with_item_spells s xs line None next inside is h = cc
   with_item_spells s xs line (Some e) next inside is h = item_spells s xs line e next (entry_fits s e) inside is refl h
 
   item_line_if : (s : Layout) (xs : List Entry) (line : List ℕ) (next : Stage Entry) (b : Bool) → IsInside (body v s xs)
-      → (if b then Err refusal.TooLong else with_item history_kind n v s xs (entry_of_format v line)) ≡ Ok next → Spells (body v s xs) next line
+      → (if b then Err refusal.TooLong else with_body_item history_kind n v s xs (entry_of_format v line)) ≡ Ok next → Spells (body v s xs) next line
   item_line_if s xs line next true inside h = cc
   item_line_if s xs line next false inside h = with_item_spells s xs line (entry_of_format v line) next inside refl h
 
@@ -97,7 +97,7 @@ module _ (n v : ℕ) where
   item_line_spells s xs line next inside h = item_line_if s xs line next (nat_le (line_limit v) (length xs)) inside h
 
   -- the last line
-  ended_spells : (s : Layout) (xs : List Entry) (line : List ℕ) (m : ℕ) (next : Stage Entry) (b : Bool) → IsInside (body v s xs) → end_in history_kind v line ≡ Some m → (m == length xs) ≡ b
+  ended_spells : (s : Layout) (xs : List Entry) (line : List ℕ) (m : ℕ) (next : Stage Entry) (b : Bool) → IsInside (body v s xs) → end_of_format history_kind v line ≡ Some m → (m == length xs) ≡ b
       → (if b then Ok (ended v s xs) else Err (refusal.BadLine n)) ≡ Ok next → Spells (body v s xs) next line
   ended_spells s xs line m next true inside is many h =
       let same : ended v s xs ≡ next = cc in
@@ -106,26 +106,26 @@ module _ (n v : ℕ) where
       subst (λ st. Spells (body v s xs) st line) same (record { text = ap (λ t. body_text v s xs ++ t) (sym last); inside = inside })
   ended_spells s xs line m next false inside is many h = cc
 
-  or_ended_spells : (s : Layout) (xs : List Entry) (line : List ℕ) (o : Option ℕ) (next : Stage Entry) → IsInside (body v s xs) → end_in history_kind v line ≡ o → or_ended history_kind n v s xs line o ≡ Ok next → Spells (body v s xs) next line
+  or_ended_spells : (s : Layout) (xs : List Entry) (line : List ℕ) (o : Option ℕ) (next : Stage Entry) → IsInside (body v s xs) → end_of_format history_kind v line ≡ o → or_ended history_kind n v s xs line o ≡ Ok next → Spells (body v s xs) next line
   or_ended_spells s xs line None next inside is h = item_line_spells s xs line next inside h
   or_ended_spells s xs line (Some m) next inside is h = ended_spells s xs line m next (m == length xs) inside is refl h
 
   body_line_spells : (s : Layout) (xs : List Entry) (line : List ℕ) (next : Stage Entry) → IsInside (body v s xs) → body_line history_kind n v s xs line ≡ Ok next → Spells (body v s xs) next line
   unfolding body_line
-  body_line_spells s xs line next inside h = or_ended_spells s xs line (end_in history_kind v line) next inside refl h
+  body_line_spells s xs line next inside h = or_ended_spells s xs line (end_of_format history_kind v line) next inside refl h
 
   first_item_spells : (c : Counts) (qs : List QueueShape) (line : List ℕ) (next : Stage Entry) (b : Bool) → AreQueuesOf v qs → is_layout (layout_of c qs) ≡ b
-      → first_item history_kind n v (if b then Some (layout_of c qs) else None) line ≡ Ok next → Spells (head v c qs) next line
+      → first_body_line history_kind n v (if b then Some (layout_of c qs) else None) line ≡ Ok next → Spells (head v c qs) next line
   first_item_spells c qs line next true of_format inside h =
       let more = body_line_spells (layout_of c qs) [] line next (inside, of_format, All-nil (λ e. IsTrue (allows_entry v e))) h in
       record { text = ap (λ t. t ++ (line ++ 10 ∷ [])) (sym (append-nil (head_text v (layout_of c qs)))) ∙ more.text; inside = more.inside }
   first_item_spells c qs line next false of_format inside h = cc
 
-  head_spells : (c : Counts) (qs : List QueueShape) (line : List ℕ) (next : Stage Entry) (b : Bool) → AreQueuesOf v qs → (if b then queue_line history_kind n v c qs line else first_item history_kind n v (shape_made c qs) line) ≡ Ok next → Spells (head v c qs) next line
+  head_spells : (c : Counts) (qs : List QueueShape) (line : List ℕ) (next : Stage Entry) (b : Bool) → AreQueuesOf v qs → (if b then queue_line history_kind n v c qs line else first_body_line history_kind n v (shape_made c qs) line) ≡ Ok next → Spells (head v c qs) next line
   head_spells c qs line next true inside h = queue_line_spells c qs line next (nat_le (queue_limit v) (length qs)) inside h
   head_spells c qs line next false inside h = first_item_spells c qs line next (is_layout (layout_of c qs)) inside refl h
 
-third_line_spells : (n : ℕ) (line : List ℕ) (next : Stage Entry) (b : Bool) → is_version_line 3 line ≡ b → (if b then Ok (opened 3) else begun n 1 (counts_of_format 1 line)) ≡ Ok next → Spells begin next line
+third_line_spells : (n : ℕ) (line : List ℕ) (next : Stage Entry) (b : Bool) → is_version_line 3 line ≡ b → (if b then Ok (opened 3) else after_shape_line n 1 (counts_of_format 1 line)) ≡ Ok next → Spells begin next line
 third_line_spells n line next true is h =
     let same : opened 3 ≡ next = cc in
     let text = ap (λ t. t ++ 10 ∷ []) ((bytes_eq-Decides line (version_name 3)).0 is) in
@@ -133,15 +133,15 @@ third_line_spells n line next true is h =
 third_line_spells n line next false is h = begun_spells n 1 begin line (counts_of_format 1 line) next refl refl h
 
 first_line_spells : (n : ℕ) (line : List ℕ) (next : Stage Entry) (b : Bool) → is_version_line 2 line ≡ b
-    → (if b then Ok (opened 2) else if is_version_line 3 line then Ok (opened 3) else begun n 1 (counts_of_format 1 line)) ≡ Ok next → Spells begin next line
+    → (if b then Ok (opened 2) else if is_version_line 3 line then Ok (opened 3) else after_shape_line n 1 (counts_of_format 1 line)) ≡ Ok next → Spells begin next line
 first_line_spells n line next true is h =
     let same : opened 2 ≡ next = cc in
     let text = ap (λ t. t ++ 10 ∷ []) ((bytes_eq-Decides line (version_name 2)).0 is) in
     subst (λ st. Spells begin st line) same (record { text = text; inside = tt })
 first_line_spells n line next false is h = third_line_spells n line next (is_version_line 3 line) refl h
 
-line_spells : (n : ℕ) (stage next : Stage Entry) (line : List ℕ) → IsInside stage → after_line history_kind n stage line ≡ Ok next → Spells stage next line
-unfolding after_line after_head
+line_spells : (n : ℕ) (stage next : Stage Entry) (line : List ℕ) → IsInside stage → after_whole_line history_kind n stage line ≡ Ok next → Spells stage next line
+unfolding after_whole_line after_head
 line_spells n begin next line inside h = first_line_spells n line next (is_version_line 2 line) refl h
 line_spells n (opened v) next line inside h = begun_spells n v (opened v) line (counts_of_format v line) next refl refl h
 line_spells n (head v c qs) next line inside h = head_spells n v c qs line next (begins_queue line) inside h
@@ -205,7 +205,7 @@ pieces_spell [] n stage f inside h = last_spells n stage [] f inside h
 pieces_spell (last ∷ []) n stage f inside h = last_spells n stage last f inside h
 pieces_spell (line ∷ more ∷ rest) n stage f inside h =
     let goes : Stage Entry → Result (File Entry) Refusal = λ next. after_pieces history_kind (n + 1) next (more ∷ rest) in
-    let step = next_goes goes (after_line history_kind n stage line) f (short_goes (is_long line) (and_then goes (after_line history_kind n stage line)) f h) in
+    let step = next_goes goes (after_whole_line history_kind n stage line) f (short_goes (is_long line) (and_then goes (after_whole_line history_kind n stage line)) f h) in
     let spells = line_spells n stage step.0 line inside step.1 in
     let behind : List ℕ = join_with_byte 10 (more ∷ rest) in
     let front : written stage ++ (line ++ 10 ∷ behind) ≡ (written stage ++ (line ++ 10 ∷ [])) ++ behind = simp append_assoc in

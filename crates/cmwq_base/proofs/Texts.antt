@@ -3,7 +3,7 @@ use Rattle.cmwq_base.specs.Common.{◌≡◌, ◌+◌, ◌≤◌, ◌==◌, ℕ,
 use Rattle.cmwq_io.specs.FirstLine.{after_line as rest_of, is_line_long as is_text_long}
 use Rattle.cmwq_base.specs.declared.refusal.Refusal.TheVariants as refusal
 use Rattle.cmwq_base.specs.Pieces.{pieces}
-use Rattle.cmwq_base.specs.Files.{Stage, Kind, is_long, and_then, after_line, at_end, at_cut, after_last, after_pieces, after_text}
+use Rattle.cmwq_base.specs.Files.{Stage, Kind, is_long, and_then, after_whole_line, at_end, at_cut, after_last, after_pieces, after_text}
 
 -- ---- pieces
 
@@ -52,19 +52,19 @@ long_found a b c h = grind arith
 
 module _ {X : Type 0} (k : Kind X) (n : ℕ) (stage : Stage X) where
   pub after_first_piece : (line : List ℕ) (rest : List (List ℕ)) (p : List ℕ) (ps : List (List ℕ)) → rest ≡ p ∷ ps → is_long line ≡ false
-      → after_pieces k n stage (line ∷ rest) ≡ and_then (λ next. after_pieces k (n + 1) next rest) (after_line k n stage line)
+      → after_pieces k n stage (line ∷ rest) ≡ and_then (λ next. after_pieces k (n + 1) next rest) (after_whole_line k n stage line)
   unfolding after_pieces
-  after_first_piece line rest p ps h short = rw h (ap (λ b. if b then Err refusal.TooLong else and_then (λ next. after_pieces k (n + 1) next (p ∷ ps)) (after_line k n stage line)) short)
+  after_first_piece line rest p ps h short = rw h (ap (λ b. if b then Err refusal.TooLong else and_then (λ next. after_pieces k (n + 1) next (p ∷ ps)) (after_whole_line k n stage line)) short)
 
-  pub text_whole : (old new line : List ℕ) → TakesLine old new Whole line → after_text k n stage old ≡ and_then (λ next. after_text k (n + 1) next new) (after_line k n stage line)
+  pub text_whole : (old new line : List ℕ) → TakesLine old new Whole line → after_text k n stage old ≡ and_then (λ next. after_text k (n + 1) next new) (after_whole_line k n stage line)
   text_whole old new line t =
       let f = whole_found (is_text_long old) (has_feed old) (length old == 0) t.kind in
       let is_line : line ≡ first_line old = t.bytes ∙ ap (λ b. if b then [] else first_line old) f.0 in
       let is_rest : new ≡ rest_of old = t.rest ∙ ap (λ b. if b then old else rest_of old) f.0 in
       let some = pieces_some (rest_of old) in
       ap (after_pieces k n stage) (pieces_fed old f.1) ∙ after_first_piece (first_line old) (pieces (rest_of old)) some.0 some.1 some.2 f.0
-      ∙ ap (λ l. and_then (λ next. after_text k (n + 1) next (rest_of old)) (after_line k n stage l)) (sym is_line)
-      ∙ ap (λ r. and_then (λ next. after_text k (n + 1) next r) (after_line k n stage line)) (sym is_rest)
+      ∙ ap (λ l. and_then (λ next. after_text k (n + 1) next (rest_of old)) (after_whole_line k n stage l)) (sym is_line)
+      ∙ ap (λ r. and_then (λ next. after_text k (n + 1) next r) (after_whole_line k n stage line)) (sym is_rest)
 
   pub long_piece : (line : List ℕ) (rest : List (List ℕ)) → is_long line ≡ true → after_pieces k n stage (line ∷ rest) ≡ Err refusal.TooLong
   unfolding after_pieces

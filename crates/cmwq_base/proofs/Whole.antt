@@ -4,7 +4,7 @@ use Rattle.cmwq_io.specs.FirstLine.{after_line as rest_of}
 use Rattle.cmwq_base.specs.declared.refusal.Refusal.{Refusal}
 use Rattle.cmwq_base.specs.declared.refusal.Refusal.TheVariants as refusal
 use Rattle.cmwq_base.specs.Pieces.{pieces, lines_in, last_in, whole_lines, cut_line}
-use Rattle.cmwq_base.specs.Files.{File, Stage, Kind, begin, opened, head, body, ended, as_front, is_long, and_then, begun, with_item, item_line, body_line, first_item, after_head, after_line, after_cut, is_ended, at_end, without_end, without_items, after_last, after_pieces, after_text, file_of}
+use Rattle.cmwq_base.specs.Files.{File, Stage, Kind, begin, opened, head, body, ended, as_front, is_long, and_then, after_shape_line, with_body_item, item_line, body_line, first_body_line, after_head, after_whole_line, after_cut, is_file_ended, at_end, without_end, without_items, after_last, after_pieces, after_text, file_of}
 use Rattle.cmwq_base.specs.Kinds.{history_kind, front_file_of}
 use Rattle.cmwq_base.specs.Stages.{IsStageWithin}
 use Rattle.cmwq_base.specs.FileLaws.{IsFrontOf, FrontsAreWholeLines}
@@ -57,11 +57,11 @@ last_alike : (n : ℕ) (stage : Stage Entry) (last : List ℕ) (f : File Entry) 
 last_alike n stage last f h = grind (arith, end_alike, no_cut)
 
 whole_line : (n : ℕ) (stage : Stage Entry) (line : List ℕ) (f : File Entry) (goes goes_on : Stage Entry → Result (File Entry) Refusal) (b : Bool) → ((next : Stage Entry) → goes next ≡ Ok f → goes_on next ≡ Ok f)
-    → (if b then Err refusal.TooLong else and_then goes (after_line history_kind n stage line)) ≡ Ok f
-    → (if b then Err refusal.TooLong else and_then goes_on (after_line front_kind n stage line)) ≡ Ok f
+    → (if b then Err refusal.TooLong else and_then goes (after_whole_line history_kind n stage line)) ≡ Ok f
+    → (if b then Err refusal.TooLong else and_then goes_on (after_whole_line front_kind n stage line)) ≡ Ok f
 whole_line n stage line f goes goes_on true on h = cc
 whole_line n stage line f goes goes_on false on h =
-    let step = next_goes goes (after_line history_kind n stage line) f h in
+    let step = next_goes goes (after_whole_line history_kind n stage line) f h in
     ap (and_then goes_on) (line_alike true history_kind n stage line ∙ step.1) ∙ on step.0 step.2
 
 whole_goes : (ps : List (List ℕ)) (n : ℕ) (stage : Stage Entry) (f : File Entry) → after_pieces history_kind n stage ps ≡ Ok f → after_pieces front_kind n stage ps ≡ Ok f
@@ -95,7 +95,7 @@ module _ (f : File Entry) (few : length f.items ≤ line_limit f.version) where
       subst (λ g. after_text history_kind n (head v c qs) (last_text g.version (length g.items)) ≡ Ok g) is ((history_ends v).alone n c qs inside)
   shape_closes n v c qs false inside h = cc
 
-  end_closes : (n : ℕ) (stage : Stage Entry) → is_ended stage ≡ false → at_end front_kind n stage ≡ Ok f → after_text history_kind n stage closing ≡ Ok f
+  end_closes : (n : ℕ) (stage : Stage Entry) → is_file_ended stage ≡ false → at_end front_kind n stage ≡ Ok f → after_text history_kind n stage closing ≡ Ok f
   unfolding at_end
   end_closes n begin goes h = cc
   end_closes n (opened v) goes h = cc
@@ -111,33 +111,33 @@ module _ (f : File Entry) (few : length f.items ≤ line_limit f.version) where
   unfolding after_pieces
   nothing_left n stage = refl
 
-  over : (n : ℕ) (stage : Stage Entry) → is_ended stage ≡ true → at_end front_kind n stage ≡ at_end history_kind n stage
+  over : (n : ℕ) (stage : Stage Entry) → is_file_ended stage ≡ true → at_end front_kind n stage ≡ at_end history_kind n stage
   unfolding at_end
   over n stage h = grind arith
 
   -- nothing stands behind the last line feed
-  end_is_front : (n : ℕ) (stage : Stage Entry) (b : Bool) → is_ended stage ≡ b → at_end front_kind n stage ≡ Ok f → (after_text history_kind n stage [] ≡ Ok f) ⊎ (after_text history_kind n stage closing ≡ Ok f)
+  end_is_front : (n : ℕ) (stage : Stage Entry) (b : Bool) → is_file_ended stage ≡ b → at_end front_kind n stage ≡ Ok f → (after_text history_kind n stage [] ≡ Ok f) ⊎ (after_text history_kind n stage closing ≡ Ok f)
   end_is_front n stage true is h = inl (nothing_left n stage ∙ sym (over n stage is) ∙ h)
   end_is_front n stage false is h = inr (end_closes n stage is h)
 
-  cut_closes : (n : ℕ) (stage : Stage Entry) (long over : Bool) → is_ended stage ≡ over → (if long then Err refusal.TooLong else if not over then at_end front_kind n stage else Err (after_cut n stage)) ≡ Ok f
+  cut_closes : (n : ℕ) (stage : Stage Entry) (long over : Bool) → is_file_ended stage ≡ over → (if long then Err refusal.TooLong else if not over then at_end front_kind n stage else Err (after_cut n stage)) ≡ Ok f
       → (long ≡ false) × (after_text history_kind n stage closing ≡ Ok f)
   cut_closes n stage long over is h = grind (arith, end_closes)
 
   last_is_front : (n : ℕ) (stage : Stage Entry) (text : List ℕ) → has_feed text ≡ false → after_last front_kind n stage text ≡ Ok f → IsFrontFrom n stage text
   unfolding lines_in last_in
   last_is_front n stage [] fed h =
-      elim (end_is_front n stage (is_ended stage) refl h) [
+      elim (end_is_front n stage (is_file_ended stage) refl h) [
         | inl whole ↦ inl whole
         | inr closes ↦ inr (closes, refl)
       ]
   last_is_front n stage (b ∷ bs) fed h =
       let alone = last_alone (b ∷ bs) fed in
-      let cut = cut_closes n stage (is_long (b ∷ bs)) (is_ended stage) refl h in
+      let cut = cut_closes n stage (is_long (b ∷ bs)) (is_file_ended stage) refl h in
       inr (ap (λ t. after_text history_kind n stage (t ++ closing)) alone.0 ∙ cut.1, ap is_long alone.1 ∙ cut.0)
 
   -- one line more
-  line_goes : (n : ℕ) (stage next : Stage Entry) (text : List ℕ) → has_feed text ≡ true → is_long (first_line text) ≡ false → after_line history_kind n stage (first_line text) ≡ Ok next
+  line_goes : (n : ℕ) (stage next : Stage Entry) (text : List ℕ) → has_feed text ≡ true → is_long (first_line text) ≡ false → after_whole_line history_kind n stage (first_line text) ≡ Ok next
       → (after_text history_kind n stage text ≡ after_text history_kind (n + 1) next (rest_of text))
       × (after_text history_kind n stage (whole_lines text ++ closing) ≡ after_text history_kind (n + 1) next (whole_lines (rest_of text) ++ closing))
   line_goes n stage next text fed short is =
@@ -164,7 +164,7 @@ module _ (f : File Entry) (few : length f.items ≤ line_limit f.version) where
       let some = pieces_some rest in
       let goes : Stage Entry → Result (File Entry) Refusal = λ next. after_text front_kind (n + 1) next rest in
       let read = sym (ap (after_pieces front_kind n stage) (pieces_fed text fed) ∙ after_first_piece front_kind n stage (first_line text) (pieces rest) some.0 some.1 some.2 short) ∙ h in
-      let step = next_goes goes (after_line front_kind n stage (first_line text)) f read in
+      let step = next_goes goes (after_whole_line front_kind n stage (first_line text)) f read in
       let more = line_goes n stage step.0 text fed short (sym (line_alike true history_kind n stage (first_line text)) ∙ step.1) in
       elim (on step.0 step.2) [
         | inl whole ↦ inl (more.0 ∙ whole)
@@ -190,7 +190,7 @@ module _ (f : File Entry) (few : length f.items ≤ line_limit f.version) where
   unfolding at_end
   ended_is n v s xs b next taken h = grind arith
 
-  no_item : (n v : ℕ) (s : Layout) (xs : List Entry) (b : Bool) (next : Stage Entry) → (if b then Err refusal.TooLong else with_item history_kind n v s xs None) ≡ Ok next → ⊥
+  no_item : (n v : ℕ) (s : Layout) (xs : List Entry) (b : Bool) (next : Stage Entry) → (if b then Err refusal.TooLong else with_body_item history_kind n v s xs None) ≡ Ok next → ⊥
   no_item n v s xs b next h = grind arith
 
   no_item_line : (n v : ℕ) (s : Layout) (xs : List Entry) (next : Stage Entry) → item_line history_kind n v s xs last_line ≡ Ok next → ⊥
@@ -201,22 +201,22 @@ module _ (f : File Entry) (few : length f.items ≤ line_limit f.version) where
   unfolding body_line
   body_is n v s xs next taken h = grind (arith, small, whole_end, ended_is, no_item_line)
 
-  shape_is : (n v : ℕ) (c : Counts) (qs : List QueueShape) (b : Bool) (next : Stage Entry) → first_item history_kind n v (if b then Some (layout_of c qs) else None) last_line ≡ Ok next → at_end history_kind (n + 1) next ≡ Ok f
+  shape_is : (n v : ℕ) (c : Counts) (qs : List QueueShape) (b : Bool) (next : Stage Entry) → first_body_line history_kind n v (if b then Some (layout_of c qs) else None) last_line ≡ Ok next → at_end history_kind (n + 1) next ≡ Ok f
       → without_items front_kind n v (if b then Some (layout_of c qs) else None) ≡ Ok f
   shape_is n v c qs b next taken h = grind (arith, body_is)
 
-  no_shape : (n v : ℕ) (next : Stage Entry) → begun n v (counts_of_format v last_line) ≡ Ok next → ⊥
-  no_shape n v next h = let refused : Err (refusal.BadShape n) ≡ Ok next = sym (ap (begun n v) (end_is_no_shape v (length f.items) small)) ∙ h in cc
+  no_shape : (n v : ℕ) (next : Stage Entry) → after_shape_line n v (counts_of_format v last_line) ≡ Ok next → ⊥
+  no_shape n v next h = let refused : Err (refusal.BadShape n) ≡ Ok next = sym (ap (after_shape_line n v) (end_is_no_shape v (length f.items) small)) ∙ h in cc
 
   -- behind what is read so far nothing but the last line is missing
   abbrev Lacks : ℕ → Stage Entry → Type 0
-  Lacks n stage = (is_ended stage ≡ false) × (at_end front_kind n stage ≡ Ok f)
+  Lacks n stage = (is_file_ended stage ≡ false) × (at_end front_kind n stage ≡ Ok f)
 
-  line_lacks : (n : ℕ) (stage next : Stage Entry) → after_line history_kind n stage last_line ≡ Ok next → at_end history_kind (n + 1) next ≡ Ok f → Lacks n stage
-  unfolding after_line after_head at_end
+  line_lacks : (n : ℕ) (stage next : Stage Entry) → after_whole_line history_kind n stage last_line ≡ Ok next → at_end history_kind (n + 1) next ≡ Ok f → Lacks n stage
+  unfolding after_whole_line after_head at_end
   line_lacks n stage next taken h = grind (arith, no_shape, shape_is, body_is)
 
-  older_lacks : (n : ℕ) (stage : Stage Entry) → needs_end f.version ≡ false → IsStageWithin history_kind stage → at_end history_kind n stage ≡ Ok f → is_ended stage ≡ false
+  older_lacks : (n : ℕ) (stage : Stage Entry) → needs_end f.version ≡ false → IsStageWithin history_kind stage → at_end history_kind n stage ≡ Ok f → is_file_ended stage ≡ false
   unfolding at_end
   older_lacks n stage none w h = grind arith
 
@@ -233,14 +233,14 @@ module _ (f : File Entry) (few : length f.items ≤ line_limit f.version) where
           let parts : pieces (end_text (length f.items)) ≡ last_line ∷ pieces [] = ap pieces (sym (append-nil (end_text (length f.items)))) ∙ pieces_behind (end_text (length f.items)) last_line [] whole in
           let some = pieces_some [] in
           let read = sym (ap (after_pieces history_kind n stage) parts ∙ after_first_piece history_kind n stage last_line (pieces []) some.0 some.1 some.2 (le-ltb 120 (length last_line) whole.short)) ∙ h in
-          let step = next_goes goes (after_line history_kind n stage last_line) f read in
+          let step = next_goes goes (after_whole_line history_kind n stage last_line) f read in
           line_lacks n stage step.0 step.1 (sym (nothing_left (n + 1) step.0) ∙ step.2)
 
   rest_lacks : (n : ℕ) (stage : Stage Entry) (text : List ℕ) → is_long text ≡ false → Lacks n stage → after_last front_kind n stage text ≡ Ok f
   rest_lacks n stage text short lacks = grind arith
 
   lacking_line : (n : ℕ) (stage : Stage Entry) (text : List ℕ) (b : Bool) → is_long (first_line text) ≡ b → has_feed text ≡ true → Closes n stage text
-      → ((next : Stage Entry) → after_line history_kind n stage (first_line text) ≡ Ok next → Closes (n + 1) next (rest_of text) → after_text front_kind (n + 1) next (rest_of text) ≡ Ok f) → after_text front_kind n stage text ≡ Ok f
+      → ((next : Stage Entry) → after_whole_line history_kind n stage (first_line text) ≡ Ok next → Closes (n + 1) next (rest_of text) → after_text front_kind (n + 1) next (rest_of text) ≡ Ok f) → after_text front_kind n stage text ≡ Ok f
   lacking_line n stage text true long fed h on =
       absurd (never refusal.TooLong _ h (ap (after_pieces history_kind n stage) (pieces_of_whole text closing fed) ∙ long_piece history_kind n stage (first_line text) (pieces (whole_lines (rest_of text) ++ closing)) long))
   lacking_line n stage text false short fed h on =
@@ -249,7 +249,7 @@ module _ (f : File Entry) (few : length f.items ≤ line_limit f.version) where
       let goes : Stage Entry → Result (File Entry) Refusal = λ next. after_text history_kind (n + 1) next (whole_lines rest ++ closing) in
       let front_goes : Stage Entry → Result (File Entry) Refusal = λ next. after_text front_kind (n + 1) next rest in
       let read = sym (ap (after_pieces history_kind n stage) (pieces_of_whole text closing fed) ∙ after_first_piece history_kind n stage (first_line text) (pieces (whole_lines rest ++ closing)) others.0 others.1 others.2 short) ∙ h in
-      let step = next_goes goes (after_line history_kind n stage (first_line text)) f read in
+      let step = next_goes goes (after_whole_line history_kind n stage (first_line text)) f read in
       let some = pieces_some rest in
       ap (after_pieces front_kind n stage) (pieces_fed text fed) ∙ after_first_piece front_kind n stage (first_line text) (pieces rest) some.0 some.1 some.2 short
       ∙ ap (and_then front_goes) (line_alike true history_kind n stage (first_line text) ∙ step.1) ∙ on step.0 step.1 step.2

@@ -33,7 +33,7 @@ pub use Rattle.cmwq_text.specs.CallText.{call_read, call_text, call_words}
 pub use Rattle.cmwq_text.specs.EndText.{end_of, end_text, end_words}
 pub use Rattle.cmwq_text.specs.EntryText.{entry_of, entry_text, entry_words}
 pub use Rattle.cmwq_text.specs.Formats.{allows_call, allows_counts, allows_entry, allows_numbers, allows_queue, calls_name, is_calls_line, is_version_line, line_limit, most_lines, needs_end, number_limit, old_lines, old_queues, queue_limit, room_limit, version_name}
-unfoldable pub use Rattle.cmwq_text.specs.Formats.{by_age, call_of_format, counts_of_format, entry_of_format, queue_of_format}
+unfoldable pub use Rattle.cmwq_text.specs.Formats.{of_version, call_of_format, counts_of_format, entry_of_format, queue_of_format}
 pub use Rattle.cmwq_text.specs.HistoryText.{body_text, calls_text, calls_version_text, counts_in, head_text, last_text, shape_text, text_of_format, version_text}
 pub use Rattle.cmwq_text.specs.Numbers.{greatest_number}
 pub use Rattle.cmwq_text.specs.ShapeText.{begins_queue, counts_read, counts_text, counts_words, flags_in, queue_of_calls, queue_of_history, queue_text, queue_with, queue_words, width_taken}

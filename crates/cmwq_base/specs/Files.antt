@@ -64,16 +64,16 @@ and_then f (Err e) = Err e
 -- n is the number of the line, and v the format
 module _ {X : Type 0} where
   -- the shape line
-  abbrev pub begun : ℕ → ℕ → Option Counts → Result (Stage X) Refusal
-  begun n v (Some counts) = Ok (head v counts [])
-  begun n v None = Err (refusal.BadShape n)
+  abbrev pub after_shape_line : ℕ → ℕ → Option Counts → Result (Stage X) Refusal
+  after_shape_line n v (Some counts) = Ok (head v counts [])
+  after_shape_line n v None = Err (refusal.BadShape n)
 
   -- the first line: one that says the format, or the shape line
-  abbrev pub first_line : Kind X → ℕ → List ℕ → Result (Stage X) Refusal
-  first_line k n line =
+  abbrev pub after_first_line : Kind X → ℕ → List ℕ → Result (Stage X) Refusal
+  after_first_line k n line =
       if k.says_format 2 line then Ok (opened 2)
       else if k.says_format 3 line then Ok (opened 3)
-      else begun n 1 (counts_of_format 1 line)
+      else after_shape_line n 1 (counts_of_format 1 line)
 
   -- a line of a queue: there are no more than the format allows
   abbrev pub with_queue : ℕ → ℕ → Counts → List QueueShape → Option QueueShape → Result (Stage X) Refusal
@@ -84,16 +84,16 @@ module _ {X : Type 0} where
   queue_line k n v counts queues line = if nat_le (queue_limit v) (length queues) then Err (refusal.BadShape n) else with_queue n v counts queues (k.queue_of v line)
 
   -- a line of the kind: one more than the format allows is too long whatever it is
-  abbrev pub with_item : Kind X → ℕ → ℕ → Layout → List X → Option X → Result (Stage X) Refusal
-  with_item k n v s items (Some x) = if k.fits_in s x then Ok (body v s (items ++ x ∷ [])) else Err (refusal.NoSuchId n)
-  with_item k n v s items None = Err (refusal.BadLine n)
+  abbrev pub with_body_item : Kind X → ℕ → ℕ → Layout → List X → Option X → Result (Stage X) Refusal
+  with_body_item k n v s items (Some x) = if k.fits_in s x then Ok (body v s (items ++ x ∷ [])) else Err (refusal.NoSuchId n)
+  with_body_item k n v s items None = Err (refusal.BadLine n)
 
   unfoldable pub item_line : Kind X → ℕ → ℕ → Layout → List X → List ℕ → Result (Stage X) Refusal
-  item_line k n v s items line = if nat_le (line_limit v) (length items) then Err refusal.TooLong else with_item k n v s items (k.item_of v line)
+  item_line k n v s items line = if nat_le (line_limit v) (length items) then Err refusal.TooLong else with_body_item k n v s items (k.item_of v line)
 
   -- how many lines the last line says that stand before it, of a line that is one in this format
-  abbrev pub end_in : Kind X → ℕ → List ℕ → Option ℕ
-  end_in k v line = if k.needs_end v then end_of line else None
+  abbrev pub end_of_format : Kind X → ℕ → List ℕ → Option ℕ
+  end_of_format k v line = if k.needs_end v then end_of line else None
 
   -- the last line says how many stand before it, and nothing else does
   abbrev pub or_ended : Kind X → ℕ → ℕ → Layout → List X → List ℕ → Option ℕ → Result (Stage X) Refusal
@@ -102,23 +102,23 @@ module _ {X : Type 0} where
 
   -- a line of the kind, or the last line
   unfoldable pub body_line : Kind X → ℕ → ℕ → Layout → List X → List ℕ → Result (Stage X) Refusal
-  body_line k n v s items line = or_ended k n v s items line (end_in k v line)
+  body_line k n v s items line = or_ended k n v s items line (end_of_format k v line)
 
   -- the first line that is none of a queue
-  abbrev pub first_item : Kind X → ℕ → ℕ → Option Layout → List ℕ → Result (Stage X) Refusal
-  first_item k n v (Some s) line = body_line k n v s [] line
-  first_item k n v None line = Err (refusal.BadShape n)
+  abbrev pub first_body_line : Kind X → ℕ → ℕ → Option Layout → List ℕ → Result (Stage X) Refusal
+  first_body_line k n v (Some s) line = body_line k n v s [] line
+  first_body_line k n v None line = Err (refusal.BadShape n)
 
   unfoldable pub after_head : Kind X → ℕ → ℕ → Counts → List QueueShape → List ℕ → Result (Stage X) Refusal
-  after_head k n v counts queues line = if begins_queue line then queue_line k n v counts queues line else first_item k n v (shape_made counts queues) line
+  after_head k n v counts queues line = if begins_queue line then queue_line k n v counts queues line else first_body_line k n v (shape_made counts queues) line
 
   -- one whole line, the n-th of the file
-  unfoldable pub after_line : Kind X → ℕ → Stage X → List ℕ → Result (Stage X) Refusal
-  after_line k n begin line = first_line k n line
-  after_line k n (opened v) line = begun n v (counts_of_format v line)
-  after_line k n (head v counts queues) line = after_head k n v counts queues line
-  after_line k n (body v s items) line = body_line k n v s items line
-  after_line k n (ended v s items) line = Err (refusal.BadLine n)
+  unfoldable pub after_whole_line : Kind X → ℕ → Stage X → List ℕ → Result (Stage X) Refusal
+  after_whole_line k n begin line = after_first_line k n line
+  after_whole_line k n (opened v) line = after_shape_line n v (counts_of_format v line)
+  after_whole_line k n (head v counts queues) line = after_head k n v counts queues line
+  after_whole_line k n (body v s items) line = body_line k n v s items line
+  after_whole_line k n (ended v s items) line = Err (refusal.BadLine n)
 
   -- a last line without its line feed, the n-th of the file
   unfoldable pub after_cut : ℕ → Stage X → Refusal
@@ -144,12 +144,12 @@ module _ {X : Type 0} where
   at_end k n (ended v s items) = Ok (record { version = v; layout = s; items = items })
 
   -- a line without its line feed: of a front it is left out, but behind its last line nothing may stand
-  abbrev pub is_ended : Stage X → Bool
-  is_ended (ended v s items) = true
-  is_ended stage = false
+  abbrev pub is_file_ended : Stage X → Bool
+  is_file_ended (ended v s items) = true
+  is_file_ended stage = false
 
   abbrev pub at_cut : Kind X → ℕ → Stage X → Result (File X) Refusal
-  at_cut k n stage = if k.is_front && not (is_ended stage) then at_end k n stage else Err (after_cut n stage)
+  at_cut k n stage = if k.is_front && not (is_file_ended stage) then at_end k n stage else Err (after_cut n stage)
 
   -- what stands after the last line feed: nothing, or such a line
   abbrev pub after_last : Kind X → ℕ → Stage X → List ℕ → Result (File X) Refusal
@@ -162,7 +162,7 @@ module _ {X : Type 0} where
   after_pieces k n stage (last ∷ []) = after_last k n stage last
   after_pieces k n stage (line ∷ more ∷ rest) =
       if is_long line then Err refusal.TooLong
-      else and_then (λ next. after_pieces k (n + 1) next (more ∷ rest)) (after_line k n stage line)
+      else and_then (λ next. after_pieces k (n + 1) next (more ∷ rest)) (after_whole_line k n stage line)
 
   -- the rest of a text from its n-th line on, and a whole text
   abbrev pub after_text : Kind X → ℕ → Stage X → List ℕ → Result (File X) Refusal

@@ -2,7 +2,7 @@
 
 ghost use Rattle.std.specs.Prelude.{◌≡◌, ◌&&◌, not};
 ghost use Rattle.cmwq_text.specs.Formats.{counts_of_format};
-ghost use Rattle.cmwq_base.specs.Files.{body, shape_made, begun as begun_by, first_line as first_line_by, queue_line, item_line, end_in as end_in_by, body_line, first_item as first_item_by, after_head as after_head_by};
+ghost use Rattle.cmwq_base.specs.Files.{body, shape_made, after_shape_line, after_first_line, queue_line, item_line, end_of_format, body_line, first_body_line, after_head as after_head_by};
 
 use crate::gather::Gather;
 use crate::refusal::Refusal;
@@ -67,14 +67,14 @@ pub enum Stage<G> {
 }
 
 impl<G: Gather + Drop> Stage<G> {
-    ghost use Rattle.cmwq_base.specs.Files.{as_front, after_line, after_cut, is_ended, at_end};
+    ghost use Rattle.cmwq_base.specs.Files.{as_front, after_whole_line, after_cut, is_file_ended, at_end};
     ghost use Rattle.cmwq_base.specs.Gives.{GivesAs};
     ghost use Rattle.cmwq_base.specs.Stages.{stage_of, contents_of};
 
     /// Takes one whole line, without its line feed, the `number`-th of the file.
-    #[tactic(auto, unfolding(crate::specs::Files::after_line))]
+    #[tactic(auto, unfolding(crate::specs::Files::after_whole_line))]
     pub fn take(self, alloc: Global, number: u64, line: &[u8]) -> Result<Stage<G>, Refusal>
-        ensures { GivesAs (stage_of G.layout G.items) result (after_line G.Item.kind number (stage_of G.layout G.items self) line.now) }
+        ensures { GivesAs (stage_of G.layout G.items) result (after_whole_line G.Item.kind number (stage_of G.layout G.items self) line.now) }
     {
         match self {
             Stage::Begin => first_line(alloc, number, line),
@@ -90,10 +90,10 @@ impl<G: Gather + Drop> Stage<G> {
     }
 
     /// Takes one whole line as `take` does, and leaves what gathers where it is, since that may be large. What is read after an error is not said.
-    #[tactic(auto, unfolding(crate::specs::Files::after_line, crate::specs::Files::body_line))]
+    #[tactic(auto, unfolding(crate::specs::Files::after_whole_line, crate::specs::Files::body_line))]
     #[inline]
     pub(crate) fn advance(&mut self, alloc: Global, number: u64, line: &[u8]) -> Result<(), Refusal>
-        ensures { GivesAs (λ _. stage_of G.layout G.items self.new) result (after_line G.Item.kind number (stage_of G.layout G.items self.old) line.now) }
+        ensures { GivesAs (λ _. stage_of G.layout G.items self.new) result (after_whole_line G.Item.kind number (stage_of G.layout G.items self.old) line.now) }
     {
         match self {
             Stage::Body { version, all } if end_in::<G::Item>(*version, line).is_none() => {
@@ -108,7 +108,7 @@ impl<G: Gather + Drop> Stage<G> {
 
     /// Whether a rest without a line feed is left out here: of a front, but not behind the last line.
     pub fn leaves_cut(&self, is_front: bool) -> bool
-        ensures { result ≡ (is_front && not (is_ended (stage_of G.layout G.items self.now))) }
+        ensures { result ≡ (is_front && not (is_file_ended (stage_of G.layout G.items self.now))) }
     {
         is_front && !matches!(self, Stage::Ended { .. })
     }
@@ -166,7 +166,7 @@ ghost use Rattle.cmwq_base.specs.Gives.{GivesAs};
 ghost use Rattle.cmwq_base.specs.Stages.{stage_of};
 
 fn first_line<G: Gather>(alloc: Global, number: u64, line: &[u8]) -> Result<Stage<G>, Refusal>
-    ensures { GivesAs (stage_of G.layout G.items) result (first_line_by G.Item.kind number line.now) }
+    ensures { GivesAs (stage_of G.layout G.items) result (after_first_line G.Item.kind number line.now) }
 {
     if G::Item::says_format(2, line) {
         Ok(Stage::Opened { version: 2 })
@@ -183,7 +183,7 @@ fn begun<G: Gather>(
     version: u8,
     line: &[u8],
 ) -> Result<Stage<G>, Refusal>
-    ensures { GivesAs (stage_of G.layout G.items) result (begun_by number version (counts_of_format version line.now)) }
+    ensures { GivesAs (stage_of G.layout G.items) result (after_shape_line number version (counts_of_format version line.now)) }
 {
     match read_counts_of_format(version, line) {
         Some(counts) => Ok(Stage::Head {
@@ -261,7 +261,7 @@ fn lacks_end<T: FileLine>(version: u8, is_front: bool) -> bool
 /// How many lines the last line says that stand before it, of a line that is one in this format.
 #[inline]
 fn end_in<T: FileLine>(version: u8, line: &[u8]) -> Option<u64>
-    ensures { result ≡ end_in_by T.kind version line.now }
+    ensures { result ≡ end_of_format T.kind version line.now }
 {
     if T::needs_end(version) {
         read_end(line)
@@ -294,7 +294,7 @@ fn first_item<G: Gather + Drop>(
     queues: Vec<QueueShape>,
     line: &[u8],
 ) -> Result<Stage<G>, Refusal>
-    ensures { GivesAs (stage_of G.layout G.items) result (first_item_by G.Item.kind number version (shape_made counts queues.items) line.now) }
+    ensures { GivesAs (stage_of G.layout G.items) result (first_body_line G.Item.kind number version (shape_made counts queues.items) line.now) }
 {
     match shape_of(counts, queues) {
         Some(shape) => with_line(number, version, G::begin(alloc, shape)?, line),

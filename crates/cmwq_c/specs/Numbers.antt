@@ -32,39 +32,39 @@ worker_of_numbers high n = Worker (record { pool = record { cpu = record { 0 = n
 abbrev pub who_of_numbers : WhoNumbers → Option Who
 who_of_numbers n = if n.kind == 0 then Some (Caller (record { 0 = n.index })) else (if n.kind == 1 then Some (worker_of_numbers false n) else (if n.kind == 2 then Some (worker_of_numbers true n) else None))
 
-abbrev item_in : CallNumbers → ItemId
-item_in n = record { 0 = n.item }
+abbrev item_of_call : CallNumbers → ItemId
+item_of_call n = record { 0 = n.item }
 
-abbrev queue_in : CallNumbers → QueueId
-queue_in n = record { 0 = n.queue }
+abbrev queue_of_call : CallNumbers → QueueId
+queue_of_call n = record { 0 = n.queue }
 
-abbrev cpu_in : CallNumbers → CpuId
-cpu_in n = record { 0 = n.cpu }
+abbrev cpu_of_call : CallNumbers → CpuId
+cpu_of_call n = record { 0 = n.cpu }
 
 -- the call of each kind
 unfoldable pub call_of_numbers : CallNumbers → Option Call
 call_of_numbers n =
-    if n.kind == 0 then Some (call.Queue (item_in n) (queue_in n) (cpu_in n)) else (
-    if n.kind == 1 then Some (call.Delay (item_in n) (queue_in n) (cpu_in n) n.number) else (
-    if n.kind == 2 then Some (call.Modify (item_in n) (queue_in n) (cpu_in n) n.number) else (
-    if n.kind == 3 then Some (call.Cancel (item_in n)) else (
+    if n.kind == 0 then Some (call.Queue (item_of_call n) (queue_of_call n) (cpu_of_call n)) else (
+    if n.kind == 1 then Some (call.Delay (item_of_call n) (queue_of_call n) (cpu_of_call n) n.number) else (
+    if n.kind == 2 then Some (call.Modify (item_of_call n) (queue_of_call n) (cpu_of_call n) n.number) else (
+    if n.kind == 3 then Some (call.Cancel (item_of_call n)) else (
     if n.kind == 4 then Some (call.Tick n.number) else (
     if n.kind == 5 then Some call.Fire else (
-    if n.kind == 6 then Some (call.Flush (queue_in n)) else (
-    if n.kind == 7 then Some (call.Drain (queue_in n)) else (
-    if n.kind == 8 then Some (call.FlushItem (item_in n)) else (
-    if n.kind == 9 then Some (call.FlushDelayed (item_in n)) else (
-    if n.kind == 10 then Some (call.CancelSync (item_in n)) else (
+    if n.kind == 6 then Some (call.Flush (queue_of_call n)) else (
+    if n.kind == 7 then Some (call.Drain (queue_of_call n)) else (
+    if n.kind == 8 then Some (call.FlushItem (item_of_call n)) else (
+    if n.kind == 9 then Some (call.FlushDelayed (item_of_call n)) else (
+    if n.kind == 10 then Some (call.CancelSync (item_of_call n)) else (
     if n.kind == 11 then Some (call.End n.ticket) else (
     if n.kind == 12 then Some call.Take else (
     if n.kind == 13 then Some call.Finish else (
     if n.kind == 14 then Some call.Sleep else (
     if n.kind == 15 then Some call.Wake else (
     if n.kind == 16 then Some call.Retire else (
-    if n.kind == 17 then Some (call.SetMax (queue_in n) n.number) else (
+    if n.kind == 17 then Some (call.SetMax (queue_of_call n) n.number) else (
     if n.kind == 18 then Some call.Freeze else (
     if n.kind == 19 then Some call.Thaw else (
-    if n.kind == 20 then Some (call.Destroy (queue_in n)) else (
+    if n.kind == 20 then Some (call.Destroy (queue_of_call n)) else (
     None)))))))))))))))))))))
 
 -- who calls what

@@ -9,6 +9,6 @@ abbrev pub chunk : Ty → Ptr → Fml
 chunk = ghosts.dealloc_token (record { memory = record { seal = tt } })
 
 -- a book of the heap at p where it is full, and nothing else
-abbrev pub held : Bool → Ptr → the_row.Denot → Fml
-held true p book = box_owns chunk the_row p book
-held false p book = ftrue
+abbrev pub owns_book : Bool → Ptr → the_row.Denot → Fml
+owns_book true p book = box_owns chunk the_row p book
+owns_book false p book = ftrue

@@ -54,7 +54,7 @@ abbrev pub if_live : Bool → ℕ → ℕ
 if_live live status = if live then status else 2
 
 -- The text stands at the front of the buffer, whole, and the rest is as it was.
-pub record IsWritten (text : List ℕ) (written : ℕ) (old new : List ℕ) : Type 0 where
+pub record IsTextWritten (text : List ℕ) (written : ℕ) (old new : List ℕ) : Type 0 where
   pub count : written ≡ length text
   pub front : take written new ≡ text
   pub rest : drop written new ≡ drop written old

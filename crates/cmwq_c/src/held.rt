@@ -1,7 +1,7 @@
 //! A book of the heap as C holds it: by a pointer of no type.
 ghost use Rattle.std.specs.Prelude.{◌≡◌, true, false, Bool};
 ghost use Rattle.cmwq_tail_book.specs.Lasting.{Lasting};
-ghost use Rattle.cmwq_c.specs.Owned.{held};
+ghost use Rattle.cmwq_c.specs.Owned.{owns_book};
 
 use crate::apart::Apart;
 use crate::session::Session;
@@ -19,7 +19,7 @@ pub struct Held {
 }
 
 impl Model for Held {
-    ghost also_owns = { λ h. held h.full h.at h.book };
+    ghost also_owns = { λ h. owns_book h.full h.at h.book };
 }
 
 impl Held {

@@ -5,7 +5,7 @@ ghost use Rattle.cmwq_model.specs.declared.verdict.Illegal.{Illegal};
 ghost use Rattle.cmwq_base.specs.declared.refusal.Refusal.{Refusal};
 ghost use Rattle.cmwq_base.specs.Kinds.{history_file_of};
 ghost use Rattle.cmwq_cmd_history.specs.Check.{CheckEnds, check_status};
-ghost use Rattle.cmwq_c.specs.Statuses.{IsWritten};
+ghost use Rattle.cmwq_c.specs.Statuses.{IsTextWritten};
 ghost use Rattle.cmwq_c.specs.Verdicts.{Judges};
 
 use crate::status::{DONE, ILLEGAL, NO_MEMORY, REFUSED, SHORT};
@@ -32,8 +32,8 @@ fn judged(alloc: Global, text: &[u8], room: usize) -> Result<(u8, Memory<Vec<u8>
 /// Judges the history that the text says, and writes the line of its verdict.
 #[tactic(auto, using(crate::proofs::Verdicts::legal_end, crate::proofs::Verdicts::illegal_end, crate::proofs::Verdicts::refused_end))]
 pub fn judge(alloc: Global, text: &[u8], out: &mut [u8], written: &mut usize) -> u32
-    ensures legal { result ≡ 0 → (line : List ℕ) × Judges text.now None line × IsWritten line written.new out.old out.new }
-    ensures illegal { result ≡ 7 → (line : List ℕ) × ((i : Illegal) × Judges text.now (Some i) line) × IsWritten line written.new out.old out.new }
+    ensures legal { result ≡ 0 → (line : List ℕ) × Judges text.now None line × IsTextWritten line written.new out.old out.new }
+    ensures illegal { result ≡ 7 → (line : List ℕ) × ((i : Illegal) × Judges text.now (Some i) line) × IsTextWritten line written.new out.old out.new }
     ensures refused { result ≡ 1 → (e : Refusal) × (history_file_of text.now ≡ Err e) }
     ensures kept { result ≢ 0 → result ≢ 7 → (out.new ≡ out.old) × (written.new ≡ written.old) }
 {

@@ -14,7 +14,7 @@ ghost use Rattle.cmwq_c.specs.Numbers.{shape_of, who_of_numbers, asked_of, reply
 ghost use Rattle.cmwq_base.specs.declared.refusal.Refusal.{Refusal};
 ghost use Rattle.cmwq_base.specs.Kinds.{history_file_of};
 ghost use Rattle.cmwq_c.specs.Verdicts.{Judges};
-ghost use Rattle.cmwq_c.specs.Statuses.{call_status, line_status, entry_status, entry_line_status, found_status, serial_status, if_live, IsWritten};
+ghost use Rattle.cmwq_c.specs.Statuses.{call_status, line_status, entry_status, entry_line_status, found_status, serial_status, if_live, IsTextWritten};
 
 mod apart;
 mod handle;
@@ -110,7 +110,7 @@ pub extern "C" fn cmwq_step_line(
     ensures status { result ≡ if_live book.old.live (line_status book.old.held.book (call_read line.now) (length out.old)) }
     ensures live { book.new.live ≡ book.old.live }
     ensures made { result ≡ 0 → IfSome (call_read line.now) (λ a. book.new.held.book ≡ with_made book.old.held.book (next_entry book.old.held.book.history a.0 a.1)) }
-    ensures text { result ≡ 0 → IfSome (call_read line.now) (λ a. IsWritten (entry_text (next_entry book.old.held.book.history a.0 a.1)) written.new out.old out.new) }
+    ensures text { result ≡ 0 → IfSome (call_read line.now) (λ a. IsTextWritten (entry_text (next_entry book.old.held.book.history a.0 a.1)) written.new out.old out.new) }
     ensures kept { result ≢ 0 → (out.new ≡ out.old) × (written.new ≡ written.old) }
     ensures same { result ≢ 0 → book.old.live ≡ true → book.new.held.book ≡ book.old.held.book }
 {
@@ -342,7 +342,7 @@ pub extern "C" fn cmwq_entry_line(
     ensures status { result ≡ if_live book.old.live (entry_line_status (lasting_entry book.old.held.book number) (length out.old)) }
     ensures live { book.new.live ≡ book.old.live }
     ensures same { book.old.live ≡ true → book.new.held.book ≡ book.old.held.book }
-    ensures text { result ≡ 0 → IfSome (lasting_entry book.old.held.book number) (λ e. IsWritten (entry_text e) written.new out.old out.new) }
+    ensures text { result ≡ 0 → IfSome (lasting_entry book.old.held.book number) (λ e. IsTextWritten (entry_text e) written.new out.old out.new) }
     ensures kept { result ≢ 0 → (out.new ≡ out.old) × (written.new ≡ written.old) }
 {
     match mem::replace(book, Handle::none()).into_box(alloc) {
@@ -377,8 +377,8 @@ pub extern "C" fn cmwq_forget(alloc: Global, book: &mut Handle) -> u32
 /// the line, 7 not legal.
 #[unsafe(no_mangle)]
 pub extern "C" fn cmwq_check(alloc: Global, text: &[u8], out: &mut [u8], written: &mut usize) -> u32
-    ensures legal { result ≡ 0 → (line : List ℕ) × Judges text.now None line × IsWritten line written.new out.old out.new }
-    ensures illegal { result ≡ 7 → (line : List ℕ) × ((i : Illegal) × Judges text.now (Some i) line) × IsWritten line written.new out.old out.new }
+    ensures legal { result ≡ 0 → (line : List ℕ) × Judges text.now None line × IsTextWritten line written.new out.old out.new }
+    ensures illegal { result ≡ 7 → (line : List ℕ) × ((i : Illegal) × Judges text.now (Some i) line) × IsTextWritten line written.new out.old out.new }
     ensures refused { result ≡ 1 → (e : Refusal) × (history_file_of text.now ≡ Err e) }
     ensures kept { result ≢ 0 → result ≢ 7 → (out.new ≡ out.old) × (written.new ≡ written.old) }
 {

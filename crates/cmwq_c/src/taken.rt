@@ -8,7 +8,7 @@ ghost use Rattle.cmwq_core.specs.History.{next_entry, past_in};
 ghost use Rattle.cmwq_core.specs.Plans.{IsPlan};
 ghost use Rattle.cmwq_tail_book.specs.Lasting.{lasting_at_first, with_made, lasting_entry, has_space};
 ghost use Rattle.cmwq_c.specs.Numbers.{shape_of, who_of_numbers, asked_of, reply_numbers, entry_numbers};
-ghost use Rattle.cmwq_c.specs.Statuses.{call_status, line_status, space_status, entry_status, entry_line_status, serial_status, IsWritten};
+ghost use Rattle.cmwq_c.specs.Statuses.{call_status, line_status, space_status, entry_status, entry_line_status, serial_status, IsTextWritten};
 
 use crate::numbers::{
     CallNumbers, EntryNumbers, QueueNumbers, ReplyNumbers, ShapeNumbers, WhoNumbers, queues_of,
@@ -85,7 +85,7 @@ pub fn foretell(session: &Session, call: &CallNumbers, reply: &mut ReplyNumbers)
 
 /// Puts a text at the front of a buffer, if that holds it.
 pub fn put(text: &[u8], out: &mut [u8]) -> Option<usize>
-    ensures written { IfSome result (λ n. IsWritten text.now n out.old out.new) }
+    ensures written { IfSome result (λ n. IsTextWritten text.now n out.old out.new) }
     ensures fits { IfSome result (λ n. length text.now ≤ length out.old) }
     ensures short { IfNone result (length out.old < length text.now) }
     ensures kept { IfNone result (out.new ≡ out.old) }
@@ -102,7 +102,7 @@ pub fn put(text: &[u8], out: &mut [u8]) -> Option<usize>
 pub fn line_step(session: &mut Session, line: &[u8], out: &mut [u8], written: &mut usize) -> u32
     ensures status { result ≡ line_status session.old (call_read line.now) (length out.old) }
     ensures made { result ≡ 0 → IfSome (call_read line.now) (λ a. session.new ≡ with_made session.old (next_entry session.old.history a.0 a.1)) }
-    ensures text { result ≡ 0 → IfSome (call_read line.now) (λ a. IsWritten (entry_text (next_entry session.old.history a.0 a.1)) written.new out.old out.new) }
+    ensures text { result ≡ 0 → IfSome (call_read line.now) (λ a. IsTextWritten (entry_text (next_entry session.old.history a.0 a.1)) written.new out.old out.new) }
     ensures kept { result ≢ 0 → (session.new ≡ session.old) × (out.new ≡ out.old) × (written.new ≡ written.old) }
 {
     let Some((who, call)) = read_call(line) else {
@@ -120,7 +120,7 @@ fn planned_step(session: &mut Session, plan: &Plan, out: &mut [u8], written: &mu
     requires space { has_space session.old ≡ true }
     ensures status { result ≡ space_status (length out.old) (entry_text plan.now.mark.entry) }
     ensures made { result ≡ 0 → session.new ≡ with_made session.old plan.now.mark.entry }
-    ensures text { result ≡ 0 → IsWritten (entry_text plan.now.mark.entry) written.new out.old out.new }
+    ensures text { result ≡ 0 → IsTextWritten (entry_text plan.now.mark.entry) written.new out.old out.new }
     ensures kept { result ≢ 0 → (session.new ≡ session.old) × (out.new ≡ out.old) × (written.new ≡ written.old) }
 {
     match put(entry_line(&plan.mark.entry).as_bytes(), out) {
@@ -151,7 +151,7 @@ pub fn entry_of(session: &Session, number: Number, entry: &mut EntryNumbers) -> 
 /// Writes the line of the entry with this number.
 pub fn line_of(session: &Session, number: Number, out: &mut [u8], written: &mut usize) -> u32
     ensures status { result ≡ entry_line_status (lasting_entry session.now number) (length out.old) }
-    ensures text { result ≡ 0 → IfSome (lasting_entry session.now number) (λ e. IsWritten (entry_text e) written.new out.old out.new) }
+    ensures text { result ≡ 0 → IfSome (lasting_entry session.now number) (λ e. IsTextWritten (entry_text e) written.new out.old out.new) }
     ensures kept { result ≢ 0 → (out.new ≡ out.old) × (written.new ≡ written.old) }
 {
     let Some(entry) = session.entry(number) else {

@@ -13,14 +13,14 @@ use Rattle.cmwq_chart.specs.Signs.{signs_of}
 use Rattle.cmwq_chart.specs.Sleeps.{sleeps_of}
 
 -- the lanes of its callers, and the places of its queueings
-abbrev pub callers_in : Layout → List Entry → List CallerLane
-callers_in s entries = caller_lanes_of (past_of entries) (callers_of s entries)
+abbrev pub caller_lanes_in : Layout → List Entry → List CallerLane
+caller_lanes_in s entries = caller_lanes_of (past_of entries) (callers_of s entries)
 
 abbrev pub places_in : Layout → List Entry → List Place
 places_in s entries = places_of s (queueings (past_of entries))
 
 pub record AreShapes (s : Layout) (entries : List Entry) (shapes : Shapes) : Type 0 where
-  pub callers : shapes.callers.lanes.items ≡ callers_in s entries
+  pub callers : shapes.callers.lanes.items ≡ caller_lanes_in s entries
   pub waits : shapes.callers.waits.items ≡ caller_waits_of (past_of entries) (callers_of s entries)
   pub wait_signs : shapes.callers.signs.items ≡ wait_signs_of (past_of entries) (callers_of s entries)
   pub lanes : shapes.lanes.items ≡ lanes_of s entries

@@ -1,10 +1,10 @@
 -- How many queueings of a place are open and active.
 use Rattle.cmwq_model.specs.Prelude.{most_cpus}
-use Rattle.std.proofs.Common.{◌≡◌, ℕ, ◌+◌, ◌*◌, ◌≤◌, Bool, true, false, cond, ◌==◌, ◌&&◌, List, [], ◌∷◌, length, filter, count_by, Option, Some, None, option_to_list, refl, sym, ap, ap₂, ◌∙◌, arith}
+use Rattle.std.proofs.Common.{◌≡◌, ℕ, ◌+◌, ◌*◌, ◌≤◌, Bool, cond, ◌==◌, ◌&&◌, List, ◌∷◌, length, filter, count_by, option_to_list, refl, sym, ap, ap₂, ◌∙◌, arith}
 use Rattle.std.specs.Prelude.{slice_index}
 use Rattle.std.proofs.lemmas.List.Sums.{count_by-le-length}
 use Rattle.std.proofs.lemmas.List.Filters.{sum_by-filter_both}
-use Rattle.cmwq_lemmas.proofs.Lists.{count_by-cons, count_by-filter, count_append}
+use Rattle.cmwq_lemmas.proofs.Lists.{count_by-filter, count_append}
 use Rattle.cmwq_model.specs.declared.entry.Entry.{Entry}
 use Rattle.cmwq_model.specs.declared.record.Place.{Place}
 use Rattle.cmwq_model.specs.declared.record.Queueing.{Queueing}
@@ -13,6 +13,7 @@ use Rattle.cmwq_theory_steps.specs.Endings.{survives, is_ended, ending}
 use Rattle.cmwq_theory_steps.specs.Histories.{one}
 use Rattle.cmwq_theory_steps.specs.Places.{is_on}
 use Rattle.cmwq_theory_steps.proofs.Endings.{open_go_on}
+use Rattle.cmwq_theory_steps.proofs.Options.{count_option}
 use Rattle.cmwq_theory_steps.proofs.Ended.{one_ends}
 use Rattle.cmwq_state.specs.Pwqs.{AreActiveCounts}
 use Rattle.cmwq_core.specs.History.{History}
@@ -20,21 +21,13 @@ use Rattle.cmwq_chart.specs.Levels.{is_of_place, open_at, active_at, is_active_a
 use Rattle.cmwq_chart_levels.specs.declared.steps.Change.{Change}
 use Rattle.cmwq_chart_levels.specs.Turns.{is_one_of_place, IsFollowed}
 
-count_option : (p : Place) (o : Option Queueing) → count_by (is_of_place p) (option_to_list o) ≡ one (is_one_of_place p o)
-count_option p None = refl
-count_option p (Some x) = count_by-cons (is_of_place p) x [] ∙ by (is_of_place p x)
-  where
-    by : (b : Bool) → cond b 1 0 + 0 ≡ one b
-    by true = refl
-    by false = refl
-
 pub open_goes_on : (s : Layout) (past : List Entry) (e : Entry) (p : Place) → IsLegal s (e ∷ past)
     → open_at (e ∷ past) p + one (is_one_of_place p (ending past e)) ≡ open_at past p + one (is_one_of_place p (opening past e))
 open_goes_on s past e p legal =
     let after = ap (count_by (is_of_place p)) (open_go_on s past e legal) ∙ count_append (is_of_place p) (filter (survives past e) (still_open past)) (option_to_list (opening past e)) in
-    let opened = count_option p (opening past e) in
+    let opened = count_option (is_of_place p) (opening past e) in
     let before = sym (sum_by-filter_both (survives past e) (is_ended past e) (λ y. refl) (λ y. cond (is_of_place p y) 1 0) (still_open past)) in
-    let ended : count_by (is_of_place p) (filter (is_ended past e) (still_open past)) ≡ one (is_one_of_place p (ending past e)) = ap (count_by (is_of_place p)) (one_ends s past e legal) ∙ count_option p (ending past e) in
+    let ended : count_by (is_of_place p) (filter (is_ended past e) (still_open past)) ≡ one (is_one_of_place p (ending past e)) = ap (count_by (is_of_place p)) (one_ends s past e legal) ∙ count_option (is_of_place p) (ending past e) in
     let split : count_by (is_of_place p) (still_open past) ≡ count_by (is_of_place p) (filter (survives past e) (still_open past)) + count_by (is_of_place p) (filter (is_ended past e) (still_open past)) = before in
     omega (arith, after, opened, split, ended)
 

@@ -9,7 +9,7 @@ use Rattle.std.specs.Prelude.{flat_map}
 use Rattle.std.specs.List.{sum_by}
 use Rattle.cmwq_chart_text.specs.declared.bands.PlacedRow.{PlacedRow}
 use Rattle.cmwq_chart_text.specs.declared.figures.Row.{Row}
-use Rattle.cmwq_chart_text.specs.Bands.{stacked}
+use Rattle.cmwq_chart_text.specs.Bands.{stacked_rows}
 use Rattle.cmwq_chart_text.specs.Figures.{row_height}
 
 -- an element more, where it passes the test
@@ -33,33 +33,33 @@ mapped_more f xs i d old before new less so_far more =
     more ∙ ap (λ l. l ++ f (get_or xs i d) ∷ []) so_far ∙ append_assoc old (map f (take i xs)) (f (get_or xs i d) ∷ []) ∙ ap (λ l. old ++ l) (sym (map_more f xs i d less))
 
 -- a row below the others
-pub stacked_behind : (top : ℕ) (rows : List Row) (r : Row) → stacked top (rows ++ r ∷ []) ≡ stacked top rows ++ record { row = r; top = top + sum_by row_height rows } ∷ []
-unfolding stacked
+pub stacked_behind : (top : ℕ) (rows : List Row) (r : Row) → stacked_rows top (rows ++ r ∷ []) ≡ stacked_rows top rows ++ record { row = r; top = top + sum_by row_height rows } ∷ []
+unfolding stacked_rows
 stacked_behind top [] r = ap (λ (n : ℕ). record { row = r; top = n } ∷ []) (omega arith)
 stacked_behind top (s ∷ rows) r =
     ap (λ l. record { row = s; top = top } ∷ l) (stacked_behind (top + row_height s) rows r
-    ∙ ap (λ n. stacked (top + row_height s) rows ++ record { row = r; top = n } ∷ []) (omega (arith, sum_by-cons row_height s rows)))
+    ∙ ap (λ n. stacked_rows (top + row_height s) rows ++ record { row = r; top = n } ∷ []) (omega (arith, sum_by-cons row_height s rows)))
 
 -- a row more, where it is shown
 pub rows_more : (p : Row → Bool) (rows : List Row) (i : ℕ) (d : Row) (b : Bool) (old new : List PlacedRow) (top end : ℕ) → i < length rows → b ≡ p (get_or rows i d)
-    → old ≡ stacked 0 (filter p (take i rows)) → top ≡ sum_by row_height (filter p (take i rows))
+    → old ≡ stacked_rows 0 (filter p (take i rows)) → top ≡ sum_by row_height (filter p (take i rows))
     → new ≡ old ++ (if b then record { row = get_or rows i d; top = top } ∷ [] else []) → end ≡ top + (if b then row_height (get_or rows i d) else 0)
-    → (new ≡ stacked 0 (filter p (take (i + 1) rows))) × (end ≡ sum_by row_height (filter p (take (i + 1) rows)))
+    → (new ≡ stacked_rows 0 (filter p (take (i + 1) rows))) × (end ≡ sum_by row_height (filter p (take (i + 1) rows)))
 rows_more p rows i d b old new top end less passes so_far height more further = at b passes more further
   where
     x : Row
     x = get_or rows i d
 
     at : (b : Bool) → b ≡ p x → new ≡ old ++ (if b then record { row = x; top = top } ∷ [] else []) → end ≡ top + (if b then row_height x else 0)
-        → (new ≡ stacked 0 (filter p (take (i + 1) rows))) × (end ≡ sum_by row_height (filter p (take (i + 1) rows)))
+        → (new ≡ stacked_rows 0 (filter p (take (i + 1) rows))) × (end ≡ sum_by row_height (filter p (take (i + 1) rows)))
     at true passes more further =
         let kept = filter p (take i rows) in
         let wide : filter p (take (i + 1) rows) ≡ kept ++ x ∷ [] = filter_more p rows i d less ∙ ap (λ (c : Bool). kept ++ (if c then x ∷ [] else [])) (sym passes) in
         let there : top ≡ 0 + sum_by row_height kept = omega (arith, height) in (
-          more ∙ ap₂ (λ l (t : ℕ). l ++ record { row = x; top = t } ∷ []) so_far there ∙ sym (stacked_behind 0 kept x) ∙ ap (stacked 0) (sym wide),
+          more ∙ ap₂ (λ l (t : ℕ). l ++ record { row = x; top = t } ∷ []) so_far there ∙ sym (stacked_behind 0 kept x) ∙ ap (stacked_rows 0) (sym wide),
           further ∙ ap (λ t. t + row_height x) height ∙ sym (ap (sum_by row_height) wide ∙ sum_by-append row_height kept (x ∷ []) ∙ ap (λ t. sum_by row_height kept + t) (sum_by-cons row_height x [] ∙ omega arith)),
         )
     at false passes more further =
         let kept = filter p (take i rows) in
         let wide : filter p (take (i + 1) rows) ≡ kept = filter_more p rows i d less ∙ ap (λ (c : Bool). kept ++ (if c then x ∷ [] else [])) (sym passes) ∙ append-nil kept in
-        (more ∙ append-nil old ∙ so_far ∙ ap (stacked 0) (sym wide), further ∙ omega arith ∙ height ∙ ap (sum_by row_height) (sym wide))
+        (more ∙ append-nil old ∙ so_far ∙ ap (stacked_rows 0) (sym wide), further ∙ omega arith ∙ height ∙ ap (sum_by row_height) (sym wide))

@@ -16,17 +16,17 @@ use Rattle.cmwq_chart_text.specs.Bands.{Content, rows_height}
 use Rattle.cmwq_chart_text.specs.BarText.{bar_text}
 use Rattle.cmwq_chart_text.specs.CaptionText.{caption_text}
 use Rattle.cmwq_chart_text.specs.FrameText.{numbers_text}
-use Rattle.cmwq_chart_text.specs.LevelText.{level_text, place_name}
-use Rattle.cmwq_chart_text.specs.NameText.{caller_name, worker_name}
+use Rattle.cmwq_chart_text.specs.LevelText.{level_text, place_name_text}
+use Rattle.cmwq_chart_text.specs.NameText.{caller_name_text, worker_name_text}
 use Rattle.cmwq_chart_text.specs.SignText.{sign_text, wait_sign_text}
 use Rattle.cmwq_chart_text.specs.SleepText.{sleep_text}
 use Rattle.cmwq_chart_text.specs.WaitText.{wait_text}
 
 -- ---- names: those of workers, of callers, and of places
 abbrev pub name_in : Names → ℕ → ℕ → Row → List ℕ
-name_in Workers scale top (row.Worker w) = worker_name top w
-name_in Callers scale top (row.Caller lane) = caller_name top lane.caller
-name_in Places scale top (row.Place p) = place_name scale top p
+name_in Workers scale top (row.Worker w) = worker_name_text top w
+name_in Callers scale top (row.Caller lane) = caller_name_text top lane.caller
+name_in Places scale top (row.Place p) = place_name_text scale top p
 name_in names scale top r = []
 
 -- the rows begin at a height

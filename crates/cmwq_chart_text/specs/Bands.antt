@@ -43,12 +43,12 @@ abbrev pub IsUnmarked : List Bool → List Bool → Option ℕ → Type 0
 IsUnmarked old new number = (length new ≡ length old) × ((k : ℕ) → k < length old → slice_get new k ≡ option_map (λ before. before && not (is_at number k)) (slice_get old k))
 
 -- one below the other, the first at a height
-unfoldable pub stacked : ℕ → List Row → List PlacedRow
-stacked top [] = []
-stacked top (row ∷ rows) = record { row = row; top = top } ∷ stacked (top + row_height row) rows
+unfoldable pub stacked_rows : ℕ → List Row → List PlacedRow
+stacked_rows top [] = []
+stacked_rows top (row ∷ rows) = record { row = row; top = top } ∷ stacked_rows (top + row_height row) rows
 
 abbrev pub rows_in : List Figure → List Row → List PlacedRow
-rows_in figures rows = stacked 0 (filter (shows figures) rows)
+rows_in figures rows = stacked_rows 0 (filter (shows figures) rows)
 
 -- how high they are together
 abbrev pub end_of_row : PlacedRow → ℕ

@@ -2,7 +2,7 @@
 use Rattle.std.specs.Prelude.{ℕ, ◌-◌, ◌%◌, Bool, true, false, List, [], ◌∷◌, codes, is_some}
 use Rattle.cmwq_chart.specs.declared.bars.Bar.{Bar}
 use Rattle.cmwq_chart_text.specs.declared.page.Page.{Page}
-use Rattle.cmwq_chart_text.specs.Filled.{filled}
+use Rattle.cmwq_chart_text.specs.Filled.{filled_template}
 use Rattle.cmwq_chart_text.specs.Pages.{worker_letter}
 use Rattle.cmwq_chart_text.specs.Spans.{span_end, span_left, span_width}
 
@@ -17,4 +17,4 @@ bar_numbers p top bar band =
     ∷ bar.item.0 ∷ bar.number ∷ bar.from ∷ (span_end p bar.to - 1) ∷ []
 
 abbrev pub bar_text : Page → ℕ → Bar → ℕ → List ℕ
-bar_text p top bar band = filled (bar_template (is_some bar.to)) (bar_numbers p top bar band)
+bar_text p top bar band = filled_template (bar_template (is_some bar.to)) (bar_numbers p top bar band)

@@ -2,7 +2,7 @@
 use Rattle.std.specs.Prelude.{ℕ, ◌+◌, Bool, if◌then◌else◌, List, [], ◌∷◌, codes, nat_lt, nat_le}
 use Rattle.cmwq_chart.specs.declared.bars.Bar.{Bar}
 use Rattle.cmwq_chart_text.specs.declared.page.Page.{Page}
-use Rattle.cmwq_chart_text.specs.Filled.{filled}
+use Rattle.cmwq_chart_text.specs.Filled.{filled_template}
 use Rattle.cmwq_chart_text.specs.Spans.{span_left, span_width}
 
 unfoldable pub caption_template : List ℕ
@@ -19,4 +19,4 @@ abbrev pub caption_numbers : Page → ℕ → Bar → ℕ → List ℕ
 caption_numbers p top bar band = (span_left p bar.from band + 2) ∷ (top + 11) ∷ bar.item.0 ∷ []
 
 abbrev pub caption_text : Page → ℕ → Bar → ℕ → List ℕ
-caption_text p top bar band = if has_caption p bar band then filled caption_template (caption_numbers p top bar band) else []
+caption_text p top bar band = if has_caption p bar band then filled_template caption_template (caption_numbers p top bar band) else []

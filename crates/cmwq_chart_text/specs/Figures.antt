@@ -18,22 +18,22 @@ use Rattle.cmwq_chart_text.specs.declared.figures.Row.{Row}
 use Rattle.cmwq_chart_text.specs.declared.figures.Row.TheVariants.{Caller, Worker, Place as OfPlace}
 
 -- ---- each row has a number of its own: callers first, then workers by CPU, pool and index, then places by queue and CPU
-abbrev pub caller_row : CallerId → ℕ
-caller_row c = c.0
+abbrev pub caller_row_number : CallerId → ℕ
+caller_row_number c = c.0
 
-abbrev pub worker_row : WorkerId → ℕ
-worker_row w = 256 + 512 * w.pool.cpu.0 + (if w.pool.high then 256 else 0) + w.index
+abbrev pub worker_row_number : WorkerId → ℕ
+worker_row_number w = 256 + 512 * w.pool.cpu.0 + (if w.pool.high then 256 else 0) + w.index
 
-abbrev pub place_row : Place → ℕ
-place_row p = 131328 + 256 * p.queue.0 + p.cpu.0
+abbrev pub place_row_number : Place → ℕ
+place_row_number p = 131328 + 256 * p.queue.0 + p.cpu.0
 
 abbrev pub most_rows : ℕ
 most_rows = 196864
 
 abbrev pub row_number : Row → ℕ
-row_number (Caller lane) = caller_row lane.caller
-row_number (Worker w) = worker_row w
-row_number (OfPlace p) = place_row p
+row_number (Caller lane) = caller_row_number lane.caller
+row_number (Worker w) = worker_row_number w
+row_number (OfPlace p) = place_row_number p
 
 -- that of a caller has those of its waits below it
 abbrev pub row_height : Row → ℕ
@@ -41,21 +41,21 @@ row_height (Caller lane) = 18 * (1 + lane.rows)
 row_height (Worker w) = 18
 row_height (OfPlace p) = 36
 
-abbrev pub rows_of : List CallerLane → List WorkerId → List Place → List Row
-rows_of callers lanes places = map Caller callers ++ (map Worker lanes ++ map OfPlace places)
+abbrev pub drawn_rows : List CallerLane → List WorkerId → List Place → List Row
+drawn_rows callers lanes places = map Caller callers ++ (map Worker lanes ++ map OfPlace places)
 
 -- ---- the row of a shape, and from which entry to which it stands there
 abbrev pub who_row : Who → ℕ
-who_row (who.Caller c) = caller_row c
-who_row (who.Worker w) = worker_row w
+who_row (who.Caller c) = caller_row_number c
+who_row (who.Worker w) = worker_row_number w
 
 abbrev pub figure_row : Figure → ℕ
-figure_row (Wait wait) = caller_row wait.caller
-figure_row (WaitSign sign) = caller_row sign.caller
-figure_row (ABar bar) = worker_row bar.worker
-figure_row (ASleep sleep) = worker_row sleep.worker
+figure_row (Wait wait) = caller_row_number wait.caller
+figure_row (WaitSign sign) = caller_row_number sign.caller
+figure_row (ABar bar) = worker_row_number bar.worker
+figure_row (ASleep sleep) = worker_row_number sleep.worker
 figure_row (AMark sign) = who_row sign.who
-figure_row (ALevel level) = place_row level.place
+figure_row (ALevel level) = place_row_number level.place
 
 abbrev pub figure_from : Figure → ℕ
 figure_from (Wait wait) = wait.from

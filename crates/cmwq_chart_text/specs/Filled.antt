@@ -13,8 +13,8 @@ unfoldable pub filled_from : List ℕ → List ℕ → ℕ → List ℕ
 filled_from [] numbers k = []
 filled_from (c ∷ template) numbers k = piece c (slice_index_or numbers k 0) ++ filled_from template numbers (k + (if is_hole c then 1 else 0))
 
-abbrev pub filled : List ℕ → List ℕ → List ℕ
-filled template numbers = filled_from template numbers 0
+abbrev pub filled_template : List ℕ → List ℕ → List ℕ
+filled_template template numbers = filled_from template numbers 0
 
 -- how many characters stand before the first hole
 unfoldable pub plain_length : List ℕ → ℕ

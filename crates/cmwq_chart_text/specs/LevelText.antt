@@ -5,7 +5,7 @@ use Rattle.cmwq_model.specs.declared.record.Place.{Place}
 use Rattle.cmwq_chart.specs.declared.levels.Level.{Level}
 use Rattle.cmwq_chart_text.specs.declared.figures.Figure.{Figure}
 use Rattle.cmwq_chart_text.specs.declared.page.Page.{Page}
-use Rattle.cmwq_chart_text.specs.Filled.{filled}
+use Rattle.cmwq_chart_text.specs.Filled.{filled_template}
 use Rattle.cmwq_chart_text.specs.Figures.{figure_open}
 use Rattle.cmwq_chart_text.specs.Spans.{span_end, span_left, span_width}
 
@@ -26,8 +26,8 @@ place_template = codes "<text class=\"name\" x=\"92\" y=\"$\">q$ CPU $</text><te
 abbrev pub place_numbers : ℕ → ℕ → Place → List ℕ
 place_numbers scale top place = (top + 16) ∷ place.queue.0 ∷ place.cpu.0 ∷ (top + 29) ∷ scale ∷ (top + 32) ∷ []
 
-abbrev pub place_name : ℕ → ℕ → Place → List ℕ
-place_name scale top place = filled place_template (place_numbers scale top place)
+abbrev pub place_name_text : ℕ → ℕ → Place → List ℕ
+place_name_text scale top place = filled_template place_template (place_numbers scale top place)
 
 -- a level
 unfoldable pub level_template : List ℕ
@@ -41,4 +41,4 @@ level_numbers p scale top level band =
     ∷ span_left p level.from band ∷ ((top + 32) - level_height scale level.height.width) ∷ span_width p level.from level.to band ∷ []
 
 abbrev pub level_text : Page → ℕ → ℕ → Level → ℕ → List ℕ
-level_text p scale top level band = filled level_template (level_numbers p scale top level band)
+level_text p scale top level band = filled_template level_template (level_numbers p scale top level band)

@@ -2,7 +2,7 @@
 use Rattle.std.specs.Prelude.{ℕ, ◌+◌, List, [], ◌∷◌, codes}
 use Rattle.cmwq_model.specs.declared.id.CallerId.{CallerId}
 use Rattle.cmwq_model.specs.declared.id.WorkerId.{WorkerId}
-use Rattle.cmwq_chart_text.specs.Filled.{filled}
+use Rattle.cmwq_chart_text.specs.Filled.{filled_template}
 use Rattle.cmwq_chart_text.specs.Pages.{worker_letter}
 
 unfoldable pub caller_template : List ℕ
@@ -11,8 +11,8 @@ caller_template = codes "<text class=\"name\" x=\"92\" y=\"$\">c$</text><path cl
 abbrev pub caller_numbers : ℕ → CallerId → List ℕ
 caller_numbers top c = (top + 11) ∷ c.0 ∷ (top + 7) ∷ []
 
-abbrev pub caller_name : ℕ → CallerId → List ℕ
-caller_name top c = filled caller_template (caller_numbers top c)
+abbrev pub caller_name_text : ℕ → CallerId → List ℕ
+caller_name_text top c = filled_template caller_template (caller_numbers top c)
 
 unfoldable pub worker_template : List ℕ
 worker_template = codes "<text class=\"name\" x=\"92\" y=\"$\">w$~$</text><path class=\"guide\" d=\"M100 $h1080\"/>\n"
@@ -20,5 +20,5 @@ worker_template = codes "<text class=\"name\" x=\"92\" y=\"$\">w$~$</text><path 
 abbrev pub worker_numbers : ℕ → WorkerId → List ℕ
 worker_numbers top w = (top + 11) ∷ w.pool.cpu.0 ∷ worker_letter w ∷ w.index ∷ (top + 7) ∷ []
 
-abbrev pub worker_name : ℕ → WorkerId → List ℕ
-worker_name top w = filled worker_template (worker_numbers top w)
+abbrev pub worker_name_text : ℕ → WorkerId → List ℕ
+worker_name_text top w = filled_template worker_template (worker_numbers top w)

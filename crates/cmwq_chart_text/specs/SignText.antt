@@ -8,7 +8,7 @@ use Rattle.cmwq_chart.specs.declared.signs.SignKind.{SignKind}
 use Rattle.cmwq_chart.specs.declared.signs.SignKind.TheVariants as kind
 use Rattle.cmwq_chart.specs.declared.waits.WaitSign.{WaitSign}
 use Rattle.cmwq_chart_text.specs.declared.page.Page.{Page}
-use Rattle.cmwq_chart_text.specs.Filled.{filled}
+use Rattle.cmwq_chart_text.specs.Filled.{filled_template}
 use Rattle.cmwq_chart_text.specs.Pages.{column_width, middle_of}
 use Rattle.cmwq_chart_text.specs.WaitText.{wait_top}
 
@@ -54,10 +54,10 @@ abbrev pub label_numbers : Page → ℕ → Sign → List ℕ
 label_numbers p top sign = (middle_of p sign.at + 4) ∷ (top + 11) ∷ option_map_or (λ i. i) sign.item 0 ∷ []
 
 abbrev pub label_text : Page → ℕ → Sign → List ℕ
-label_text p top sign = if has_label p sign then filled label_template (label_numbers p top sign) else []
+label_text p top sign = if has_label p sign then filled_template label_template (label_numbers p top sign) else []
 
 unfoldable pub sign_text : Page → List Entry → ℕ → Sign → List ℕ
-sign_text p entries top sign = label_text p top sign ++ (filled (sign_template sign.kind) (sign_numbers p top sign) ++ told_text entries sign.at)
+sign_text p entries top sign = label_text p top sign ++ (filled_template (sign_template sign.kind) (sign_numbers p top sign) ++ told_text entries sign.at)
 
 -- ---- where the end of a wait was asked for: a ring while it goes on, a dot where it is done
 unfoldable pub wait_sign_template : Bool → List ℕ
@@ -68,4 +68,4 @@ abbrev pub wait_sign_numbers : Page → ℕ → WaitSign → List ℕ
 wait_sign_numbers p top sign = middle_of p sign.at ∷ (wait_top top sign.row + 7) ∷ []
 
 unfoldable pub wait_sign_text : Page → List Entry → ℕ → WaitSign → List ℕ
-wait_sign_text p entries top sign = filled (wait_sign_template sign.is_done) (wait_sign_numbers p top sign) ++ told_text entries sign.at
+wait_sign_text p entries top sign = filled_template (wait_sign_template sign.is_done) (wait_sign_numbers p top sign) ++ told_text entries sign.at

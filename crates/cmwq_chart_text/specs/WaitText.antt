@@ -2,7 +2,7 @@
 use Rattle.std.specs.Prelude.{ℕ, ◌+◌, ◌-◌, ◌*◌, Bool, true, false, List, [], ◌∷◌, codes, is_some, min}
 use Rattle.cmwq_chart.specs.declared.waits.CallerWait.{CallerWait}
 use Rattle.cmwq_chart_text.specs.declared.page.Page.{Page}
-use Rattle.cmwq_chart_text.specs.Filled.{filled}
+use Rattle.cmwq_chart_text.specs.Filled.{filled_template}
 use Rattle.cmwq_chart_text.specs.Spans.{span_end, span_left, span_width}
 
 unfoldable pub wait_template : Bool → List ℕ
@@ -19,4 +19,4 @@ wait_numbers p top wait band =
     ∷ wait.caller.0 ∷ wait.from ∷ wait.from ∷ (span_end p wait.to - 1) ∷ []
 
 abbrev pub wait_text : Page → ℕ → CallerWait → ℕ → List ℕ
-wait_text p top wait band = filled (wait_template (is_some wait.to)) (wait_numbers p top wait band)
+wait_text p top wait band = filled_template (wait_template (is_some wait.to)) (wait_numbers p top wait band)

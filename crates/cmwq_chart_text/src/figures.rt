@@ -28,14 +28,14 @@ pub enum Row {
 }
 
 fn caller_row(caller: CallerId) -> usize
-    ensures row { result ≡ spec.caller_row caller }
+    ensures row { result ≡ spec.caller_row_number caller }
     ensures within { result < spec.most_rows }
 {
     caller.0.into()
 }
 
 fn worker_row(worker: WorkerId) -> usize
-    ensures row { result ≡ spec.worker_row worker }
+    ensures row { result ≡ spec.worker_row_number worker }
     ensures within { result < spec.most_rows }
 {
     let high = if worker.pool.high { 256 } else { 0 };
@@ -43,7 +43,7 @@ fn worker_row(worker: WorkerId) -> usize
 }
 
 fn place_row(place: Place) -> usize
-    ensures row { result ≡ spec.place_row place }
+    ensures row { result ≡ spec.place_row_number place }
     ensures within { result < spec.most_rows }
 {
     131_328 + 256 * usize::from(place.queue.0) + usize::from(place.cpu.0)
@@ -172,7 +172,7 @@ fn push_places(rows: &mut Vec<Row>, places: &[Place]) -> Result<(), AllocError>
 
 /// The rows of callers, workers and places.
 pub(crate) fn rows_of(alloc: Global, shapes: &Shapes) -> Result<Vec<Row>, AllocError>
-    ensures rows { IfOk result (λ rows. rows.items ≡ spec.rows_of shapes.now.callers.lanes.items shapes.now.lanes.items shapes.now.places.items) }
+    ensures rows { IfOk result (λ rows. rows.items ≡ spec.drawn_rows shapes.now.callers.lanes.items shapes.now.lanes.items shapes.now.places.items) }
 {
     let mut rows = Vec::new(alloc);
     push_callers(&mut rows, &shapes.callers.lanes)?;

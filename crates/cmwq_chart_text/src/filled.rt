@@ -3,7 +3,7 @@ ghost use Rattle.std.specs.Prelude.{◌≡◌, ◌+◌, ◌≤◌, OnOk, OnErr, 
 ghost use Rattle.std.specs.Io.KnownBytes.{Appends};
 ghost use Rattle.cmwq_io.specs.Counts.{Rises};
 ghost use Rattle.cmwq_io.specs.Moves.{AppendsFront};
-ghost use Rattle.cmwq_chart_text.specs.Filled.{is_hole, piece, filled, filled_from, plain_length};
+ghost use Rattle.cmwq_chart_text.specs.Filled.{is_hole, piece, filled_template, filled_from, plain_length};
 
 use cmwq_base::{Sink, WriteFault, write_all};
 use itoa::Buffer;
@@ -81,8 +81,8 @@ pub(crate) fn write_filled<W: Sink>(
     template: &str,
     numbers: &[u64],
 ) -> Result<(), WriteFault>
-    ensures ok { OnOk result (Appends (W.written sink.old) (W.written sink.new) (filled template.now numbers.now)) }
-    ensures err { OnErr result (AppendsFront (W.written sink.old) (W.written sink.new) (filled template.now numbers.now)) }
+    ensures ok { OnOk result (Appends (W.written sink.old) (W.written sink.new) (filled_template template.now numbers.now)) }
+    ensures err { OnErr result (AppendsFront (W.written sink.old) (W.written sink.new) (filled_template template.now numbers.now)) }
     ensures grown { W.troubles sink.old ≤ W.troubles sink.new }
     ensures fault { OnErr result (Rises (W.troubles sink.old) (W.troubles sink.new)) }
 {

@@ -79,8 +79,8 @@ pub(crate) fn write_place_name<W: Sink>(
     place: Place,
 ) -> Result<(), WriteFault>
     requires { top ≤ 10000000000000000000 }
-    ensures ok { OnOk result (Appends (W.written sink.old) (W.written sink.new) (spec.place_name scale top place)) }
-    ensures err { OnErr result (AppendsFront (W.written sink.old) (W.written sink.new) (spec.place_name scale top place)) }
+    ensures ok { OnOk result (Appends (W.written sink.old) (W.written sink.new) (spec.place_name_text scale top place)) }
+    ensures err { OnErr result (AppendsFront (W.written sink.old) (W.written sink.new) (spec.place_name_text scale top place)) }
     ensures grown { W.troubles sink.old ≤ W.troubles sink.new }
     ensures fault { OnErr result (Rises (W.troubles sink.old) (W.troubles sink.new)) }
 {

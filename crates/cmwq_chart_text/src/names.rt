@@ -39,8 +39,8 @@ pub(crate) fn write_caller_name<W: Sink>(
     caller: CallerId,
 ) -> Result<(), WriteFault>
     requires { top ≤ 10000000000000000000 }
-    ensures ok { OnOk result (Appends (W.written sink.old) (W.written sink.new) (spec.caller_name top caller)) }
-    ensures err { OnErr result (AppendsFront (W.written sink.old) (W.written sink.new) (spec.caller_name top caller)) }
+    ensures ok { OnOk result (Appends (W.written sink.old) (W.written sink.new) (spec.caller_name_text top caller)) }
+    ensures err { OnErr result (AppendsFront (W.written sink.old) (W.written sink.new) (spec.caller_name_text top caller)) }
     ensures grown { W.troubles sink.old ≤ W.troubles sink.new }
     ensures fault { OnErr result (Rises (W.troubles sink.old) (W.troubles sink.new)) }
 {
@@ -68,8 +68,8 @@ pub(crate) fn write_worker_name<W: Sink>(
     worker: WorkerId,
 ) -> Result<(), WriteFault>
     requires { top ≤ 10000000000000000000 }
-    ensures ok { OnOk result (Appends (W.written sink.old) (W.written sink.new) (spec.worker_name top worker)) }
-    ensures err { OnErr result (AppendsFront (W.written sink.old) (W.written sink.new) (spec.worker_name top worker)) }
+    ensures ok { OnOk result (Appends (W.written sink.old) (W.written sink.new) (spec.worker_name_text top worker)) }
+    ensures err { OnErr result (AppendsFront (W.written sink.old) (W.written sink.new) (spec.worker_name_text top worker)) }
     ensures grown { W.troubles sink.old ≤ W.troubles sink.new }
     ensures fault { OnErr result (Rises (W.troubles sink.old) (W.troubles sink.new)) }
 {

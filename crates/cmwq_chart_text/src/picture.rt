@@ -7,7 +7,7 @@ ghost use Rattle.cmwq_model.specs.Prelude.{most_callers};
 ghost use Rattle.cmwq_chart.specs.Lanes.{most_lanes};
 ghost use Rattle.cmwq_chart.specs.Levels.{most_places};
 ghost use Rattle.cmwq_chart_text.specs.Bands.{band_top};
-ghost use Rattle.cmwq_chart_text.specs.Figures.{figures_of as all_figures, rows_of as all_rows};
+ghost use Rattle.cmwq_chart_text.specs.Figures.{figures_of as all_figures, drawn_rows};
 ghost use Rattle.cmwq_chart_text.specs.PictureText as spec;
 
 use crate::band_text::write_band;
@@ -114,7 +114,7 @@ impl Picture {
         requires callers { length shapes.now.callers.lanes.items ≤ most_callers }
         requires lanes { length shapes.now.lanes.items ≤ most_lanes }
         requires places { length shapes.now.places.items ≤ most_places }
-        ensures { IfOk result (λ picture. picture ≡ spec.drawing_of window entries (all_rows shapes.now.callers.lanes.items shapes.now.lanes.items shapes.now.places.items)
+        ensures { IfOk result (λ picture. picture ≡ spec.drawing_of window entries (drawn_rows shapes.now.callers.lanes.items shapes.now.lanes.items shapes.now.places.items)
             (all_figures shapes.now.callers.waits.items shapes.now.callers.signs.items shapes.now.bars.items shapes.now.sleeps.items shapes.now.signs.items shapes.now.levels.items)) }
     {
         let page = Page::new(window, entries);

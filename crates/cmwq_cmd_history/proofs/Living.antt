@@ -1,5 +1,5 @@
 -- What a live run keeps from line to line, and how it ends at each.
-use Rattle.cmwq_cmd_history.specs.Common.{◌≡◌, inl, inr, ◌+◌, ◌≤◌, ◌==◌, ℕ, Bool, true, false, List, [], ◌∷◌, ◌++◌, length, take, Result, Ok, Err, Option, Some, None, nat_le, refl, sym, ap, ◌∙◌, arith, subst, append_assoc, append-nil, if◌then◌else◌, reverse, IfSome, Appends, prepend_known, nat_tests, length-append, length-reverse, Appends-trans, AppendsFront, has_feed, Whole, Cut, Long, End, TakesLine, TakesKnownLine, Who, Call, Counts, QueueShape, Layout, layout_of, is_layout, Steps, steps, line_limit, head_text, last_text, Refusal, pieces, File, Stage, Kind, begin, opened, head, body, ended, is_long, without_items, after_line, after_cut, at_end, calls_kind, call_file_of, pieces_fed, pieces_some, whole_found, front_after, Progress, starts, line_grows, whole_goes}
+use Rattle.cmwq_cmd_history.specs.Common.{◌≡◌, inl, inr, ◌+◌, ◌≤◌, ◌==◌, ℕ, Bool, true, false, List, [], ◌∷◌, ◌++◌, length, take, Result, Ok, Err, Option, Some, None, nat_le, refl, sym, ap, ◌∙◌, arith, subst, append_assoc, append-nil, if◌then◌else◌, reverse, IfSome, Appends, prepend_known, nat_tests, length-append, length-reverse, Appends-trans, AppendsFront, has_feed, Whole, Cut, Long, End, TakesLine, TakesKnownLine, Who, Call, Counts, QueueShape, Layout, layout_of, is_layout, Steps, steps, line_limit, head_text, last_text, Refusal, pieces, File, Stage, Kind, begin, opened, head, body, ended, is_long, without_items, after_whole_line, after_cut, at_end, calls_kind, call_file_of, pieces_fed, pieces_some, whole_found, front_after, Progress, starts, line_grows, whole_goes}
 use Rattle.std.proofs.Math.Seq.{take-append-add}
 use Rattle.cmwq_io.specs.FirstLine.{first_line as line_of, after_line as rest_of, is_line_long as is_text_long}
 use Rattle.cmwq_base.specs.declared.refusal.Refusal.TheVariants as refusal
@@ -17,13 +17,13 @@ module _ {X : Type 0} (k : Kind X) where
   -- these lines lead from one stage to another
   abbrev pub Leads : ℕ → Stage X → List (List ℕ) → Stage X → Type 0
   Leads n stage [] last = stage ≡ last
-  Leads n stage (line ∷ lines) last = (next : Stage X) × (is_long line ≡ false) × (after_line k n stage line ≡ Ok next) × Leads (n + 1) next lines last
+  Leads n stage (line ∷ lines) last = (next : Stage X) × (is_long line ≡ false) × (after_whole_line k n stage line ≡ Ok next) × Leads (n + 1) next lines last
 
-  leads_further : (lines : List (List ℕ)) (n m : ℕ) (stage last next : Stage X) (line : List ℕ) → Leads n stage lines last → n + length lines ≡ m → is_long line ≡ false → after_line k m last line ≡ Ok next
+  leads_further : (lines : List (List ℕ)) (n m : ℕ) (stage last next : Stage X) (line : List ℕ) → Leads n stage lines last → n + length lines ≡ m → is_long line ≡ false → after_whole_line k m last line ≡ Ok next
       → Leads n stage (lines ++ line ∷ []) next
   leads_further [] n m stage last next line leads count short h =
       let here : n ≡ m = omega (arith, count) in
-      (next, short, ap (λ st. after_line k n st line) leads ∙ ap (λ j. after_line k j last line) here ∙ h, refl)
+      (next, short, ap (λ st. after_whole_line k n st line) leads ∙ ap (λ j. after_whole_line k j last line) here ∙ h, refl)
   leads_further (l ∷ lines) n m stage last next line leads count short h =
       (leads.0, leads.1, leads.2, leads_further lines (n + 1) m leads.0 last next line leads.3 (omega (arith, count)) short h)
 
@@ -76,7 +76,7 @@ module _ (text rest : List ℕ) (n : ℕ) (stage : Calls) (at : IsAt text rest n
       let pieces_are : pieces text ≡ at.lines ++ some.0 ∷ some.1 = at.split ∙ ap (λ ps. at.lines ++ ps) some.2 in
       ap (stage_reached calls_kind 1 begin) pieces_are ∙ leads_on calls_kind at.lines 1 n begin stage some.0 some.1 at.leads at.count ∙ ap (stage_reached calls_kind n stage) (sym some.2)
 
-  is_at_next : (new line : List ℕ) (next : Calls) → TakesLine rest new Whole line → after_line calls_kind n stage line ≡ Ok next → IsAt text new (n + 1) next
+  is_at_next : (new line : List ℕ) (next : Calls) → TakesLine rest new Whole line → after_whole_line calls_kind n stage line ≡ Ok next → IsAt text new (n + 1) next
   is_at_next new line next t h =
       let first = whole_piece rest new line t in
       let size = length-append at.lines (line ∷ []) in
@@ -121,14 +121,14 @@ lives text ahead a none = record {
 }
 
 module _ (old now : Option (List ℕ)) (n : ℕ) (stage : Calls) (a b : Option (List ℕ)) (living : Living old now n stage a b) where
-  known_next : (o w after : Option (List ℕ)) (line : List ℕ) (next : Calls) → IsKnownAt o w n stage → TakesKnownLine w after Whole line → after_line calls_kind n stage line ≡ Ok next → IsKnownAt o after (n + 1) next
+  known_next : (o w after : Option (List ℕ)) (line : List ℕ) (next : Calls) → IsKnownAt o w n stage → TakesKnownLine w after Whole line → after_whole_line calls_kind n stage line ≡ Ok next → IsKnownAt o after (n + 1) next
   known_next None w after line next at t h = tt
   known_next (Some text) None after line next at t h = absurd at
   known_next (Some text) (Some r) None line next at t h = absurd t
   known_next (Some text) (Some r) (Some s) line next at t h = is_at_next text r n stage at s line next t h
 
   -- a line whose call had room, or that has none
-  pub lives_on : (after : Option (List ℕ)) (line : List ℕ) (next : Calls) (c : Option (List ℕ)) → TakesKnownLine now after Whole line → after_line calls_kind n stage line ≡ Ok next → left_out_by next ≡ 0 → Appends b c (new_of next)
+  pub lives_on : (after : Option (List ℕ)) (line : List ℕ) (next : Calls) (c : Option (List ℕ)) → TakesKnownLine now after Whole line → after_whole_line calls_kind n stage line ≡ Ok next → left_out_by next ≡ 0 → Appends b c (new_of next)
       → Living old after (n + 1) next a c
   lives_on after line next c t h room new =
       let grows = line_grows calls_kind n stage next line h in
@@ -173,16 +173,16 @@ module _ (old now : Option (List ℕ)) (n : ℕ) (stage : Calls) (a b : Option (
   refused r (refusal.BadShape m) (Some text) so stays refuses fails = (fails, subst (λ st. Appends a b (live_text st)) (sym (stays refuses)) living.written)
   refused r (refusal.NoSuchId m) (Some text) so stays refuses fails = (fails, subst (λ st. Appends a b (live_text st)) (sym (stays refuses)) living.written)
 
-  stays_at : (e : Refusal) (o w after : Option (List ℕ)) (line : List ℕ) → IsKnownAt o w n stage → TakesKnownLine w after Whole line → IfSome o (λ text. after_line calls_kind n stage line ≡ Err e → last_stage text ≡ stage)
+  stays_at : (e : Refusal) (o w after : Option (List ℕ)) (line : List ℕ) → IsKnownAt o w n stage → TakesKnownLine w after Whole line → IfSome o (λ text. after_whole_line calls_kind n stage line ≡ Err e → last_stage text ≡ stage)
   stays_at e None w after line at t = tt
   stays_at e (Some text) None after line at t = absurd at
   stays_at e (Some text) (Some r) None line at t = absurd t
   stays_at e (Some text) (Some r) (Some s) line at t = λ h. is_last text r n stage at ∙ reached_stays calls_kind n stage r s line e t h
 
   -- at a line that is refused
-  pub ends_refused : (after : Option (List ℕ)) (line : List ℕ) (e : Refusal) → TakesKnownLine now after Whole line → Refuses e (after_line calls_kind n stage line) → IfSome old (λ text. Fails e (call_file_of text))
+  pub ends_refused : (after : Option (List ℕ)) (line : List ℕ) (e : Refusal) → TakesKnownLine now after Whole line → Refuses e (after_whole_line calls_kind n stage line) → IfSome old (λ text. Fails e (call_file_of text))
       → IfSome old (λ text. LiveEnds text a b (Err e))
-  ends_refused after line e t refuses fails = refused (after_line calls_kind n stage line) e old so_far (stays_at e old now after line living.known t) refuses fails
+  ends_refused after line e t refuses fails = refused (after_whole_line calls_kind n stage line) e old so_far (stays_at e old now after line living.known t) refuses fails
 
   over_long : (o w after : Option (List ℕ)) (line : List ℕ) → IsKnownAt o w n stage → TakesKnownLine w after Long line → IfSome o (λ text. stopped refusal.TooLong ≡ Err refusal.TooLong → last_stage text ≡ stage)
   over_long None w after line at t = tt
@@ -240,7 +240,7 @@ module _ (old now : Option (List ℕ)) (n : ℕ) (stage : Calls) (a b : Option (
       let there : stage_after (m + 1) text ≡ next = is_after text s (n + 1) next then_at (m + 1) (omega (arith, number)) in
       (m, number, record { before = ap left_out_by here ∙ living.room; behind = ap left_out_by there ∙ full }, subst (λ st. Appends a b (live_text st)) (sym here) living.written)
 
-  pub ends_full : (after : Option (List ℕ)) (line : List ℕ) (next : Calls) → TakesKnownLine now after Whole line → after_line calls_kind n stage line ≡ Ok next → 1 ≤ left_out_by next → IfSome old (λ text. LiveEnds text a b (Ok (Some n)))
+  pub ends_full : (after : Option (List ℕ)) (line : List ℕ) (next : Calls) → TakesKnownLine now after Whole line → after_whole_line calls_kind n stage line ≡ Ok next → 1 ≤ left_out_by next → IfSome old (λ text. LiveEnds text a b (Ok (Some n)))
   ends_full after line next t h some =
       let wrote = line_wrote n stage next line living.begun h in
       first_full old now after line next living.known (known_next old now after line next living.known t h) (omega (arith, some, living.room, wrote.left_out))
@@ -253,7 +253,7 @@ module _ (old now : Option (List ℕ)) (n : ℕ) (stage : Calls) (a b : Option (
       let m : ℕ = length at.lines in
       inl (m, subst (λ st. AppendsFront a c (live_text st)) (sym (is_after text s (n + 1) next at m (omega (arith, at.count)))) front)
 
-  pub ends_written_in_part : (after : Option (List ℕ)) (line : List ℕ) (next : Calls) (c : Option (List ℕ)) → TakesKnownLine now after Whole line → after_line calls_kind n stage line ≡ Ok next → AppendsFront b c (new_of next)
+  pub ends_written_in_part : (after : Option (List ℕ)) (line : List ℕ) (next : Calls) (c : Option (List ℕ)) → TakesKnownLine now after Whole line → after_whole_line calls_kind n stage line ≡ Ok next → AppendsFront b c (new_of next)
       → IfSome old (λ text. LiveEnds text a c (Err refusal.WriteFault))
   ends_written_in_part after line next c t h front =
       let wrote = line_wrote n stage next line living.begun h in

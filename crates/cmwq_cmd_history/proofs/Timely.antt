@@ -1,5 +1,5 @@
 -- A history that is read has time for each entry that is right.
-use Rattle.cmwq_cmd_history.specs.Common.{◌≡◌, ◌+◌, ◌*◌, ◌^◌, ◌<◌, ◌≤◌, ◌∙◌, ℕ, Bool, true, false, List, [], ◌∷◌, ◌++◌, length, length-append, Some, None, nat_le, refl, ap, subst, arith, if◌then◌else◌, le-leb, reverse-append, same_Some, Call, Entry, Layout, now, ticks_told, answer, past_of, entry_for, has_time, most_time, entry_of, allows_entry, is_timely, entry_of_format, old_lines, most_lines, by_age, history_kind}
+use Rattle.cmwq_cmd_history.specs.Common.{◌≡◌, ◌+◌, ◌*◌, ◌^◌, ◌<◌, ◌≤◌, ◌∙◌, ℕ, Bool, true, false, List, [], ◌∷◌, ◌++◌, length, length-append, Some, None, nat_le, refl, ap, subst, arith, if◌then◌else◌, le-leb, reverse-append, same_Some, Call, Entry, Layout, now, ticks_told, answer, past_of, entry_for, has_time, most_time, entry_of, allows_entry, is_timely, entry_of_format, old_lines, most_lines, of_version, history_kind}
 use Rattle.cmwq_model.specs.declared.reply.Reply.{Reply}
 use Rattle.cmwq_model.specs.declared.call.Call.TheVariants as call
 use Rattle.cmwq_model.specs.declared.reply.Reply.TheVariants as reply
@@ -29,7 +29,7 @@ timely false older r n before ticks allowed few is soon short = le-leb (before +
 -- so there is time for an entry that a line says where its call gets that entry
 pub time_for_right : (s : Layout) (entries : List Entry) (x : Entry) → now (past_of entries) ≤ length entries * 2 ^ 32 → ticks_told x.call < 2 ^ 32
     → IsNextLine history_kind (length entries) x → x ≡ entry_for s (past_of entries) x.who x.call → has_time (past_of entries) x.call ≡ true
-unfolding answer by_age
+unfolding answer of_version
 time_for_right s entries x soon few next right = of x.call refl
   where
     of : (c : Call) → x.call ≡ c → has_time (past_of entries) c ≡ true

@@ -11,8 +11,8 @@ pub use Rattle.std.specs.Prelude.{IfSome, MatchBool, fold, if◌then◌else◌, 
 pub use Rattle.cmwq_base.proofs.Fronts.{front_after, front_at, front_before, front_whole}
 pub use Rattle.cmwq_base.proofs.Progress.{Progress, cut_fails, cut_no_fault, end_gives, found_so, line_grows, long_fails, starts, too_many, whole_fails, whole_goes}
 pub use Rattle.cmwq_base.proofs.Texts.{cut_found, end_found, long_found, pieces_fed, pieces_last, pieces_some, whole_found}
-pub use Rattle.cmwq_base.specs.Files.{File, Kind, Stage, begin, begun, body, ended, first_item, head, is_long, opened, queue_line, shape_made, with_item, with_queue, without_items}
-unfoldable pub use Rattle.cmwq_base.specs.Files.{after_cut, after_head, after_line, at_end, body_line, item_line}
+pub use Rattle.cmwq_base.specs.Files.{File, Kind, Stage, begin, after_shape_line, body, ended, first_body_line, head, is_long, opened, queue_line, shape_made, with_body_item, with_queue, without_items}
+unfoldable pub use Rattle.cmwq_base.specs.Files.{after_cut, after_head, after_whole_line, at_end, body_line, item_line}
 pub use Rattle.cmwq_base.specs.Kinds.{call_file_of, calls_kind, front_file_of, history_file_of, history_kind}
 pub use Rattle.cmwq_base.specs.Pieces.{pieces}
 pub use Rattle.cmwq_base.specs.Stages.{contents_of, stage_of}
@@ -33,5 +33,5 @@ pub use Rattle.cmwq_model.specs.declared.shape.QueueShape.{QueueShape}
 pub use Rattle.cmwq_model.specs.declared.verdict.Illegal.{Illegal}
 pub use Rattle.cmwq_text.specs.EntryText.{entry_of, entry_text}
 pub use Rattle.cmwq_text.specs.Formats.{allows_entry, calls_name, counts_of_format, is_timely, line_limit, most_lines, old_lines}
-unfoldable pub use Rattle.cmwq_text.specs.Formats.{by_age, entry_of_format}
+unfoldable pub use Rattle.cmwq_text.specs.Formats.{of_version, entry_of_format}
 pub use Rattle.cmwq_text.specs.HistoryText.{body_text, entries_text, head_text, last_text, text_of_format}

@@ -1,6 +1,6 @@
 -- What a live run of `step` reads, writes and answers: each call is answered before the next line is read.
 use Rattle.std.specs.Prelude.{◌≡◌, ◌⊎◌, ◌+◌, ◌≤◌, ◌==◌, if◌then◌else◌, ◌∷◌, ◌++◌}
-use Rattle.cmwq_cmd_history.specs.Common.{ℕ, List, [], length, take, fold, reverse, Result, Ok, Err, Option, None, Some, Appends, AppendsFront, Who, Call, Entry, Layout, entry_for, past_of, Steps, step, steps, none, has_room, History, past_in, entry_text, head_text, body_text, last_text, Refusal, pieces, Kind, Stage, begin, opened, head, body, ended, is_long, after_line, calls_kind, call_file_of}
+use Rattle.cmwq_cmd_history.specs.Common.{ℕ, List, [], length, take, fold, reverse, Result, Ok, Err, Option, None, Some, Appends, AppendsFront, Who, Call, Entry, Layout, entry_for, past_of, Steps, step, steps, none, has_room, History, past_in, entry_text, head_text, body_text, last_text, Refusal, pieces, Kind, Stage, begin, opened, head, body, ended, is_long, after_whole_line, calls_kind, call_file_of}
 use Rattle.cmwq_base.specs.declared.refusal.Refusal.TheVariants as refusal
 use Rattle.cmwq_cmd_history.specs.Ends.{written_version, refusal_status}
 use Rattle.cmwq_cmd_history.specs.Step.{StepEnds}
@@ -14,7 +14,7 @@ or_stay stage f (Err e) = stage
 unfoldable pub stage_reached : {X : Type 0} → Kind X → ℕ → Stage X → List (List ℕ) → Stage X
 stage_reached k n stage [] = stage
 stage_reached k n stage (last ∷ []) = stage
-stage_reached k n stage (line ∷ more ∷ rest) = if is_long line then stage else or_stay stage (λ next. stage_reached k (n + 1) next (more ∷ rest)) (after_line k n stage line)
+stage_reached k n stage (line ∷ more ∷ rest) = if is_long line then stage else or_stay stage (λ next. stage_reached k (n + 1) next (more ∷ rest)) (after_whole_line k n stage line)
 
 -- that of the first m lines, and of all
 abbrev pub stage_after : ℕ → List ℕ → Stage (Who × Call)

@@ -1,5 +1,5 @@
 -- What `step` and `upgrade` write is read again, and is legal: so `check` finds nothing wrong in it.
-use Rattle.cmwq_cmd_history_laws.specs.Common.{◌≡◌, ◌⊎◌, inl, inr, ◌≤◌, ◌==◌, Bool, true, false, ℕ, List, Result, Ok, Err, None, Some, length, refl, sym, ◌∙◌, subst, arith, get_or, reverse, IsTrue, All, AllByRecursion, eqb-true, le-leb, reverse-reverse, length-reverse, All-from_recursion, recursion_from_All, Who, Call, Entry, Illegal, Layout, most_queues, most_room, fits, IsWho, IsCall, greatest, IsLegal, past_of, now, most_time, Refusal, File, calls_kind, history_file_of, greatest_number, by_age, old_lines, old_queues, old_room, counts_in, most_lines, line_limit, queue_limit, room_limit, number_limit, allows_queue, allows_entry, text_of_format, IsVerdict, written_version, steps_in, answer_text}
+use Rattle.cmwq_cmd_history_laws.specs.Common.{◌≡◌, ◌⊎◌, inl, inr, ◌≤◌, ◌==◌, Bool, true, false, ℕ, List, Result, Ok, Err, None, Some, length, refl, sym, ◌∙◌, subst, arith, get_or, reverse, IsTrue, All, AllByRecursion, eqb-true, le-leb, reverse-reverse, length-reverse, All-from_recursion, recursion_from_All, Who, Call, Entry, Illegal, Layout, most_queues, most_room, fits, IsWho, IsCall, greatest, IsLegal, past_of, now, most_time, Refusal, File, calls_kind, history_file_of, greatest_number, of_version, old_lines, old_queues, old_room, counts_in, most_lines, line_limit, queue_limit, room_limit, number_limit, allows_queue, allows_entry, text_of_format, IsVerdict, written_version, steps_in, answer_text}
 use Rattle.std.proofs.lemmas.Bool.Decides.{nat_tests}
 use Rattle.cmwq_model.specs.declared.shape.QueueShape.{QueueShape}
 use Rattle.cmwq_theory_laws.proofs.FirstWrong.{wrong_are_illegal}
@@ -66,7 +66,7 @@ module _ (f : File (Who × Call)) (read : IsReadOf calls_kind IsCallInside f) wh
       let most : line_limit f.version ≡ old_lines = oldest_has old_lines most_lines f.version is in
       let room : f.layout.room ≤ room_limit 2 = subst (λ n. f.layout.room ≤ n) (oldest_has old_room most_room f.version is ∙ sym (older_has old_room most_room 2 (omega arith))) read.sound.room in
       let numbers = later_allows f.version 2 (counts_in f.layout) (omega (arith, is)) read.sound.numbers in
-      let more : by_age old_queues most_queues f.version ≤ by_age old_queues most_queues 2 = none_falls old_queues most_queues f.version 2 (omega arith) (omega (arith, is)) in
+      let more : of_version old_queues most_queues f.version ≤ of_version old_queues most_queues 2 = none_falls old_queues most_queues f.version 2 (omega arith) (omega (arith, is)) in
       let queues : length f.layout.queues ≤ queue_limit 2 = omega (arith, more, read.sound.queues) in
       let few : length made ≤ old_lines = omega (arith, made_few, read.sound.few, most) in
       let within : length made ≤ line_limit 2 = subst (λ n. length made ≤ n) (sym (older_has old_lines most_lines 2 (omega arith))) few in
@@ -111,11 +111,11 @@ upgrade_is_checked text f h legal =
     let v : ℕ = written_version f.version in
     let later : f.version ≤ v = omega arith in
     let high : v ≤ 3 = omega (arith, read.version.1) in
-    let rooms : by_age old_room most_room f.version ≤ by_age old_room most_room v = none_falls old_room most_room f.version v (omega arith) later in
-    let lines : by_age old_lines most_lines f.version ≤ by_age old_lines most_lines v = none_falls old_lines most_lines f.version v (omega arith) later in
+    let rooms : of_version old_room most_room f.version ≤ of_version old_room most_room v = none_falls old_room most_room f.version v (omega arith) later in
+    let lines : of_version old_lines most_lines f.version ≤ of_version old_lines most_lines v = none_falls old_lines most_lines f.version v (omega arith) later in
     let room : f.layout.room ≤ room_limit v = omega (arith, rooms, read.sound.room) in
     let numbers = later_allows f.version v (counts_in f.layout) later read.sound.numbers in
-    let more : by_age old_queues most_queues f.version ≤ by_age old_queues most_queues v = none_falls old_queues most_queues f.version v (omega arith) later in
+    let more : of_version old_queues most_queues f.version ≤ of_version old_queues most_queues v = none_falls old_queues most_queues f.version v (omega arith) later in
     let queues : length f.layout.queues ≤ queue_limit v = omega (arith, more, read.sound.queues) in
     let few : length f.items ≤ line_limit v = omega (arith, lines, read.sound.few) in
     let out : File Entry = record { version = v; layout = f.layout; items = f.items } in

@@ -17,6 +17,6 @@ pub use Rattle.cmwq_model.specs.declared.call.Call.{Call}
 pub use Rattle.cmwq_model.specs.declared.entry.Entry.{Entry}
 pub use Rattle.cmwq_model.specs.declared.id.Who.{Who}
 pub use Rattle.cmwq_model.specs.declared.verdict.Illegal.{Illegal}
-pub use Rattle.cmwq_text.specs.Formats.{allows_entry, allows_numbers, allows_queue, are_old_counts, by_age, is_timely, line_limit, most_lines, number_limit, old_lines, old_queues, old_room, queue_limit, room_limit}
+pub use Rattle.cmwq_text.specs.Formats.{allows_entry, allows_numbers, allows_queue, are_old_counts, of_version, is_timely, line_limit, most_lines, number_limit, old_lines, old_queues, old_room, queue_limit, room_limit}
 pub use Rattle.cmwq_text.specs.HistoryText.{counts_in, text_of_format}
 pub use Rattle.cmwq_text.specs.Numbers.{greatest_number}

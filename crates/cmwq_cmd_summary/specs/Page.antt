@@ -16,8 +16,8 @@ use Rattle.cmwq_cmd_summary.specs.declared.table.Table.TheVariants as table
 use Rattle.cmwq_cmd_summary.specs.declared.table.TheConstants.{TABLES}
 
 -- a name and a number behind it
-abbrev pub figure_text : List ℕ → ℕ → List ℕ
-figure_text name n = name ++ decimal n
+abbrev pub named_number : List ℕ → ℕ → List ℕ
+named_number name n = name ++ decimal n
 
 abbrev pub line_end : List ℕ
 line_end = 10 ∷ []
@@ -25,15 +25,15 @@ line_end = 10 ∷ []
 -- ---- a row of each table
 
 abbrev pub call_row : ℕ → ℕ → List ℕ
-call_row k n = if n == 0 then [] else codes "call " ++ call_name k ++ figure_text (codes ": ") n ++ line_end
+call_row k n = if n == 0 then [] else codes "call " ++ call_name k ++ named_number (codes ": ") n ++ line_end
 
 abbrev pub reply_row : ℕ → ℕ → List ℕ
-reply_row k n = if n == 0 then [] else codes "reply " ++ reply_name k ++ figure_text (codes ": ") n ++ line_end
+reply_row k n = if n == 0 then [] else codes "reply " ++ reply_name k ++ named_number (codes ": ") n ++ line_end
 
 abbrev pub item_row : ℕ → ℕ → ℕ → List ℕ
 item_row i runs cancels =
     if (runs == 0) && (cancels == 0) then []
-    else figure_text (codes "item ") i ++ figure_text (codes ": runs ") runs ++ figure_text (codes ", cancels ") cancels ++ line_end
+    else named_number (codes "item ") i ++ named_number (codes ": runs ") runs ++ named_number (codes ", cancels ") cancels ++ line_end
 
 -- a worker's name, as in a history
 abbrev pub letter_of_pool : Bool → List ℕ
@@ -43,36 +43,36 @@ abbrev pub worker_of_row : ℕ → WorkerId
 worker_of_row w = record { pool = record { cpu = record { 0 = w / (2 * most_workers) }; high = w / most_workers % 2 == 1 }; index = w % most_workers }
 
 abbrev pub worker_name : WorkerId → List ℕ
-worker_name w = figure_text (codes "w") w.pool.cpu.0 ++ figure_text (letter_of_pool w.pool.high) w.index
+worker_name w = named_number (codes "w") w.pool.cpu.0 ++ named_number (letter_of_pool w.pool.high) w.index
 
 -- how long something went on
 abbrev pub span_text : List ℕ → ℕ → ℕ → List ℕ
-span_text name entries ticks = figure_text name entries ++ figure_text (codes " entries and ") ticks ++ codes " ticks"
+span_text name entries ticks = named_number name entries ++ named_number (codes " entries and ") ticks ++ codes " ticks"
 
 abbrev pub worker_row : List Entry → WorkerId → ℕ → List ℕ
 worker_row past w runs =
     if runs == 0 then []
-    else codes "worker " ++ worker_name w ++ figure_text (codes ": runs ") runs ++ span_text (codes ", awake ") (awake_entries past w) (awake_ticks past w)
+    else codes "worker " ++ worker_name w ++ named_number (codes ": runs ") runs ++ span_text (codes ", awake ") (awake_entries past w) (awake_ticks past w)
     ++ span_text (codes ", asleep ") (asleep_entries past w) (asleep_ticks past w) ++ line_end
 
 abbrev pub place_name : ℕ → List ℕ
-place_name p = figure_text (codes "queue ") (p / most_cpus) ++ figure_text (codes " on CPU ") (p % most_cpus)
+place_name p = named_number (codes "queue ") (p / most_cpus) ++ named_number (codes " on CPU ") (p % most_cpus)
 
 -- how long so many things waited, or a dash where there are none
-abbrev pub wait_text : List ℕ → ℕ → ℕ → ℕ → List ℕ
-wait_text name many entries ticks = if many == 0 then name ++ codes "-" else span_text name entries ticks
+abbrev pub waited_text : List ℕ → ℕ → ℕ → ℕ → List ℕ
+waited_text name many entries ticks = if many == 0 then name ++ codes "-" else span_text name entries ticks
 
 abbrev pub longest_text : ℕ → ℕ → ℕ → List ℕ
-longest_text many entries ticks = wait_text (codes ", longest wait ") many entries ticks
+longest_text many entries ticks = waited_text (codes ", longest wait ") many entries ticks
 
 -- the mean is rounded down
 abbrev pub mean_text : ℕ → ℕ → ℕ → List ℕ
-mean_text many entries ticks = wait_text (codes ", mean wait ") many (entries / many) (ticks / many)
+mean_text many entries ticks = waited_text (codes ", mean wait ") many (entries / many) (ticks / many)
 
 abbrev pub caller_row : List Entry → ℕ → List ℕ
 caller_row past c =
     if calls_by past c == 0 then []
-    else figure_text (codes "caller c") c ++ figure_text (codes ": calls ") (calls_by past c) ++ figure_text (codes ", tickets ") (tickets_by past c)
+    else named_number (codes "caller c") c ++ named_number (codes ": calls ") (calls_by past c) ++ named_number (codes ", tickets ") (tickets_by past c)
     ++ longest_text (tickets_by past c) (longest_wait_entries past c) (longest_wait_ticks past c) ++ line_end
 
 -- how long so many starts waited: the longest wait, and the mean of all of them together
@@ -81,14 +81,14 @@ starts_text many entries ticks all_entries all_ticks = longest_text many entries
 
 -- how many queueings and starts there are, and how many cancelled ones, and the width
 abbrev pub opened_text : ℕ → ℕ → List ℕ
-opened_text queueings starts = figure_text (codes ": queueings ") queueings ++ figure_text (codes ", starts ") starts
+opened_text queueings starts = named_number (codes ": queueings ") queueings ++ named_number (codes ", starts ") starts
 
 abbrev pub bounds_text : ℕ → ℕ → List ℕ
-bounds_text cancels wide = figure_text (codes ", cancelled ") cancels ++ figure_text (codes ", width ") wide
+bounds_text cancels wide = named_number (codes ", cancelled ") cancels ++ named_number (codes ", width ") wide
 
 -- how many were open and active at once, at most
 abbrev pub peaks_text : ℕ → ℕ → List ℕ
-peaks_text most_open most_active = figure_text (codes ", most open ") most_open ++ figure_text (codes ", most active ") most_active
+peaks_text most_open most_active = named_number (codes ", most open ") most_open ++ named_number (codes ", most active ") most_active
 
 abbrev pub place_figures : Layout → List Entry → ℕ → List ℕ
 place_figures s past p =
@@ -111,13 +111,13 @@ row_text s past table.Callers c = caller_row past c
 
 -- ---- the tables
 
-abbrev pub rows_in : Layout → Table → ℕ
-rows_in s table.Calls = call_kinds
-rows_in s table.Replies = reply_kinds
-rows_in s table.Places = most_cpus * length s.queues
-rows_in s table.Workers = 2 * most_workers * s.cpus
-rows_in s table.Items = s.items
-rows_in s table.Callers = s.callers
+abbrev pub row_count : Layout → Table → ℕ
+row_count s table.Calls = call_kinds
+row_count s table.Replies = reply_kinds
+row_count s table.Places = most_cpus * length s.queues
+row_count s table.Workers = 2 * most_workers * s.cpus
+row_count s table.Items = s.items
+row_count s table.Callers = s.callers
 
 -- the rows of the numbers below this one, in their order
 unfoldable pub rows_text : (ℕ → List ℕ) → ℕ → List ℕ
@@ -125,12 +125,12 @@ rows_text row zero = []
 rows_text row (suc n) = rows_text row n ++ row n
 
 abbrev pub rows_of_table : Layout → List Entry → Table → List ℕ
-rows_of_table s past t = rows_text (row_text s past t) (rows_in s t)
+rows_of_table s past t = rows_text (row_text s past t) (row_count s t)
 
 -- ---- the page
 
 abbrev pub line_of_entries : ℕ → ℕ → List ℕ
-line_of_entries entries ticks = figure_text (codes "entries ") entries ++ figure_text (codes ", ticks ") ticks ++ line_end
+line_of_entries entries ticks = named_number (codes "entries ") entries ++ named_number (codes ", ticks ") ticks ++ line_end
 
 abbrev pub page_text : Layout → List Entry → List ℕ
 page_text s past = line_of_entries (length past) (now past) ++ flat_map (rows_of_table s past) TABLES

@@ -1,6 +1,6 @@
 //! Rows that are spelled, in a buffer of their own.
 ghost use Rattle.std.specs.Prelude.{◌≡◌, ◌+◌, ◌≤◌, [], ◌++◌, length};
-ghost use Rattle.cmwq_cmd_summary.specs.Page.{figure_text};
+ghost use Rattle.cmwq_cmd_summary.specs.Page.{named_number};
 
 use arrayvec::ArrayString;
 use itoa::Buffer;
@@ -49,7 +49,7 @@ impl Row {
     /// Spells a name and a number behind it.
     pub(crate) fn push_figure(&mut self, name: &str, number: u64)
         requires { length self.old + (length name.now + 20) ≤ 512 }
-        ensures exact { self.new ≡ self.old ++ figure_text name.now number }
+        ensures exact { self.new ≡ self.old ++ named_number name.now number }
         ensures short { length self.new ≤ length self.old + (length name.now + 20) }
     {
         self.push(name);
@@ -59,7 +59,7 @@ impl Row {
     /// Spells a name and a sum behind it.
     pub(crate) fn push_sum(&mut self, name: &str, sum: u128)
         requires { length self.old + (length name.now + 40) ≤ 512 }
-        ensures exact { self.new ≡ self.old ++ figure_text name.now sum }
+        ensures exact { self.new ≡ self.old ++ named_number name.now sum }
         ensures short { length self.new ≤ length self.old + (length name.now + 40) }
     {
         self.push(name);

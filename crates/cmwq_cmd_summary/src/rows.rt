@@ -3,7 +3,7 @@ ghost use Rattle.std.specs.Prelude.{◌≡◌, ◌+◌, ◌*◌, ◌/◌, ◌<�
 ghost use Rattle.cmwq_model.specs.Prelude.{width, most_cpus, most_workers};
 ghost use Rattle.cmwq_summary.specs.Kinds.{call_kinds, reply_kinds};
 ghost use Rattle.cmwq_core.specs.History.{past_in};
-ghost use Rattle.cmwq_cmd_summary.specs.Page.{call_row, reply_row, item_row, caller_row, longest_text, mean_text, starts_text, opened_text, bounds_text, peaks_text, place_figures, place_waits, span_text, worker_of_row, worker_name, worker_row, place_name, row_text, rows_in};
+ghost use Rattle.cmwq_cmd_summary.specs.Page.{call_row, reply_row, item_row, caller_row, longest_text, mean_text, starts_text, opened_text, bounds_text, peaks_text, place_figures, place_waits, span_text, worker_of_row, worker_name, worker_row, place_name, row_text, row_count};
 ghost use Rattle.cmwq_cmd_summary.specs.declared.table.Table.TheVariants as TheTable;
 
 use crate::name::{call_name, reply_name};
@@ -22,7 +22,7 @@ const OF_POOL: usize = MOST_WORKERS as usize;
 
 /// How many rows a table has.
 pub(crate) fn rows_in(progress: &Progress, table: Table) -> usize
-    ensures { result ≡ rows_in progress.now.layout table }
+    ensures { result ≡ row_count progress.now.layout table }
 {
     let shape = progress.summary().shape();
     let counts = shape.counts();
@@ -38,7 +38,7 @@ pub(crate) fn rows_in(progress: &Progress, table: Table) -> usize
 
 /// The row of a table with this number, from 0.
 pub(crate) fn row(progress: &Progress, table: Table, at: usize) -> Row
-    requires { at < rows_in progress.now.layout table }
+    requires { at < row_count progress.now.layout table }
     ensures { result ≡ row_text progress.now.layout (past_in progress.now) table at }
 {
     let summary = progress.summary();

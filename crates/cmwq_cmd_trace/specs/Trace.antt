@@ -12,19 +12,19 @@ use Rattle.cmwq_chart.specs.Bars.{bars_of}
 use Rattle.cmwq_chart.specs.CallerWaits.{callers_of, caller_waits_of}
 use Rattle.cmwq_chart.specs.Lanes.{lanes_of}
 use Rattle.cmwq_chart.specs.Levels.{levels_of}
-use Rattle.cmwq_chart.specs.Shapes.{callers_in, places_in}
+use Rattle.cmwq_chart.specs.Shapes.{caller_lanes_in, places_in}
 use Rattle.cmwq_chart.specs.Sleeps.{sleeps_of}
 use Rattle.cmwq_trace.specs.TraceText.{trace_text}
 
 -- the trace of a history
-unfoldable pub traced : Layout → List Entry → List ℕ
-traced s entries =
-    trace_text s (length entries) (callers_in s entries) (caller_waits_of (past_of entries) (callers_of s entries))
+unfoldable pub trace_bytes : Layout → List Entry → List ℕ
+trace_bytes s entries =
+    trace_text s (length entries) (caller_lanes_in s entries) (caller_waits_of (past_of entries) (callers_of s entries))
     (lanes_of s entries) (bars_of (past_of entries)) (sleeps_of (past_of entries) (lanes_of s entries)) (levels_of s (past_of entries) (places_in s entries))
 
 -- of a legal history its trace, of another nothing
 abbrev pub traced_text : File Entry → Option Illegal → List ℕ
-traced_text f None = traced f.layout f.items
+traced_text f None = trace_bytes f.layout f.items
 traced_text f (Some i) = []
 
 -- `trace` answers the verdict as `check` does, and writes that

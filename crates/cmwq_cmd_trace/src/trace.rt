@@ -9,7 +9,7 @@ ghost use Rattle.cmwq_model.specs.Prelude.{IsLegal, past_of};
 ghost use Rattle.cmwq_base.specs.declared.refusal.Refusal.{Refusal as TheRefusal};
 ghost use Rattle.cmwq_cmd_history.specs.Check.{check_status};
 ghost use Rattle.cmwq_cmd_history.specs.Upgrade.{IsFlushed};
-ghost use Rattle.cmwq_cmd_trace.specs.Trace.{TraceEnds, traced};
+ghost use Rattle.cmwq_cmd_trace.specs.Trace.{TraceEnds, trace_bytes};
 
 use cmwq_base::{
     Entry, Illegal, Refusal, Shape, Sink, Source, flush_all, read_history, tell, write_all,
@@ -23,11 +23,11 @@ use std::alloc::Global;
 const MOST_KEPT: usize = 1_073_741_824;
 
 /// The text of the trace of a legal history.
-#[tactic(auto, unfolding(crate::specs::Trace::traced))]
+#[tactic(auto, unfolding(crate::specs::Trace::trace_bytes))]
 fn text_of(alloc: Global, shape: &Shape, entries: &[Entry]) -> Result<String, Refusal>
     requires few { length entries.now ≤ 1073741824 }
     requires legal { IsLegal shape.now (past_of entries.now) }
-    ensures text { IfOk result (λ text. string_bytes text ≡ traced shape.now entries.now) }
+    ensures text { IfOk result (λ text. string_bytes text ≡ trace_bytes shape.now entries.now) }
     ensures only { IfErr result (λ e. e ≡ Refusal.NoMemory) }
 {
     let shapes = shapes_of(alloc, shape, entries)?;

@@ -11,9 +11,9 @@ abbrev pub is_copied : {S : Type 0} → Kept S → Bool
 is_copied k = k.is_whole
 
 -- what is kept
-abbrev pub copied : {S : Type 0} → Kept S → List ℕ
-copied k = k.bytes.items
+abbrev pub bytes_copied : {S : Type 0} → Kept S → List ℕ
+bytes_copied k = k.bytes.items
 
 -- where all is kept behind a read that gave these bytes, all was kept before it, and these are kept behind that
 abbrev pub KeepsToo : {S : Type 0} → Kept S → Kept S → List ℕ → Type 0
-KeepsToo old new bytes = is_copied new ≡ true → (is_copied old ≡ true) × (copied new ≡ copied old ++ bytes)
+KeepsToo old new bytes = is_copied new ≡ true → (is_copied old ≡ true) × (bytes_copied new ≡ bytes_copied old ++ bytes)

@@ -5,7 +5,7 @@ ghost use Rattle.std.specs.Io.{ReadsAtMost};
 ghost use Rattle.std.specs.Io.KnownBytes.{ReadConsumes};
 ghost use Rattle.cmwq_io.specs.Counts.{CountsTrouble};
 ghost use Rattle.cmwq_io.specs.Outcomes.{outcome_of};
-ghost use Rattle.cmwq_explain.specs.Copies.{KeepsToo, copied, is_copied, kept_inner};
+ghost use Rattle.cmwq_explain.specs.Copies.{KeepsToo, bytes_copied, is_copied, kept_inner};
 
 use cmwq_io::{Source, Trouble};
 use std::alloc::Global;
@@ -24,13 +24,13 @@ pub struct Kept<S> {
 
 impl<S> Kept<S> {
     ghost use Rattle.std.specs.Prelude.{Some, None, if◌then◌else◌, option_map};
-    ghost use Rattle.cmwq_explain.specs.Copies.{KeepsToo, copied, is_copied, kept_inner};
+    ghost use Rattle.cmwq_explain.specs.Copies.{KeepsToo, bytes_copied, is_copied, kept_inner};
 
     /// Nothing has been read yet.
     pub fn new(alloc: Global, inner: S) -> Kept<S>
         ensures inner { kept_inner result ≡ inner }
         ensures whole { is_copied result ≡ true }
-        ensures nothing { copied result ≡ [] }
+        ensures nothing { bytes_copied result ≡ [] }
     {
         Kept {
             inner,
@@ -53,7 +53,7 @@ impl<S> Kept<S> {
 
     /// All bytes that were read through it. None: some of them are not kept.
     pub fn bytes(&self) -> Option<&[u8]>
-        ensures { option_map (λ bytes. bytes.now) result ≡ (if is_copied self.now then Some (copied self.now) else None) }
+        ensures { option_map (λ bytes. bytes.now) result ≡ (if is_copied self.now then Some (bytes_copied self.now) else None) }
     {
         if self.is_whole {
             Some(self.bytes.as_slice())
@@ -91,7 +91,7 @@ impl<S: Source> Source for Kept<S> {
         ensures count { CountsTrouble (S.troubles self.old.inner) (S.troubles self.new.inner) result }
         ensures outcome { S.outcomes self.new.inner ≡ S.outcomes self.old.inner ++ outcome_of result ∷ [] }
         ensures kept { IfOk result (λ n. KeepsToo self.old self.new (take n buf.new)) }
-        ensures stays { OnErr result (copied self.new ≡ copied self.old) }
+        ensures stays { OnErr result (bytes_copied self.new ≡ bytes_copied self.old) }
     {
         let answer = self.inner.read(buf);
         if let Ok(count) = answer {

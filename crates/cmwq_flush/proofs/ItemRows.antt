@@ -20,11 +20,11 @@ pub first_is_least : (t : ℕ) (ns : List ℕ) (o : Option ℕ) → o ≡ find (
 first_is_least t [] o e rise = rw e tt
 first_is_least t (x ∷ ns) o e rise = rw e (least_by (is_up_to t x) t x ns refl rise)
 
-none_found : (p : ℕ → Bool) (ns : List ℕ) → find p ns ≡ None → All (λ n. p n ≡ false) ns
-none_found p ns e = All-from_recursion (λ n. p n ≡ false) ns (all_fail p ns e)
+all_unready : (p : ℕ → Bool) (ns : List ℕ) → find p ns ≡ None → All (λ n. p n ≡ false) ns
+all_unready p ns e = All-from_recursion (λ n. p n ≡ false) ns (all_fail p ns e)
 
 nothing : (o : Option ℕ) → is_some o ≡ false → o ≡ None
 nothing o e = grind arith
 
 pub none_is_ready : (t : ℕ) (ns : List ℕ) (o : Option ℕ) (none : Bool) → o ≡ find (is_up_to t) ns → is_some o ≡ not none → (none ≡ true) ↔ All (λ n. t < n) ns
-none_is_ready t ns o none e is = grind (arith, none_found, false≢true, find_none)
+none_is_ready t ns o none e is = grind (arith, all_unready, false≢true, find_none)

@@ -11,7 +11,7 @@ use Rattle.cmwq_flush.specs.declared.openings.Row.{Row}
 use Rattle.cmwq_flush.specs.Numbers.{AreRising, without}
 use Rattle.cmwq_flush.specs.Rows.{no_row}
 use Rattle.cmwq_flush.specs.ItemNumbers.{numbers_open}
-use Rattle.cmwq_flush.specs.Openings.{is_listed, node_row, node_number, by_age, numbers_of_nodes, opened_by}
+use Rattle.cmwq_flush.specs.Openings.{is_node_listed, node_row, node_number, by_age, numbers_of_nodes, opened_by}
 use Rattle.cmwq_flush.proofs.Nodes.{listed-pushed, listed-removed}
 
 -- ---- of all items
@@ -73,31 +73,31 @@ some_number b n m e = grind arith
 none_number : (b : Bool) (n : ℕ) → cond b (Some n) None ≡ None → b ≡ false
 none_number b n e = grind arith
 
-pub some_at : (lists : List (List ℕ)) (rows : List Row) (v n : ℕ) → node_number lists rows v ≡ Some n → (is_listed lists v ≡ true) × ((node_row rows v).number ≡ n)
-some_at lists rows v n e = some_number (is_listed lists v) (node_row rows v).number n e
+pub some_at : (lists : List (List ℕ)) (rows : List Row) (v n : ℕ) → node_number lists rows v ≡ Some n → (is_node_listed lists v ≡ true) × ((node_row rows v).number ≡ n)
+some_at lists rows v n e = some_number (is_node_listed lists v) (node_row rows v).number n e
 
-pub none_at : (lists : List (List ℕ)) (rows : List Row) (v : ℕ) → node_number lists rows v ≡ None → is_listed lists v ≡ false
-none_at lists rows v e = none_number (is_listed lists v) (node_row rows v).number e
+pub none_at : (lists : List (List ℕ)) (rows : List Row) (v : ℕ) → node_number lists rows v ≡ None → is_node_listed lists v ≡ false
+none_at lists rows v e = none_number (is_node_listed lists v) (node_row rows v).number e
 
-pub number_at_listed : (lists : List (List ℕ)) (rows : List Row) (v : ℕ) → is_listed lists v ≡ true → node_number lists rows v ≡ Some (node_row rows v).number
+pub number_at_listed : (lists : List (List ℕ)) (rows : List Row) (v : ℕ) → is_node_listed lists v ≡ true → node_number lists rows v ≡ Some (node_row rows v).number
 number_at_listed lists rows v e = ap (λ b. cond b (Some (node_row rows v).number) None) e
 
-pub number_at_free : (lists : List (List ℕ)) (rows : List Row) (v : ℕ) → is_listed lists v ≡ false → node_number lists rows v ≡ None
+pub number_at_free : (lists : List (List ℕ)) (rows : List Row) (v : ℕ) → is_node_listed lists v ≡ false → node_number lists rows v ≡ None
 number_at_free lists rows v e = ap (λ b. cond b (Some (node_row rows v).number) None) e
 
 module _ (lists : List (List ℕ)) (rows : List Row) (l v : ℕ) (r : Row) (lt : l < length lists) where
   pub number-pushed : v < length rows → node_number (set lists l (list_at lists l ++ v ∷ [])) (set rows v r) v ≡ Some r.number
   number-pushed inside =
-      number_at_listed (set lists l (list_at lists l ++ v ∷ [])) (set rows v r) v (listed-pushed lists l v v lt ∙ ap (λ b. is_listed lists v || b) (eq-eqb v v refl) ∙ or_true (is_listed lists v))
+      number_at_listed (set lists l (list_at lists l ++ v ∷ [])) (set rows v r) v (listed-pushed lists l v v lt ∙ ap (λ b. is_node_listed lists v || b) (eq-eqb v v refl) ∙ or_true (is_node_listed lists v))
       ∙ ap (λ (s : Row). Some s.number) (get_or-set_same rows v r no_row inside)
 
   pub number-kept : (w : ℕ) → w ≢ v → node_number (set lists l (list_at lists l ++ v ∷ [])) (set rows v r) w ≡ node_number lists rows w
   number-kept w differs =
-      ap₂ (λ b (s : Row). cond b (Some s.number) None) (listed-pushed lists l v w lt ∙ ap (λ b. is_listed lists w || b) (ne_eqb w v differs) ∙ or_false (is_listed lists w)) (get_or-set_other rows v w r no_row differs)
+      ap₂ (λ b (s : Row). cond b (Some s.number) None) (listed-pushed lists l v w lt ∙ ap (λ b. is_node_listed lists w || b) (ne_eqb w v differs) ∙ or_false (is_node_listed lists w)) (get_or-set_other rows v w r no_row differs)
 
 module _ (lists : List (List ℕ)) (rows : List Row) (v : ℕ) where
   pub number-removed : node_number (map (without_item v) lists) rows v ≡ None
-  number-removed = number_at_free (map (without_item v) lists) rows v (listed-removed lists v v ∙ ap (λ b. is_listed lists v && not b) (eq-eqb v v refl) ∙ and_false (is_listed lists v))
+  number-removed = number_at_free (map (without_item v) lists) rows v (listed-removed lists v v ∙ ap (λ b. is_node_listed lists v && not b) (eq-eqb v v refl) ∙ and_false (is_node_listed lists v))
 
   pub number-stays : (w : ℕ) → w ≢ v → node_number (map (without_item v) lists) rows w ≡ node_number lists rows w
-  number-stays w differs = ap (λ b. cond b (Some (node_row rows w).number) None) (listed-removed lists v w ∙ ap (λ b. is_listed lists w && not b) (ne_eqb w v differs) ∙ and_true (is_listed lists w))
+  number-stays w differs = ap (λ b. cond b (Some (node_row rows w).number) None) (listed-removed lists v w ∙ ap (λ b. is_node_listed lists w && not b) (ne_eqb w v differs) ∙ and_true (is_node_listed lists w))

@@ -12,11 +12,11 @@ use Rattle.std.proofs.lemmas.List.Elements.{All-from_recursion}
 use Rattle.std.proofs.lemmas.List.FromFn.{length-range_with_len}
 use Rattle.cmwq_lemmas.proofs.Lists.{range_below, range_more}
 use Rattle.cmwq_lemmas.proofs.Truth.{and_false}
-use Rattle.cmwq_list.specs.Lists.{Listed, AreDistinct, AreListedOnce, has_item, without_item, list_at, list_of, pushed, removed}
+use Rattle.cmwq_list.specs.Lists.{Listed, AreDistinct, AreListedOnce, has_item, without_item, list_at, list_of, lists_with, lists_without}
 use Rattle.cmwq_list.proofs.Members.{without_none, length-without}
 use Rattle.cmwq_flush.specs.FlushBook.{without_oldest}
 use Rattle.cmwq_flush.specs.Numbers.{AreRising, is_other_number, without}
-use Rattle.cmwq_flush.specs.Openings.{is_listed}
+use Rattle.cmwq_flush.specs.Openings.{is_node_listed}
 use Rattle.cmwq_flush.specs.Overflow.{AreNodes, tickets_at, ticket_of_node, tickets_of_nodes, overflow_of, is_from}
 use Rattle.cmwq_flush.proofs.Nodes.{set_one, in_list, listed-pushed, listed-removed, not_listed, at_of}
 
@@ -61,20 +61,20 @@ pub in_none : (lists : List (List ℕ)) (v : ℕ) → list_of (map (without_item
 in_none lists v = not_listed (map (without_item v) lists) v (listed-removed lists v v ∙ ap (λ b. list_any (has_item v) lists && not b) (eq-eqb v v refl) ∙ and_false (list_any (has_item v) lists))
 
 -- and each node stands in some list still
-pub nodes_moved : (s : Listed) (tickets changed : List ℕ) (l m v : ℕ) → AreListedOnce s → AreNodes s tickets → length changed ≡ length tickets → l < length s.lists → m < length s.lists → has_item v (list_at s.lists l) ≡ true → AreNodes (pushed (removed s v) m v) changed
+pub nodes_moved : (s : Listed) (tickets changed : List ℕ) (l m v : ℕ) → AreListedOnce s → AreNodes s tickets → length changed ≡ length tickets → l < length s.lists → m < length s.lists → has_item v (list_at s.lists l) ≡ true → AreNodes (lists_with (lists_without s v) m v) changed
 nodes_moved s tickets changed l m v once are same lt fits here = record {
   free = let some = are.free in omega (arith, size);
   many = same ∙ are.many;
-  known = λ w h. ⊎_elim (λ (old : is_listed left w ≡ true). are.known w (was w old)) (λ (e : nat_eq w v ≡ true). let at = eqb-true w v e in let low = are.known v (in_list s.lists v l here) in omega arith)
-      (or_cases (is_listed left w) (nat_eq w v) (sym (listed-pushed left m v w inside) ∙ h));
+  known = λ w h. ⊎_elim (λ (old : is_node_listed left w ≡ true). are.known w (was w old)) (λ (e : nat_eq w v ≡ true). let at = eqb-true w v e in let low = are.known v (in_list s.lists v l here) in omega arith)
+      (or_cases (is_node_listed left w) (nat_eq w v) (sym (listed-pushed left m v w inside) ∙ h));
   all = moved ∙ are.all;
 }
   where
     inside : m < length (map (without_item v) s.lists)
     inside = let n = length-map s.lists (without_item v) in omega arith
 
-    was : (w : ℕ) → is_listed (map (without_item v) s.lists) w ≡ true → is_listed s.lists w ≡ true
-    was w h = (and_parts (is_listed s.lists w) (not (nat_eq w v)) (sym (listed-removed s.lists v w) ∙ h)).0
+    was : (w : ℕ) → is_node_listed (map (without_item v) s.lists) w ≡ true → is_node_listed s.lists w ≡ true
+    was w h = (and_parts (is_node_listed s.lists w) (not (nat_eq w v)) (sym (listed-removed s.lists v w) ∙ h)).0
 
     left : List (List ℕ)
     left = map (without_item v) s.lists
@@ -105,7 +105,7 @@ first_has (x ∷ xs) v e = ap (λ b. b || has_item v xs) (eq-eqb v x cc)
 
 -- a node of a queue's list is freed
 pub overflow-freed : (s : Listed) (tickets : List ℕ) (q v : ℕ) → AreListedOnce s → suc q < length s.lists → has_item v (list_at s.lists (suc q)) ≡ true
-    → overflow_of (pushed (removed s v) 0 v).lists tickets ≡ set (overflow_of s.lists tickets) q (tickets_of_nodes tickets (without_item v (list_at s.lists (suc q))))
+    → overflow_of (lists_with (lists_without s v) 0 v).lists tickets ≡ set (overflow_of s.lists tickets) q (tickets_of_nodes tickets (without_item v (list_at s.lists (suc q))))
 overflow-freed s tickets q v once lt here =
     ap (λ ls. overflow_of (set ls 0 (list_at ls 0 ++ v ∷ [])) tickets) (alone s (suc q) v once lt here) ∙ by s.lists (without_item v (list_at s.lists (suc q)))
   where
@@ -126,7 +126,7 @@ kept_lists (x ∷ xs) tickets v t lacks = ap₂ (λ y ys. y ∷ ys) (kept_list t
 
 -- a free node stands for a flush from now on
 pub overflow-taken : (s : Listed) (tickets : List ℕ) (q v t : ℕ) → AreListedOnce s → suc q < length s.lists → v < length tickets → has_item v (list_at s.lists 0) ≡ true
-    → overflow_of (pushed (removed s v) (suc q) v).lists (set tickets v t) ≡ set (overflow_of s.lists tickets) q (tickets_at (overflow_of s.lists tickets) q ++ t ∷ [])
+    → overflow_of (lists_with (lists_without s v) (suc q) v).lists (set tickets v t) ≡ set (overflow_of s.lists tickets) q (tickets_at (overflow_of s.lists tickets) q ++ t ∷ [])
 overflow-taken s tickets q v t once lt inside here =
     ap (λ ls. overflow_of (set ls (suc q) (list_at ls (suc q) ++ v ∷ [])) (set tickets v t)) (alone s 0 v once (omega arith) here)
     ∙ by s.lists (without_item v (list_at s.lists 0)) (λ l. lacks l (has_item v (list_at s.lists (suc l))) refl)
@@ -257,17 +257,17 @@ lacks_next (x ∷ xs) n below = let less = below.0 in ap₂ (λ a b. a || b) (ne
 all_below : (n : ℕ) → AllByRecursion (λ i. i < n) (range_with_len 0 n)
 all_below n = subst (λ m. AllByRecursion (λ i. i < m) (range_with_len 0 n)) (zero-add n) (range_below 0 n)
 
-pub none_listed : (queues v : ℕ) → is_listed (replicate queues []) v ≡ false
+pub none_listed : (queues v : ℕ) → is_node_listed (replicate queues []) v ≡ false
 none_listed zero v = refl
 none_listed (suc queues) v = none_listed queues v
 
 pub next_free : (n queues : ℕ) → list_of (free_nodes n queues) n ≡ None
 next_free n queues = not_listed (free_nodes n queues) n (ap₂ (λ a b. a || b) (lacks_next (range_with_len 0 n) n (all_below n)) (none_listed queues n))
 
-pub one_more_free : (room n queues l : ℕ) → l ≡ 0 → pushed (record { items = room; lists = free_nodes n queues }) l n ≡ record { items = room; lists = free_nodes (n + 1) queues }
-one_more_free room n queues l e = ap (λ k. pushed (record { items = room; lists = free_nodes n queues }) k n) e ∙ ap (λ (xs : List ℕ). let s : Listed = record { items = room; lists = xs ∷ replicate queues [] } in s) (sym (ap (range_with_len 0) (add-one n) ∙ range_more 0 n ∙ ap (λ k. range_with_len 0 n ++ k ∷ []) (zero-add n)))
+pub one_more_free : (room n queues l : ℕ) → l ≡ 0 → lists_with (record { items = room; lists = free_nodes n queues }) l n ≡ record { items = room; lists = free_nodes (n + 1) queues }
+one_more_free room n queues l e = ap (λ k. lists_with (record { items = room; lists = free_nodes n queues }) k n) e ∙ ap (λ (xs : List ℕ). let s : Listed = record { items = room; lists = xs ∷ replicate queues [] } in s) (sym (ap (range_with_len 0) (add-one n) ∙ range_more 0 n ∙ ap (λ k. range_with_len 0 n ++ k ∷ []) (zero-add n)))
 
-known_free : (n queues v : ℕ) → is_listed (free_nodes n queues) v ≡ true → v < n
+known_free : (n queues v : ℕ) → is_node_listed (free_nodes n queues) v ≡ true → v < n
 known_free n queues v h = grind (arith, at_of, All-from_recursion, all_below, false≢true, none_listed)
 
 pub nodes_at_first : (queues n : ℕ) (tickets : List ℕ) → length tickets ≡ n → AreNodes (record { items = n; lists = free_nodes n queues }) tickets

@@ -8,7 +8,7 @@ use Rattle.std.proofs.lemmas.List.Sums.{AllPass-from_list_all, list_all-from_All
 use Rattle.std.proofs.lemmas.List.{length-set, length-replicate, get_or-replicate, set-get_or}
 use Rattle.cmwq_flush.specs.declared.flushes.Flushes.{Flushes}
 use Rattle.cmwq_flush.specs.declared.openings.Row.{Row}
-use Rattle.cmwq_flush.specs.Rows.{ComesBefore, row_number, row_numbers, rows_at, without_row}
+use Rattle.cmwq_flush.specs.Rows.{ComesBefore, number_of_row, row_numbers, rows_at, without_row}
 use Rattle.cmwq_flush.specs.Overflow.{tickets_at}
 use Rattle.cmwq_flush.specs.FlushBook.{FlushBook, flushes_with_open, flushes_without_open, new_book}
 use Rattle.cmwq_flush.specs.Queues.{IsQueueRight, AreQueuesRight, book_by, books_by}
@@ -38,10 +38,10 @@ module _ (items : ℕ) (rows : List Row) (overflow : List ℕ) (f : Flushes) (is
   }
     where
       left : remove rows found.0 ≡ without_row n rows
-      left = remove_at row_number rows n is.tally.rising found.0 (found.1, λ d. ap row_number (get_or_default rows found.0 d (record { number = n; colour = c }) found.1 ∙ found.2))
+      left = remove_at number_of_row rows n is.tally.rising found.0 (found.1, λ d. ap number_of_row (get_or_default rows found.0 d (record { number = n; colour = c }) found.1 ∙ found.2))
 
 pub opened_book : (items : ℕ) (rows : List Row) (overflow : List ℕ) (f : Flushes) (n c : ℕ) → book_by items (rows ++ record { number = n; colour = c } ∷ []) overflow (record f { next = n + 1; counts = set f.counts c (slice_index f.counts c + 1) }) ≡ flushes_with_open (book_by items rows overflow f) n
-opened_book items rows overflow f n c = ap (λ (ns : List ℕ). let b : FlushBook = record (book_by items rows overflow f) { next = n + 1; opened = ns } in b) (map_push row_number rows (record { number = n; colour = c }))
+opened_book items rows overflow f n c = ap (λ (ns : List ℕ). let b : FlushBook = record (book_by items rows overflow f) { next = n + 1; opened = ns } in b) (map_push number_of_row rows (record { number = n; colour = c }))
 
 pub ended_book : (items : ℕ) (rows : List Row) (overflow : List ℕ) (f : Flushes) (n c : ℕ) → book_by items (without_row n rows) overflow (record f { counts = set f.counts c (slice_index f.counts c - 1) }) ≡ flushes_without_open (book_by items rows overflow f) n
 ended_book items rows overflow f n c = ap (λ (ns : List ℕ). let b : FlushBook = record (book_by items rows overflow f) { opened = ns } in b) (numbers_of-without n rows)

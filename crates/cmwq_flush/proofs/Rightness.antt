@@ -4,7 +4,7 @@ use Rattle.std.proofs.lemmas.List.FromFn.{get_or-range_with_len}
 use Rattle.cmwq_flush.specs.declared.served.Served.{Served}
 use Rattle.cmwq_flush.specs.declared.openings.Row.{Row}
 use Rattle.cmwq_flush.specs.Numbers.{AreRising, is_other_number, without}
-use Rattle.cmwq_flush.specs.Rows.{row_number, row_numbers, without_row, is_other_row, ComesBefore}
+use Rattle.cmwq_flush.specs.Rows.{number_of_row, row_numbers, without_row, is_other_row, ComesBefore}
 use Rattle.cmwq_flush.specs.Served.{ticket_of_served, tickets_of_served, IsOlderServed, HasTicketAt, LacksTicket}
 use Rattle.cmwq_flush.specs.FlushBook.{FlushBook, new_book, flush_from, flush_tickets, served_of, IsReady, IsLatestFlush, served_with_oldest, without_oldest, serve_oldest, flushes_without_wait}
 use Rattle.cmwq_flush.specs.Colouring.{IsOrderly, IsColouring, IsRight, IsToldByColours, AreUnused}
@@ -13,7 +13,7 @@ use Rattle.cmwq_flush.proofs.Orderly.{orderly_opened, orderly_ended, orderly_ove
 use Rattle.cmwq_flush.proofs.Recolouring.{colouring_opened, colouring_ended, colouring_served, colouring_removed}
 use Rattle.cmwq_lemmas.proofs.Lists.{filter_shorter}
 
-split : (t : Bool) (r : Row) (rows : List Row) (ns : List ℕ) → row_numbers rows ≡ ns → row_numbers (cond t (r ∷ rows) rows) ≡ cond t (row_number r ∷ ns) ns
+split : (t : Bool) (r : Row) (rows : List Row) (ns : List ℕ) → row_numbers rows ≡ ns → row_numbers (cond t (r ∷ rows) rows) ≡ cond t (number_of_row r ∷ ns) ns
 split t r rows ns e = grind arith
 
 pub numbers_of-without : (n : ℕ) (rows : List Row) → row_numbers (without_row n rows) ≡ without n (row_numbers rows)
@@ -108,10 +108,10 @@ right_new items = record {
 
 -- what is ready, over numbers and over rows
 pub rows_from_numbers : (n : ℕ) (rows : List Row) → All (λ m. n ≤ m) (row_numbers rows) → All (λ r. n ≤ r.number) rows
-rows_from_numbers n rows all k d lt = rw (← get_or-map row_number rows k d 0 lt) (all k 0 (rw length-map lt))
+rows_from_numbers n rows all k d lt = rw (← get_or-map number_of_row rows k d 0 lt) (all k 0 (rw length-map lt))
 
 pub numbers_from_rows : (n : ℕ) (rows : List Row) → All (λ r. n ≤ r.number) rows → All (λ m. n ≤ m) (row_numbers rows)
-numbers_from_rows n rows all = All-map (λ m. n ≤ m) row_number rows all
+numbers_from_rows n rows all = All-map (λ m. n ≤ m) number_of_row rows all
 
 pub no_rows : (rows : List Row) → row_numbers rows ≡ [] → rows ≡ []
 no_rows [] e = refl

@@ -3,6 +3,6 @@ use Rattle.std.specs.Prelude.{◌∷◌}
 use Rattle.cmwq_flush.specs.Common.{ℕ, List, []}
 use Rattle.cmwq_flush.specs.declared.openings.Row.{Row}
 
-abbrev pub rows_from : List ℕ → List ℕ → List Row
-rows_from (n ∷ numbers) (c ∷ colours) = record { number = n; colour = c } ∷ rows_from numbers colours
-rows_from _ _ = []
+abbrev pub node_rows_from : List ℕ → List ℕ → List Row
+node_rows_from (n ∷ numbers) (c ∷ colours) = record { number = n; colour = c } ∷ node_rows_from numbers colours
+node_rows_from _ _ = []

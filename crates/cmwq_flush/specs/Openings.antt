@@ -8,20 +8,20 @@ use Rattle.cmwq_flush.specs.declared.openings.Row.{Row}
 use Rattle.cmwq_flush.specs.Rows.{no_row}
 
 -- some list has the node
-abbrev pub is_listed : List (List ℕ) → ℕ → Bool
-is_listed lists v = list_any (has_item v) lists
+abbrev pub is_node_listed : List (List ℕ) → ℕ → Bool
+is_node_listed lists v = list_any (has_item v) lists
 
 abbrev pub node_row : List Row → ℕ → Row
 node_row rows v = slice_index_or rows v no_row
 
-abbrev pub rows_of : List (List ℕ) → List Row → List (List Row)
-rows_of lists rows = map (map (node_row rows)) lists
+abbrev pub rows_of_nodes : List (List ℕ) → List Row → List (List Row)
+rows_of_nodes lists rows = map (map (node_row rows)) lists
 
 abbrev pub node_number : List (List ℕ) → List Row → ℕ → Option ℕ
-node_number lists rows v = if is_listed lists v then Some (node_row rows v).number else None
+node_number lists rows v = if is_node_listed lists v then Some (node_row rows v).number else None
 
-abbrev pub has_number : List (List ℕ) → List Row → ℕ → ℕ → Bool
-has_number lists rows v n = is_listed lists v && ((node_row rows v).number == n)
+abbrev pub node_has_number : List (List ℕ) → List Row → ℕ → ℕ → Bool
+node_has_number lists rows v n = is_node_listed lists v && ((node_row rows v).number == n)
 
 -- the numbers of an item's two nodes, the older one first
 abbrev pub by_age : Option ℕ → Option ℕ → List ℕ
@@ -45,5 +45,5 @@ numbers_in (Two a b) = a ∷ b ∷ []
 pub record AreOpenings (items : ℕ) (s : Listed) (rows : List Row) : Type 0 where
   pub nodes : s.items ≡ 2 * items
   pub many : length rows ≡ 2 * items
-  pub known : (v : ℕ) → is_listed s.lists v ≡ true → v < s.items
-  pub once : (v w : ℕ) → is_listed s.lists v ≡ true → is_listed s.lists w ≡ true → (node_row rows v).number ≡ (node_row rows w).number → v ≡ w
+  pub known : (v : ℕ) → is_node_listed s.lists v ≡ true → v < s.items
+  pub once : (v w : ℕ) → is_node_listed s.lists v ≡ true → is_node_listed s.lists w ≡ true → (node_row rows v).number ≡ (node_row rows w).number → v ≡ w

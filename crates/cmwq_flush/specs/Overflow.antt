@@ -2,7 +2,7 @@
 use Rattle.std.specs.Prelude.{◌≡◌, ◌<◌, ℕ, Bool, true, List, [], ◌∷◌, Option, map, length, nat_le, find, slice_index, slice_index_or, slice_set}
 use Rattle.std.specs.List.{sum_by}
 use Rattle.cmwq_list.specs.Lists.{Listed, list_at}
-use Rattle.cmwq_flush.specs.Openings.{is_listed}
+use Rattle.cmwq_flush.specs.Openings.{is_node_listed}
 
 -- for each queue the tickets of its flushes in overflow, by age, and for how many there is room in all
 pub record OverflowLists : Type 0 where
@@ -36,5 +36,5 @@ first_from lists tickets l t = find (is_from tickets t) (list_at lists l)
 pub record AreNodes (s : Listed) (tickets : List ℕ) : Type 0 where
   pub free : 0 < length s.lists
   pub many : length tickets ≡ s.items
-  pub known : (v : ℕ) → is_listed s.lists v ≡ true → v < s.items
+  pub known : (v : ℕ) → is_node_listed s.lists v ≡ true → v < s.items
   pub all : sum_by length s.lists ≡ s.items

@@ -4,15 +4,15 @@ use Rattle.cmwq_flush.specs.Common.{ℕ, Bool, not, List, length, map, filter, A
 use Rattle.cmwq_flush.specs.declared.openings.Row.{Row}
 use Rattle.cmwq_flush.specs.ItemNumbers.{numbers_with, numbers_without}
 
-abbrev pub row_number : Row → ℕ
-row_number r = r.number
+abbrev pub number_of_row : Row → ℕ
+number_of_row r = r.number
 
 -- what stands for a row that isn't there
 abbrev pub no_row : Row
 no_row = record { number = 0; colour = 0 }
 
 abbrev pub row_numbers : List Row → List ℕ
-row_numbers rows = map row_number rows
+row_numbers rows = map number_of_row rows
 
 abbrev pub ComesBefore : Row → Row → Type 0
 ComesBefore r s = r.number < s.number
@@ -40,11 +40,11 @@ pub record OpenRows : Type 0 where
 abbrev pub rows_at : List (List Row) → ℕ → List Row
 rows_at rows q = slice_index_or rows q []
 
-abbrev pub rows_with : OpenRows → ℕ → ℕ → Row → OpenRows
-rows_with o q i r = record { rows = slice_set o.rows q (rows_at o.rows q ++ r ∷ []); opened = numbers_with o.opened i r.number }
+abbrev pub open_rows_with : OpenRows → ℕ → ℕ → Row → OpenRows
+open_rows_with o q i r = record { rows = slice_set o.rows q (rows_at o.rows q ++ r ∷ []); opened = numbers_with o.opened i r.number }
 
-abbrev pub rows_without : OpenRows → ℕ → ℕ → ℕ → OpenRows
-rows_without o q i n = record { rows = slice_set o.rows q (without_row n (rows_at o.rows q)); opened = numbers_without o.opened i n }
+abbrev pub open_rows_without : OpenRows → ℕ → ℕ → ℕ → OpenRows
+open_rows_without o q i n = record { rows = slice_set o.rows q (without_row n (rows_at o.rows q)); opened = numbers_without o.opened i n }
 
 -- by rising number, each with a colour below 16, and the count of each colour
 pub record IsTally (rows : List Row) (counts : List ℕ) : Type 0 where

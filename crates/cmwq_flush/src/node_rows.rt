@@ -17,11 +17,11 @@ pub(crate) struct NodeRows {
 impl Model for NodeRows {
     ghost use Rattle.std.specs.Prelude.{◌≡◌, List, length};
     ghost use Rattle.cmwq_flush.specs.declared.openings.Row.{Row};
-    ghost use Rattle.cmwq_flush.specs.NodeRows.{rows_from};
+    ghost use Rattle.cmwq_flush.specs.NodeRows.{node_rows_from};
 
     ghost Value = { List Row };
 
-    ghost view = { λ r. rows_from r.numbers.items r.colours.items };
+    ghost view = { λ r. node_rows_from r.numbers.items r.colours.items };
 
     ghost invariant = { λ r. length r.colours.items ≡ length r.numbers.items };
 }

@@ -1,8 +1,8 @@
 ghost use Rattle.std.specs.Prelude.{◌≡◌, ℕ, ◌+◌, ◌*◌, ◌<◌, ◌↔◌, [], if◌then◌else◌, All, Contains, IfOk, IsTrue, find, length, replicate, slice_get};
 ghost use Rattle.cmwq_flush.specs.ItemNumbers.{is_up_to, numbers_open};
 ghost use Rattle.cmwq_flush.specs.Numbers.{AreRising};
-ghost use Rattle.cmwq_flush.specs.Rows.{row_numbers, rows_at, rows_with, rows_without};
-ghost use Rattle.cmwq_flush.specs.Openings.{has_number, is_listed, node_number, numbers_in};
+ghost use Rattle.cmwq_flush.specs.Rows.{row_numbers, rows_at, open_rows_with, open_rows_without};
+ghost use Rattle.cmwq_flush.specs.Openings.{node_has_number, is_node_listed, node_number, numbers_in};
 
 use crate::node_rows::NodeRows;
 use cmwq_list::Lists;
@@ -71,11 +71,11 @@ pub(crate) struct Openings {
 
 impl Model for Openings {
     ghost use Rattle.cmwq_flush.specs.Rows.{OpenRows};
-    ghost use Rattle.cmwq_flush.specs.Openings.{AreOpenings, opened_by, rows_of};
+    ghost use Rattle.cmwq_flush.specs.Openings.{AreOpenings, opened_by, rows_of_nodes};
 
     ghost Value = { OpenRows };
 
-    ghost view = { λ o. record { rows = rows_of o.lists.lists o.rows; opened = opened_by o.lists.lists o.rows o.items } };
+    ghost view = { λ o. record { rows = rows_of_nodes o.lists.lists o.rows; opened = opened_by o.lists.lists o.rows o.items } };
 
     ghost invariant = { λ o. AreOpenings o.items o.lists o.rows };
 }
@@ -99,7 +99,7 @@ impl Openings {
         requires item { item.0 < length self.old.opened }
         requires free { length (numbers_open self.old.opened item.0) < 2 }
         requires latest { (q : ℕ) → All (λ r. r.number < row.number) (rows_at self.old.rows q) }
-        ensures { self.new ≡ rows_with self.old queue.0 item.0 row }
+        ensures { self.new ≡ open_rows_with self.old queue.0 item.0 row }
     {
         let node = free_node(&self.lists, item);
         self.rows.put(node, row);
@@ -109,7 +109,7 @@ impl Openings {
     /// The item's queueing of this number is open no more. Its colour is answered.
     pub(crate) fn close(&mut self, item: ItemId, number: Number) -> Colour
         requires { Contains (numbers_open self.old.opened item.0) number }
-        ensures closed { (q : ℕ) → Contains (row_numbers (rows_at self.old.rows q)) number → self.new ≡ rows_without self.old q item.0 number }
+        ensures closed { (q : ℕ) → Contains (row_numbers (rows_at self.old.rows q)) number → self.new ≡ open_rows_without self.old q item.0 number }
         ensures colour { (q : ℕ) → Contains (row_numbers (rows_at self.old.rows q)) number → Contains (rows_at self.old.rows q) (record { number = number; colour = result }) }
     {
         let node = node_of(&self.lists, &self.rows, item, number);
@@ -184,7 +184,7 @@ impl Openings {
 /// The first of an item's two nodes that is in no list, if one of them is in none.
 fn free_node(lists: &Lists, item: ItemId) -> u32
     requires { 2 * item.0 < lists.now.items }
-    ensures { result ≡ (if is_listed lists.now.lists (2 * item.0) then 2 * item.0 + 1 else 2 * item.0) }
+    ensures { result ≡ (if is_node_listed lists.now.lists (2 * item.0) then 2 * item.0 + 1 else 2 * item.0) }
 {
     let node = 2 * u32::from(item.0);
     if lists.list_of(node).is_some() {
@@ -198,7 +198,7 @@ fn free_node(lists: &Lists, item: ItemId) -> u32
 fn node_of(lists: &Lists, rows: &NodeRows, item: ItemId, number: Number) -> u32
     requires there { 2 * item.0 < lists.now.items }
     requires many { length rows.now ≡ lists.now.items }
-    ensures { result ≡ (if has_number lists.now.lists rows.now (2 * item.0) number then 2 * item.0 else 2 * item.0 + 1) }
+    ensures { result ≡ (if node_has_number lists.now.lists rows.now (2 * item.0) number then 2 * item.0 else 2 * item.0 + 1) }
 {
     let node = 2 * u32::from(item.0);
     if number_at(lists, rows, node) == Some(number) {

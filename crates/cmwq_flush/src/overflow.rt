@@ -1,6 +1,6 @@
 ghost use Rattle.std.specs.Prelude.{◌≡◌, ◌+◌, ◌<◌, ◌^◌, ◌↔◌, ◌++◌, ◌∷◌, [], All, Contains, IfOk, IsTrue, length, replicate, slice_get};
 ghost use Rattle.std.specs.List.{sum_by};
-ghost use Rattle.cmwq_list.specs.Lists.{AreListedOnce, pushed, removed};
+ghost use Rattle.cmwq_list.specs.Lists.{AreListedOnce, lists_with, lists_without};
 ghost use Rattle.cmwq_flush.specs.FlushBook.{without_oldest};
 ghost use Rattle.cmwq_flush.specs.Numbers.{AreRising, without};
 ghost use Rattle.cmwq_flush.specs.Overflow.{first_from, tickets_at, with_tickets};
@@ -120,7 +120,7 @@ fn list_of(queue: QueueId) -> u16
 fn free(lists: &mut Lists, node: u32)
     requires node { node < lists.old.items }
     requires some { 0 < length lists.old.lists }
-    ensures freed { lists.new ≡ pushed (removed lists.old node) 0 node }
+    ensures freed { lists.new ≡ lists_with (lists_without lists.old node) 0 node }
     ensures once { AreListedOnce lists.old }
 {
     lists.remove(node);

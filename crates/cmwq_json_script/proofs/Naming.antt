@@ -1,6 +1,6 @@
 -- The names of items, each once.
 use Rattle.cmwq_json_script.specs.Common.{◌≡◌, ◌<◌, ◌≤◌, ◌+◌, ℕ, ◌&&◌, Bool, true, false, not, List, [], ◌∷◌, ◌++◌, length, map, get_or, drop, Option, Some, None, refl, sym, ap, ap₂, nat_lt, ◌∙◌, add-one, drop-cons, string_bytes, if◌then◌else◌, arith, length-append, String, list_any, Global, lt-ltb, nat_tests, length-map, map-append, insert_key, item, Value, view, items_view, is_taken, same, taken, drop_end}
-use Rattle.cmwq_json_script.specs.Known.{name_in, with_name, names_after}
+use Rattle.cmwq_json_script.specs.Known.{known_name, with_name, names_after}
 
 -- a name is added where none of them is the same
 pub name_kept_once : (most : ℕ) (names after : List (String Global)) (s : String Global) (name : List ℕ) (o : Option (List ℕ)) → string_bytes s ≡ name → length names < most → after ≡ insert_key same names s → Some name ≡ o
@@ -35,11 +35,11 @@ few_names_kept most names after o few is =
     omega arith
 
 -- what is left of the members
-pub next_name : (most : ℕ) (all : List Value) (i : ℕ) (before after names : List (List ℕ)) (v d : Value) → i < length all → get_or all i d ≡ v → names ≡ names_after most before (items_view (drop i all)) → after ≡ with_name most before (name_in (view v))
+pub next_name : (most : ℕ) (all : List Value) (i : ℕ) (before after names : List (List ℕ)) (v d : Value) → i < length all → get_or all i d ≡ v → names ≡ names_after most before (items_view (drop i all)) → after ≡ with_name most before (known_name (view v))
     → names ≡ names_after most after (items_view (drop (i + 1) all))
 next_name most all i before after names v d less at so is =
     so ∙ ap (λ vs. names_after most before (items_view vs)) (drop-cons all i d less) ∙ ap (λ j. names_after most before (item (view (get_or all i d)) (items_view (drop j all)))) (sym (add-one i))
-    ∙ ap (λ w. names_after most (with_name most before (name_in (view w))) (items_view (drop (i + 1) all))) at ∙ sym (ap (λ b. names_after most b (items_view (drop (i + 1) all))) is)
+    ∙ ap (λ w. names_after most (with_name most before (known_name (view w))) (items_view (drop (i + 1) all))) at ∙ sym (ap (λ b. names_after most b (items_view (drop (i + 1) all))) is)
 
 pub names_done : (most : ℕ) (all : List Value) (i : ℕ) (before names : List (List ℕ)) → length all ≤ i → names ≡ names_after most before (items_view (drop i all)) → before ≡ names
 names_done most all i before names past so = sym (so ∙ ap (λ vs. names_after most before (items_view vs)) (drop_end i all past))

@@ -1,6 +1,6 @@
 -- Queues, items and callers that are read keep to the limits.
 use Rattle.cmwq_json_script.specs.Common.{◌≡◌, ℕ, ◌+◌, ◌≤◌, ◌<◌, ◌&&◌, not, Bool, true, false, nat_lt, List, [], ◌∷◌, ◌++◌, length, Option, Some, None, Ok, Err, refl, ap, ◌∙◌, arith, if◌then◌else◌, length-append, option_and_then, IfSome, codes, option_map_or, AllByRecursion, result_unwrap_or, nat_tests, same_Some, Data, Items, no_items, item, get, as_bool, as_array, Call, QueueShape, Layout, IsScripted, in_turn, has_keys, Named, nobody, add_named, is_taken, parts_said, AreKept, added, parts_limits, kept, All_push}
-use Rattle.cmwq_json_script.specs.Known.{Known, name_in, with_name, names_after}
+use Rattle.cmwq_json_script.specs.Known.{Known, known_name, with_name, names_after}
 use Rattle.cmwq_json_script.specs.Actions.{Does, does_said}
 use Rattle.cmwq_json_script.specs.Items.{item_said, Work, no_work, add_item}
 use Rattle.cmwq_json_script.specs.Queues.{has_queue_keys, freezable_said, queue_said, add_queue}
@@ -51,10 +51,10 @@ module _ (most : ℕ) (known : Known) (s : Layout) (are : AreIn known s) where
   item_in : (gates : List (List ℕ)) (d : Data) → IfSome (item_said known gates d) (λ said. AreActions s gates said.1)
   item_in gates d = at (has_keys (codes "does" ∷ codes "name" ∷ []) d)
     where
-      at : (b : Bool) → IfSome (if b then option_and_then (λ name. option_and_then (λ actions. option_and_then (λ does. Some (name, does)) (does_said known gates actions)) (get (codes "does") d)) (name_in d) else None) (λ (said : List ℕ × Does). AreActions s gates said.1)
+      at : (b : Bool) → IfSome (if b then option_and_then (λ name. option_and_then (λ actions. option_and_then (λ does. Some (name, does)) (does_said known gates actions)) (get (codes "does") d)) (known_name d) else None) (λ (said : List ℕ × Does). AreActions s gates said.1)
       at false = tt
       at true =
-          then_holds (λ _. Unit {0}) (λ (said : List ℕ × Does). AreActions s gates said.1) _ (name_in d) (any_read (name_in d))
+          then_holds (λ _. Unit {0}) (λ (said : List ℕ × Does). AreActions s gates said.1) _ (known_name d) (any_read (known_name d))
           (λ name _. then_holds (λ _. Unit {0}) (λ (said : List ℕ × Does). AreActions s gates said.1) _ (get (codes "does") d) (any_read (get (codes "does") d))
           (λ actions _. then_holds (AreActions s gates) (λ (said : List ℕ × Does). AreActions s gates said.1) _ (does_said known gates actions) (does_in known s are gates actions) (λ does h. h)))
 
@@ -95,8 +95,8 @@ name_added most before name does after is = at (nat_lt (length before.items.name
     at true h = ap (λ (w : Work). w.items.names) (same_Some (record { items = record { names = before.items.names ++ name ∷ []; values = before.items.values ++ does.actions ∷ [] }; gates = does.gates }) after h)
     at false h = cc
 
-name_known : (most : ℕ) (known : Known) (before : Work) (d : Data) (after : Work) → add_item most known before d ≡ Some after → with_name most before.items.names (name_in d) ≡ after.items.names
-name_known most known before d after is = at (has_keys (codes "does" ∷ codes "name" ∷ []) d) (name_in d) is
+name_known : (most : ℕ) (known : Known) (before : Work) (d : Data) (after : Work) → add_item most known before d ≡ Some after → with_name most before.items.names (known_name d) ≡ after.items.names
+name_known most known before d after is = at (has_keys (codes "does" ∷ codes "name" ∷ []) d) (known_name d) is
   where
     does_at : (name : List ℕ) (o : Option Does) → option_and_then (λ (said : List ℕ × Does). option_and_then (λ items. Some (record { items = items; gates = said.1.gates })) (add_named most before.items (said.0, said.1.actions))) (option_and_then (λ does. Some (name, does)) o) ≡ Some after → with_name most before.items.names (Some name) ≡ after.items.names
     does_at name None h = cc
@@ -117,8 +117,8 @@ pub names_are_known : (most : ℕ) (known : Known) (n : ℕ) (before : Work) (ds
 names_are_known most known n before no_items after is = ap (λ r. (result_unwrap_or r before).items.names) is
 names_are_known most known n before (item d ds) after is = at (add_item most known before d) (name_known most known before d) (λ w. names_are_known most known (n + 1) w ds after) is
   where
-    at : (o : Option Work) → ((w : Work) → o ≡ Some w → with_name most before.items.names (name_in d) ≡ w.items.names) → ((w : Work) → in_turn (add_item most known) (n + 1) w ds ≡ Ok after → names_after most w.items.names ds ≡ after.items.names)
-        → option_map_or (λ w. in_turn (add_item most known) (n + 1) w ds) o (Err n) ≡ Ok after → names_after most (with_name most before.items.names (name_in d)) ds ≡ after.items.names
+    at : (o : Option Work) → ((w : Work) → o ≡ Some w → with_name most before.items.names (known_name d) ≡ w.items.names) → ((w : Work) → in_turn (add_item most known) (n + 1) w ds ≡ Ok after → names_after most w.items.names ds ≡ after.items.names)
+        → option_map_or (λ w. in_turn (add_item most known) (n + 1) w ds) o (Err n) ≡ Ok after → names_after most (with_name most before.items.names (known_name d)) ds ≡ after.items.names
     at None named rest h = cc
     at (Some w) named rest h = ap (λ names. names_after most names ds) (named w refl) ∙ rest w h
 

@@ -3,13 +3,13 @@ use Rattle.cmwq_text.specs.Words.{◌>>=◌}
 use Rattle.std.specs.Prelude.{if◌then◌else◌, ◌∷◌}
 use Rattle.cmwq_json_script.specs.Common.{ℕ, List, [], Option, Some, None, codes, Data, get, has_keys, Named, nobody, add_named}
 use Rattle.cmwq_json_script.specs.declared.action.Action.{Action}
-use Rattle.cmwq_json_script.specs.Known.{Known, name_in}
+use Rattle.cmwq_json_script.specs.Known.{Known, known_name}
 use Rattle.cmwq_json_script.specs.Actions.{Does, does_said}
 
 abbrev pub item_said : Known → List (List ℕ) → Data → Option (List ℕ × Does)
 item_said known gates d =
     if has_keys (codes "does" ∷ codes "name" ∷ []) d then (do
-      name ← name_in d
+      name ← known_name d
       actions ← get (codes "does") d
       does ← does_said known gates actions
       Some (name, does))

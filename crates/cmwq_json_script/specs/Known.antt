@@ -10,8 +10,8 @@ pub record Known : Type 0 where
 
 -- An item may name one that stands behind it. So what may be named are the names of all members of `items` that have one, each once, in
 -- their order; the first so many as there may be items where there are more.
-abbrev pub name_in : Data → Option (List ℕ)
-name_in d = do
+abbrev pub known_name : Data → Option (List ℕ)
+known_name d = do
   name ← get (codes "name") d
   name_said name
 
@@ -21,7 +21,7 @@ with_name most before (Some name) = if nat_lt (length before) most && not (is_ta
 
 abbrev pub names_after : ℕ → List (List ℕ) → Items → List (List ℕ)
 names_after most before no_items = before
-names_after most before (item d ds) = names_after most (with_name most before (name_in d)) ds
+names_after most before (item d ds) = names_after most (with_name most before (known_name d)) ds
 
 -- ---- what a part of a call names
 

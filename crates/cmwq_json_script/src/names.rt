@@ -2,7 +2,7 @@
 
 ghost use Rattle.std.specs.Prelude.{◌≡◌, ◌≤◌, [], length, map, string_bytes, IfOk, OnOk, option_map};
 ghost use Rattle.serde_json.specs.View.{view, items_view};
-ghost use Rattle.cmwq_json_script.specs.Known.{name_in, with_name, names_after};
+ghost use Rattle.cmwq_json_script.specs.Known.{known_name, with_name, names_after};
 
 use cmwq_json::{number_of, read_name};
 use cmwq_model::{CpuId, ItemId, QueueId};
@@ -13,7 +13,7 @@ use std::marker::Model;
 
 /// The name of a member.
 pub fn name_at(value: &Value) -> Option<&str>
-    ensures { option_map (λ name. name.now) result ≡ name_in (view value.now) }
+    ensures { option_map (λ name. name.now) result ≡ known_name (view value.now) }
 {
     read_name(value.get("name")?)
 }
@@ -25,7 +25,7 @@ fn add_name(
     names: &mut IndexSet<String>,
     value: &Value,
 ) -> Result<(), AllocError>
-    ensures { OnOk result (map string_bytes names.new.keys ≡ with_name most (map string_bytes names.old.keys) (name_in (view value.now))) }
+    ensures { OnOk result (map string_bytes names.new.keys ≡ with_name most (map string_bytes names.old.keys) (known_name (view value.now))) }
 {
     if let Some(name) = name_at(value) {
         if names.len() < most {

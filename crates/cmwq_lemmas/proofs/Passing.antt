@@ -7,7 +7,7 @@ use Rattle.std.proofs.lemmas.Bool.Decides.{nat_tests}
 use Rattle.std.proofs.lemmas.List.Filters.{length-filter_both, sum_by-filter_both}
 use Rattle.std.proofs.lemmas.List.Folds.{list_any-append}
 use Rattle.std.proofs.lemmas.List.Sums.{length-filter, sum_by_push}
-use Rattle.cmwq_lemmas.proofs.Lists.{All_filter, All_map, count_by-cons, count_by-head, find_none, range_below}
+use Rattle.cmwq_lemmas.proofs.Lists.{All_filter, All_map, all_mapped, count_by-cons, count_by-head, filter_all, find_none, range_below}
 use Rattle.cmwq_lemmas.proofs.Members.{found, of_in}
 use Rattle.cmwq_lemmas.proofs.Truth.{or_false}
 use Rattle.std.specs.Prelude.{All}
@@ -24,13 +24,12 @@ pub counted_any : {X : Type 0} (p : X → Bool) (xs : List X) → 1 ≤ count_by
 counted_any p [] h = absurd (omega arith)
 counted_any p (x ∷ xs) h = grind (arith, count_by-cons p x xs, counted_any p xs)
 
-pub found_any : {X : Type 0} (p q : X → Bool) → ((x : X) → p x ≡ true → q x ≡ true) → (xs : List X) (z : X) → find p xs ≡ Some z → list_any q xs ≡ true
-found_any p q more [] z is = cc
-found_any p q more (x ∷ xs) z is = grind (arith, found_any p q more xs z, more x)
-
 pub any_found : {X : Type 0} (p q : X → Bool) (x : X) (xs : List X) → find p xs ≡ Some x → q x ≡ true → list_any q xs ≡ true
 any_found p q x [] found passes = cc
 any_found p q x (y ∷ xs) found passes = grind (arith, any_found p q x xs)
+
+pub found_any : {X : Type 0} (p q : X → Bool) → ((x : X) → p x ≡ true → q x ≡ true) → (xs : List X) (z : X) → find p xs ≡ Some z → list_any q xs ≡ true
+found_any p q more xs z is = any_found p q z xs is (more z (found p xs z is).1)
 
 pub none_pass : {X : Type 0} (p : X → Bool) (xs : List X) → list_any p xs ≡ false → AllByRecursion (λ x. p x ≡ false) xs
 none_pass p [] h = tt
@@ -112,8 +111,7 @@ find_mapped f p q [] h = refl
 find_mapped f p q (x ∷ xs) h = grind (arith, find_mapped f p q xs)
 
 pub all_mapped_pass : {X Y : Type 0} (f : X → Y) (p : Y → Bool) (xs : List X) → AllByRecursion (λ x. p (f x) ≡ true) xs → filter p (map f xs) ≡ map f xs
-all_mapped_pass f p [] h = refl
-all_mapped_pass f p (x ∷ xs) h = grind (arith, all_mapped_pass f p xs)
+all_mapped_pass f p xs h = filter_all p (map f xs) (all_mapped f (λ y. p y ≡ true) xs h)
 
 -- ---- ranges
 

@@ -26,12 +26,12 @@ abbrev pub without_item : ℕ → List ℕ → List ℕ
 without_item i xs = filter (λ x. not (nat_eq i x)) xs
 
 -- item i behind all others of list l
-abbrev pub pushed : Listed → ℕ → ℕ → Listed
-pushed s l i = record s { lists = slice_set s.lists l (list_at s.lists l ++ i ∷ []) }
+abbrev pub lists_with : Listed → ℕ → ℕ → Listed
+lists_with s l i = record s { lists = slice_set s.lists l (list_at s.lists l ++ i ∷ []) }
 
 -- item i is in no list
-abbrev pub removed : Listed → ℕ → Listed
-removed s i = record s { lists = map (without_item i) s.lists }
+abbrev pub lists_without : Listed → ℕ → Listed
+lists_without s i = record s { lists = map (without_item i) s.lists }
 
 -- no item is twice in a list, or in two lists, and each is one of the items
 pub record AreListedOnce (s : Listed) : Type 0 where

@@ -1,5 +1,5 @@
 ghost use Rattle.std.specs.Prelude.{◌≡◌, ℕ, ◌+◌, ◌^◌, ◌<◌, ◌≤◌, [], Some, None, IfOk, length, replicate, slice_get};
-ghost use Rattle.cmwq_list.specs.Lists.{list_at, list_of, pushed, removed, AreListedOnce};
+ghost use Rattle.cmwq_list.specs.Lists.{list_at, list_of, lists_with, lists_without, AreListedOnce};
 
 use crate::links::{NONE, link, link_back, unlink};
 use std::alloc::{AllocError, Global};
@@ -101,7 +101,7 @@ impl Lists {
         requires list { list < length self.old.lists }
         requires item { item < self.old.items }
         requires free { list_of self.old.lists item ≡ None }
-        ensures { self.new ≡ pushed self.old list item }
+        ensures { self.new ≡ lists_with self.old list item }
     {
         link_back(
             &mut self.next,
@@ -116,7 +116,7 @@ impl Lists {
     /// Takes an item out of the list that it is in. One that is in none stays so. No item was twice in a list, or in two.
     pub fn remove(&mut self, item: u32)
         requires { item < self.old.items }
-        ensures rest { self.new ≡ removed self.old item }
+        ensures rest { self.new ≡ lists_without self.old item }
         ensures once { AreListedOnce self.old }
     {
         let owner = self.owners[item as usize];

@@ -15,7 +15,7 @@ use Rattle.cmwq_model.specs.declared.record.Queueing.{Queueing}
 use Rattle.cmwq_model.specs.declared.record.Ticket.{Ticket}
 use Rattle.cmwq_model.specs.Layout.{Layout, most_active}
 use Rattle.cmwq_model.specs.Calls.{is_at, now}
-use Rattle.cmwq_model.specs.Bookings.{booking, is_booked, standing}
+use Rattle.cmwq_model.specs.Bookings.{booking, is_booked, standing_bookings}
 use Rattle.cmwq_model.specs.Runs.{run, has_run, runs_awake, runs_asleep}
 use Rattle.cmwq_model.specs.Queueings.{unstarted_queueing, is_pending, is_item_open, run_queue, runs_elsewhere}
 use Rattle.cmwq_model.specs.Widths.{is_frozen}
@@ -84,7 +84,7 @@ abbrev pub soonest : List Booking → Option Booking
 soonest bs = find (is_soonest bs) bs
 
 unfoldable pub first_due : List Entry → Option Booking
-first_due past = soonest (filter (may_fire past) (standing past))
+first_due past = soonest (filter (may_fire past) (standing_bookings past))
 
 abbrev pub fired_answer : Option Booking → ℕ → Reply
 fired_answer None k = reply.Nothing
@@ -104,7 +104,7 @@ unfoldable pub destroy_answer : List Entry → Who → ℕ → Reply
 destroy_answer past who q =
     if is_gone past q then reply.Gone
     else if is_being_destroyed past q then reply.Draining
-    else if list_any (is_booked_on q) (standing past) then reply.Timers
+    else if list_any (is_booked_on q) (standing_bookings past) then reply.Timers
     else if is_crowded past who then reply.Crowded
     else reply.Ticket (length past)
 

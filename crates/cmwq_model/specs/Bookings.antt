@@ -53,5 +53,5 @@ number_booked b = b.number
 abbrev pub stands : List Entry → Booking → Bool
 stands past b = is_at (option_map number_booked (booking past b.item.0)) b.number
 
-abbrev pub standing : List Entry → List Booking
-standing past = filter (stands past) (bookings past)
+abbrev pub standing_bookings : List Entry → List Booking
+standing_bookings past = filter (stands past) (bookings past)

@@ -5,7 +5,7 @@ pub use Rattle.cmwq_model.specs.Answer.{end_of_ticket, finished_answer, fired_an
 pub use Rattle.cmwq_model.specs.Answer.{own_answer, runs_on, soonest, start_of, started_answer, taken_back_answer, taken_back_for, waiting_for, worker_answer}
 unfoldable pub use Rattle.cmwq_model.specs.Answer.{answer, cancel_answer, cancel_sync_answer, destroy_answer, finish_answer, first_due, flush_delayed_answer}
 unfoldable pub use Rattle.cmwq_model.specs.Answer.{flush_item_answer, modify_answer, queue_answer, retire_answer, set_max_answer, take_answer, wait_answer}
-pub use Rattle.cmwq_model.specs.Bookings.{booked_by, booking_of, due_in, is_booked, number_booked, settles, standing, stands}
+pub use Rattle.cmwq_model.specs.Bookings.{booked_by, booking_of, due_in, is_booked, number_booked, settles, standing_bookings, stands}
 unfoldable pub use Rattle.cmwq_model.specs.Bookings.{booking, bookings}
 pub use Rattle.cmwq_model.specs.Calls.{entry_at, is_at, is_by, is_of_item, item_at, item_called, item_fired, item_number, item_of, same_pool, same_who, same_worker, serial_of}
 pub use Rattle.cmwq_model.specs.Calls.{ticks_told, worker_of}

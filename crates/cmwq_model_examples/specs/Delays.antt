@@ -1,7 +1,7 @@
 -- Delayed items.
 use Rattle.std.specs.Prelude.{false, [], ◌∷◌}
 use Rattle.cmwq_model.specs.declared.reply.Reply.TheVariants as reply
-use Rattle.cmwq_model_examples.specs.Words.{Example, example, caller, normal, queue, delay, modify, cancel, tick, fire, flush, drain, flush_delayed, end, take, finish, entry, system, wq, fired}
+use Rattle.cmwq_model_examples.specs.Words.{Example, example, caller, normal, queue, delay, modify, cancel, tick, fire, flush, drain, flush_delayed, end, take, finish, entry, system, wq, reply_fired}
 
 -- A delayed item is queued at the tick when it is due, and a flush does not wait for it before.
 abbrev pub timer_at_its_tick : Example
@@ -12,7 +12,7 @@ timer_at_its_tick = example (system 1 2 1 1 100 (wq 1 false false ∷ [])) (
     entry (caller 0) 3 (tick 4) (reply.Now 4) ∷
     entry (caller 0) 4 fire reply.Nothing ∷
     entry (caller 0) 5 (tick 1) (reply.Now 5) ∷
-    entry (caller 0) 6 fire (fired 0 6) ∷
+    entry (caller 0) 6 fire (reply_fired 0 6) ∷
     entry (caller 0) 7 fire reply.Nothing ∷
     entry (caller 0) 8 (queue 0 0 0) reply.No ∷
     entry (normal 0 0) 0 take (reply.StartedEnlist 6 1) ∷
@@ -40,5 +40,5 @@ timer_held_back = example (system 1 2 1 2 100 (wq 1 false false ∷ [])) (
     entry (normal 0 0) 0 take (reply.StartedEnlist 1 1) ∷
     entry (normal 0 0) 1 finish (reply.Finished 1) ∷
     entry (caller 0) 6 (end 2) reply.Done ∷
-    entry (caller 0) 7 fire (fired 0 9) ∷
+    entry (caller 0) 7 fire (reply_fired 0 9) ∷
     [])

@@ -86,8 +86,8 @@ thaw = call.Thaw
 abbrev pub destroy : ℕ → Call
 destroy q = call.Destroy (record { 0 = q })
 
-abbrev pub fired : ℕ → ℕ → Reply
-fired i k = reply.Fired (record { 0 = i }) k
+abbrev pub reply_fired : ℕ → ℕ → Reply
+reply_fired i k = reply.Fired (record { 0 = i }) k
 
 abbrev pub entry : Who → ℕ → Call → Reply → Entry
 entry who serial call reply = record { who = who; serial = serial; call = call; reply = reply }
@@ -111,12 +111,12 @@ pub record Example : Type 0 where
   pub history : List Entry
   pub left_out : ℕ
 
-abbrev pub called : Entry → Who × Call
-called e = (e.who, e.call)
+abbrev pub call_made : Entry → Who × Call
+call_made e = (e.who, e.call)
 
 -- of the calls that stand in the history
 abbrev pub example : Layout → List Entry → Example
-example layout history = record { layout = layout; calls = map called history; history = history; left_out = 0 }
+example layout history = record { layout = layout; calls = map call_made history; history = history; left_out = 0 }
 
 abbrev pub example_without : ℕ → Layout → List (Who × Call) → List Entry → Example
 example_without n layout calls history = record { layout = layout; calls = calls; history = history; left_out = n }

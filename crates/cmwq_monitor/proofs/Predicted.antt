@@ -1,5 +1,5 @@
 -- What an entry that would not be made says, and what one that starts a queueing names.
-use Rattle.cmwq_monitor.specs.Common.{◌≡◌, ◌≤◌, ◌<◌, ℕ, Bool, true, false, true≢false, List, [], ◌∷◌, ◌++◌, Some, refl, ap, sym, ◌∙◌, subst, arith, IsTrue, le-leb, reverse-append, same_Some, ItemId, Who, Call, Reply, Entry, Mark, Queueing, Layout, fits, number_started, still_open, is_unstarted, unstarted_queueing, queueing_at, is_done, IsLegal, past_of, entry_for, room_needed, has_room, History, IsMark, IsThere}
+use Rattle.cmwq_monitor.specs.Common.{◌≡◌, ◌≤◌, ◌<◌, ℕ, Bool, true, false, true≢false, List, [], ◌∷◌, ◌++◌, Some, refl, ap, sym, ◌∙◌, subst, arith, IsTrue, le-leb, same_Some, ItemId, Who, Call, Reply, Entry, Mark, Queueing, Layout, fits, number_started, still_open, is_unstarted, unstarted_queueing, queueing_at, is_done, IsLegal, past_of, entry_for, room_needed, has_room, History, IsMark, IsThere}
 use Rattle.std.specs.Cmp.Derive.{both_true}
 use Rattle.cmwq_model.specs.declared.reply.Reply.TheVariants as reply
 use Rattle.cmwq_theory_steps.specs.RoomSteps.{is_promised}
@@ -12,6 +12,7 @@ use Rattle.cmwq_theory_steps.proofs.Ended.{found_open}
 use Rattle.cmwq_lemmas.proofs.Members.{found, of_in}
 use Rattle.cmwq_refinement.proofs.PlacesFit.{open_there}
 use Rattle.cmwq_model.specs.declared.call.Call.TheVariants as call
+use Rattle.cmwq_model.proofs.Growing.{one_more_is_newest}
 use Rattle.cmwq_monitor.specs.Participants.{View, is_caller}
 use Rattle.cmwq_monitor.specs.Calls.{Extends, own_entry}
 use Rattle.cmwq_monitor.specs.Steps.{is_start}
@@ -83,7 +84,6 @@ started_item s h own who m layout same works there legal is starts =
 pub starts_there : (s : Layout) (v w : View) (log : List Entry) (r : Reply) (item : ItemId) (x : Extends s v call.Take r w) → w.seen ≡ log ++ own_entry s log v call.Take ∷ [] → StartsItem (past_of log) (own_entry s log v call.Take) item
     → StartsItem (past_of x.before) (own_entry s x.before v call.Take) item
 starts_there s v w log r item x seen is =
-    let last : (es : List Entry) → past_of (es ++ own_entry s es v call.Take ∷ []) ≡ own_entry s es v call.Take ∷ past_of es = λ es. reverse-append es (own_entry s es v call.Take ∷ []) in
-    let all : own_entry s log v call.Take ∷ past_of log ≡ own_entry s x.before v call.Take ∷ past_of x.before = sym (last log) ∙ ap past_of (sym seen ∙ x.ends) ∙ last x.before in
+    let all : own_entry s log v call.Take ∷ past_of log ≡ own_entry s x.before v call.Take ∷ past_of x.before = sym (one_more_is_newest log (own_entry s log v call.Take)) ∙ ap past_of (sym seen ∙ x.ends) ∙ one_more_is_newest x.before (own_entry s x.before v call.Take) in
     let same : past_of log ≡ past_of x.before = cc all in
     subst (λ (past : List Entry). StartsItem past (entry_for s past v.who call.Take) item) same is

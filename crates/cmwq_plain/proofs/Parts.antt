@@ -1,6 +1,6 @@
 -- The first k entries of a history, as it grows by one entry and from a list that is kept oldest first.
 use Rattle.cmwq_plain.specs.Common.{◌≡◌, ℕ, zero, suc, true, nat_lt, slice_get, ◌+◌, ◌-◌, ◌<◌, ◌≤◌, List, [], ◌∷◌, ◌++◌, length, get_or, take, drop, reverse, Option, Some, None, refl, sym, ap, ◌∙◌, arith, add-one, length-drop, take-append-drop, reverse-append, drop_all, length-reverse, take-suc, drop-append_seam, Entry, entry_at, past_of, lt-ltb}
-use Rattle.cmwq_plain.specs.Past.{upto, then}
+use Rattle.cmwq_plain.specs.Past.{upto, past_with}
 
 pub upto-none : (past : List Entry) → upto past 0 ≡ []
 unfolding upto
@@ -31,15 +31,15 @@ upto-step entries k d h =
     upto-past_of entries (k + 1) (omega arith) ∙ ap reverse longer ∙ reverse-append (take k entries) (get_or entries k d ∷ []) ∙ ap (λ p. get_or entries k d ∷ p) (sym (upto-past_of entries k (omega arith)))
 
 -- the same where there may be one entry more
-pub upto-then : (latest : Option Entry) (entries : List Entry) (k : ℕ) → k ≤ length entries → upto (then latest (past_of entries)) k ≡ past_of (take k entries)
+pub upto-then : (latest : Option Entry) (entries : List Entry) (k : ℕ) → k ≤ length entries → upto (past_with latest (past_of entries)) k ≡ past_of (take k entries)
 upto-then None entries k h = upto-past_of entries k h
 upto-then (Some e) entries k h = upto-more e (past_of entries) k (omega (arith, length-reverse entries)) ∙ upto-past_of entries k h
 
-pub upto-then-all : (latest : Option Entry) (entries : List Entry) (k : ℕ) → length entries < k → upto (then latest (past_of entries)) k ≡ then latest (past_of entries)
+pub upto-then-all : (latest : Option Entry) (entries : List Entry) (k : ℕ) → length entries < k → upto (past_with latest (past_of entries)) k ≡ past_with latest (past_of entries)
 upto-then-all None entries k h = upto-all (past_of entries) k (omega (arith, length-reverse entries))
 upto-then-all (Some e) entries k h = upto-all (e ∷ past_of entries) k (omega (arith, length-reverse entries))
 
-pub upto-then-step : (latest : Option Entry) (entries : List Entry) (k : ℕ) (d : Entry) → k < length entries → upto (then latest (past_of entries)) (k + 1) ≡ get_or entries k d ∷ upto (then latest (past_of entries)) k
+pub upto-then-step : (latest : Option Entry) (entries : List Entry) (k : ℕ) (d : Entry) → k < length entries → upto (past_with latest (past_of entries)) (k + 1) ≡ get_or entries k d ∷ upto (past_with latest (past_of entries)) k
 upto-then-step None entries k d h = upto-step entries k d h
 upto-then-step (Some e) entries k d h =
     upto-more e (past_of entries) (k + 1) (omega (arith, length-reverse entries)) ∙ upto-step entries k d h ∙ ap (λ p. get_or entries k d ∷ p) (sym (upto-more e (past_of entries) k (omega (arith, length-reverse entries))))
@@ -48,11 +48,11 @@ pub upto-then-last : (e : Entry) (entries : List Entry) (k : ℕ) → k ≡ leng
 upto-then-last e entries k h =
     upto-all (e ∷ past_of entries) (k + 1) (omega (arith, length-reverse entries)) ∙ ap (λ p. e ∷ p) (sym (upto-more e (past_of entries) k (omega (arith, length-reverse entries)) ∙ upto-all (past_of entries) k (omega (arith, length-reverse entries))))
 
-pub within : (latest : Option Entry) (entries : List Entry) (k : ℕ) → k < length (then latest (past_of entries)) → (k ≡ length entries → ⊥) → k < length entries
+pub within : (latest : Option Entry) (entries : List Entry) (k : ℕ) → k < length (past_with latest (past_of entries)) → (k ≡ length entries → ⊥) → k < length entries
 within None entries k h other = omega (arith, length-reverse entries)
 within (Some e) entries k h other = omega (arith, length-reverse entries)
 
-pub within_none : (latest : Option Entry) (entries : List Entry) (k : ℕ) → latest ≡ None → k < length (then latest (past_of entries)) → k < length entries
+pub within_none : (latest : Option Entry) (entries : List Entry) (k : ℕ) → latest ≡ None → k < length (past_with latest (past_of entries)) → k < length entries
 within_none None entries k n h = omega (arith, length-reverse entries)
 within_none (Some e) entries k n h = cc
 

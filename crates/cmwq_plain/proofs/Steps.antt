@@ -1,5 +1,5 @@
 -- What one entry more does to each word.
-use Rattle.cmwq_plain.specs.Common.{◌≡◌, ℕ, ◌+◌, ◌<◌, ◌≤◌, ◌&&◌, ◌||◌, not, ◌==◌, nat_le, List, [], ◌∷◌, ◌++◌, length, filter, Some, None, option_to_list, if◌then◌else◌, refl, ap, arith, option_or, Worker, WorkerId, Entry, Call, is_by, bookings, booking_of, stands, standing, is_enlisted, enlists, is_retired, serving_from, is_served_after, least_waited, waits_for, may_fire}
+use Rattle.cmwq_plain.specs.Common.{◌≡◌, ℕ, ◌+◌, ◌<◌, ◌≤◌, ◌&&◌, ◌||◌, not, ◌==◌, nat_le, List, [], ◌∷◌, ◌++◌, length, filter, Some, None, option_to_list, if◌then◌else◌, refl, ap, arith, option_or, Worker, WorkerId, Entry, Call, is_by, bookings, booking_of, stands, standing_bookings, is_enlisted, enlists, is_retired, serving_from, is_served_after, least_waited, waits_for, may_fire}
 use Rattle.cmwq_model.specs.declared.id.ItemId.{ItemId}
 use Rattle.cmwq_model.specs.declared.call.Call.TheVariants.{CancelSync}
 use Rattle.cmwq_plain.specs.Past.{upto}
@@ -34,7 +34,7 @@ pub standing_none : (past : List Entry) → standing_upto past 0 ≡ []
 unfolding standing_upto bookings
 standing_none past = ap (λ p. filter (stands past) (bookings p)) (upto-none past)
 
-pub standing_all : (past : List Entry) (k : ℕ) → length past ≤ k → standing_upto past k ≡ standing past
+pub standing_all : (past : List Entry) (k : ℕ) → length past ≤ k → standing_upto past k ≡ standing_bookings past
 unfolding standing_upto
 standing_all past k h = ap (λ p. filter (stands past) (bookings p)) (upto-all past k h)
 

@@ -9,7 +9,7 @@ pub use Rattle.std.proofs.lemmas.List.Sums.{sum_by-append, sum_by-cons}
 pub use Rattle.std.specs.List.{flat_map, list_any, range_with_len}
 pub use Rattle.std.specs.Option.{option_map_or, option_or}
 pub use Rattle.std.specs.Prelude.{IfSome}
-pub use Rattle.cmwq_model.specs.Prelude.{AllFit, IsFirstWrong, Layout, Wants, asleep_after, booking_of, cpu_workers, ends, ends_destroy, enlists, entry_at, entry_for, first_width, frozen_after, has_not_started, has_number, has_run, holds_up, is_active, is_ahead, is_below_max_active, is_booked_on, is_by, is_cancel_sync_of, is_destroy_of, is_done, is_drain_of, is_due_before, is_finished, is_held_by, is_listed, is_live, is_newly_active, is_of, is_of_item, is_older_flush, is_retired, is_served_after, is_soonest, is_startable, is_started, is_ticket, is_unended, is_unstarted, item_of, least_waited, may_fire, newly_active, number_started, opening, opens, past_of, place_wanted, queued_at, replaces, runs_asleep, serial_of, settles, standing, stands, start_in, starts_item, still_open, takes_back, ticket_in, ticks_told, unended_tickets, waits_for, width_set, worker_at}
+pub use Rattle.cmwq_model.specs.Prelude.{AllFit, IsFirstWrong, Layout, Wants, asleep_after, booking_of, cpu_workers, ends, ends_destroy, enlists, entry_at, entry_for, first_width, frozen_after, has_not_started, has_number, has_run, holds_up, is_active, is_ahead, is_below_max_active, is_booked_on, is_by, is_cancel_sync_of, is_destroy_of, is_done, is_drain_of, is_due_before, is_finished, is_held_by, is_listed, is_live, is_newly_active, is_of, is_of_item, is_older_flush, is_retired, is_served_after, is_soonest, is_startable, is_started, is_ticket, is_unended, is_unstarted, item_of, least_waited, may_fire, newly_active, number_started, opening, opens, past_of, place_wanted, queued_at, replaces, runs_asleep, serial_of, settles, standing_bookings, stands, start_in, starts_item, still_open, takes_back, ticket_in, ticks_told, unended_tickets, waits_for, width_set, worker_at}
 unfoldable pub use Rattle.cmwq_model.specs.Prelude.{IsLegal, became_active, booking, bookings, is_asleep, is_cancelled, is_enlisted, is_frozen, is_gone, item_start, last_start, max_active, next, now, queueings, serving_from, tickets, worklist}
 pub use Rattle.cmwq_model.specs.declared.call.Call.{Call}
 pub use Rattle.cmwq_model.specs.declared.entry.Entry.{Entry}

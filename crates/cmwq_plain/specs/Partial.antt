@@ -1,13 +1,13 @@
 -- What the first k entries made of it.
 use Rattle.std.specs.Prelude.{◌+◌}
-use Rattle.cmwq_plain.specs.Common.{ℕ, List, filter, count_by, Option, None, WorkerId, Call, Entry, Queueing, bookings, standing, stands, has_run, runs_asleep, may_fire, serving_from, is_ahead}
+use Rattle.cmwq_plain.specs.Common.{ℕ, List, filter, count_by, Option, None, WorkerId, Call, Entry, Queueing, bookings, standing_bookings, stands, has_run, runs_asleep, may_fire, serving_from, is_ahead}
 use Rattle.cmwq_model.specs.declared.record.Booking.{Booking}
 use Rattle.cmwq_model.specs.declared.call.Call.TheVariants as call
 use Rattle.cmwq_plain.specs.Past.{upto, open_upto}
 
 -- the bookings that may fire, and those of them that the first k entries made
 abbrev pub fireable : List Entry → List Booking
-fireable past = filter (may_fire past) (standing past)
+fireable past = filter (may_fire past) (standing_bookings past)
 
 unfoldable pub fireable_upto : List Entry → ℕ → List Booking
 fireable_upto past k = filter (may_fire past) (filter (stands past) (bookings (upto past k)))

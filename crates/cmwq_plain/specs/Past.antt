@@ -8,9 +8,9 @@ unfoldable pub upto : List Entry → ℕ → List Entry
 upto past k = drop (length past - k) past
 
 -- one entry more, if there is one
-abbrev pub then : Option Entry → List Entry → List Entry
-then None past = past
-then (Some e) past = e ∷ past
+abbrev pub past_with : Option Entry → List Entry → List Entry
+past_with None past = past
+past_with (Some e) past = e ∷ past
 
 -- the open queueings and the unended tickets that the first k entries made
 unfoldable pub open_upto : List Entry → ℕ → List Queueing

@@ -1,6 +1,6 @@
 ghost use Rattle.std.specs.Prelude.{◌≡◌, ◌<◌, ◌+◌, ◌++◌, length, option_to_list};
 ghost use Rattle.std.specs.List.{list_any};
-ghost use Rattle.cmwq_model.specs.Prelude.{standing, may_fire, is_soonest, first_due, is_booked_on};
+ghost use Rattle.cmwq_model.specs.Prelude.{standing_bookings, may_fire, is_soonest, first_due, is_booked_on};
 ghost use Rattle.cmwq_plain.specs.Partial.{fireable, fireable_upto, standing_upto};
 
 use crate::bookings::stands;
@@ -88,7 +88,7 @@ fn standing_at(past: &Past<'_>, number: usize) -> Option<Booking>
 /// Whether an item is delayed on the queue.
 #[tactic(auto, using(cmwq_lemmas::proofs::Pushed::any_push, crate::proofs::Steps::standing_ends))]
 pub fn has_timers(past: &Past<'_>, queue: u8) -> bool
-    ensures { result ≡ list_any (is_booked_on queue) (standing past.now) }
+    ensures { result ≡ list_any (is_booked_on queue) (standing_bookings past.now) }
 {
     let mut found = false;
     for k in 0..past.len() {

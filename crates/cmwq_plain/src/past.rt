@@ -16,11 +16,11 @@ impl<'a> Model for Past<'a> {
     ghost use Rattle.std.specs.Prelude.{List, length, ◌≤◌};
     ghost use Rattle.cmwq_model.specs.declared.entry.Entry.{Entry};
     ghost use Rattle.cmwq_model.specs.Prelude.{past_of};
-    ghost use Rattle.cmwq_plain.specs.Past.{then};
+    ghost use Rattle.cmwq_plain.specs.Past.{past_with};
 
     ghost Value = { List Entry };
 
-    ghost view = { λ a. then a.latest (past_of a.entries.now) };
+    ghost view = { λ a. past_with a.latest (past_of a.entries.now) };
 
     ghost invariant = { λ a. length a.entries.now ≤ 1000000 };
 }

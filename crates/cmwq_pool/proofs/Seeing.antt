@@ -4,7 +4,7 @@ use Rattle.std.proofs.Common.{⊎_elim}
 use Rattle.std.proofs.lemmas.Bool.{cases_eq, cases_lt, false_from_ne_true, false≢true, lt-ltb, or_right}
 use Rattle.std.proofs.lemmas.List.{ext_get_or, get_or-map, get_or-replicate, get_or_default, get_or_past}
 use Rattle.std.proofs.lemmas.List.FromFn.{fill_by_all, get_or-map-range_with_len, length-map-range_with_len}
-use Rattle.cmwq_list.specs.Lists.{Listed, list_at, list_of, has_item, without_item, pushed, removed, AreListedOnce}
+use Rattle.cmwq_list.specs.Lists.{Listed, list_at, list_of, has_item, without_item, lists_with, lists_without, AreListedOnce}
 use Rattle.cmwq_pool.specs.declared.note.Note.{Note}
 use Rattle.cmwq_pool.specs.declared.slot.Slot.{Slot}
 use Rattle.cmwq_pool.specs.Slots.{slots_run_item, slots_started}
@@ -47,28 +47,28 @@ module _ (lists : Listed) (notes : List Note) (workers : List (List Slot)) (p : 
       new = change (slice_index_or workers p [])
 
   -- an item that no pool lists joins the list of one
-  pub item_added : (i : ℕ) (y : Note) → length lists.lists ≡ length workers → i < length notes → ((q : ℕ) → has_item i (list_at lists.lists q) ≡ false) → pools_seen (pushed lists p i) (set notes i y) workers ≡ with_pool (λ l. pool_with_task l (task y.number i y.intensive)) p (pools_seen lists notes workers)
+  pub item_added : (i : ℕ) (y : Note) → length lists.lists ≡ length workers → i < length notes → ((q : ℕ) → has_item i (list_at lists.lists q) ≡ false) → pools_seen (lists_with lists p i) (set notes i y) workers ≡ with_pool (λ l. pool_with_task l (task y.number i y.intensive)) p (pools_seen lists notes workers)
   item_added i y many low nowhere =
-      parts_changed lists (pushed lists p i) notes (set notes i y) workers workers p (λ l. pool_with_task l (task y.number i y.intensive)) refl less
-      (same_pool_state (pool_seen (pushed lists p i) (set notes i y) workers p) (pool_with_task (pool_seen lists notes workers p) (task y.number i y.intensive)) refl
+      parts_changed lists (lists_with lists p i) notes (set notes i y) workers workers p (λ l. pool_with_task l (task y.number i y.intensive)) refl less
+      (same_pool_state (pool_seen (lists_with lists p i) (set notes i y) workers p) (pool_with_task (pool_seen lists notes workers p) (task y.number i y.intensive)) refl
       (ap (map (noted_task (set notes i y))) (get_or-set_same lists.lists p (list_at lists.lists p ++ i ∷ []) [] (rw many less)) ∙ added notes i y (list_at lists.lists p) low (nowhere p)) refl)
-      (λ q less1 differs. same_pool_state (pool_seen (pushed lists p i) (set notes i y) workers q) (pool_seen lists notes workers q) refl
+      (λ q less1 differs. same_pool_state (pool_seen (lists_with lists p i) (set notes i y) workers q) (pool_seen lists notes workers q) refl
       (ap (map (noted_task (set notes i y))) (get_or-set_other lists.lists p q (list_at lists.lists p ++ i ∷ []) [] differs) ∙ kept_notes notes i y (list_at lists.lists q) (nowhere q)) refl)
 
   -- an item leaves the list that it is in
-  left_at : (i q : ℕ) → length lists.lists ≡ length workers → q < length workers → list_at (removed lists i).lists q ≡ without_item i (list_at lists.lists q)
+  left_at : (i q : ℕ) → length lists.lists ≡ length workers → q < length workers → list_at (lists_without lists i).lists q ≡ without_item i (list_at lists.lists q)
   left_at i q many low = get_or-map (without_item i) lists.lists q [] [] (rw many low)
 
-  left_others : (i q : ℕ) → length lists.lists ≡ length workers → AreListedOnce lists → has_item i (list_at lists.lists p) ≡ true → q < length workers → q ≢ p → list_at (removed lists i).lists q ≡ list_at lists.lists q
+  left_others : (i q : ℕ) → length lists.lists ≡ length workers → AreListedOnce lists → has_item i (list_at lists.lists p) ≡ true → q < length workers → q ≢ p → list_at (lists_without lists i).lists q ≡ list_at lists.lists q
   left_others i q many once here low differs = left_at i q many low ∙ without_none i (list_at lists.lists q) (false_from_ne_true (has_item i (list_at lists.lists q)) (λ also. differs (once.apart i q p also here)))
 
   pub item_removed : (n i : ℕ) → length lists.lists ≡ length workers → AreListedOnce lists → has_item i (list_at lists.lists p) ≡ true → (note_at notes i).number ≡ n
-      → pools_seen (removed lists i) notes workers ≡ with_pool (λ l. pool_without_task l n i) p (pools_seen lists notes workers)
+      → pools_seen (lists_without lists i) notes workers ≡ with_pool (λ l. pool_without_task l n i) p (pools_seen lists notes workers)
   item_removed n i many once here number =
-      parts_changed lists (removed lists i) notes notes workers workers p (λ l. pool_without_task l n i) refl less
-      (same_pool_state (pool_seen (removed lists i) notes workers p) (pool_without_task (pool_seen lists notes workers p) n i) refl
+      parts_changed lists (lists_without lists i) notes notes workers workers p (λ l. pool_without_task l n i) refl less
+      (same_pool_state (pool_seen (lists_without lists i) notes workers p) (pool_without_task (pool_seen lists notes workers p) n i) refl
       (ap (map (noted_task notes)) (left_at i p many less) ∙ taken notes n i (list_at lists.lists p) number) refl)
-      (λ q low differs. same_pool_state (pool_seen (removed lists i) notes workers q) (pool_seen lists notes workers q) refl
+      (λ q low differs. same_pool_state (pool_seen (lists_without lists i) notes workers q) (pool_seen lists notes workers q) refl
       (ap (map (noted_task notes)) (left_others i q many once here low differs)) refl)
 
   pub none_removed : (n i : ℕ) → list_any (is_task n i) (map (noted_task notes) (list_at lists.lists p)) ≡ false → pools_seen lists notes workers ≡ with_pool (λ l. pool_without_task l n i) p (pools_seen lists notes workers)
@@ -79,12 +79,12 @@ module _ (lists : Listed) (notes : List Note) (workers : List (List Slot)) (p : 
 
   -- an item leaves its list, and a worker runs it
   pub item_started : (w i : ℕ) (workers1 : List (List Slot)) → length lists.lists ≡ length workers → AreListedOnce lists → has_item i (list_at lists.lists p) ≡ true → workers1 ≡ slice_set workers p (slots_started (slice_index_or workers p []) w (noted_task notes i))
-      → pools_seen (removed lists i) notes workers1 ≡ with_pool (λ l. pool_with_run l w (noted_task notes i)) p (pools_seen lists notes workers)
-  item_started w i workers1 many once here is = ap (pools_seen (removed lists i) notes) is
-      ∙ parts_changed lists (removed lists i) notes notes workers (slice_set workers p new) p (λ l. pool_with_run l w (noted_task notes i)) (length-set workers p new) less
-      (same_pool_state (pool_seen (removed lists i) notes (slice_set workers p new) p) (pool_with_run (pool_seen lists notes workers p) w (noted_task notes i)) refl
+      → pools_seen (lists_without lists i) notes workers1 ≡ with_pool (λ l. pool_with_run l w (noted_task notes i)) p (pools_seen lists notes workers)
+  item_started w i workers1 many once here is = ap (pools_seen (lists_without lists i) notes) is
+      ∙ parts_changed lists (lists_without lists i) notes notes workers (slice_set workers p new) p (λ l. pool_with_run l w (noted_task notes i)) (length-set workers p new) less
+      (same_pool_state (pool_seen (lists_without lists i) notes (slice_set workers p new) p) (pool_with_run (pool_seen lists notes workers p) w (noted_task notes i)) refl
       (ap (map (noted_task notes)) (left_at i p many less) ∙ taken notes (note_at notes i).number i (list_at lists.lists p) refl) (get_or-set_same workers p new [] less))
-      (λ q low differs. same_pool_state (pool_seen (removed lists i) notes (slice_set workers p new) q) (pool_seen lists notes workers q) refl
+      (λ q low differs. same_pool_state (pool_seen (lists_without lists i) notes (slice_set workers p new) q) (pool_seen lists notes workers q) refl
       (ap (map (noted_task notes)) (left_others i q many once here low differs)) (get_or-set_other workers p q new [] differs))
     where
       new : List Slot

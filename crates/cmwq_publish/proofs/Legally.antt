@@ -1,4 +1,4 @@
--- Histories as they grow at their end.
+-- What an empty history leaves, and the serials of a legal one.
 use Rattle.cmwq_publish.specs.Common.{◌≡◌, ℕ, ◌+◌, ◌≤◌, ◌==◌, List, [], ◌∷◌, length, Bool, true, false, cond, refl, ap, sym, ◌∙◌, subst, arith, if◌then◌else◌, option_map, length-reverse, CallerId, Who, Caller, Worker, Entry, is_at, is_by, same_who, serial_of, Layout, booking, item_start, queueings, IsLegal, past_of, bits}
 use Rattle.std.proofs.lemmas.Bool.{eqb-true}
 use Rattle.std.proofs.lemmas.List.Sums.{count_by-le-length, sum_by-cons}

@@ -11,10 +11,10 @@ use Rattle.std.proofs.lemmas.Option.{same_Some, slice_get-map, slice_get_within,
 use Rattle.cmwq_lemmas.proofs.Filters.{filter_twice, filter_same}
 use Rattle.cmwq_lemmas.proofs.Lists.{All_each, All_push, filter_all}
 use Rattle.cmwq_lemmas.proofs.Truth.{and_false, flip}
-use Rattle.cmwq_list.specs.Lists.{Listed, AreDistinct, AreListedOnce, has_item, list_at, list_of, pushed, removed, without_item}
+use Rattle.cmwq_list.specs.Lists.{Listed, AreDistinct, AreListedOnce, has_item, list_at, list_of, lists_with, lists_without, without_item}
 use Rattle.cmwq_pwq.specs.Pwqs.{IsNumberOfItem, is_other_waiting, place_of}
 use Rattle.cmwq_pwq.proofs.Passes.{on_itself, on_parts, one_place}
-use Rattle.cmwq_pwq.specs.Waiting.{AreWaitingKept, IsFirstTaken, IsRow, WaitingState, is_at_place, is_of_other, row_of}
+use Rattle.cmwq_pwq.specs.Waiting.{AreWaitingKept, IsFirstTaken, HasOwnRow, WaitingState, is_at_place, is_of_other, row_of}
 use Rattle.cmwq_lemmas.proofs.Passing.{none_pass}
 
 -- ---- lists of lists
@@ -46,37 +46,37 @@ module _ (rows : List Queueing) where
   abbrev waiting_of : List ℕ → List Queueing
   waiting_of xs = map (row_of rows) xs
 
-  pub row_at : (xs : List ℕ) (k i : ℕ) → AllByRecursion (IsRow rows) xs → slice_get xs k ≡ Some i → IsRow rows i
+  pub row_at : (xs : List ℕ) (k i : ℕ) → AllByRecursion (HasOwnRow rows) xs → slice_get xs k ≡ Some i → HasOwnRow rows i
   row_at [] k i each e = absurd (let bad : None ≡ Some i = e in cc)
-  row_at (x ∷ xs) zero i each e = subst (IsRow rows) (same_Some x i e) each.0
+  row_at (x ∷ xs) zero i each e = subst (HasOwnRow rows) (same_Some x i e) each.0
   row_at (x ∷ xs) (suc k) i each e = row_at xs k i each.1 e
 
   -- the row that is read is that of what waits
-  pub read_at : (xs : List ℕ) (k : ℕ) → AllByRecursion (IsRow rows) xs → option_and_then (slice_get rows) (slice_get xs k) ≡ slice_get (waiting_of xs) k
+  pub read_at : (xs : List ℕ) (k : ℕ) → AllByRecursion (HasOwnRow rows) xs → option_and_then (slice_get rows) (slice_get xs k) ≡ slice_get (waiting_of xs) k
   read_at xs k each = by (slice_get xs k) refl ∙ sym (slice_get-map (row_of rows) xs k)
     where
       by : (o : Option ℕ) → slice_get xs k ≡ o → option_and_then (slice_get rows) o ≡ option_map (row_of rows) o
       by o e = grind (arith, slice_get-get_or, row_at)
 
   -- what waits at a place stands in its item's row
-  pub item_at : (xs : List ℕ) (k : ℕ) (x : Queueing) → AllByRecursion (IsRow rows) xs → slice_get (waiting_of xs) k ≡ Some x → (slice_get xs k ≡ Some x.item.0) × (row_of rows x.item.0 ≡ x)
+  pub item_at : (xs : List ℕ) (k : ℕ) (x : Queueing) → AllByRecursion (HasOwnRow rows) xs → slice_get (waiting_of xs) k ≡ Some x → (slice_get xs k ≡ Some x.item.0) × (row_of rows x.item.0 ≡ x)
   item_at xs k x each e = by (slice_get xs k) refl (sym (slice_get-map (row_of rows) xs k) ∙ e)
     where
       by : (o : Option ℕ) → slice_get xs k ≡ o → option_map (row_of rows) o ≡ Some x → (slice_get xs k ≡ Some x.item.0) × (row_of rows x.item.0 ≡ x)
       by o at is = grind (arith, row_at)
 
   -- an item has one that waits where its number is listed
-  pub of_item : (i : ℕ) (xs : List ℕ) → AllByRecursion (IsRow rows) xs → list_any (is_of i) (waiting_of xs) ≡ has_item i xs
+  pub of_item : (i : ℕ) (xs : List ℕ) → AllByRecursion (HasOwnRow rows) xs → list_any (is_of i) (waiting_of xs) ≡ has_item i xs
   of_item i [] each = refl
   of_item i (x ∷ xs) each = grind (arith, of_item i xs each.1)
 
-  pub known_items : (xs : List ℕ) → AllByRecursion (IsRow rows) xs → AllByRecursion (λ x. x.item.0 < length rows) (waiting_of xs)
+  pub known_items : (xs : List ℕ) → AllByRecursion (HasOwnRow rows) xs → AllByRecursion (λ x. x.item.0 < length rows) (waiting_of xs)
   known_items [] each = tt
   known_items (x ∷ xs) each = (rw each.0.item each.0.inside, known_items xs each.1)
 
   -- ---- an item's queueing is taken out
 
-  pub unlinked_rest : (i : ℕ) (xs : List ℕ) → AllByRecursion (IsRow rows) xs → waiting_of (without_item i xs) ≡ filter (is_of_other i) (waiting_of xs)
+  pub unlinked_rest : (i : ℕ) (xs : List ℕ) → AllByRecursion (HasOwnRow rows) xs → waiting_of (without_item i xs) ≡ filter (is_of_other i) (waiting_of xs)
   unlinked_rest i [] each = refl
   unlinked_rest i (x ∷ xs) each = grind (arith, unlinked_rest i xs each.1)
 
@@ -105,22 +105,22 @@ module _ (rows : List Queueing) (all pwqs : Listed) (kept : AreWaitingKept rows 
   abbrev items : List ℕ
   items = list_at all.lists 0
 
-  pub all_without : (i : ℕ) → list_at (removed all i).lists 0 ≡ without_item i items
+  pub all_without : (i : ℕ) → list_at (lists_without all i).lists 0 ≡ without_item i items
   all_without i = get_or-map (without_item i) all.lists 0 [] [] (let one = kept.one in omega arith)
 
-  pub unlinked_kept : (i : ℕ) → AreWaitingKept rows (removed all i) (removed pwqs i)
+  pub unlinked_kept : (i : ℕ) → AreWaitingKept rows (lists_without all i) (lists_without pwqs i)
   unlinked_kept i = record {
     items = kept.items;
     items_of_pwqs = kept.items_of_pwqs;
     one = length-map all.lists (without_item i) ∙ kept.one;
-    each = subst (AllByRecursion (IsRow rows)) (sym (all_without i)) (each_without (IsRow rows) i items kept.each);
+    each = subst (AllByRecursion (HasOwnRow rows)) (sym (all_without i)) (each_without (HasOwnRow rows) i items kept.each);
     of_pwqs = λ p less.
         let inside : p < length pwqs.lists = rw (length-map pwqs.lists (without_item i)) at less in
         get_or-map (without_item i) pwqs.lists p [] [] inside
         ∙ (ap (without_item i) (kept.of_pwqs p inside) ∙ (without_filter (is_at_place rows p) i items ∙ ap (filter (is_at_place rows p)) (sym (all_without i))));
   }
 
-  pub all_pushed : (x : Queueing) → list_at (pushed all 0 x.item.0).lists 0 ≡ items ++ x.item.0 ∷ []
+  pub all_pushed : (x : Queueing) → list_at (lists_with all 0 x.item.0).lists 0 ≡ items ++ x.item.0 ∷ []
   all_pushed x = get_or-set_same all.lists 0 (items ++ x.item.0 ∷ []) [] (let one = kept.one in omega arith)
 
   -- ---- a queueing is put behind the others
@@ -147,16 +147,16 @@ module _ (rows : List Queueing) (all pwqs : Listed) (kept : AreWaitingKept rows 
     rows2_many : length rows2 ≡ length rows
     rows2_many = length-set rows x.item.0 x
 
-    rows2_each : x.place.cpu.0 < most_cpus → AllByRecursion (IsRow rows2) (items ++ x.item.0 ∷ [])
-    rows2_each cpu = All_push (IsRow rows2) items x.item.0
-        (All_both (IsRow rows) (λ j. row_of rows2 j ≡ row_of rows j) (IsRow rows2) items (λ j is same. record { inside = rw rows2_many is.inside; item = ap (λ y. y.item.0) same ∙ is.item; cpu = rw same is.cpu }) kept.each others)
+    rows2_each : x.place.cpu.0 < most_cpus → AllByRecursion (HasOwnRow rows2) (items ++ x.item.0 ∷ [])
+    rows2_each cpu = All_push (HasOwnRow rows2) items x.item.0
+        (All_both (HasOwnRow rows) (λ j. row_of rows2 j ≡ row_of rows j) (HasOwnRow rows2) items (λ j is same. record { inside = rw rows2_many is.inside; item = ap (λ y. y.item.0) same ∙ is.item; cpu = rw same is.cpu }) kept.each others)
         (record { inside = rw rows2_many inside; item = ap (λ y. y.item.0) row_here; cpu = rw row_here cpu })
 
     at_place_same : (p : ℕ) → filter (is_at_place rows2 p) items ≡ filter (is_at_place rows p) items
     at_place_same p = filter_same (is_at_place rows2 p) (is_at_place rows p) items (All_map _ _ items (λ j same. ap (λ y. nat_eq (place_of y.place.queue.0 y.place.cpu.0) p) same) others)
 
     module _ (cpu : x.place.cpu.0 < most_cpus) (place : place_of x.place.queue.0 x.place.cpu.0 < length pwqs.lists) where
-      of_pwqs_pushed : (p : ℕ) → p < length pwqs.lists → list_at (pushed pwqs (place_of x.place.queue.0 x.place.cpu.0) x.item.0).lists p ≡ filter (is_at_place rows2 p) (items ++ x.item.0 ∷ [])
+      of_pwqs_pushed : (p : ℕ) → p < length pwqs.lists → list_at (lists_with pwqs (place_of x.place.queue.0 x.place.cpu.0) x.item.0).lists p ≡ filter (is_at_place rows2 p) (items ++ x.item.0 ∷ [])
       of_pwqs_pushed p less = ⊎_elim same other (cases_eq p (place_of x.place.queue.0 x.place.cpu.0)) ∙ sym split
         where
           here : is_at_place rows2 p x.item.0 ≡ nat_eq (place_of x.place.queue.0 x.place.cpu.0) p
@@ -165,25 +165,25 @@ module _ (rows : List Queueing) (all pwqs : Listed) (kept : AreWaitingKept rows 
           split : filter (is_at_place rows2 p) (items ++ x.item.0 ∷ []) ≡ filter (is_at_place rows p) items ++ cond (nat_eq (place_of x.place.queue.0 x.place.cpu.0) p) (x.item.0 ∷ []) []
           split = filter-append (is_at_place rows2 p) items (x.item.0 ∷ []) ∙ ap₂ (λ ys b. ys ++ cond b (x.item.0 ∷ []) []) (at_place_same p) here
 
-          same : p ≡ place_of x.place.queue.0 x.place.cpu.0 → list_at (pushed pwqs (place_of x.place.queue.0 x.place.cpu.0) x.item.0).lists p ≡ filter (is_at_place rows p) items ++ cond (nat_eq (place_of x.place.queue.0 x.place.cpu.0) p) (x.item.0 ∷ []) []
+          same : p ≡ place_of x.place.queue.0 x.place.cpu.0 → list_at (lists_with pwqs (place_of x.place.queue.0 x.place.cpu.0) x.item.0).lists p ≡ filter (is_at_place rows p) items ++ cond (nat_eq (place_of x.place.queue.0 x.place.cpu.0) p) (x.item.0 ∷ []) []
           same e =
-              ap (λ k. list_at (pushed pwqs (place_of x.place.queue.0 x.place.cpu.0) x.item.0).lists k) e
+              ap (λ k. list_at (lists_with pwqs (place_of x.place.queue.0 x.place.cpu.0) x.item.0).lists k) e
               ∙ (get_or-set_same pwqs.lists (place_of x.place.queue.0 x.place.cpu.0) _ [] place
               ∙ ap₂ (λ ys b. ys ++ cond b (x.item.0 ∷ []) []) (ap (list_at pwqs.lists) (sym e) ∙ kept.of_pwqs p less) (sym (eq-eqb (place_of x.place.queue.0 x.place.cpu.0) p (sym e))))
 
-          other : p ≢ place_of x.place.queue.0 x.place.cpu.0 → list_at (pushed pwqs (place_of x.place.queue.0 x.place.cpu.0) x.item.0).lists p ≡ filter (is_at_place rows p) items ++ cond (nat_eq (place_of x.place.queue.0 x.place.cpu.0) p) (x.item.0 ∷ []) []
+          other : p ≢ place_of x.place.queue.0 x.place.cpu.0 → list_at (lists_with pwqs (place_of x.place.queue.0 x.place.cpu.0) x.item.0).lists p ≡ filter (is_at_place rows p) items ++ cond (nat_eq (place_of x.place.queue.0 x.place.cpu.0) p) (x.item.0 ∷ []) []
           other ne =
               get_or-set_other pwqs.lists (place_of x.place.queue.0 x.place.cpu.0) p _ [] ne
               ∙ (kept.of_pwqs p less
               ∙ (sym (append-nil (filter (is_at_place rows p) items))
               ∙ ap (λ b. filter (is_at_place rows p) items ++ cond b (x.item.0 ∷ []) []) (sym (ne_eqb (place_of x.place.queue.0 x.place.cpu.0) p (λ e. ne (sym e))))))
 
-      pub pushed_kept : AreWaitingKept rows2 (pushed all 0 x.item.0) (pushed pwqs (place_of x.place.queue.0 x.place.cpu.0) x.item.0)
+      pub pushed_kept : AreWaitingKept rows2 (lists_with all 0 x.item.0) (lists_with pwqs (place_of x.place.queue.0 x.place.cpu.0) x.item.0)
       pushed_kept = record {
         items = kept.items ∙ sym rows2_many;
         items_of_pwqs = kept.items_of_pwqs ∙ sym rows2_many;
         one = length-set all.lists 0 (items ++ x.item.0 ∷ []) ∙ kept.one;
-        each = subst (AllByRecursion (IsRow rows2)) (sym (all_pushed x)) (rows2_each cpu);
+        each = subst (AllByRecursion (HasOwnRow rows2)) (sym (all_pushed x)) (rows2_each cpu);
         of_pwqs = λ p less. of_pwqs_pushed p (rw (length-set pwqs.lists) at less) ∙ ap (filter (is_at_place rows2 p)) (sym (all_pushed x));
       }
 
@@ -202,11 +202,11 @@ module _ (rows : List Queueing) (all pwqs : Listed) (kept : AreWaitingKept rows 
   abbrev seen : ℕ → ℕ → List Queueing → WaitingState
   seen n m ys = record { items = n; places = m; queueings = ys }
 
-  pub unlinked_seen : (i : ℕ) → seen (length rows) (length (removed pwqs i).lists) (map (row_of rows) (list_at (removed all i).lists 0)) ≡ seen (length rows) (length pwqs.lists) (filter (is_of_other i) (map (row_of rows) items))
+  pub unlinked_seen : (i : ℕ) → seen (length rows) (length (lists_without pwqs i).lists) (map (row_of rows) (list_at (lists_without all i).lists 0)) ≡ seen (length rows) (length pwqs.lists) (filter (is_of_other i) (map (row_of rows) items))
   unlinked_seen i = ap₂ (λ m ys. seen (length rows) m ys) (length-map pwqs.lists (without_item i)) (ap (map (row_of rows)) (all_without i) ∙ unlinked_rest rows i items kept.each)
 
   pub unlinked_by_index : AreListedOnce all → (i k : ℕ) (x : Queueing) → slice_get (map (row_of rows) items) k ≡ Some x → x.item.0 ≡ i →
-      map (row_of rows) (list_at (removed all i).lists 0) ≡ take k (map (row_of rows) items) ++ drop (k + 1) (map (row_of rows) items)
+      map (row_of rows) (list_at (lists_without all i).lists 0) ≡ take k (map (row_of rows) items) ++ drop (k + 1) (map (row_of rows) items)
   unlinked_by_index once i k x at same =
       let one_more : suc k ≡ k + 1 = omega arith in
       ap (map (row_of rows)) (all_without i)
@@ -214,9 +214,9 @@ module _ (rows : List Queueing) (all pwqs : Listed) (kept : AreWaitingKept rows 
       ∙ ap (λ n. take k (map (row_of rows) items) ++ drop n (map (row_of rows) items)) one_more)
 
   pub pushed_seen : (x : Queueing) → x.item.0 < length rows → has_item x.item.0 items ≡ false →
-      seen (length (slice_set rows x.item.0 x)) (length (pushed pwqs (place_of x.place.queue.0 x.place.cpu.0) x.item.0).lists) (map (row_of (slice_set rows x.item.0 x)) (list_at (pushed all 0 x.item.0).lists 0)) ≡ seen (length rows) (length pwqs.lists) (map (row_of rows) items ++ x ∷ [])
+      seen (length (slice_set rows x.item.0 x)) (length (lists_with pwqs (place_of x.place.queue.0 x.place.cpu.0) x.item.0).lists) (map (row_of (slice_set rows x.item.0 x)) (list_at (lists_with all 0 x.item.0).lists 0)) ≡ seen (length rows) (length pwqs.lists) (map (row_of rows) items ++ x ∷ [])
   pushed_seen x inside lacks =
-      ap (λ n. seen n (length (pushed pwqs (place_of x.place.queue.0 x.place.cpu.0) x.item.0).lists) (map (row_of (slice_set rows x.item.0 x)) (list_at (pushed all 0 x.item.0).lists 0))) (length-set rows x.item.0 x)
+      ap (λ n. seen n (length (lists_with pwqs (place_of x.place.queue.0 x.place.cpu.0) x.item.0).lists) (map (row_of (slice_set rows x.item.0 x)) (list_at (lists_with all 0 x.item.0).lists 0))) (length-set rows x.item.0 x)
       ∙ ap₂ (λ m ys. seen (length rows) m ys) (length-set pwqs.lists (place_of x.place.queue.0 x.place.cpu.0) _)
       (ap (map (row_of (slice_set rows x.item.0 x))) (all_pushed x) ∙ pushed_behind x inside lacks)
 
@@ -227,15 +227,15 @@ module _ (rows : List Queueing) (x : Queueing) where
   abbrev pub is_in_row : Bool
   is_in_row = nat_eq (row_of rows x.item.0).number x.number
 
-  number_in_row : (xs : List ℕ) → AllByRecursion (IsRow rows) xs → IsNumberOfItem x (map (row_of rows) xs) → list_any (has_number x.number) (map (row_of rows) xs) ≡ (is_in_row && has_item x.item.0 xs)
+  number_in_row : (xs : List ℕ) → AllByRecursion (HasOwnRow rows) xs → IsNumberOfItem x (map (row_of rows) xs) → list_any (has_number x.number) (map (row_of rows) xs) ≡ (is_in_row && has_item x.item.0 xs)
   number_in_row [] each of = sym (and_false is_in_row)
   number_in_row (y ∷ ys) each of = grind (arith, number_in_row ys each.1 of.1)
 
   -- where it waits, the others are those of other items
-  others_by_number : (xs : List ℕ) → AllByRecursion (IsRow rows) xs → IsNumberOfItem x (map (row_of rows) xs) → is_in_row ≡ true → filter (is_of_other x.item.0) (map (row_of rows) xs) ≡ filter (is_other_waiting x.number) (map (row_of rows) xs)
+  others_by_number : (xs : List ℕ) → AllByRecursion (HasOwnRow rows) xs → IsNumberOfItem x (map (row_of rows) xs) → is_in_row ≡ true → filter (is_of_other x.item.0) (map (row_of rows) xs) ≡ filter (is_other_waiting x.number) (map (row_of rows) xs)
   others_by_number xs each of is = filter_same (is_of_other x.item.0) (is_other_waiting x.number) (map (row_of rows) xs) (alike xs each of)
     where
-      alike : (xs : List ℕ) → AllByRecursion (IsRow rows) xs → IsNumberOfItem x (map (row_of rows) xs) → AllByRecursion (λ y. is_of_other x.item.0 y ≡ is_other_waiting x.number y) (map (row_of rows) xs)
+      alike : (xs : List ℕ) → AllByRecursion (HasOwnRow rows) xs → IsNumberOfItem x (map (row_of rows) xs) → AllByRecursion (λ y. is_of_other x.item.0 y ≡ is_other_waiting x.number y) (map (row_of rows) xs)
       alike [] each of = tt
       alike (y ∷ ys) each of = grind (arith, alike ys each.1 of.1)
 
@@ -279,7 +279,7 @@ module _ (rows : List Queueing) (all pwqs : Listed) (kept : AreWaitingKept rows 
   abbrev xs : List ℕ
   xs = list_at all.lists 0
 
-  pub first_row : (i : ℕ) → slice_get (list_at pwqs.lists (place_of q c)) 0 ≡ Some i → IsRow rows i
+  pub first_row : (i : ℕ) → slice_get (list_at pwqs.lists (place_of q c)) 0 ≡ Some i → HasOwnRow rows i
   first_row i e = let found = first_at rows (place_of q c) xs i (ap (λ ys. slice_get ys 0) (sym (kept.of_pwqs (place_of q c) place)) ∙ e) in row_at rows xs found.0 i kept.each found.1.at
 
   pub first_taken : (i : ℕ) (rest : List Queueing) → slice_get (list_at pwqs.lists (place_of q c)) 0 ≡ Some i

@@ -31,7 +31,7 @@ abbrev pub row_of : List Queueing → ℕ → Queueing
 row_of rows i = slice_index_or rows i no_queueing
 
 -- item i has a row of its own, which tells a place on a CPU that may be
-pub record IsRow (rows : List Queueing) (i : ℕ) : Type 0 where
+pub record HasOwnRow (rows : List Queueing) (i : ℕ) : Type 0 where
   pub inside : i < length rows
   pub item : (row_of rows i).item.0 ≡ i
   pub cpu : (row_of rows i).place.cpu.0 < most_cpus
@@ -45,5 +45,5 @@ pub record AreWaitingKept (rows : List Queueing) (all pwqs : Listed) : Type 0 wh
   pub items : all.items ≡ length rows
   pub items_of_pwqs : pwqs.items ≡ length rows
   pub one : length all.lists ≡ 1
-  pub each : AllByRecursion (IsRow rows) (list_at all.lists 0)
+  pub each : AllByRecursion (HasOwnRow rows) (list_at all.lists 0)
   pub of_pwqs : (p : ℕ) → p < length pwqs.lists → list_at pwqs.lists p ≡ filter (is_at_place rows p) (list_at all.lists 0)

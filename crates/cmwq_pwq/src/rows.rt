@@ -16,11 +16,11 @@ pub(crate) struct Rows {
 impl Model for Rows {
     ghost use Rattle.std.specs.Prelude.{List};
     ghost use Rattle.cmwq_model.specs.declared.record.Queueing.{Queueing};
-    ghost use Rattle.cmwq_pwq.specs.Rows.{AreRows, rows_from};
+    ghost use Rattle.cmwq_pwq.specs.Rows.{AreRows, queueing_rows_from};
 
     ghost Value = { List Queueing };
 
-    ghost view = { λ r. rows_from 0 r.numbers.items r.places.items };
+    ghost view = { λ r. queueing_rows_from 0 r.numbers.items r.places.items };
 
     ghost invariant = { λ r. AreRows r.numbers.items r.places.items };
 }

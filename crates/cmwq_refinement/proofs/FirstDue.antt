@@ -1,5 +1,5 @@
 -- The timer that fires first is that of the booking that is due first.
-use Rattle.cmwq_refinement.specs.Common.{◌≡◌, ◌<◌, ◌≤◌, ℕ, suc, true, false, not, ◌&&◌, List, [], ◌∷◌, length, filter, Option, Some, None, option_to_list, nat_lt, nat_le, refl, sym, ap, ◌∙◌, arith, option_map, AllByRecursion, list_any, eqb-true, eq-eqb, not-true, nat_tests, same_Some, ItemId, Entry, Booking, Layout, is_at, is_of_item, now, booking, booking_of, bookings, number_booked, stands, standing, may_fire, is_due_before, is_soonest, soonest, first_due, IsLegal, Timer, MayFire, NoneMayFire, IsFirstToFire, timer_of, All_map, is_at-true, All-from_recursion, settles}
+use Rattle.cmwq_refinement.specs.Common.{◌≡◌, ◌<◌, ◌≤◌, ℕ, suc, true, false, not, ◌&&◌, List, [], ◌∷◌, length, filter, Option, Some, None, option_to_list, nat_lt, nat_le, refl, sym, ap, ◌∙◌, arith, option_map, AllByRecursion, list_any, eqb-true, eq-eqb, not-true, nat_tests, same_Some, ItemId, Entry, Booking, Layout, is_at, is_of_item, now, booking, booking_of, bookings, number_booked, stands, standing_bookings, may_fire, is_due_before, is_soonest, soonest, first_due, IsLegal, Timer, MayFire, NoneMayFire, IsFirstToFire, timer_of, All_map, is_at-true, All-from_recursion, settles}
 use Rattle.cmwq_refinement.proofs.Numbers.{In, RisesBy, all_in, all_more, and_parts, cond_both, filter_in, find_is, found, in_filter, in_left, in_right, list_any_none, none_in, none_pass, of_in, option_in, rises_filter, rises_more, rises_unique}
 use Rattle.cmwq_timer.specs.Due.{is_sooner, timer_may_fire}
 use Rattle.cmwq_refinement.specs.Timers.{timer_for, timers_of, HoldsDraining, item_due, MayApplyToTimers}
@@ -30,13 +30,13 @@ its_booking (e ∷ past) i b h =
     (λ settled is. (same_Some b.item.0 i (sym (booking_books e (length past) b is).item ∙ is_at-true _ i (and_parts (settles e.reply) (is_of_item i e) settled).1), in_right (bookings past) (option_to_list new) b (option_in new b is)))
     (λ kept is. let k = its_booking past i b is in (k.0, in_left (bookings past) (option_to_list new) b k.1)) h
 
-pub in_standing : (past : List Entry) (i : ℕ) (b : Booking) → booking past i ≡ Some b → In b (standing past)
+pub in_standing : (past : List Entry) (i : ℕ) (b : Booking) → booking past i ≡ Some b → In b (standing_bookings past)
 in_standing past i b h =
     let k = its_booking past i b h in
     filter_in (stands past) (bookings past) b k.1 (ap (λ o. is_at (option_map number_booked o) b.number) (ap (booking past) k.0 ∙ h) ∙ eq-eqb b.number b.number refl)
 
 -- what stands is the booking of its item
-pub standing_is : (past : List Entry) (b : Booking) → In b (standing past) → booking past b.item.0 ≡ Some b
+pub standing_is : (past : List Entry) (b : Booking) → In b (standing_bookings past) → booking past b.item.0 ≡ Some b
 standing_is past b h =
     let k = in_filter (stands past) (bookings past) b h in
     with (booking past b.item.0) refl k.0 k.1
@@ -48,9 +48,9 @@ standing_is past b h =
 -- ---- what may fire
 
 abbrev fireable : List Entry → List Booking
-fireable past = filter (may_fire past) (standing past)
+fireable past = filter (may_fire past) (standing_bookings past)
 
-pub standing_fits : (s : Layout) (past : List Entry) (b : Booking) → IsLegal s past → In b (standing past) → Fits s b
+pub standing_fits : (s : Layout) (past : List Entry) (b : Booking) → IsLegal s past → In b (standing_bookings past) → Fits s b
 standing_fits s past b legal h = of_in (Fits s) (bookings past) b (bookings_fit s past legal) (in_filter (stands past) (bookings past) b h).0
 
 same_test : (s : Layout) (past : List Entry) (holds : List ℕ) (b : Booking) → HoldsDraining s past holds → Fits s b → timer_may_fire (now past) holds (timer_for b) ≡ may_fire past b
@@ -58,7 +58,7 @@ same_test s past holds b each fits = ap (λ x. nat_le b.due (now past) && not x)
 
 fires_as_timer : (s : Layout) (past : List Entry) (holds : List ℕ) (b : Booking) → IsLegal s past → HoldsDraining s past holds → In b (fireable past) → MayFire (now past) holds (timers_of s past) b.item.0 (timer_for b)
 fires_as_timer s past holds b legal each h =
-    let k = in_filter (may_fire past) (standing past) b h in
+    let k = in_filter (may_fire past) (standing_bookings past) b h in
     let fits = standing_fits s past b legal k.0 in
     (row_at s past b.item.0 fits.item ∙ ap (option_map timer_for) (standing_is past b k.0), same_test s past holds b each fits ∙ k.1)
 
@@ -80,7 +80,7 @@ fired_booking s past holds i t legal each less may = with (booking past i) refl 
           booked = b;
           item = (its_booking past i b is).0;
           timer = same;
-          fires = filter_in (may_fire past) (standing past) b here (sym (same_test s past holds b each (standing_fits s past b legal here)) ∙ ap (timer_may_fire (now past) holds) same ∙ may.1);
+          fires = filter_in (may_fire past) (standing_bookings past) b here (sym (same_test s past holds b each (standing_fits s past b legal here)) ∙ ap (timer_may_fire (now past) holds) same ∙ may.1);
         }
 
 within_rows : (s : Layout) (past : List Entry) (i : ℕ) (t : Timer) → timer_of (timers_of s past) i ≡ Some t → i < s.items
@@ -101,7 +101,7 @@ soonest_is past bs b rise here none =
     (of_in (λ c. nat_lt c.due a.due ≡ false) bs b (none_pass (is_due_before a) bs (not-true (list_any (is_due_before a) bs) first)) here)))
 
 fireable_rises : (past : List Entry) → RisesBy number_booked (fireable past)
-fireable_rises past = rises_filter number_booked (may_fire past) (standing past) (rises_filter number_booked (stands past) (bookings past) (bookings_rise past))
+fireable_rises past = rises_filter number_booked (may_fire past) (standing_bookings past) (rises_filter number_booked (stands past) (bookings past) (bookings_rise past))
 
 pub first_timer_is_first_due : (s : Layout) (past : List Entry) (holds : List ℕ) (i : ItemId) → IsLegal s past → HoldsDraining s past holds → IsFirstToFire (now past) holds (timers_of s past) i.0 → item_due past ≡ Some i
 unfolding first_due
@@ -124,7 +124,7 @@ no_timer_is_none_due s past holds legal each none =
 
 first_due_fits : (s : Layout) (past : List Entry) (b : Booking) → IsLegal s past → first_due past ≡ Some b → Fits s b
 unfolding first_due
-first_due_fits s past b legal h = standing_fits s past b legal (in_filter (may_fire past) (standing past) b (found (is_soonest (fireable past)) (fireable past) b h).0).0
+first_due_fits s past b legal h = standing_fits s past b legal (in_filter (may_fire past) (standing_bookings past) b (found (is_soonest (fireable past)) (fireable past) b h).0).0
 
 pub entries_apply_to_timers : (s : Layout) (past : List Entry) (e : Entry) → IsLegal s (e ∷ past) → MayApplyToTimers s past e
 unfolding IsLegal

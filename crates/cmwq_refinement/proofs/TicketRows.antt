@@ -2,20 +2,20 @@
 use Rattle.cmwq_refinement.specs.Common.{◌≡◌, ◌≢◌, ◌<◌, ℕ, Bool, true, false, ◌&&◌, List, [], ◌∷◌, ◌++◌, length, map, filter, find, count_by, Option, Some, None, option_to_list, append-nil, refl, sym, ap, ◌∙◌, arith, inl, inr, ⊎_elim, flat_map, range_with_len, list_any, AllByRecursion, eqb-true, eq-eqb, ne_eqb, nat_tests, filter-append, get_or-map-range_with_len, length-filter, Ticket, is_held_by, find_none, filter_twice, filter_same, none_found, TicketRows, tickets_of_caller, is_numbered, rows_with, rows_without, Layout, count, sum_by, sum_by-cons}
 use Rattle.cmwq_refinement.proofs.Numbers.{In, RisesBy, all_in, any_in, counted_by_number, filter_in, found, in_any, in_append, in_filter, in_left, in_range, in_right, list_any-append, number_of_ticket, of_in, rises_unique, same_bools}
 use Rattle.cmwq_ticket.specs.Rows.{is_other_ticket}
-use Rattle.cmwq_refinement.specs.Tickets.{the_caller, tickets_held, rows_of, tickets_in, tickets_after_giving}
+use Rattle.cmwq_refinement.specs.Tickets.{the_caller, tickets_held, ticket_rows_of, tickets_in, tickets_after_giving}
 use Rattle.cmwq_refinement.proofs.TimerSteps.{set_row}
 
-pub row_is : (n : ℕ) (ts : List Ticket) (c : ℕ) → c < n → tickets_of_caller (rows_of n ts) c ≡ tickets_held ts c
+pub row_is : (n : ℕ) (ts : List Ticket) (c : ℕ) → c < n → tickets_of_caller (ticket_rows_of n ts) c ≡ tickets_held ts c
 row_is n ts c less = get_or-map-range_with_len (tickets_held ts) 0 n c c [] less (omega arith)
 
 -- ---- a ticket is given
 
-rows_given : (n : ℕ) (ts : List Ticket) (t : Ticket) → t.caller.0 < n → rows_with (rows_of n ts) t ≡ rows_of n (ts ++ t ∷ [])
-rows_given n ts t less = sym (set_row (tickets_held ts) (tickets_held (ts ++ t ∷ [])) n t.caller.0 (tickets_of_caller (rows_of n ts) t.caller.0 ++ t ∷ [])
+rows_given : (n : ℕ) (ts : List Ticket) (t : Ticket) → t.caller.0 < n → rows_with (ticket_rows_of n ts) t ≡ ticket_rows_of n (ts ++ t ∷ [])
+rows_given n ts t less = sym (set_row (tickets_held ts) (tickets_held (ts ++ t ∷ [])) n t.caller.0 (tickets_of_caller (ticket_rows_of n ts) t.caller.0 ++ t ∷ [])
     (rw (filter-append, eq-eqb t.caller.0 t.caller.0 refl, row_is n ts t.caller.0 less) refl)
     (λ c differs. rw (filter-append, ne_eqb t.caller.0 c (λ same. differs (sym same)), append-nil) refl))
 
-pub rows_after : (s : Layout) (ts : List Ticket) (o : Option Ticket) → ((t : Ticket) → o ≡ Some t → t.caller.0 < s.callers) → tickets_after_giving o (tickets_in s (rows_of s.callers ts)) ≡ tickets_in s (rows_of s.callers (ts ++ option_to_list o))
+pub rows_after : (s : Layout) (ts : List Ticket) (o : Option Ticket) → ((t : Ticket) → o ≡ Some t → t.caller.0 < s.callers) → tickets_after_giving o (tickets_in s (ticket_rows_of s.callers ts)) ≡ tickets_in s (ticket_rows_of s.callers (ts ++ option_to_list o))
 rows_after s ts None there = rw append-nil refl
 rows_after s ts (Some t) there = ap (tickets_in s) (rows_given s.callers ts t (there t refl))
 
@@ -25,8 +25,8 @@ filter_swapped : {X : Type 0} (p q : X → Bool) (xs : List X) → filter p (fil
 filter_swapped p q [] = refl
 filter_swapped p q (x ∷ xs) = grind (arith, filter_swapped p q xs)
 
-pub rows_ended : (n : ℕ) (ts : List Ticket) (u : Ticket) → RisesBy number_of_ticket ts → In u ts → u.caller.0 < n → rows_without (rows_of n ts) u.caller.0 u.number ≡ rows_of n (filter (is_other_ticket u.number) ts)
-rows_ended n ts u rise there less = sym (set_row (tickets_held ts) (tickets_held (filter (is_other_ticket u.number) ts)) n u.caller.0 (filter (is_other_ticket u.number) (tickets_of_caller (rows_of n ts) u.caller.0))
+pub rows_ended : (n : ℕ) (ts : List Ticket) (u : Ticket) → RisesBy number_of_ticket ts → In u ts → u.caller.0 < n → rows_without (ticket_rows_of n ts) u.caller.0 u.number ≡ ticket_rows_of n (filter (is_other_ticket u.number) ts)
+rows_ended n ts u rise there less = sym (set_row (tickets_held ts) (tickets_held (filter (is_other_ticket u.number) ts)) n u.caller.0 (filter (is_other_ticket u.number) (tickets_of_caller (ticket_rows_of n ts) u.caller.0))
     (filter_swapped (is_held_by (the_caller u.caller.0)) (is_other_ticket u.number) ts ∙ ap (filter (is_other_ticket u.number)) (sym (row_is n ts u.caller.0 less))) others)
   where
     -- a ticket of another caller has another number
@@ -44,7 +44,7 @@ in_rows_of : (ts : List Ticket) (t : Ticket) (cs : List ℕ) → In t ts → In 
 in_rows_of ts t [] i k = absurd k
 in_rows_of ts t (c ∷ cs) i k = ⊎_elim (λ e. in_left (tickets_held ts c) _ t (filter_in (is_held_by (the_caller c)) ts t i (eq-eqb t.caller.0 c (sym e)))) (λ l. in_right (tickets_held ts c) _ t (in_rows_of ts t cs i l)) k
 
-pub in_rows : (n : ℕ) (ts : List Ticket) (t : Ticket) → In t ts → t.caller.0 < n → In t (flat_map (λ (r : List Ticket). r) (rows_of n ts))
+pub in_rows : (n : ℕ) (ts : List Ticket) (t : Ticket) → In t ts → t.caller.0 < n → In t (flat_map (λ (r : List Ticket). r) (ticket_rows_of n ts))
 in_rows n ts t i less = in_rows_of ts t (range_with_len 0 n) i (in_range 0 n t.caller.0 (omega arith) (omega arith))
 
 -- one that is the only one to pass is found
@@ -59,10 +59,10 @@ any_of_rows p (r ∷ rows) = grind (arith, any_of_rows p rows, list_any-append p
 
 module _ (n : ℕ) (ts : List Ticket) (there : AllByRecursion (λ t. t.caller.0 < n) ts) where
   abbrev all_rows : List Ticket
-  all_rows = flat_map (λ (r : List Ticket). r) (rows_of n ts)
+  all_rows = flat_map (λ (r : List Ticket). r) (ticket_rows_of n ts)
 
-  pub rows_any : (p : Ticket → Bool) → list_any (list_any p) (rows_of n ts) ≡ list_any p ts
-  rows_any p = any_of_rows p (rows_of n ts) ∙ same_bools (list_any p all_rows) (list_any p ts)
+  pub rows_any : (p : Ticket → Bool) → list_any (list_any p) (ticket_rows_of n ts) ≡ list_any p ts
+  rows_any p = any_of_rows p (ticket_rows_of n ts) ∙ same_bools (list_any p all_rows) (list_any p ts)
       (λ h. let k = in_any p all_rows h in any_in p ts k.0 (rows_in ts k.0 (range_with_len 0 n) k.1) k.2)
       (λ h. let k = in_any p ts h in any_in p all_rows k.0 (in_rows n ts k.0 k.1 (of_in (λ t. t.caller.0 < n) ts k.0 there k.1)) k.2)
 
@@ -84,5 +84,5 @@ lengths_summed : (ts : List Ticket) (cs : List ℕ) → count (map (tickets_held
 lengths_summed ts [] = refl
 lengths_summed ts (c ∷ cs) = omega (arith, lengths_summed ts cs, sum_by-cons length (tickets_held ts c) (map (tickets_held ts) cs), sum_by-cons (λ d. count_by (is_held_by (the_caller d)) ts) c cs, length-filter (is_held_by (the_caller c)) ts)
 
-pub rows_count : (n : ℕ) (ts : List Ticket) → AllByRecursion (λ t. t.caller.0 < n) ts → count (rows_of n ts) ≡ length ts
+pub rows_count : (n : ℕ) (ts : List Ticket) → AllByRecursion (λ t. t.caller.0 < n) ts → count (ticket_rows_of n ts) ≡ length ts
 rows_count n ts there = lengths_summed ts (range_with_len 0 n) ∙ counted_by_number (λ (t : Ticket). t.caller.0) n ts there

@@ -4,7 +4,7 @@ use Rattle.cmwq_refinement.proofs.Numbers.{In, all_in, all_kept, fewer_kept, fil
 use Rattle.cmwq_ticket.specs.Counts.{is_counted}
 use Rattle.cmwq_ticket.specs.Rows as row
 use Rattle.cmwq_ticket.specs.Rows.{is_other_ticket}
-use Rattle.cmwq_refinement.specs.Tickets.{the_caller, tickets_held, rows_of, tickets_in, tickets_of, tickets_after_end, tickets_after_giving, tickets_after, MayEndTicket, MayGiveTicket, MayApplyToTickets}
+use Rattle.cmwq_refinement.specs.Tickets.{the_caller, tickets_held, ticket_rows_of, tickets_in, tickets_of, tickets_after_end, tickets_after_giving, tickets_after, MayEndTicket, MayGiveTicket, MayApplyToTickets}
 use Rattle.cmwq_refinement.proofs.Settled.{numbers_fit}
 use Rattle.cmwq_refinement.proofs.TicketSteps.{ticket_step, ends_one, ends_none, ends_only, ticket_in_is, unended_rise, unended_below}
 use Rattle.cmwq_refinement.proofs.TicketLimits.{callers_there, given_free}
@@ -21,7 +21,7 @@ given_there s past e t legal h = of_in (λ u. u.caller.0 < s.callers) (unended_t
 
 -- ---- the rows go on
 
-after_ended : (s : Layout) (past : List Entry) (e : Entry) → IsLegal s past → tickets_after_end (ticket_ended past e) (tickets_of s past) ≡ tickets_in s (rows_of s.callers (filter (is_kept e) (unended_tickets past)))
+after_ended : (s : Layout) (past : List Entry) (e : Entry) → IsLegal s past → tickets_after_end (ticket_ended past e) (tickets_of s past) ≡ tickets_in s (ticket_rows_of s.callers (filter (is_kept e) (unended_tickets past)))
 after_ended s past e legal = elim (ticket_step past e) [
   | ends_none is all ↦ rw (is, filter_all (is_kept e) (unended_tickets past) all) refl
   | ends_one u is here it ↦ rw (is, filter_same (is_kept e) (is_other_ticket u.number) (unended_tickets past) (all_in (λ t. is_kept e t ≡ is_other_ticket u.number t) (unended_tickets past) (ends_only past e u here it)))
@@ -32,7 +32,7 @@ pub tickets_refine : (s : Layout) (past : List Entry) (e : Entry) → IsLegal s 
 unfolding IsLegal
 tickets_refine s past e legal = ap (tickets_after_giving (ticket_given past e)) (after_ended s past e legal.2)
     ∙ rows_after s (filter (is_kept e) (unended_tickets past)) (ticket_given past e) (λ t h. given_there s past e t legal h)
-    ∙ ap (λ ts. tickets_in s (rows_of s.callers ts)) (sym (unended_go_on s past e legal))
+    ∙ ap (λ ts. tickets_in s (ticket_rows_of s.callers ts)) (sym (unended_go_on s past e legal))
 
 pub no_tickets_at_first : (s : Layout) → tickets_of s [] ≡ new_tickets s.callers s.items (length s.queues)
 unfolding tickets
@@ -64,7 +64,7 @@ all_before : (t : Ticket) (ts : List Ticket) → AllByRecursion (λ u. u.number 
 all_before t [] h = refl
 all_before t (u ∷ ts) h = grind (arith, nat_tests, all_before t ts)
 
-rows_may_give : (s : Layout) (past : List Entry) (e : Entry) (t : Ticket) → IsLegal s (e ∷ past) → ticket_given past e ≡ Some t → may_give (tickets_in s (rows_of s.callers (filter (is_kept e) (unended_tickets past)))) t ≡ true
+rows_may_give : (s : Layout) (past : List Entry) (e : Entry) (t : Ticket) → IsLegal s (e ∷ past) → ticket_given past e ≡ Some t → may_give (tickets_in s (ticket_rows_of s.callers (filter (is_kept e) (unended_tickets past)))) t ≡ true
 rows_may_give s past e t legal h =
     let is = ticket_in_is e (length past) t h in
     let kept : List Ticket = filter (is_kept e) (unended_tickets past) in
@@ -83,7 +83,7 @@ entries_apply_to_tickets s past e legal = record {
   given = rw (after_ended s past e legal.2) (by (ticket_given past e) refl);
 }
   where
-    by : (o : Option Ticket) → ticket_given past e ≡ o → MayGiveTicket o (tickets_in s (rows_of s.callers (filter (is_kept e) (unended_tickets past))))
+    by : (o : Option Ticket) → ticket_given past e ≡ o → MayGiveTicket o (tickets_in s (ticket_rows_of s.callers (filter (is_kept e) (unended_tickets past))))
     by None h = tt
     by (Some t) h = rows_may_give s past e t legal h
 

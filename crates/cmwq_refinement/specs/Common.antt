@@ -20,7 +20,7 @@ pub use Rattle.cmwq_inflight.specs.Flights.{Flight, flight_at, flights_with_open
 pub use Rattle.cmwq_lemmas.proofs.Filters.{count_by-wider, filter_same, filter_twice, none_found}
 pub use Rattle.cmwq_lemmas.proofs.Lists.{All_append, All_each, All_filter, All_map, count_by-cons, count_by-filter, find_none}
 pub use Rattle.cmwq_lemmas.proofs.Truth.{and_false, and_true, flip, or_true}
-pub use Rattle.cmwq_model.specs.Prelude.{Layout, asleep_after, booked_by, booking_of, cpu_for, drains, due_in, end_of_ticket, ends, enlists, finished_answer, finishes, fired_answer, flushes, gives_ticket, has_number, has_numbers, has_place, has_run, has_spare, index_enlisted, indices, is_active, is_at, is_being_destroyed, is_booked_on, is_by, is_callers, is_cancel_sync_of, is_cancelling, is_crowded, is_destroy_of, is_done, is_drain_of, is_draining, is_due_before, is_end_of, is_flush_of, is_frozen, is_gone, is_held_by, is_holding, is_idle, is_in_pool, is_intensive, is_layout, is_listed, is_live, is_occupied, is_of, is_of_item, is_older_flush, is_open, is_other_idle, is_reserve, is_retired, is_served_after, is_soonest, is_startable, is_started, is_ticket, is_unended, is_unstarted, is_within, is_workers, item_at, item_called, item_fired, item_of, item_run, item_runs, may_fire, may_make, newly_active, now, number_booked, number_cancelled, number_finished, number_started, opening, opens, place_booked, place_called, place_wanted, pool_at, queue_of, queued_at, queueing_at, replaces, run, run_queue, runs_asleep, runs_awake, same_pool, same_who, settles, soonest, standing, stands, start_in, start_of, starts, starts_item, still_open, ticket_for, ticket_in, ticket_of, unended_tickets, unstarted_queueing, waiting_for, waits_for, worker_at}
+pub use Rattle.cmwq_model.specs.Prelude.{Layout, asleep_after, booked_by, booking_of, cpu_for, drains, due_in, end_of_ticket, ends, enlists, finished_answer, finishes, fired_answer, flushes, gives_ticket, has_number, has_numbers, has_place, has_run, has_spare, index_enlisted, indices, is_active, is_at, is_being_destroyed, is_booked_on, is_by, is_callers, is_cancel_sync_of, is_cancelling, is_crowded, is_destroy_of, is_done, is_drain_of, is_draining, is_due_before, is_end_of, is_flush_of, is_frozen, is_gone, is_held_by, is_holding, is_idle, is_in_pool, is_intensive, is_layout, is_listed, is_live, is_occupied, is_of, is_of_item, is_older_flush, is_open, is_other_idle, is_reserve, is_retired, is_served_after, is_soonest, is_startable, is_started, is_ticket, is_unended, is_unstarted, is_within, is_workers, item_at, item_called, item_fired, item_of, item_run, item_runs, may_fire, may_make, newly_active, now, number_booked, number_cancelled, number_finished, number_started, opening, opens, place_booked, place_called, place_wanted, pool_at, queue_of, queued_at, queueing_at, replaces, run, run_queue, runs_asleep, runs_awake, same_pool, same_who, settles, soonest, standing_bookings, stands, start_in, start_of, starts, starts_item, still_open, ticket_for, ticket_in, ticket_of, unended_tickets, unstarted_queueing, waiting_for, waits_for, worker_at}
 unfoldable pub use Rattle.cmwq_model.specs.Prelude.{IsLegal, answer, became_active, booking, bookings, destroy_answer, enlisted_by, finish_answer, first_due, is_asleep, is_enlisted, item_start, last_start, may_retire, next, queueings, retire_answer, runnable, serving_from, set_max_answer, take_answer, tickets, wait_answer, worklist}
 pub use Rattle.cmwq_model.specs.declared.call.Call.{Call}
 pub use Rattle.cmwq_model.specs.declared.entry.Entry.{Entry}

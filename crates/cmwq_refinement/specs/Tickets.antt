@@ -11,15 +11,15 @@ the_caller c = Caller (record { 0 = c })
 abbrev pub tickets_held : List Ticket → ℕ → List Ticket
 tickets_held ts c = filter (is_held_by (the_caller c)) ts
 
-abbrev pub rows_of : ℕ → List Ticket → TicketRows
-rows_of callers ts = map (tickets_held ts) (range_with_len 0 callers)
+abbrev pub ticket_rows_of : ℕ → List Ticket → TicketRows
+ticket_rows_of callers ts = map (tickets_held ts) (range_with_len 0 callers)
 
 -- beside the rows, how many items and queues there are
 abbrev pub tickets_in : Layout → TicketRows → TicketBook
 tickets_in s rows = record { items = s.items; queues = length s.queues; rows = rows }
 
 abbrev pub tickets_of : Layout → List Entry → TicketBook
-tickets_of s past = tickets_in s (rows_of s.callers (unended_tickets past))
+tickets_of s past = tickets_in s (ticket_rows_of s.callers (unended_tickets past))
 
 -- the tickets after one was ended, and after one was given
 abbrev pub tickets_after_end : Option Ticket → TicketBook → TicketBook

@@ -1,6 +1,6 @@
 -- The timers refine the bookings that are read off a history.
 use Rattle.std.specs.Prelude.{◌≡◌, ◌<◌, if◌then◌else◌, ◌∷◌, nat_lt, slice_index}
-use Rattle.cmwq_refinement.specs.Common.{ℕ, true, false, List, [], length, map, replicate, slice_set, Option, Some, None, option_map, is_some, range_with_len, list_any, ItemId, Entry, Booking, Layout, item_of, now, settles, booking, booking_of, standing, is_draining, is_booked_on, first_due, IsLegal, Timer, due_of, NoneMayFire, IsFirstToFire}
+use Rattle.cmwq_refinement.specs.Common.{ℕ, true, false, List, [], length, map, replicate, slice_set, Option, Some, None, option_map, is_some, range_with_len, list_any, ItemId, Entry, Booking, Layout, item_of, now, settles, booking, booking_of, standing_bookings, is_draining, is_booked_on, first_due, IsLegal, Timer, due_of, NoneMayFire, IsFirstToFire}
 use Rattle.cmwq_timer.specs.Rows.{TimerRows, any_timer_on as booked_in_rows}
 
 -- the timer that is set for a booking
@@ -31,7 +31,7 @@ TimersAreDueAsBooked = (s : Layout) (past : List Entry) (i : ℕ) → i < s.item
 
 -- some item is booked on a queue exactly where a timer says so
 abbrev pub TimersStandOnQueues : Type 0
-TimersStandOnQueues = (s : Layout) (past : List Entry) (q : ℕ) → IsLegal s past → booked_in_rows (timers_of s past) q ≡ list_any (is_booked_on q) (standing past)
+TimersStandOnQueues = (s : Layout) (past : List Entry) (q : ℕ) → IsLegal s past → booked_in_rows (timers_of s past) q ≡ list_any (is_booked_on q) (standing_bookings past)
 
 -- an entry that books an item is applied by Timers::book
 abbrev pub BookingsSetTimers : Type 0

@@ -3,7 +3,8 @@ use Rattle.cmwq_rt_scripts.specs.Common.{◌≡◌, ◌⊎◌, ℕ, zero, suc, �
 use Rattle.std.proofs.lemmas.Bool.{ltb-true, ltb-false}
 use Rattle.cmwq_monitor.specs.Settled.{Settles}
 use Rattle.cmwq_monitor.proofs.Entries.{made_length, made_same}
-use Rattle.cmwq_rt_scripts.specs.Ended.{caller_at, FollowedAt, FollowsIn, AllFollow}
+use Rattle.cmwq_rt_scripts.specs.Ended.{FollowedAt, FollowsIn, AllFollow}
+use Rattle.cmwq_text.specs.IdText.{caller_numbered}
 use Rattle.cmwq_rt.proofs.Following.{follows_later}
 
 pushed : {X : Type 0} (xs : List X) (e x : X) (k : ℕ) → slice_get (xs ++ e ∷ []) k ≡ Some x → (slice_get xs k ≡ Some x) ⊎ ((k ≡ length xs) × (e ≡ x))
@@ -61,15 +62,15 @@ none_made [] is = refl
 none_made (x ∷ xs) is = absurd (cc is)
 
 -- a caller that did nothing has no entry in the whole history
-pub silent_in : (k : ℕ) (h : List Entry) (v w : View) → v ≡ newcomer (caller_at k) → Settles h v w → made_by (caller_at k) h ≡ []
+pub silent_in : (k : ℕ) (h : List Entry) (v w : View) → v ≡ newcomer (caller_numbered k) → Settles h v w → made_by (caller_numbered k) h ≡ []
 silent_in k h v w new settled =
-    let none : serial_of (past_of h) (caller_at k) ≡ 0 = subst (λ (u : View). serial_of (past_of h) u.who ≡ u.serial) new settled.2 in
-    none_made (made_by (caller_at k) h) (made_length (caller_at k) h ∙ none)
+    let none : serial_of (past_of h) (caller_numbered k) ≡ 0 = subst (λ (u : View). serial_of (past_of h) u.who ≡ u.serial) new settled.2 in
+    none_made (made_by (caller_numbered k) h) (made_length (caller_numbered k) h ∙ none)
 
 -- the whole history has no more entries of the caller than it has seen
 pub followed_in : (s : Layout) (k : ℕ) (script : List Call) (full : ℕ) (v : View) (h : List Entry) → FollowedAt s k script full v → IsPrefix v.seen h → serial_of (past_of h) v.who ≡ v.serial → FollowsIn s k script full h
 followed_in s k script full v h f pre count =
-    let who = caller_at k in
+    let who = caller_numbered k in
     let counted : serial_of (past_of h) who ≡ v.serial = subst (λ w. serial_of (past_of h) w ≡ v.serial) f.gains.same count in
     let same : made_by who h ≡ made_by who v.seen =
     made_same who v.seen h pre (let a = made_length who h in let b = f.gains.serial in let c = ap length f.gains.made in omega (arith, a, b, c, counted)) in

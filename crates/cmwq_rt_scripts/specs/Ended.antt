@@ -1,8 +1,8 @@
 -- What the threads of callers and workers gave back, and what they leave in one history.
 use Rattle.cmwq_rt.specs.Places.{shares}
 use Rattle.std.specs.Prelude.{◌≡◌, ◌+◌, ◌<◌, ◌≤◌, ◌∷◌}
-use Rattle.cmwq_rt_scripts.specs.Common.{ℕ, suc, List, [], length, map, slice_get, Some, None, Bool, true, false, Result, Ok, Err, IfOk, IfErr, Vec, Global, Caller, Worker, WorkerId, Call, Entry, Layout, serial_of, past_of, IsLegal, View, newcomer, made_by, worker_by_number, Behavior, HasWorked, RunsInTurn, breaks_off, Follows, HasFollowed, IsPrefix}
-use Rattle.cmwq_model.specs.declared.id.Who.{Who}
+use Rattle.cmwq_rt_scripts.specs.Common.{ℕ, suc, List, [], length, map, slice_get, Some, None, Bool, true, false, Result, Ok, Err, IfOk, IfErr, Vec, Global, Worker, WorkerId, Call, Entry, Layout, serial_of, past_of, IsLegal, View, newcomer, made_by, worker_by_number, Behavior, HasWorked, RunsInTurn, breaks_off, Follows, HasFollowed, IsPrefix}
+use Rattle.cmwq_text.specs.IdText.{caller_numbered}
 use Rattle.cmwq_monitor.specs.Held.{active_in}
 use Rattle.cmwq_monitor.specs.declared.fault.RunFault.{RunFault}
 use Rattle.cmwq_monitor.specs.declared.fault.RunFault.TheVariants.{Full, Unfinished, NoPlace}
@@ -10,12 +10,9 @@ use Rattle.cmwq_rt_scripts.specs.declared.ends.CallerEnd.{CallerEnd}
 use Rattle.cmwq_rt_scripts.specs.declared.ends.WorkerEnd.{WorkerEnd}
 use Rattle.cmwq_rt_scripts.specs.declared.gather.Ends.{Ends}
 
-abbrev pub caller_at : ℕ → Who
-caller_at k = Caller (record { 0 = k })
-
 -- the caller of this place has followed the script from its first call on and done nothing else
 abbrev pub FollowedAt : Layout → ℕ → List Call → ℕ → View → Type 0
-FollowedAt s k script full v = HasFollowed s script full (newcomer (caller_at k)) v
+FollowedAt s k script full v = HasFollowed s script full (newcomer (caller_numbered k)) v
 
 -- one end for each script, in order: who gave no fault has followed it
 pub record HaveEnded {N : Type 0} (s : Layout) (scripts : List (Vec Call Global)) (ends : List (CallerEnd N)) : Type 0 where
@@ -25,7 +22,7 @@ pub record HaveEnded {N : Type 0} (s : Layout) (scripts : List (Vec Call Global)
 
 -- the entries of the caller of this place in a history follow the script
 abbrev pub FollowsIn : Layout → ℕ → List Call → ℕ → List Entry → Type 0
-FollowsIn s k script full history = Follows s (caller_at k) history [] script (made_by (caller_at k) history) full
+FollowsIn s k script full history = Follows s (caller_numbered k) history [] script (made_by (caller_numbered k) history) full
 
 -- each of these scripts was followed by the caller of its place, from this place on, and so many calls were left out in all
 abbrev pub AllFollow : Layout → ℕ → List (List Call) → ℕ → List Entry → Type 0
@@ -35,11 +32,11 @@ AllFollow s k (x ∷ xs) full history = (n m : ℕ) × FollowsIn s k x n history
 -- the callers from this place on, up to the last of the shape, who have done nothing
 pub record AreNewcomers (s : Layout) (first : ℕ) (callers : List View) : Type 0 where
   pub all : first + length callers ≡ s.callers
-  pub each : (k : ℕ) (c : View) → slice_get callers k ≡ Some c → c ≡ newcomer (caller_at (first + k))
+  pub each : (k : ℕ) (c : View) → slice_get callers k ≡ Some c → c ≡ newcomer (caller_numbered (first + k))
 
 -- callers from this place on have no entry in a history
 pub record AreSilent (s : Layout) (first : ℕ) (history : List Entry) : Type 0 where
-  pub none : (k : ℕ) → first ≤ k → k < s.callers → made_by (caller_at k) history ≡ []
+  pub none : (k : ℕ) → first ≤ k → k < s.callers → made_by (caller_numbered k) history ≡ []
 
 -- what a worker's thread has done to its worker
 abbrev pub WorkedFrom : Layout → Behavior → View → View → Type 0

@@ -2,7 +2,8 @@
 ghost use Rattle.std.specs.Prelude.{◌≡◌, ◌<◌, ◌^◌, [], length, true, All, IfOk, IfErr};
 ghost use Rattle.cmwq_rt.specs.Running.{breaks_off};
 ghost use Rattle.cmwq_model.specs.Prelude.{IsScripted};
-ghost use Rattle.cmwq_rt_scripts.specs.Ended.{FollowedAt, WorkedFrom, caller_at};
+ghost use Rattle.cmwq_rt_scripts.specs.Ended.{FollowedAt, WorkedFrom};
+ghost use Rattle.cmwq_text.specs.IdText.{caller_numbered};
 
 use cmwq_model::{Call, CallerId};
 use cmwq_rt::{Caller, Hub, HubName, RunFault, Work, Worker};
@@ -64,7 +65,7 @@ pub(crate) fn follow_all<N: HubName, R: Wait>(
     who: CallerId,
     script: &Vec<Call>,
 ) -> CallerEnd<N>
-    requires who { caller.who ≡ caller_at who.0 }
+    requires who { caller.who ≡ caller_numbered who.0 }
     requires fresh { (caller.serial ≡ 0) × (caller.seen ≡ []) }
     requires calls { All (IsScripted N.layout) script.now.items }
     requires short { length script.now.items < 2 ^ 32 }

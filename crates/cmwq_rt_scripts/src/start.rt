@@ -6,7 +6,8 @@ ghost use Rattle.cmwq_model.specs.declared.id.Who.TheVariants as whos;
 ghost use Rattle.cmwq_model.specs.Prelude.{IsScripted, most_callers};
 ghost use Rattle.cmwq_monitor.specs.Participants.{newcomer};
 ghost use Rattle.cmwq_rt.specs.Places.{first_worker, worker_by_number};
-ghost use Rattle.cmwq_rt_scripts.specs.Ended.{AreNewcomers, FailsAs, FollowedAt, WorkedFrom, caller_at, is_silent};
+ghost use Rattle.cmwq_rt_scripts.specs.Ended.{AreNewcomers, FailsAs, FollowedAt, WorkedFrom, is_silent};
+ghost use Rattle.cmwq_text.specs.IdText.{caller_numbered};
 
 use crate::ends::{CallerEnd, FollowsScript, RunsWork, WorkerEnd, follow_all, work_all};
 use cmwq_model::{Call, CallerId, Shape};
@@ -29,7 +30,7 @@ fn start_caller<'s, E, N: HubName + Send + Sync + 's, R: Wait + Sync>(
     who: CallerId,
     script: &'s Vec<Call>,
 ) -> Result<CallerThread<N>, RunFault>
-    requires who { caller.who ≡ caller_at who.0 }
+    requires who { caller.who ≡ caller_numbered who.0 }
     requires fresh { (caller.serial ≡ 0) × (caller.seen ≡ []) }
     requires calls { All (IsScripted N.layout) script.now.items }
     requires short { length script.now.items < 2 ^ 32 }
@@ -44,7 +45,7 @@ fn start_caller<'s, E, N: HubName + Send + Sync + 's, R: Wait + Sync>(
     let started = scope.spawn_with(
         promise,
         move || -> CallerEnd<N>
-            requires { (caller.who ≡ caller_at who.0) × (caller.serial ≡ 0) × (caller.seen ≡ []) × All (IsScripted N.layout) script.now.items × (length script.now.items < 2 ^ 32) }
+            requires { (caller.who ≡ caller_numbered who.0) × (caller.serial ≡ 0) × (caller.seen ≡ []) × All (IsScripted N.layout) script.now.items × (length script.now.items < 2 ^ 32) }
             ensures { IfOk result.outcome (λ t. FollowedAt N.layout who.0 script.entry.now.items t.1 result.caller) × IfErr result.outcome (λ f. breaks_off f ≡ true) }
         { follow_all(rt, hub, caller, who, script) },
     );

@@ -11,14 +11,15 @@ use Rattle.cmwq_monitor.proofs.Entries.{made_length, made_same}
 use Rattle.cmwq_monitor.specs.Participants.{View, newcomer, made_by}
 use Rattle.cmwq_monitor.specs.Settled.{Settles}
 use Rattle.cmwq_service.specs.declared.fault.Fault.{Fault}
-use Rattle.cmwq_service.specs.Serving.{Conduct, HasCalled, CalledIn, IsRest, IsRestOfServed, IsServed, caller_at, own_callers}
+use Rattle.cmwq_service.specs.Serving.{Conduct, HasCalled, CalledIn, IsRest, IsRestOfServed, IsServed, own_callers}
+use Rattle.cmwq_text.specs.IdText.{caller_numbered}
 use Rattle.cmwq_service.specs.Calls.{Continues}
 use Rattle.cmwq_monitor.specs.Held.{active_in}
 use Rattle.cmwq_model.proofs.Growing.{nothing_is_legal}
 
 one : (s : Layout) (does : Conduct) (k n : ℕ) (v w : View) (h : List Entry) (o : Result (Unit {0}) Fault) → o ≡ Ok tt → k ≡ n → Settles h v w → HasCalled s does k v o → CalledIn s does n h
 one s does k n v w h o ok same settled called =
-    let who = caller_at k in
+    let who = caller_numbered k in
     let gains = called.continues.gains in
     let counted : serial_of (past_of h) who ≡ v.serial = subst (λ x. serial_of (past_of h) x ≡ v.serial) gains.same settled.2 in
     let whole : made_by who h ≡ made_by who v.seen =
@@ -35,7 +36,7 @@ one s does k n v w h o ok same settled called =
 pub called_in : (s : Layout) (does : Conduct) (k n : ℕ) (v w : View) (h : List Entry) (o : Result (Unit {0}) Fault) → ∥ HasCalled s does k v o ∥₁ → o ≡ Ok tt → k ≡ n → Settles h v w → ∥ CalledIn s does n h ∥₁
 called_in s does k n v w h o called ok same settled = ∥∥₁_map called (one s does k n v w h o ok same settled)
 
-pub has_called : (s : Layout) (does : Conduct) (k : ℕ) (a v : View) (o : Result (Unit {0}) Fault) → a ≡ newcomer (caller_at k) → ∥ Continues a v ∥₁ → OnOk o (does k s a v) → ∥ HasCalled s does k v o ∥₁
+pub has_called : (s : Layout) (does : Conduct) (k : ℕ) (a v : View) (o : Result (Unit {0}) Fault) → a ≡ newcomer (caller_numbered k) → ∥ Continues a v ∥₁ → OnOk o (does k s a v) → ∥ HasCalled s does k v o ∥₁
 has_called s does k a v o fresh so did =
     ∥∥₁_map so (λ x. record { continues = subst (λ b. Continues b v) fresh x; did = subst (λ b. OnOk o (does k s b v)) fresh did })
 

@@ -3,8 +3,7 @@ use Rattle.std.specs.Prelude.{◌≡◌, ◌+◌, ◌<◌, ℕ, List, drop, Resu
 use mathlib.Core.List.{IsPrefix}
 use Rattle.cmwq_model.specs.Prelude.{IsLegal, Layout, past_of}
 use Rattle.cmwq_model.specs.declared.entry.Entry.{Entry}
-use Rattle.cmwq_model.specs.declared.id.Who.{Who}
-use Rattle.cmwq_model.specs.declared.id.Who.TheVariants.{Caller}
+use Rattle.cmwq_text.specs.IdText.{caller_numbered}
 use Rattle.cmwq_core.specs.Relied.{IsReliable}
 use Rattle.cmwq_monitor.specs.Held.{active_in}
 use Rattle.cmwq_monitor.specs.Participants.{View, Gains, newcomer, made_by}
@@ -15,26 +14,23 @@ use Rattle.cmwq_service.specs.Calls.{Continues}
 abbrev pub Conduct : Type 1
 Conduct = ℕ → Layout → View → View → Type 0
 
-abbrev pub caller_at : ℕ → Who
-caller_at k = Caller (record { 0 = k })
-
 -- how many callers of a shape are the library's own: the one that comes at the end, and that of the clock
 abbrev pub own_callers : ℕ
 own_callers = 2
 
 -- what came of a caller of this place
 pub record HasCalled (s : Layout) (does : Conduct) (k : ℕ) (v : View) (outcome : Result (Unit {0}) Fault) : Type 0 where
-  pub continues : Continues (newcomer (caller_at k)) v
-  pub did : OnOk outcome (does k s (newcomer (caller_at k)) v)
+  pub continues : Continues (newcomer (caller_numbered k)) v
+  pub did : OnOk outcome (does k s (newcomer (caller_numbered k)) v)
 
 -- The caller's entries in a history are those that its client has made, and it did what the service says.
 pub record CalledIn (s : Layout) (does : Conduct) (k : ℕ) (history : List Entry) : Type 0 where
   pub last : View
-  pub did : does k s (newcomer (caller_at k)) last
+  pub did : does k s (newcomer (caller_numbered k)) last
   pub entries : List Entry
-  pub gains : Gains (newcomer (caller_at k)) entries last
+  pub gains : Gains (newcomer (caller_numbered k)) entries last
   pub older : IsPrefix last.seen history
-  pub own : made_by (caller_at k) history ≡ entries
+  pub own : made_by (caller_numbered k) history ≡ entries
 
 -- A history that a service leaves: all that a user relies on holds of it, no active queueing is open at its end, and each of its callers did
 -- what the service says and made no other entries.

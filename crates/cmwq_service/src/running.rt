@@ -5,7 +5,8 @@ ghost use Rattle.cmwq_model.specs.declared.entry.Entry as entries;
 ghost use Rattle.cmwq_core.specs.Relied.{IsReliable};
 ghost use Rattle.cmwq_monitor.specs.Participants.{newcomer};
 ghost use Rattle.cmwq_rt.specs.Places.{all_free};
-ghost use Rattle.cmwq_service.specs.Serving.{IsRest, IsRestOfServed, IsServed, caller_at, own_callers};
+ghost use Rattle.cmwq_service.specs.Serving.{IsRest, IsRestOfServed, IsServed, own_callers};
+ghost use Rattle.cmwq_text.specs.IdText.{caller_numbered};
 
 use crate::builder::OWN_CALLERS;
 use crate::clock::tick_on;
@@ -64,7 +65,7 @@ fn start_callers<
         };
         let started = scope.spawn(
             move || -> CallerEnd<N, S>
-                requires { caller ≡ newcomer (caller_at place) }
+                requires { caller ≡ newcomer (caller_numbered place) }
             { call_all(rt, hub, signal, service, caller, place) },
         );
         let Ok(thread) = started else {

@@ -3,7 +3,8 @@ ghost use Rattle.std.specs.Prelude.{◌≡◌, OnOk};
 ghost use Rattle.cmwq_monitor.specs.Participants.{newcomer};
 ghost use Rattle.cmwq_rt.specs.Later.{Later};
 ghost use Rattle.cmwq_service.specs.Calls.{Continues};
-ghost use Rattle.cmwq_service.specs.Serving.{HasCalled, caller_at};
+ghost use Rattle.cmwq_service.specs.Serving.{HasCalled};
+ghost use Rattle.cmwq_text.specs.IdText.{caller_numbered};
 
 use crate::client::HubClient;
 use crate::context::HubContext;
@@ -67,7 +68,7 @@ pub(crate) fn call_all<N: HubName, S: Service, R: Wait + Clock>(
     caller: Caller<N>,
     place: u8,
 ) -> CallerEnd<N, S>
-    requires { caller ≡ newcomer (caller_at place) }
+    requires { caller ≡ newcomer (caller_numbered place) }
 {
     let (caller, outcome) = call_from::<Brand, N, S, R>(rt, hub, service, caller, place);
     stop_on(rt, hub, signal, &outcome);

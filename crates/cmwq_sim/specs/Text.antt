@@ -12,9 +12,9 @@ name_at names i = slice_index_or names i []
 abbrev pub and_name : List (List ℕ) → ℕ → List ℕ
 and_name names i = codes " and " ++ name_at names i
 
-abbrev pub names_text : List (List ℕ) → List ℕ → List ℕ
-names_text names [] = []
-names_text names (i ∷ is) = name_at names i ++ flat_map (and_name names) is
+abbrev pub item_names_text : List (List ℕ) → List ℕ → List ℕ
+item_names_text names [] = []
+item_names_text names (i ∷ is) = name_at names i ++ flat_map (and_name names) is
 
 -- what befell one, or more than one: only starts are told together
 abbrev pub deed_text : LineKind → Bool → List ℕ
@@ -27,7 +27,7 @@ deed_text kind.Ends many = codes " finishes"
 
 -- 9 is the tab and 10 the line feed
 abbrev pub event_text : List (List ℕ) → Event → List ℕ
-event_text names e = decimal e.at ++ 9 ∷ [] ++ names_text names e.items ++ deed_text e.kind (nat_lt 1 (length e.items)) ++ 10 ∷ []
+event_text names e = decimal e.at ++ 9 ∷ [] ++ item_names_text names e.items ++ deed_text e.kind (nat_lt 1 (length e.items)) ++ 10 ∷ []
 
 abbrev pub heading : List ℕ
 heading = codes "TIME IN MSECS" ++ 9 ∷ [] ++ codes "EVENT" ++ 10 ∷ []

@@ -29,7 +29,7 @@ fn push_others(text: &mut String, names: &[String], others: &[u8]) -> Result<(),
 }
 
 fn push_names(text: &mut String, names: &[String], items: &[u8]) -> Result<(), AllocError>
-    ensures { OnOk result (string_bytes text.new ≡ string_bytes text.old ++ spec.names_text (map string_bytes names.now) items.now) }
+    ensures { OnOk result (string_bytes text.new ≡ string_bytes text.old ++ spec.item_names_text (map string_bytes names.now) items.now) }
 {
     if let Some((first, others)) = items.split_first() {
         text.push_str(name_at(names, *first))?;

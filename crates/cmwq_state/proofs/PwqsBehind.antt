@@ -1,5 +1,5 @@
 -- What waits is behind the width, and what finishes doesn't wait.
-use Rattle.cmwq_state.specs.Common.{◌≡◌, ℕ, ◌<◌, ◌≤◌, Bool, true, false, not, List, [], ◌∷◌, length, count_by, max, min, Option, Some, None, is_some, refl, sym, ap, ◌∙◌, subst, arith, IfSome, option_and_then, list_any, same_Some, not-true, count_by-le-length, Who, Reply, Entry, Queueing, Layout, width, item_of, number_finished, queueings, still_open, opening, queueing_at, has_number, is_active, IsLegal, count_by-cons, queueing_run, ending, is_ended, is_on, open_on, active_count, waits, waiting, run_is_active, In, all_in, found, in_filter, filter_in, open_there, opened_are_there, PwqState, is_waiting, AreBehind, IsBehind, IsPlacedIf, on_itself, place_inside, ended_by, ends_as_told, most_cpus}
+use Rattle.cmwq_state.specs.Common.{◌≡◌, ℕ, ◌<◌, ◌≤◌, Bool, true, false, not, List, [], ◌∷◌, length, count_by, max, min, Option, Some, None, is_some, refl, sym, ap, ◌∙◌, subst, arith, IfSome, option_and_then, list_any, same_Some, not-true, count_by-le-length, Who, Reply, Entry, Queueing, Layout, width, item_of, number_finished, queueings, still_open, opening, queueing_at, has_number, is_active, IsLegal, count_by-cons, queueing_run, ending, is_ended, is_on, open_on, active_count, waits, waiting_queueings, run_is_active, In, all_in, found, in_filter, filter_in, open_there, opened_are_there, PwqState, is_waiting, AreBehind, IsBehind, IsPlacedIf, on_itself, place_inside, ended_by, ends_as_told, most_cpus}
 use Rattle.cmwq_theory_active.specs.Looks.{keeps_widths}
 use Rattle.cmwq_theory_active.proofs.Widths.{width_same}
 use Rattle.cmwq_theory_steps.proofs.Active.{active_counted}
@@ -21,7 +21,7 @@ unfolding active_count queueings
 filled s [] q c h = absurd (let none : length (open_on [] q c) ≡ 0 = refl in omega arith)
 filled s (e ∷ past) q c h = between _ (length (open_on (e ∷ past) q c)) (width s (e ∷ past) q) h
 
-pub waits_behind : (s : Layout) (past : List Entry) (x : Queueing) → In x (waiting s past) → width s past x.place.queue.0 ≤ active_count s past x.place.queue.0 x.place.cpu.0
+pub waits_behind : (s : Layout) (past : List Entry) (x : Queueing) → In x (waiting_queueings s past) → width s past x.place.queue.0 ≤ active_count s past x.place.queue.0 x.place.cpu.0
 waits_behind s past x there =
     let q = x.place.queue.0 in let c = x.place.cpu.0 in
     let k = in_filter (waits s past) (still_open past) x there in
@@ -30,9 +30,9 @@ waits_behind s past x there =
     filled s past q c (subst (λ n. n < length (open_on past q c)) (active_counted s past q c) less)
 
 pub all_behind : (s : Layout) (past : List Entry) (e : Entry) (l : PwqState) (wide : ℕ → ℕ) → IsLegal s past → s.cpus ≤ most_cpus → ArePwqsOf s past l → keeps_widths e.reply ≡ true → ((q : ℕ) → q < length s.queues → wide q ≡ width s (e ∷ past) q) → AreBehind wide l.counts l.waiting
-all_behind s past e l wide legal few pwqs keeps widths = subst (AreBehind wide l.counts) (sym pwqs.waiting) (all_in (IsBehind wide l.counts) (waiting s past) one)
+all_behind s past e l wide legal few pwqs keeps widths = subst (AreBehind wide l.counts) (sym pwqs.waiting) (all_in (IsBehind wide l.counts) (waiting_queueings s past) one)
   where
-    one : (x : Queueing) → In x (waiting s past) → IsBehind wide l.counts x
+    one : (x : Queueing) → In x (waiting_queueings s past) → IsBehind wide l.counts x
     one x there = grind (arith, open_there, in_filter, width, width_same, active_count, waits_behind, place_inside)
 
 -- ---- what ends and what is opened

@@ -1,5 +1,5 @@
 -- The pool workqueues to which an entry is applied are those of the longer history.
-use Rattle.cmwq_state.specs.Common.{◌≡◌, ℕ, ◌+◌, ◌*◌, ◌-◌, ◌<◌, ◌≤◌, Bool, true, false, not, ◌&&◌, ◌==◌, append-nil, inl, List, [], ◌∷◌, ◌++◌, length, filter, count_by, cond, Option, Some, None, option_to_list, refl, sym, ap, ap₂, ◌∙◌, subst, arith, nat_lt, AllByRecursion, list_any, slice_set, if◌then◌else◌, eq-eqb, eqb-true, false_from_ne_true, not-true, not-false, same_Some, option_map_or, All-from_recursion, length-set, Entry, Queueing, Layout, width, still_open, opening, has_number, is_below_max_active, is_active, newly_active, IsLegal, All_map, All_filter, one, is_on, active_count, survives, ending, waits, stay_count, waiting, candidates, has_none, filter_same, candidates_are, newly_are, waiting_goes_on, number_of_queueing, open_there, In, of_in, all_in, in_right, in_filter, filter_in, opened_are_there, PwqState, count_at, count_of_same_pwq, place_of, is_waiting, is_other_waiting, pwqs_without_open, pwqs_after_end, pwqs_after_opening, MayEndInPwqs, MayOpenInPwqs, AreBelowMaxActive, Passes, IsPlaced, ArePlaced, count_set, place_inside, on_itself, on_parts, most_cpus}
+use Rattle.cmwq_state.specs.Common.{◌≡◌, ℕ, ◌+◌, ◌*◌, ◌-◌, ◌<◌, ◌≤◌, Bool, true, false, not, ◌&&◌, ◌==◌, append-nil, inl, List, [], ◌∷◌, ◌++◌, length, filter, count_by, cond, Option, Some, None, option_to_list, refl, sym, ap, ap₂, ◌∙◌, subst, arith, nat_lt, AllByRecursion, list_any, slice_set, if◌then◌else◌, eq-eqb, eqb-true, false_from_ne_true, not-true, not-false, same_Some, option_map_or, All-from_recursion, length-set, Entry, Queueing, Layout, width, still_open, opening, has_number, is_below_max_active, is_active, newly_active, IsLegal, All_map, All_filter, one, is_on, active_count, survives, ending, waits, stay_count, waiting_queueings, candidates, has_none, filter_same, candidates_are, newly_are, waiting_goes_on, number_of_queueing, open_there, In, of_in, all_in, in_right, in_filter, filter_in, opened_are_there, PwqState, count_at, count_of_same_pwq, place_of, is_waiting, is_other_waiting, pwqs_without_open, pwqs_after_end, pwqs_after_opening, MayEndInPwqs, MayOpenInPwqs, AreBelowMaxActive, Passes, IsPlaced, ArePlaced, count_set, place_inside, on_itself, on_parts, most_cpus}
 use Rattle.std.proofs.lemmas.List.Folds.{list_any_none}
 use Rattle.cmwq_theory_steps.proofs.Way.{way_by_picked}
 use Rattle.cmwq_theory_steps.proofs.ActiveCounts.{stays_counted, active_count_goes_on}
@@ -14,25 +14,25 @@ use Rattle.cmwq_lemmas.proofs.Members.{any_in}
 
 -- ---- what waits has this number where it is this one
 
-other_number : (s : Layout) (past : List Entry) (x y : Queueing) → In x (still_open past) → waits s past x ≡ false → In y (waiting s past) → (y.number == x.number) ≡ false
+other_number : (s : Layout) (past : List Entry) (x y : Queueing) → In x (still_open past) → waits s past x ≡ false → In y (waiting_queueings s past) → (y.number == x.number) ≡ false
 other_number s past x y here fails there = false_from_ne_true (y.number == x.number) (λ same.
     let k = in_filter (waits s past) (still_open past) y there in
     let is = rises_unique number_of_queueing (still_open past) y x (open_numbers_rise past) k.0 here (eqb-true y.number x.number same) in
     false≢true (sym fails ∙ (sym (ap (waits s past) is) ∙ k.1)))
 
-pub waits_by_number : (s : Layout) (past : List Entry) (x : Queueing) → In x (still_open past) → list_any (has_number x.number) (waiting s past) ≡ waits s past x
+pub waits_by_number : (s : Layout) (past : List Entry) (x : Queueing) → In x (still_open past) → list_any (has_number x.number) (waiting_queueings s past) ≡ waits s past x
 waits_by_number s past x here = by (waits s past x) refl
   where
-    by : (b : Bool) → waits s past x ≡ b → list_any (has_number x.number) (waiting s past) ≡ b
-    by true stays = any_in (has_number x.number) (waiting s past) x (filter_in (waits s past) (still_open past) x here stays) (eq-eqb x.number x.number refl)
-    by false fails = list_any_none (has_number x.number) (waiting s past) (All-from_recursion (λ y. has_number x.number y ≡ false) (waiting s past) (all_in (λ y. has_number x.number y ≡ false) (waiting s past) (λ y there. other_number s past x y here fails there)))
+    by : (b : Bool) → waits s past x ≡ b → list_any (has_number x.number) (waiting_queueings s past) ≡ b
+    by true stays = any_in (has_number x.number) (waiting_queueings s past) x (filter_in (waits s past) (still_open past) x here stays) (eq-eqb x.number x.number refl)
+    by false fails = list_any_none (has_number x.number) (waiting_queueings s past) (All-from_recursion (λ y. has_number x.number y ≡ false) (waiting_queueings s past) (all_in (λ y. has_number x.number y ≡ false) (waiting_queueings s past) (λ y there. other_number s past x y here fails there)))
 
 -- ---- after the end: what waited and survives, and the counts of those that stay
 
 pub record IsMid (s : Layout) (past : List Entry) (e : Entry) (l : PwqState) : Type 0 where
   pub items : l.items ≡ s.items
   pub many : length l.counts ≡ most_cpus * length s.queues
-  pub waiting : l.waiting ≡ filter (survives past e) (waiting s past)
+  pub waiting : l.waiting ≡ filter (survives past e) (waiting_queueings s past)
   pub counts : (q c : ℕ) → q < length s.queues → c < most_cpus → count_at l.counts q c ≡ stay_count s past e q c
 
 -- after what is opened: the candidates
@@ -48,7 +48,7 @@ pub record ArePassed (s : Layout) (past : List Entry) (e : Entry) (old new : Pwq
   pub items : new.items ≡ old.items
   pub widths : (q : ℕ) → q < length s.queues → wide q ≡ width s (e ∷ past) q
 
-among_waiting : (P : Queueing → Type 0) (s : Layout) (past : List Entry) → AllByRecursion P (still_open past) → AllByRecursion P (waiting s past)
+among_waiting : (P : Queueing → Type 0) (s : Layout) (past : List Entry) → AllByRecursion P (still_open past) → AllByRecursion P (waiting_queueings s past)
 among_waiting P s past h = All_filter P (waits s past) (still_open past) (All_map P _ (still_open past) (λ x k _. k) h)
 
 module _ (s : Layout) (past : List Entry) (e : Entry) (legal : IsLegal s (e ∷ past)) (few : s.cpus ≤ most_cpus) where
@@ -63,7 +63,7 @@ module _ (s : Layout) (past : List Entry) (e : Entry) (legal : IsLegal s (e ∷ 
   ended_waiting l x are is survivors stays = record {
     items = are.items;
     many = are.many;
-    waiting = ap (filter (is_other_waiting x.number)) are.waiting ∙ filter_same (is_other_waiting x.number) (survives past e) (waiting s past) (among_waiting (λ y. is_other_waiting x.number y ≡ survives past e y) s past (All_map _ _ (still_open past) (λ y h. sym h) survivors));
+    waiting = ap (filter (is_other_waiting x.number)) are.waiting ∙ filter_same (is_other_waiting x.number) (survives past e) (waiting_queueings s past) (among_waiting (λ y. is_other_waiting x.number y ≡ survives past e y) s past (All_map _ _ (still_open past) (λ y h. sym h) survivors));
     counts = λ q c here less.
         let counted = stays_one q c x is in
         let inactive : is_active s past x ≡ false = not-true (is_active s past x) stays in
@@ -80,7 +80,7 @@ module _ (s : Layout) (past : List Entry) (e : Entry) (legal : IsLegal s (e ∷ 
   ended_active l x are is here there survivors fails = record {
     items = are.items;
     many = length-set l.counts (place_of x.place.queue.0 x.place.cpu.0) (count_of_same_pwq l.counts x - 1) ∙ are.many;
-    waiting = are.waiting ∙ sym (filter_all (survives past e) (waiting s past) (all_in (λ y. survives past e y ≡ true) (waiting s past) (λ y listed.
+    waiting = are.waiting ∙ sym (filter_all (survives past e) (waiting_queueings s past) (all_in (λ y. survives past e y ≡ true) (waiting_queueings s past) (λ y listed.
         of_in (λ z. survives past e z ≡ not (z.number == x.number)) (still_open past) y survivors (in_filter (waits s past) (still_open past) y listed).0 ∙ ap not (other_number s past x y here fails listed))));
     counts = λ q c inside less. count_set l.counts x (count_of_same_pwq l.counts x - 1) q c cpu less at ∙ by q c inside less (is_on q c x) refl;
   }
@@ -113,7 +113,7 @@ module _ (s : Layout) (past : List Entry) (e : Entry) (legal : IsLegal s (e ∷ 
     record {
       items = are.items;
       many = are.many;
-      waiting = are.waiting ∙ sym (filter_all (survives past e) (waiting s past) (among_waiting (λ y. survives past e y ≡ true) s past survivors));
+      waiting = are.waiting ∙ sym (filter_all (survives past e) (waiting_queueings s past) (among_waiting (λ y. survives past e y ≡ true) s past survivors));
       counts = λ q c here less. are.counts q c here less ∙ sym (stays_none q c is);
     },
     tt,
@@ -155,13 +155,13 @@ module _ (s : Layout) (past : List Entry) (e : Entry) (legal : IsLegal s (e ∷ 
     record {
       items = mid.items;
       many = mid.many;
-      waiting = mid.waiting ∙ (sym (append-nil (filter (survives past e) (waiting s past))) ∙ (ap (λ o. filter (survives past e) (waiting s past) ++ option_to_list o) (sym is) ∙ sym (candidates_are s past e legal)));
+      waiting = mid.waiting ∙ (sym (append-nil (filter (survives past e) (waiting_queueings s past))) ∙ (ap (λ o. filter (survives past e) (waiting_queueings s past) ++ option_to_list o) (sym is) ∙ sym (candidates_are s past e legal)));
       counts = mid.counts;
     },
     tt,
   )
   pwqs_opened_as l mid (Some x) is =
-      let all : l.waiting ++ x ∷ [] ≡ candidates s past e = ap (λ ys. ys ++ x ∷ []) mid.waiting ∙ (ap (λ o. filter (survives past e) (waiting s past) ++ option_to_list o) (sym is) ∙ sym (candidates_are s past e legal)) in (
+      let all : l.waiting ++ x ∷ [] ≡ candidates s past e = ap (λ ys. ys ++ x ∷ []) mid.waiting ∙ (ap (λ o. filter (survives past e) (waiting_queueings s past) ++ option_to_list o) (sym is) ∙ sym (candidates_are s past e legal)) in (
         record { items = mid.items; many = mid.many; waiting = all; counts = mid.counts },
         record {
           item = rw mid.items there.item;

@@ -45,18 +45,18 @@ abbrev has_any : List ℕ → Bool
 has_any [] = false
 has_any (n ∷ ns) = true
 
-found_any : (p : Queueing → Bool) (xs : List Queueing) → is_some (find p xs) ≡ has_any (map number_of_queueing (filter p xs))
-found_any p [] = refl
-found_any p (x ∷ xs) = by (p x) (found_any p xs)
+found_has_any : (p : Queueing → Bool) (xs : List Queueing) → is_some (find p xs) ≡ has_any (map number_of_queueing (filter p xs))
+found_has_any p [] = refl
+found_has_any p (x ∷ xs) = by (p x) (found_has_any p xs)
   where
     by : (b : Bool) → is_some (find p xs) ≡ has_any (map number_of_queueing (filter p xs)) → is_some (cond b (Some x) (find p xs)) ≡ has_any (map number_of_queueing (cond b (x ∷ filter p xs) (filter p xs)))
     by true h = refl
     by false h = h
 
-either_any : (a b : Option ℕ) → has_any (option_to_list a ++ option_to_list b) ≡ (is_some a || is_some b)
-either_any None None = refl
-either_any None (Some n) = refl
-either_any (Some m) b = refl
+either_has_any : (a b : Option ℕ) → has_any (option_to_list a ++ option_to_list b) ≡ (is_some a || is_some b)
+either_has_any None None = refl
+either_has_any None (Some n) = refl
+either_has_any (Some m) b = refl
 
 pub run_some : (s : Layout) (past : List Entry) (i : ℕ) → IsLegal s past → is_some (run_open past i) ≡ is_some (option_map (λ (t : Start). t.number) (item_run past i))
 run_some s past i legal = by (item_run past i) refl
@@ -68,7 +68,7 @@ run_some s past i legal = by (item_run past i) refl
 pub open_as : (s : Layout) (past : List Entry) (i : ℕ) → IsLegal s past → (is_some (run_open past i) || is_some (unstarted_queueing past i)) ≡ is_item_open past i
 open_as s past i legal =
     ap₂ (λ a b. a || b) (run_some s past i legal) (sym (some_mapped number_of_queueing (unstarted_queueing past i)))
-    ∙ (sym (either_any (option_map (λ (t : Start). t.number) (item_run past i)) (option_map number_of_queueing (unstarted_queueing past i))) ∙ (ap has_any (sym (run_then_unstarted s past i legal)) ∙ sym (found_any (is_of i) (still_open past))))
+    ∙ (sym (either_has_any (option_map (λ (t : Start). t.number) (item_run past i)) (option_map number_of_queueing (unstarted_queueing past i))) ∙ (ap has_any (sym (run_then_unstarted s past i legal)) ∙ sym (found_has_any (is_of i) (still_open past))))
 
 -- ---- what a worker's slot runs
 

@@ -67,6 +67,6 @@ pub use Rattle.cmwq_theory_steps.specs.ItemQueueings.{ended_by, queueing_run}
 pub use Rattle.cmwq_theory_steps.specs.Places.{is_on, open_on}
 unfoldable pub use Rattle.cmwq_theory_steps.specs.Places.{active_count}
 pub use Rattle.cmwq_theory_steps.specs.TicketSteps.{ticket_asked, ticket_ended}
-pub use Rattle.cmwq_theory_steps.specs.Waiting.{candidates, ends_active_on, has_none, waiting}
+pub use Rattle.cmwq_theory_steps.specs.Waiting.{candidates, ends_active_on, has_none, waiting_queueings}
 pub use Rattle.cmwq_ticket.specs.Rows.{any_cancels, any_destroys, any_drains, any_ticket}
 pub use Rattle.cmwq_timer.specs.Rows.{IsFirstToFire, NoneMayFire, TimerRows, any_timer_on, timer_of}

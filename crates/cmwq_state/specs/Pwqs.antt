@@ -1,5 +1,5 @@
 -- What waits, and how many are active, refine a history.
-use Rattle.cmwq_state.specs.Common.{ℕ, List, length, Entry, Layout, active_count, waiting, PwqState, count_at, most_cpus}
+use Rattle.cmwq_state.specs.Common.{ℕ, List, length, Entry, Layout, active_count, waiting_queueings, PwqState, count_at, most_cpus}
 use Rattle.std.specs.Prelude.{count_by, ◌≡◌, ◌*◌, ◌<◌}
 use Rattle.cmwq_model.specs.Prelude.{is_active}
 use Rattle.cmwq_theory_steps.specs.Places.{open_on}
@@ -8,7 +8,7 @@ use Rattle.cmwq_theory_steps.specs.Places.{open_on}
 pub record ArePwqsOf (s : Layout) (past : List Entry) (l : PwqState) : Type 0 where
   pub items : l.items ≡ s.items
   pub many : length l.counts ≡ most_cpus * length s.queues
-  pub waiting : l.waiting ≡ waiting s past
+  pub waiting : l.waiting ≡ waiting_queueings s past
   pub counts : (q c : ℕ) → q < length s.queues → c < most_cpus → count_at l.counts q c ≡ active_count s past q c
 
 -- how many queueings of a queue are active on a CPU

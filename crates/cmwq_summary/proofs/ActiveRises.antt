@@ -12,7 +12,7 @@ use Rattle.cmwq_model.specs.declared.record.Queueing.{Queueing}
 use Rattle.cmwq_model.specs.Prelude.{Layout, is_active, is_below_max_active, is_live, newly_active, opening, queueings, still_open, width, IsLegal}
 use Rattle.cmwq_theory_active.specs.Looks.{keeps_widths, was_below_max_active}
 use Rattle.cmwq_theory_active.proofs.Looks.{active_by_looks}
-use Rattle.cmwq_theory_steps.specs.Activations.{behind_width, beside, is_below_max_active_at_once, is_of_same_pwq, waits}
+use Rattle.cmwq_theory_steps.specs.Activations.{behind_width, open_of_same_pwq, is_below_max_active_at_once, is_of_same_pwq, waits}
 use Rattle.cmwq_theory_steps.specs.Endings.{is_ended, ending}
 use Rattle.cmwq_theory_steps.specs.Histories.{one}
 use Rattle.cmwq_theory_steps.specs.Places.{is_on}
@@ -46,12 +46,12 @@ module _ (q c : ℕ) where
 
   module _ (s : Layout) (past : List Entry) (e : Entry) where
     -- what takes the place of an active one stands where that did
-    behind : (y : Queueing) → ending past e ≡ Some y → (b : Bool) → is_below_max_active s past y ≡ b → (o : Option Queueing) → slice_get (beside past y) (width s past y.place.queue.0) ≡ o
+    behind : (y : Queueing) → ending past e ≡ Some y → (b : Bool) → is_below_max_active s past y ≡ b → (o : Option Queueing) → slice_get (open_of_same_pwq past y) (width s past y.place.queue.0) ≡ o
         → count_by (is_on q c) (filter (waits s past) (option_to_list (cond b o None))) ≤ one (is_active_on s past q c y)
     behind y is false below o at = omega arith
     behind y is true below None at = omega arith
     behind y is true below (Some x) at =
-        let there = in_filter (is_of_same_pwq y) (still_open past) x (in_at (beside past y) (width s past y.place.queue.0) x (slice_get_within (beside past y) (width s past y.place.queue.0) x at) (get_or_from_slice_get (beside past y) (width s past y.place.queue.0) x x at)) in
+        let there = in_filter (is_of_same_pwq y) (still_open past) x (in_at (open_of_same_pwq past y) (width s past y.place.queue.0) x (slice_get_within (open_of_same_pwq past y) (width s past y.place.queue.0) x at) (get_or_from_slice_get (open_of_same_pwq past y) (width s past y.place.queue.0) x x at)) in
         let live : is_live past y ≡ true = (in_filter (is_live past) (queueings past) y (found (is_ended past e) (still_open past) y is).0).1 in
         let active : is_active s past y ≡ true = active_by_looks s past y ∙ ap₂ (λ a d. a && (was_below_max_active s past y || d)) live below ∙ or-true (was_below_max_active s past y) in
         let same : one (is_on q c x) ≡ one (is_active_on s past q c y) = ap one (same_pwq x y there.1 ∙ sym (and_true (is_on q c y)) ∙ ap (λ a. is_on q c y && a) (sym active)) in
@@ -65,7 +65,7 @@ module _ (q c : ℕ) where
     moved_up : (o : Option Queueing) → ending past e ≡ o → count_by (is_on q c) (filter (waits s past) (option_to_list (behind_width s past o))) ≤ one (ends_active_on s past e q c)
     moved_up None is = omega arith
     moved_up (Some y) is =
-        let up = behind y is (is_below_max_active s past y) refl (slice_get (beside past y) (width s past y.place.queue.0)) refl in
+        let up = behind y is (is_below_max_active s past y) refl (slice_get (open_of_same_pwq past y) (width s past y.place.queue.0)) refl in
         let ends : one (ends_active_on s past e q c) ≡ one (is_active_on s past q c y) = ap (λ o. one (option_map_or (is_active_on s past q c) o false)) is in
         omega (arith, up, ends)
 

@@ -21,20 +21,20 @@ use Rattle.cmwq_summary.specs.declared.activity.Doing.{Doing}
 use Rattle.cmwq_summary.specs.declared.activity.Doing.TheVariants as doing
 use Rattle.cmwq_summary.specs.declared.activity.Activity.{Activity}
 use Rattle.cmwq_summary.specs.declared.activity.TheConstants.{IDLE}
-use Rattle.cmwq_summary.specs.Activities.{AreActivities, IsActivity, IsUpTo, MayAct, acted, acted_by, activity_in, asleep_until, awake_until, begun, behind, doing_after, is_running, is_sleeping}
+use Rattle.cmwq_summary.specs.Activities.{AreActivities, IsActivity, IsUpTo, MayAct, activities_after, acted_by, activity_in, asleep_until, awake_until, activity_from, behind, doing_after, is_running, is_sleeping}
 use Rattle.cmwq_state.specs.Tables.{IsThere}
 use Rattle.cmwq_model.proofs.Limits.{limits_of}
 use Rattle.cmwq_state.proofs.Steps.{fits_there}
 use Rattle.cmwq_summary.specs.declared.told.Told.{Told}
 use Rattle.cmwq_summary.specs.Summed.{IsNext}
 use Rattle.cmwq_summary.specs.Figures.{worker_number}
-use Rattle.cmwq_summary.specs.Spent.{asleep_entries, asleep_ticks, awake_entries, awake_ticks, spent}
+use Rattle.cmwq_summary.specs.Spent.{asleep_entries, asleep_ticks, awake_entries, awake_ticks, sum_while}
 use Rattle.cmwq_theory_steps.proofs.OwedSteps.{same_starter}
 
 -- ---- at first
 
 pub idle_at_first : (w : WorkerId) → IsActivity [] w IDLE
-unfolding spent now last_start is_asleep
+unfolding sum_while now last_start is_asleep
 idle_at_first w = record {
   runs = refl;
   sleeps = refl;
@@ -88,19 +88,19 @@ module _ (past : List Entry) (e : Entry) (w : WorkerId) (a : Activity) (is : IsA
   entries_more = omega arith
 
   awake_entries_more : (awake_until a (behind (e ∷ past))).entries ≡ awake_entries (e ∷ past) w
-  unfolding spent
+  unfolding sum_while
   awake_entries_more = rw is.runs (one_more (is_running a.doing) a.awake.entries a.since.entries (length past) _ _ 1 is.since_entries entries_more is.awake_entries_are)
 
   awake_ticks_more : (awake_until a (behind (e ∷ past))).ticks ≡ awake_ticks (e ∷ past) w
-  unfolding spent
+  unfolding sum_while
   awake_ticks_more = rw is.runs (one_more (is_running a.doing) a.awake.ticks a.since.ticks (now past) _ _ (ticks_told e.call) is.since_ticks ticks_more is.awake_ticks_are)
 
   asleep_entries_more : (asleep_until a (behind (e ∷ past))).entries ≡ asleep_entries (e ∷ past) w
-  unfolding spent
+  unfolding sum_while
   asleep_entries_more = rw is.sleeps (one_more (is_sleeping a.doing) a.asleep.entries a.since.entries (length past) _ _ 1 is.since_entries entries_more is.asleep_entries_are)
 
   asleep_ticks_more : (asleep_until a (behind (e ∷ past))).ticks ≡ asleep_ticks (e ∷ past) w
-  unfolding spent
+  unfolding sum_while
   asleep_ticks_more = rw is.sleeps (one_more (is_sleeping a.doing) a.asleep.ticks a.since.ticks (now past) _ _ (ticks_told e.call) is.since_ticks ticks_more is.asleep_ticks_are)
 
   -- a worker that does what it did
@@ -121,7 +121,7 @@ module _ (past : List Entry) (e : Entry) (w : WorkerId) (a : Activity) (is : IsA
       }
 
   -- a worker that begins something
-  pub begins : (d : Doing) → length past < 4611686018427387904 → now (e ∷ past) ≤ 4611686018427387904 → runs_awake (e ∷ past) w ≡ is_running d → runs_asleep (e ∷ past) w ≡ is_sleeping d → IsActivity (e ∷ past) w (begun a (behind (e ∷ past)) d)
+  pub begins : (d : Doing) → length past < 4611686018427387904 → now (e ∷ past) ≤ 4611686018427387904 → runs_awake (e ∷ past) w ≡ is_running d → runs_asleep (e ∷ past) w ≡ is_sleeping d → IsActivity (e ∷ past) w (activity_from a (behind (e ∷ past)) d)
   begins d few soon runs sleeps = record {
     runs = runs;
     sleeps = sleeps;
@@ -229,11 +229,11 @@ module _ (s : Layout) (past : List Entry) (e : Entry) (legal : IsLegal s (e ∷ 
   callers_change_none c who none = record { many_are = are.many_are; each = λ w here small. still w here small (ap (λ (x : Who). same_who x (Worker w)) who ∙ none w) }
 
   pub workers_change_theirs : (v : WorkerId) → e.who ≡ Worker v → v.pool.cpu.0 < s.cpus → v.index < most_workers → length past < 4611686018427387904 → now (e ∷ past) ≤ 4611686018427387904
-      → AreActivities s.cpus (e ∷ past) (set old (worker_number v) (begun (activity_in old v) (behind (e ∷ past)) (doing_after e.reply (activity_in old v).doing)))
+      → AreActivities s.cpus (e ∷ past) (set old (worker_number v) (activity_from (activity_in old v) (behind (e ∷ past)) (doing_after e.reply (activity_in old v).doing)))
   workers_change_theirs v who there tiny few soon = record { many_are = length-set old (worker_number v) _ ∙ are.many_are; each = λ w here small. by w here small (same_worker v w) refl }
     where
       after : Activity
-      after = begun (activity_in old v) (behind (e ∷ past)) (doing_after e.reply (activity_in old v).doing)
+      after = activity_from (activity_in old v) (behind (e ∷ past)) (doing_after e.reply (activity_in old v).doing)
 
       inside : worker_number v < length old
       inside = let many = are.many_are in let below = number_inside v s.cpus there tiny in omega arith
@@ -249,7 +249,7 @@ module _ (s : Layout) (past : List Entry) (e : Entry) (legal : IsLegal s (e ∷ 
 
 -- ---- the next entry
 
-pub acted_are : (s : Layout) (past : List Entry) (t : Told) (old : List Activity) → IsNext s past t → AreActivities s.cpus past old → AreActivities s.cpus (t.entry ∷ past) (acted old t.entry (behind (t.entry ∷ past)))
+pub acted_are : (s : Layout) (past : List Entry) (t : Told) (old : List Activity) → IsNext s past t → AreActivities s.cpus past old → AreActivities s.cpus (t.entry ∷ past) (activities_after old t.entry (behind (t.entry ∷ past)))
 unfolding IsLegal
 acted_are s past t old next are = by t.entry.who refl (fits_there s t.entry.who t.entry.call next.legal.0)
   where

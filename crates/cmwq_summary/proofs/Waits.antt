@@ -27,13 +27,13 @@ use Rattle.cmwq_summary.specs.Spent.{each_entry, each_tick}
 use Rattle.cmwq_summary.specs.Since.{added_since, IsMoment}
 use Rattle.cmwq_summary.specs.Extents.{span_at}
 use Rattle.cmwq_summary.specs.Figures.{place_number}
-use Rattle.cmwq_summary.specs.Waits.{start_wait, AreOpenings, wait_at_start, with_opening}
+use Rattle.cmwq_summary.specs.Waits.{start_wait, AreOpeningMoments, wait_at_start, with_opening}
 use Rattle.cmwq_summary.proofs.Since.{moment_stays, moment_now, stretch_entries, stretch_ticks}
 use Rattle.cmwq_summary.proofs.Extents.{IsExtent}
 
 -- ---- when they were opened
 
-pub none_opened : (items : ℕ) → AreOpenings items [] (replicate items NO_TIME)
+pub none_opened : (items : ℕ) → AreOpeningMoments items [] (replicate items NO_TIME)
 unfolding queueings
 none_opened items = record { many_are = length-replicate items NO_TIME; each = λ i x h is. absurd (let never : None ≡ Some x = is in cc) }
 
@@ -60,13 +60,13 @@ module _ (s : Layout) (past : List Entry) (e : Entry) (legal : IsLegal s (e ∷ 
   was_there : (i : ℕ) (x : Queueing) → of_item i (opening past e) ≡ None → unstarted_queueing (e ∷ past) i ≡ Some x → unstarted_queueing past i ≡ Some x
   was_there i x none is = earlier i x (unstarted_queueing past i) (opening past e) none (sym (unstarted_goes_on s past e i legal) ∙ is)
 
-  pub openings_go_on : (moments : List Span) → AreOpenings s.items past moments → AreOpenings s.items (e ∷ past) (with_opening moments (opening past e) (behind (e ∷ past)))
+  pub openings_go_on : (moments : List Span) → AreOpeningMoments s.items past moments → AreOpeningMoments s.items (e ∷ past) (with_opening moments (opening past e) (behind (e ∷ past)))
   openings_go_on moments are = by (opening past e) refl
     where
       to : Span
       to = behind (e ∷ past)
 
-      by : (o : Option Queueing) → opening past e ≡ o → AreOpenings s.items (e ∷ past) (with_opening moments o to)
+      by : (o : Option Queueing) → opening past e ≡ o → AreOpeningMoments s.items (e ∷ past) (with_opening moments o to)
       by None none = record {
         many_are = are.many_are;
         each = λ i x h is. moment_stays past e x.number (span_at moments i) (are.each i x h (was_there i x (ap (of_item i) none) is));
@@ -91,7 +91,7 @@ module _ (s : Layout) (past : List Entry) (e : Entry) (legal : IsLegal s (e ∷ 
 
   -- ---- how long what is started waited
 
-  pub waits_are : (moments : List Span) → AreOpenings s.items past moments → IsExtent (start_wait each_entry) (start_wait each_tick) past e (option_map place_number (starting past e)) (wait_at_start moments (starting past e) (behind (e ∷ past)))
+  pub waits_are : (moments : List Span) → AreOpeningMoments s.items past moments → IsExtent (start_wait each_entry) (start_wait each_tick) past e (option_map place_number (starting past e)) (wait_at_start moments (starting past e) (behind (e ∷ past)))
   waits_are moments are = by (starting past e) refl
     where
       to : Span

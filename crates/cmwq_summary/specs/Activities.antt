@@ -47,8 +47,8 @@ awake_until a to = span_until (is_running a.doing) a.awake a.since to
 abbrev pub asleep_until : Activity → Span → Span
 asleep_until a to = span_until (is_sleeping a.doing) a.asleep a.since to
 
-abbrev pub begun : Activity → Span → Doing → Activity
-begun a to d = record { doing = d; since = to; awake = awake_until a to; asleep = asleep_until a to }
+abbrev pub activity_from : Activity → Span → Doing → Activity
+activity_from a to d = record { doing = d; since = to; awake = awake_until a to; asleep = asleep_until a to }
 
 -- the moment isn't before it began, and the sums stay small
 pub record IsUpTo (a : Activity) (to : Span) : Type 0 where
@@ -92,7 +92,7 @@ MayAct (Worker w) activities to = IsUpTo (activity_in activities w) to
 -- the activities after an entry: that of its own worker begins anew
 abbrev pub acted_by : Who → List Activity → Reply → Span → List Activity
 acted_by (Caller c) activities r to = activities
-acted_by (Worker w) activities r to = slice_set activities (worker_number w) (begun (activity_in activities w) to (doing_after r (activity_in activities w).doing))
+acted_by (Worker w) activities r to = slice_set activities (worker_number w) (activity_from (activity_in activities w) to (doing_after r (activity_in activities w).doing))
 
-abbrev pub acted : List Activity → Entry → Span → List Activity
-acted activities e to = acted_by e.who activities e.reply to
+abbrev pub activities_after : List Activity → Entry → Span → List Activity
+activities_after activities e to = acted_by e.who activities e.reply to

@@ -15,7 +15,7 @@ use Rattle.cmwq_summary.specs.Spent.{each_entry, each_tick}
 use Rattle.cmwq_summary.specs.Extents.{AreLongest, AreTotals}
 use Rattle.cmwq_summary.specs.TicketWaits.{by_ticket_ended, ended_wait}
 use Rattle.cmwq_summary.specs.Givings.{givings_of}
-use Rattle.cmwq_summary.specs.Waits.{AreOpenings, start_wait}
+use Rattle.cmwq_summary.specs.Waits.{AreOpeningMoments, start_wait}
 use Rattle.cmwq_summary.specs.Peaks.{AreMeasured, open_count_at, most_open_at, most_active_at}
 use Rattle.cmwq_summary.specs.Kinds.{call_kinds, reply_kinds}
 use Rattle.cmwq_summary.specs.Figures.{by_call, by_reply, by_item_started, by_item_cancelled, by_calling, by_ticket, by_starter, by_place_opened, by_place_started, by_place_cancelled}
@@ -42,7 +42,7 @@ pub record ArePlaces (items many : ℕ) (past : List Entry) (p : Places) : Type 
   pub queueings : IsTallyTable by_place_opened many past p.queueings
   pub starts : IsTallyTable by_place_started many past p.starts
   pub cancels : IsTallyTable by_place_cancelled many past p.cancels
-  pub openings : AreOpenings items past p.openings
+  pub openings : AreOpeningMoments items past p.openings
   pub longest : AreLongest by_place_started (start_wait each_entry) (start_wait each_tick) many past p.longest
   pub totals : AreTotals by_place_started (start_wait each_entry) (start_wait each_tick) many past p.totals
 

@@ -5,9 +5,9 @@ use Rattle.cmwq_model.specs.declared.entry.Entry.{Entry}
 use Rattle.cmwq_model.specs.Prelude.{ticks_told, runs_awake, runs_asleep}
 
 -- the sum over the entries before which this was so
-unfoldable pub spent : (List Entry → Bool) → (Entry → ℕ) → List Entry → ℕ
-spent during amount [] = 0
-spent during amount (e ∷ past) = spent during amount past + (if during past then amount e else 0)
+unfoldable pub sum_while : (List Entry → Bool) → (Entry → ℕ) → List Entry → ℕ
+sum_while during amount [] = 0
+sum_while during amount (e ∷ past) = sum_while during amount past + (if during past then amount e else 0)
 
 abbrev pub each_entry : Entry → ℕ
 each_entry e = 1
@@ -23,13 +23,13 @@ abbrev pub sleeps : WorkerId → List Entry → Bool
 sleeps w past = runs_asleep past w
 
 abbrev pub awake_entries : List Entry → WorkerId → ℕ
-awake_entries past w = spent (is_awake w) each_entry past
+awake_entries past w = sum_while (is_awake w) each_entry past
 
 abbrev pub awake_ticks : List Entry → WorkerId → ℕ
-awake_ticks past w = spent (is_awake w) each_tick past
+awake_ticks past w = sum_while (is_awake w) each_tick past
 
 abbrev pub asleep_entries : List Entry → WorkerId → ℕ
-asleep_entries past w = spent (sleeps w) each_entry past
+asleep_entries past w = sum_while (sleeps w) each_entry past
 
 abbrev pub asleep_ticks : List Entry → WorkerId → ℕ
-asleep_ticks past w = spent (sleeps w) each_tick past
+asleep_ticks past w = sum_while (sleeps w) each_tick past

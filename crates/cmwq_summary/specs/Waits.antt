@@ -32,7 +32,7 @@ all_start_ticks past p = total by_place_started (start_wait each_tick) past p
 
 -- ---- when queueings were opened, by item
 
-pub record AreOpenings (items : ℕ) (past : List Entry) (moments : List Span) : Type 0 where
+pub record AreOpeningMoments (items : ℕ) (past : List Entry) (moments : List Span) : Type 0 where
   pub many_are : length moments ≡ items
   pub each : (i : ℕ) (x : Queueing) → i < items → unstarted_queueing past i ≡ Some x → IsMoment past x.number (span_at moments i)
 

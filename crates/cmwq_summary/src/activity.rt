@@ -1,6 +1,6 @@
 //! How long a worker's runs were awake, and how long they slept.
 ghost use Rattle.std.specs.Prelude.{◌≡◌};
-ghost use Rattle.cmwq_summary.specs.Activities.{IsUpTo, asleep_until, awake_until, begun, doing_after};
+ghost use Rattle.cmwq_summary.specs.Activities.{IsUpTo, asleep_until, awake_until, activity_from, doing_after};
 
 use crate::span::{NO_TIME, Span};
 use cmwq_model::Reply;
@@ -73,7 +73,7 @@ impl Activity {
     /// Begins to do something now.
     pub(crate) fn begin(&mut self, now: Span, doing: Doing)
         requires { IsUpTo self.old now }
-        ensures { self.new ≡ begun self.old now doing }
+        ensures { self.new ≡ activity_from self.old now doing }
     {
         *self = Activity {
             doing,

@@ -4,7 +4,7 @@ ghost use Rattle.cmwq_model.specs.declared.entry.Entry as entries;
 ghost use Rattle.cmwq_model.specs.declared.record.Start as starts;
 ghost use Rattle.cmwq_model.specs.Runs as runs;
 ghost use Rattle.cmwq_summary.specs.Figures.{worker_number};
-ghost use Rattle.cmwq_summary.specs.Activities.{MayAct, activity_in, acted, behind};
+ghost use Rattle.cmwq_summary.specs.Activities.{MayAct, activity_in, activities_after, behind};
 ghost use Rattle.cmwq_summary.specs.Parts.{AreWorkers};
 ghost use Rattle.cmwq_summary.specs.Summed.{IsNext};
 ghost use Rattle.cmwq_model.specs.Prelude.{Layout};
@@ -58,7 +58,7 @@ pub(crate) fn activity_in(activities: &Vec<Activity>, worker: WorkerId) -> Activ
 /// An entry of a worker may change what it does.
 fn act(activities: &mut Vec<Activity>, entry: &Entry, now: Span)
     requires { MayAct entry.now.who activities.old.items now }
-    ensures { activities.new.items ≡ acted activities.old.items entry.now now }
+    ensures { activities.new.items ≡ activities_after activities.old.items entry.now now }
 {
     if let Who::Worker(worker) = entry.who {
         let at = worker_number(worker);

@@ -13,7 +13,7 @@ use Rattle.cmwq_text.specs.IdText.{item, queue_numbered, cpu, item_in, queue_in,
 use Rattle.cmwq_text.specs.CallText.{call_read_after, call_in, call_read}
 use Rattle.cmwq_text.specs.ReplyText.{ticket_with, ticket_after, started_with, started_after, reply_after, reply_in}
 use Rattle.cmwq_text.specs.EntryText.{entry_of}
-use Rattle.cmwq_text.specs.Formats.{is_short, is_short_call, is_short_reply, is_short_entry, number_limit, by_age, allows_call, call_of_format, allows_entry, entry_of_format}
+use Rattle.cmwq_text.specs.Formats.{is_short, is_short_call, is_short_reply, is_short_entry, number_limit, of_version, allows_call, call_of_format, allows_entry, entry_of_format}
 use Rattle.cmwq_text.proofs.Steps.{bind_some, chosen}
 use Rattle.cmwq_text.proofs.NumberLaws.{number_takes}
 use Rattle.cmwq_text.proofs.WordLaws.{word_takes}
@@ -266,7 +266,7 @@ module _ (v : ℕ) where
   limited_wide b c h = grind arith
 
   pub call_of_format_inside : (line : List ℕ) (x : Who × Call) → call_of_format v line ≡ Some x → IsWho x.0 × (IsCall (number_limit v)) x.1
-  unfolding call_of_format by_age
+  unfolding call_of_format of_version
   call_of_format_inside line x is =
       let read = bind_some (call_read line) (λ (y : Who × Call). cond (allows_call v y.1) (Some y) None) x is in
       let found = chosen (allows_call v read.0.1) (Some read.0) x read.2 in
@@ -274,9 +274,9 @@ module _ (v : ℕ) where
       subst (λ (y : Who × Call). IsWho y.0 × (IsCall (number_limit v)) y.1) (same_Some read.0 x found.1) (inside.0, limited_call (nat_le 3 v) read.0.1 inside.1 found.0)
 
   pub allowed_call : (c : Call) → (IsCall (number_limit v)) c → allows_call v c ≡ true
-  unfolding by_age
+  unfolding of_version
   allowed_call c h = limited_is (nat_le 3 v) c h
 
   pub wide_call_of : (c : Call) → (IsCall (number_limit v)) c → (IsCall greatest_number) c
-  unfolding by_age
+  unfolding of_version
   wide_call_of c h = limited_wide (nat_le 3 v) c h

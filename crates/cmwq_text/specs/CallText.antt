@@ -72,12 +72,12 @@ is_queueing word.Modify = true
 is_queueing keyword = false
 
 -- whether it has an item and nothing else
-abbrev pub has_item : Keyword → Bool
-has_item word.Cancel = true
-has_item word.FlushItem = true
-has_item word.FlushDelayed = true
-has_item word.CancelSync = true
-has_item keyword = false
+abbrev pub has_item_alone : Keyword → Bool
+has_item_alone word.Cancel = true
+has_item_alone word.FlushItem = true
+has_item_alone word.FlushDelayed = true
+has_item_alone word.CancelSync = true
+has_item_alone keyword = false
 
 -- whether it has a queue first
 abbrev pub has_queue : Keyword → Bool

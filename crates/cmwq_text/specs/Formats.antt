@@ -55,17 +55,17 @@ abbrev pub most_lines : ℕ
 most_lines = 4611686018426387904
 
 -- what an older format has at most, and a newer one
-unfoldable pub by_age : ℕ → ℕ → ℕ → ℕ
-by_age old new version = if nat_le 3 version then new else old
+unfoldable pub of_version : ℕ → ℕ → ℕ → ℕ
+of_version old new version = if nat_le 3 version then new else old
 
 abbrev pub line_limit : ℕ → ℕ
-line_limit version = by_age old_lines most_lines version
+line_limit version = of_version old_lines most_lines version
 
 abbrev pub room_limit : ℕ → ℕ
-room_limit version = by_age old_room most_room version
+room_limit version = of_version old_room most_room version
 
 abbrev pub queue_limit : ℕ → ℕ
-queue_limit version = by_age old_queues most_queues version
+queue_limit version = of_version old_queues most_queues version
 
 abbrev pub is_old_call : Call → Bool
 is_old_call (call.SetMax q n) = false
@@ -152,7 +152,7 @@ entry_of_format version line = do
 
 -- the greatest number of an entry
 abbrev pub number_limit : ℕ → ℕ
-number_limit version = by_age greatest greatest_number version
+number_limit version = of_version greatest greatest_number version
 
 -- the call of a line in a file of calls, whose format is 3 where its first line says so, and else 1
 abbrev pub allows_call : ℕ → Call → Bool

@@ -1,7 +1,7 @@
 //! Calls in a text.
 ghost use Rattle.std.specs.Prelude.{◌≡◌, true};
 ghost use Rattle.cmwq_text.specs.Words.{with_left};
-ghost use Rattle.cmwq_text.specs.CallText.{is_queueing, has_item, has_queue, call_read_after, call_in, is_of_kind, may_say, call_read};
+ghost use Rattle.cmwq_text.specs.CallText.{is_queueing, has_item_alone, has_queue, call_read_after, call_in, is_of_kind, may_say, call_read};
 
 use crate::id::{cpu_in, item_in, queue_in, who_in};
 use crate::keyword::{Keyword, keyword_in};
@@ -46,7 +46,7 @@ fn queueing_after(keyword: Keyword, words: &mut Words<'_>) -> Option<Call>
 #[tactic(auto, unfolding(crate::specs::CallText::call_read_after))]
 #[inline(always)]
 fn item_call_after(keyword: Keyword, words: &mut Words<'_>) -> Option<Call>
-    requires { has_item keyword ≡ true }
+    requires { has_item_alone keyword ≡ true }
     ensures { with_left result words.new ≡ call_read_after keyword words.old }
 {
     let item = item_in(words)?;

@@ -61,7 +61,7 @@ pub fn is_calls_line(version: u8, line: &[u8]) -> bool
 }
 
 /// The greatest number of lines behind the queues in this format.
-#[tactic(auto, unfolding(crate::specs::Formats::by_age))]
+#[tactic(auto, unfolding(crate::specs::Formats::of_version))]
 pub fn line_limit(version: u8) -> u64
     ensures is { result ≡ line_limit version }
     ensures most { line_limit version ≤ most_lines }
@@ -74,7 +74,7 @@ pub fn line_limit(version: u8) -> u64
 }
 
 /// The greatest room in this format.
-#[tactic(auto, unfolding(crate::specs::Formats::by_age))]
+#[tactic(auto, unfolding(crate::specs::Formats::of_version))]
 fn room_limit(version: u8) -> u64
     ensures { result ≡ room_limit version }
 {
@@ -82,7 +82,7 @@ fn room_limit(version: u8) -> u64
 }
 
 /// The greatest number of queues in this format.
-#[tactic(auto, unfolding(crate::specs::Formats::by_age))]
+#[tactic(auto, unfolding(crate::specs::Formats::of_version))]
 pub fn queue_limit(version: u8) -> usize
     ensures { result ≡ queue_limit version }
 {

@@ -1,5 +1,5 @@
 -- A queue that is gone has nothing open and nothing booked on it; one that is being destroyed has nothing booked on it.
-use Rattle.cmwq_theory_laws.specs.Common.{◌≡◌, ◌==◌, ℕ, Bool, true, false, ◌&&◌, ◌||◌, List, [], ◌∷◌, length, filter, Option, Some, None, option_to_list, refl, sym, ap, ◌∙◌, subst, arith, if◌then◌else◌, option_and_then, option_map, option_or, option_map_or, AllByRecursion, list_any, eq-eqb, eqb-true, nat_tests, Who, Call, Reply, Entry, Booking, Queueing, Layout, is_at, item_fired, is_of_item, settles, due_in, booking, booking_of, booked_by, bookings, standing, stands, number_booked, opens, opening, queued_at, still_open, tickets, unended_tickets, gives_ticket, drains, destroys, is_drain_of, is_destroy_of, is_draining, is_being_destroyed, is_done, ends_destroy, is_gone, holds_up, waits_for, is_booked_on, IsLegal, All_append, All_unfilter, find_none, Cause, cause_of, booking_after, opening_opens}
+use Rattle.cmwq_theory_laws.specs.Common.{◌≡◌, ◌==◌, ℕ, Bool, true, false, ◌&&◌, ◌||◌, List, [], ◌∷◌, length, filter, Option, Some, None, option_to_list, refl, sym, ap, ◌∙◌, subst, arith, if◌then◌else◌, option_and_then, option_map, option_or, option_map_or, AllByRecursion, list_any, eq-eqb, eqb-true, nat_tests, Who, Call, Reply, Entry, Booking, Queueing, Layout, is_at, item_fired, is_of_item, settles, due_in, booking, booking_of, booked_by, bookings, standing_bookings, stands, number_booked, opens, opening, queued_at, still_open, tickets, unended_tickets, gives_ticket, drains, destroys, is_drain_of, is_destroy_of, is_draining, is_being_destroyed, is_done, ends_destroy, is_gone, holds_up, waits_for, is_booked_on, IsLegal, All_append, All_unfilter, find_none, Cause, cause_of, booking_after, opening_opens}
 use Rattle.cmwq_model.specs.declared.record.Place.{Place}
 use Rattle.cmwq_model.specs.declared.call.Call.TheVariants as call
 use Rattle.cmwq_model.specs.declared.reply.Reply.TheVariants as reply
@@ -88,9 +88,9 @@ its_booking (e ∷ past) i P b all h = at (settles e.reply && is_of_item i e) re
     at true ha is rest = (item_is (due_in e.reply) refl is (and_parts (settles e.reply) (is_of_item i e) ha).1, last_holds P (booking_of e (length past)) b parts.1 is)
     at false ha is rest = rest is
 
-none_standing : (past : List Entry) (q : ℕ) → list_any (is_booked_on q) (standing past) ≡ false → NoneBooked past q
+none_standing : (past : List Entry) (q : ℕ) → list_any (is_booked_on q) (standing_bookings past) ≡ false → NoneBooked past q
 none_standing past q h i b is =
-    let k = its_booking past i (λ a. stands past a ≡ true → (a.place.queue.0 == q) ≡ false) b (All_unfilter (λ a. (a.place.queue.0 == q) ≡ false) (stands past) (bookings past) (none_pass (is_booked_on q) (standing past) h)) is in
+    let k = its_booking past i (λ a. stands past a ≡ true → (a.place.queue.0 == q) ≡ false) b (All_unfilter (λ a. (a.place.queue.0 == q) ≡ false) (stands past) (bookings past) (none_pass (is_booked_on q) (standing_bookings past) h)) is in
     k.1 (ap (λ o. is_at (option_map number_booked o) b.number) (ap (booking past) k.0 ∙ is) ∙ eq-eqb b.number b.number refl)
 
 -- ---- the invariant
@@ -101,7 +101,7 @@ record IsEmptied (past : List Entry) (q : ℕ) : Type 0 where
 
 -- a destroy begins where nothing is booked
 begun_none : (s : Layout) (past : List Entry) (who : Who) (c : Call) (r : Reply) (q : ℕ) → Cause s past who c r → destroys q c ≡ true → gives_ticket r ≡ true → NoneBooked past q × (settles r ≡ false)
-begun_none s past who c r q (cause.destroyed w k free there new none) h given = (none_standing past q (subst (λ m. list_any (is_booked_on m) (standing past) ≡ false) (eqb-true k.0 q h) none), refl)
+begun_none s past who c r q (cause.destroyed w k free there new none) h given = (none_standing past q (subst (λ m. list_any (is_booked_on m) (standing_bookings past) ≡ false) (eqb-true k.0 q h) none), refl)
 begun_none s past who c r q other h given = cc
 
 left_none : (past : List Entry) (e : Entry) (q : ℕ) → settles e.reply ≡ false → NoneBooked past q → NoneBooked (e ∷ past) q

@@ -12,7 +12,7 @@ pub use Rattle.std.specs.Option.{option_map_or, option_or}
 pub use Rattle.std.specs.Prelude.{IsTrue, fold, if◌then◌else◌, is_some, option_and_then, option_map}
 pub use Rattle.cmwq_lemmas.proofs.Filters.{count_by-same, count_none, filter_same, find-filter, none_found}
 pub use Rattle.cmwq_lemmas.proofs.Lists.{All_append, All_both, All_each, All_filter, All_map, All_unfilter, count_by-cons, count_by-filter, count_by-none, find_none}
-pub use Rattle.cmwq_model.specs.Prelude.{IsCall, IsEntry, IsFirstWrong, IsReply, IsWho, Layout, Steps, Wants, booked_by, booking_of, cancels_sync, destroys, drains, due_in, ends_destroy, entry_at, entry_fits, entry_for, finishes, first_width, fits, frozen_after, gives_ticket, greatest, has_number, has_numbers, has_room, has_run, has_time, holds_up, indices, is_ahead, is_at, is_being_destroyed, is_below_max_active, is_booked, is_booked_on, is_by, is_cancel_sync_of, is_cancelling, is_crowded, is_destroy_of, is_done, is_drain_of, is_draining, is_enlisted, is_finished, is_freezable, is_layout, is_listed, is_live, is_newly_active, is_of_item, is_open, is_other_idle, is_pending, is_reserve, is_served_after, is_shut, is_startable, is_started, is_ticket, is_unended, is_unstarted, is_within, item_at, item_called, item_fired, item_of, item_run, item_runs, least_waited, may_call, most_time, newly_active, none, number_booked, number_cancelled, number_finished, number_started, opening, opens, past_of, place_wanted, pool_at, queue_of, queued_at, queueing_at, reply_fits, room_needed, run, run_queue, runs_elsewhere, runs_on, same_pool, same_who, same_worker, serial_of, sets_max, settles, standing, stands, start_in, start_of, starts, starts_item, step, steps, still_open, takes_back, ticket_for, ticket_in, ticket_of, ticks_told, unended_tickets, unstarted_queueing, waits_for, width_told}
+pub use Rattle.cmwq_model.specs.Prelude.{IsCall, IsEntry, IsFirstWrong, IsReply, IsWho, Layout, Steps, Wants, booked_by, booking_of, cancels_sync, destroys, drains, due_in, ends_destroy, entry_at, entry_fits, entry_for, finishes, first_width, fits, frozen_after, gives_ticket, greatest, has_number, has_numbers, has_room, has_run, has_time, holds_up, indices, is_ahead, is_at, is_being_destroyed, is_below_max_active, is_booked, is_booked_on, is_by, is_cancel_sync_of, is_cancelling, is_crowded, is_destroy_of, is_done, is_drain_of, is_draining, is_enlisted, is_finished, is_freezable, is_layout, is_listed, is_live, is_newly_active, is_of_item, is_open, is_other_idle, is_pending, is_reserve, is_served_after, is_shut, is_startable, is_started, is_ticket, is_unended, is_unstarted, is_within, item_at, item_called, item_fired, item_of, item_run, item_runs, least_waited, may_call, most_time, newly_active, none, number_booked, number_cancelled, number_finished, number_started, opening, opens, past_of, place_wanted, pool_at, queue_of, queued_at, queueing_at, reply_fits, room_needed, run, run_queue, runs_elsewhere, runs_on, same_pool, same_who, same_worker, serial_of, sets_max, settles, standing_bookings, stands, start_in, start_of, starts, starts_item, step, steps, still_open, takes_back, ticket_for, ticket_in, ticket_of, ticks_told, unended_tickets, unstarted_queueing, waits_for, width_told}
 unfoldable pub use Rattle.cmwq_model.specs.Prelude.{IsLegal, answer, became_active, booking, bookings, enlisted_by, is_active, is_cancelled, is_frozen, is_gone, item_start, last_start, max_active, modify_answer, next, now, queue_answer, queueings, serving_from, take_answer, tickets, wait_answer, width, worklist}
 pub use Rattle.cmwq_model.specs.declared.call.Call.{Call}
 pub use Rattle.cmwq_model.specs.declared.entry.Entry.{Entry}

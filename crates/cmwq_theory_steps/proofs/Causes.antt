@@ -1,5 +1,5 @@
 -- Why a call is answered as it is: each answer that changes anything, with what holds before it.
-use Rattle.cmwq_theory_steps.specs.Common.{◌≡◌, ◌+◌, ◌==◌, ℕ, Bool, true, false, not, ◌||◌, if◌then◌else◌, List, ◌∷◌, length, Option, Some, None, nat_lt, min, refl, sym, subst, CpuId, ItemId, QueueId, WorkerId, Who, Caller, Worker, Call, Reply, Entry, Booking, Queueing, Ticket, Layout, now, is_booked, standing, run, has_run, runs_awake, runs_asleep, unstarted_queueing, is_pending, is_item_open, runs_elsewhere, next, is_enlisted, runnable, enlisted_by, may_retire, is_cancelling, is_being_destroyed, is_gone, is_crowded, ticket_of, is_frozen, waits_for, answer, wait_answer, destroy_answer, set_max_answer, is_booked_on, may_call, is_shut, cancel_answer, taken_back_answer, first_due, fired_answer, flush_item_answer, is_held_back, flush_delayed_answer, cancel_sync_answer, taken_back_for, end_of_ticket, waiting_for, started_answer, start_of, queue_answer, modify_answer, take_answer, finished_answer, finish_answer, retire_answer, IsLegal, list_any}
+use Rattle.cmwq_theory_steps.specs.Common.{◌≡◌, ◌+◌, ◌==◌, ℕ, Bool, true, false, not, ◌||◌, if◌then◌else◌, List, ◌∷◌, length, Option, Some, None, nat_lt, min, refl, sym, subst, CpuId, ItemId, QueueId, WorkerId, Who, Caller, Worker, Call, Reply, Entry, Booking, Queueing, Ticket, Layout, now, is_booked, standing_bookings, run, has_run, runs_awake, runs_asleep, unstarted_queueing, is_pending, is_item_open, runs_elsewhere, next, is_enlisted, runnable, enlisted_by, may_retire, is_cancelling, is_being_destroyed, is_gone, is_crowded, ticket_of, is_frozen, waits_for, answer, wait_answer, destroy_answer, set_max_answer, is_booked_on, may_call, is_shut, cancel_answer, taken_back_answer, first_due, fired_answer, flush_item_answer, is_held_back, flush_delayed_answer, cancel_sync_answer, taken_back_for, end_of_ticket, waiting_for, started_answer, start_of, queue_answer, modify_answer, take_answer, finished_answer, finish_answer, retire_answer, IsLegal, list_any}
 use Rattle.cmwq_theory_steps.proofs.Lemmas.{not-false, or_parts}
 use Rattle.cmwq_model.specs.declared.call.Call.TheVariants as call
 use Rattle.cmwq_model.specs.declared.reply.Reply.TheVariants as reply
@@ -39,7 +39,7 @@ pub data Cause (s : Layout) (past : List Entry) : Who → Call → Reply → Typ
   fires : (who : Who) (b : Booking) → first_due past ≡ Some b → Cause s past who call.Fire (reply.Fired b.item (length past))
   flushed : (who : Who) (q : QueueId) → is_crowded past who ≡ false → is_gone past q.0 ≡ false → Cause s past who (call.Flush q) (reply.Ticket (length past))
   drained : (who : Who) (q : QueueId) → is_crowded past who ≡ false → is_gone past q.0 ≡ false → Cause s past who (call.Drain q) (reply.Ticket (length past))
-  destroyed : (who : Who) (q : QueueId) → is_crowded past who ≡ false → is_gone past q.0 ≡ false → is_being_destroyed past q.0 ≡ false → list_any (is_booked_on q.0) (standing past) ≡ false → Cause s past who (call.Destroy q) (reply.Ticket (length past))
+  destroyed : (who : Who) (q : QueueId) → is_crowded past who ≡ false → is_gone past q.0 ≡ false → is_being_destroyed past q.0 ≡ false → list_any (is_booked_on q.0) (standing_bookings past) ≡ false → Cause s past who (call.Destroy q) (reply.Ticket (length past))
   widened : (who : Who) (q : QueueId) (n : ℕ) → is_gone past q.0 ≡ false → Cause s past who (call.SetMax q n) (reply.Width (min n 512))
   freezes : (who : Who) → is_frozen past ≡ false → Cause s past who call.Freeze reply.Frozen
   thaws : (who : Who) → is_frozen past ≡ true → Cause s past who call.Thaw reply.Thawed
@@ -125,7 +125,7 @@ causes s past who (call.SetMax q n) = tested (is_gone past q.0) (λ g. gone who 
 causes s past who call.Freeze = tested (is_frozen past) (λ f. no who _) (freezes who)
 causes s past who call.Thaw = tested (is_frozen past) (thaws who) (λ f. no who _)
 causes s past who (call.Destroy q) =
-    tested (is_gone past q.0) (λ g. gone who _) (λ g. tested (is_being_destroyed past q.0) (λ d. draining who _) (λ d. tested (list_any (is_booked_on q.0) (standing past)) (λ b. timers who _)
+    tested (is_gone past q.0) (λ g. gone who _) (λ g. tested (is_being_destroyed past q.0) (λ d. draining who _) (λ d. tested (list_any (is_booked_on q.0) (standing_bookings past)) (λ b. timers who _)
     (λ b. tested (is_crowded past who) (λ k. crowded who _) (λ k. destroyed who q k g d b))))
 causes s past (Caller c) own = misuse (Caller c) _
 

@@ -2,7 +2,7 @@
 use Rattle.cmwq_theory_steps.specs.Common.{option_map_or, ◌≡◌, ◌<◌, ◌≤◌, ◌+◌, ◌==◌, ℕ, Bool, true, false, cond, not, ◌&&◌, ◌||◌, List, [], ◌∷◌, ◌++◌, length, filter, count_by, Option, Some, None, option_to_list, append-nil, nat_lt, refl, sym, ap, ap₂, ◌∙◌, subst, arith, slice_get, if◌then◌else◌, AllByRecursion, ltb-true, ltb-false, eqb-true, nat_tests, filter-append, sum_by-filter_both, Entry, Queueing, Reply, Layout, number_finished, number_cancelled, replaces, width, queueings, opens, opening, is_live, still_open, is_ahead, is_below_max_active, is_active, newly_active, IsLegal, keeps_widths, All_map, All_both, All_each, All_filter, All_unfilter, count_by-cons, opening_number, active_go_on, width_same, open_below}
 use Rattle.cmwq_model.specs.declared.reply.Reply.TheVariants as reply
 use Rattle.cmwq_theory_steps.specs.Endings.{survives, is_ended, ending}
-use Rattle.cmwq_theory_steps.specs.Activations.{waits, is_of_same_pwq, beside, behind_width, is_below_max_active_at_once}
+use Rattle.cmwq_theory_steps.specs.Activations.{waits, is_of_same_pwq, open_of_same_pwq, behind_width, is_below_max_active_at_once}
 use Rattle.std.proofs.lemmas.Bool.{and_from, and_parts, both_ways, not-true, true_from_ne_false}
 use Rattle.cmwq_lemmas.proofs.Lists.{count_append}
 use Rattle.cmwq_lemmas.proofs.Truth.{and_false, and_true, same_bools}
@@ -103,13 +103,13 @@ stands_behind past e x y w alone within on count =
     (true_from_ne_false _ (λ ended. let same = alone (ap not ended) in absurd (omega arith)), grind (arith, nat_tests))
 
 moves_active : (s : Layout) (past : List Entry) (e : Entry) (x y : Queueing) → (is_ended past e x ≡ true → x.number ≡ y.number) → count_by (is_ahead y) (still_open past) < width s past y.place.queue.0
-    → moves_up s past e (Some y) x ≡ (is_of_same_pwq y x && (count_by (is_below x) (beside past y) == width s past y.place.queue.0))
+    → moves_up s past e (Some y) x ≡ (is_of_same_pwq y x && (count_by (is_below x) (open_of_same_pwq past y) == width s past y.place.queue.0))
 moves_active s past e x y alone within = at (is_of_same_pwq y x) refl
   where
     rest : is_of_same_pwq y x ≡ true → (survives past e x && (is_ahead x y && (count_by (is_ahead x) (still_open past) == width s past y.place.queue.0))) ≡ (count_by (is_ahead x) (still_open past) == width s past y.place.queue.0)
     rest on = same_bools _ _ (λ h. (and_parts _ _ (and_parts _ _ h).1).1) (λ h. let both = stands_behind past e x y (width s past y.place.queue.0) alone within on (eqb-true _ _ h) in and_from _ _ both.0 (and_from _ _ both.1 h))
 
-    at : (b : Bool) → is_of_same_pwq y x ≡ b → moves_up s past e (Some y) x ≡ (b && (count_by (is_below x) (beside past y) == width s past y.place.queue.0))
+    at : (b : Bool) → is_of_same_pwq y x ≡ b → moves_up s past e (Some y) x ≡ (b && (count_by (is_below x) (open_of_same_pwq past y) == width s past y.place.queue.0))
     at false on = grind (arith, nat_tests)
     at true on =
         let queue : x.place.queue.0 ≡ y.place.queue.0 = grind (arith, nat_tests) in
@@ -117,12 +117,12 @@ moves_active s past e x y alone within = at (is_of_same_pwq y x) refl
         ∙ ap (λ n. n == width s past y.place.queue.0) (count_ahead past y.place.queue.0 y.place.cpu.0 x on)
 
 promotes_active : (s : Layout) (past : List Entry) (e : Entry) (y : Queueing) → IsLegal s (e ∷ past) → ending past e ≡ Some y → count_by (is_ahead y) (still_open past) < width s past y.place.queue.0
-    → filter (moves_up s past e (Some y)) (still_open past) ≡ option_to_list (slice_get (beside past y) (width s past y.place.queue.0))
+    → filter (moves_up s past e (Some y)) (still_open past) ≡ option_to_list (slice_get (open_of_same_pwq past y) (width s past y.place.queue.0))
 promotes_active s past e y legal is within =
-    filter_same (moves_up s past e (Some y)) (λ x. is_of_same_pwq y x && (count_by (is_below x) (beside past y) == width s past y.place.queue.0)) (still_open past)
+    filter_same (moves_up s past e (Some y)) (λ x. is_of_same_pwq y x && (count_by (is_below x) (open_of_same_pwq past y) == width s past y.place.queue.0)) (still_open past)
     (All_map (λ x. is_ended past e x ≡ true → x.number ≡ y.number) _ (still_open past) (λ x alone. moves_active s past e x y alone within) (ended_number s past e y legal is))
-    ∙ sym (filter_twice (λ x. count_by (is_below x) (beside past y) == width s past y.place.queue.0) (is_of_same_pwq y) (still_open past))
-    ∙ one_ranked (λ x. count_by (is_below x) (beside past y)) 0 (width s past y.place.queue.0) (width s past y.place.queue.0) (beside past y) (omega arith) (open_ranked past y.place.queue.0 y.place.cpu.0)
+    ∙ sym (filter_twice (λ x. count_by (is_below x) (open_of_same_pwq past y) == width s past y.place.queue.0) (is_of_same_pwq y) (still_open past))
+    ∙ one_ranked (λ x. count_by (is_below x) (open_of_same_pwq past y)) 0 (width s past y.place.queue.0) (width s past y.place.queue.0) (open_of_same_pwq past y) (omega arith) (open_ranked past y.place.queue.0 y.place.cpu.0)
 
 -- where y isn't active, what is behind it has more ahead than the queue is wide
 moves_none : (s : Layout) (past : List Entry) (e : Entry) (x y : Queueing) → IsLegal s (e ∷ past) → ending past e ≡ Some y → width s past y.place.queue.0 ≤ count_by (is_ahead y) (still_open past) → moves_up s past e (Some y) x ≡ false
@@ -136,7 +136,7 @@ promotes : (s : Layout) (past : List Entry) (e : Entry) (o : Option Queueing) �
 promotes s past e None legal is = filter_none (moves_up s past e None) (still_open past) (All_each _ (still_open past) (λ x. and_false (survives past e x)))
 promotes s past e (Some y) legal is = at (is_below_max_active s past y) refl
   where
-    at : (b : Bool) → is_below_max_active s past y ≡ b → filter (moves_up s past e (Some y)) (still_open past) ≡ option_to_list (if b then slice_get (beside past y) (width s past y.place.queue.0) else None)
+    at : (b : Bool) → is_below_max_active s past y ≡ b → filter (moves_up s past e (Some y)) (still_open past) ≡ option_to_list (if b then slice_get (open_of_same_pwq past y) (width s past y.place.queue.0) else None)
     at true h = promotes_active s past e y legal is (ltb-true _ _ h)
     at false h = filter_none (moves_up s past e (Some y)) (still_open past) (All_each _ (still_open past) (λ x. moves_none s past e x y legal is (ltb-false _ _ h)))
 

@@ -7,9 +7,9 @@ use Rattle.cmwq_theory_steps.specs.Places.{is_on, active_count}
 use Rattle.cmwq_theory_steps.specs.Endings.{survives, ending}
 use Rattle.cmwq_theory_steps.specs.Activations.{is_left, is_in, waits, behind_width, is_below_max_active_at_once}
 use Rattle.cmwq_theory_steps.specs.TicketSteps.{ticket_asked, is_kept}
-use Rattle.cmwq_theory_steps.specs.RoomSteps.{is_slept, is_woke, is_frozen_now, is_thawed_now, paid, taken_on}
+use Rattle.cmwq_theory_steps.specs.RoomSteps.{is_slept, is_woke, is_frozen_now, is_thawed_now, room_paid, taken_on}
 use Rattle.cmwq_theory_steps.specs.RunSteps.{run_after, ends_run}
-use Rattle.cmwq_theory_steps.specs.Waiting.{waiting, is_active_on}
+use Rattle.cmwq_theory_steps.specs.Waiting.{waiting_queueings, is_active_on}
 use Rattle.cmwq_theory_steps.specs.Queued.{run_queue_after}
 use Rattle.cmwq_theory_steps.specs.Refusals.{is_refusal, DoesNothing, ChangesNothing}
 use Rattle.cmwq_lemmas.proofs.Filters.{filter_same, find_same}
@@ -110,7 +110,7 @@ same_active s past e legal q none x less =
     let way : is_below_max_active s (e ∷ past) x ≡ is_below_max_active s past x = ap₂ nat_lt (ap (count_by (is_ahead x)) (same_open s past e legal q none)) (width_same s past e x.place.queue.0 q.widths) in
     active_go_on s past e x ∙ ap₂ (λ a b. a && (is_active s past x || b)) live way ∙ same_bools _ _ (λ h. grind (arith, way_active s past x)) (λ h. grind (arith, active_live s past x h))
 
-same_waiting : (s : Layout) (past : List Entry) (e : Entry) → IsLegal s (e ∷ past) → SaysNothing e.reply → opening past e ≡ None → waiting s (e ∷ past) ≡ waiting s past
+same_waiting : (s : Layout) (past : List Entry) (e : Entry) → IsLegal s (e ∷ past) → SaysNothing e.reply → opening past e ≡ None → waiting_queueings s (e ∷ past) ≡ waiting_queueings s past
 same_waiting s past e legal q none = ap (filter (waits s (e ∷ past))) (same_open s past e legal q none)
     ∙ filter_same (waits s (e ∷ past)) (waits s past) (still_open past) (All_map (λ x. x.number < length past) _ (still_open past) (λ x less. ap not (same_active s past e legal q none x less)) (open_below past))
 
@@ -174,7 +174,7 @@ same_time s past e legal h = omega (arith, no_ticks s past e.who e.call (subst (
 same_owed : (s : Layout) (past : List Entry) (e : Entry) → IsLegal s (e ∷ past) → SaysNothing e.reply → DoesNothing s past e → owed s (e ∷ past) ≡ owed s past
 same_owed s past e legal q d =
     let step = owed_goes_on s past e legal in
-    let pays : paid past e ≡ 0 = rw (q.started, q.finished, q.woke, q.done, q.thawed, q.settles_none, d.ended) refl in
+    let pays : room_paid past e ≡ 0 = rw (q.started, q.finished, q.woke, q.done, q.thawed, q.settles_none, d.ended) refl in
     let takes : taken_on past e ≡ 0 = rw (q.started, q.slept, q.gives, q.frozen, d.opened, d.booked) refl in
     omega arith
 

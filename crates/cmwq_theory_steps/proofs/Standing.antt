@@ -1,5 +1,5 @@
 -- A booking that stands is the booking of its item.
-use Rattle.cmwq_theory_steps.specs.Common.{place_called, ◌≡◌, ◌<◌, ℕ, Bool, true, false, ◌&&◌, List, [], ◌∷◌, length, filter, Option, Some, None, option_to_list, refl, sym, ap, ap₂, ◌∙◌, subst, arith, option_map, option_and_then, if◌then◌else◌, option_or, AllByRecursion, eq-eqb, eqb-true, ItemId, Who, Call, Reply, Entry, Booking, Layout, is_at, item_called, item_fired, is_of_item, settles, due_in, booking, booking_of, booked_by, bookings, standing, stands, number_booked, first_due, may_fire, is_soonest, All_map, All_append, All_filter}
+use Rattle.cmwq_theory_steps.specs.Common.{place_called, ◌≡◌, ◌<◌, ℕ, Bool, true, false, ◌&&◌, List, [], ◌∷◌, length, filter, Option, Some, None, option_to_list, refl, sym, ap, ap₂, ◌∙◌, subst, arith, option_map, option_and_then, if◌then◌else◌, option_or, AllByRecursion, eq-eqb, eqb-true, ItemId, Who, Call, Reply, Entry, Booking, Layout, is_at, item_called, item_fired, is_of_item, settles, due_in, booking, booking_of, booked_by, bookings, standing_bookings, stands, number_booked, first_due, may_fire, is_soonest, All_map, All_append, All_filter}
 use Rattle.cmwq_model.specs.declared.call.Call.TheVariants as call
 use Rattle.cmwq_model.specs.declared.reply.Reply.TheVariants as reply
 use Rattle.cmwq_theory_steps.specs.Reasons.{FiresBooking}
@@ -65,14 +65,14 @@ bookings_own (e ∷ past) = All_append (IsOwn (e ∷ past)) (bookings past) (opt
         let m = made e (length past) b (due_in e.reply) refl is in
         record { older = omega (arith, m.number); own = λ stood. booking_after past e b.item.0 true (ap₂ (λ a b. a && b) m.settled m.item) ∙ is }
 
-pub standing_own : (past : List Entry) → AllByRecursion (λ b. booking past b.item.0 ≡ Some b) (standing past)
+pub standing_own : (past : List Entry) → AllByRecursion (λ b. booking past b.item.0 ≡ Some b) (standing_bookings past)
 standing_own past = All_filter (λ b. booking past b.item.0 ≡ Some b) (stands past) (bookings past) (All_map (IsOwn past) (λ b. stands past b ≡ true → booking past b.item.0 ≡ Some b) (bookings past) (λ b k. k.own) (bookings_own past))
 
 pub due_own : (past : List Entry) (b : Booking) → first_due past ≡ Some b → booking past b.item.0 ≡ Some b
 unfolding first_due
 due_own past b h =
-    (find_holds (λ a. booking past a.item.0 ≡ Some a) (is_soonest (filter (may_fire past) (standing past))) (filter (may_fire past) (standing past)) b
-    (All_filter _ (may_fire past) (standing past) (All_map (λ a. booking past a.item.0 ≡ Some a) _ (standing past) (λ a own due. own) (standing_own past))) h).holds
+    (find_holds (λ a. booking past a.item.0 ≡ Some a) (is_soonest (filter (may_fire past) (standing_bookings past))) (filter (may_fire past) (standing_bookings past)) b
+    (All_filter _ (may_fire past) (standing_bookings past) (All_map (λ a. booking past a.item.0 ≡ Some a) _ (standing_bookings past) (λ a own due. own) (standing_own past))) h).holds
 
 pub fire_reason : (s : Layout) (past : List Entry) (who : Who) (c : Call) (r : Reply) (i : ItemId) (k : ℕ) → Cause s past who c r → r ≡ reply.Fired i k → FiresBooking past c i k
 fire_reason s past who c r i k (cause.fires w b due) h =

@@ -6,7 +6,7 @@ use Rattle.cmwq_lemmas.proofs.Filters.{filter_twice, filter_same}
 use Rattle.cmwq_theory_steps.proofs.Active.{not_active_yet}
 use Rattle.cmwq_theory_steps.proofs.Endings.{open_go_on}
 use Rattle.cmwq_theory_steps.proofs.Promoted.{turn_filters, newly_is, newly_of_open}
-use Rattle.cmwq_theory_steps.specs.Waiting.{waiting, candidates, has_none}
+use Rattle.cmwq_theory_steps.specs.Waiting.{waiting_queueings, candidates, has_none}
 use Rattle.cmwq_lemmas.proofs.Truth.{flip}
 
 pub all_live : (past : List Entry) → AllByRecursion (λ x. is_live past x ≡ true) (still_open past)
@@ -17,7 +17,7 @@ pub opened_waits : (s : Layout) (past : List Entry) (e : Entry) (o : Option Queu
 opened_waits s past e None h = refl
 opened_waits s past e (Some x) h = ap (λ b. cond (not b) (x ∷ []) []) (not_active_yet s past x (opening_number past e x h))
 
-pub candidates_are : (s : Layout) (past : List Entry) (e : Entry) → IsLegal s (e ∷ past) → candidates s past e ≡ filter (survives past e) (waiting s past) ++ option_to_list (opening past e)
+pub candidates_are : (s : Layout) (past : List Entry) (e : Entry) → IsLegal s (e ∷ past) → candidates s past e ≡ filter (survives past e) (waiting_queueings s past) ++ option_to_list (opening past e)
 candidates_are s past e legal =
     ap (filter (waits s past)) (open_go_on s past e legal)
     ∙ (filter-append (waits s past) (filter (survives past e) (still_open past)) (option_to_list (opening past e))
@@ -30,7 +30,7 @@ newly_are s past e =
     (All_map (λ x. is_live (e ∷ past) x ≡ true) _ (still_open (e ∷ past)) (λ x live. newly_is s past e x live ∙ flip (is_below_max_active s (e ∷ past) x) (waits s past x)) (all_live (e ∷ past)))
     ∙ sym (filter_twice (is_below_max_active s (e ∷ past)) (waits s past) (still_open (e ∷ past))))
 
-pub waiting_goes_on : (s : Layout) (past : List Entry) (e : Entry) → waiting s (e ∷ past) ≡ filter (has_none s (e ∷ past)) (candidates s past e)
+pub waiting_goes_on : (s : Layout) (past : List Entry) (e : Entry) → waiting_queueings s (e ∷ past) ≡ filter (has_none s (e ∷ past)) (candidates s past e)
 waiting_goes_on s past e =
     filter_same (waits s (e ∷ past)) (λ x. waits s past x && has_none s (e ∷ past) x) (still_open (e ∷ past)) (All_map (λ x. is_live (e ∷ past) x ≡ true) _ (still_open (e ∷ past)) (λ x live. grind (arith, active_go_on s past e x)) (all_live (e ∷ past)))
     ∙ sym (filter_twice (has_none s (e ∷ past)) (waits s past) (still_open (e ∷ past)))

@@ -31,8 +31,8 @@ WorklistsGoOn = (s : Layout) (past : List Entry) (e : Entry) (p : PoolId) → Is
 abbrev pub is_of_same_pwq : Queueing → Queueing → Bool
 is_of_same_pwq x y = same_place y.place x.place
 
-abbrev pub beside : List Entry → Queueing → List Queueing
-beside past x = filter (is_of_same_pwq x) (still_open past)
+abbrev pub open_of_same_pwq : List Entry → Queueing → List Queueing
+open_of_same_pwq past x = filter (is_of_same_pwq x) (still_open past)
 
 -- what isn't active waits
 abbrev pub waits : Layout → List Entry → Queueing → Bool
@@ -51,7 +51,7 @@ NewlyActiveOn = (s : Layout) (past : List Entry) (e : Entry) (q c : ℕ)
 -- opened, where it is below max_active
 abbrev pub behind_width : Layout → List Entry → Option Queueing → Option Queueing
 behind_width s past None = None
-behind_width s past (Some y) = if is_below_max_active s past y then slice_get (beside past y) (width s past y.place.queue.0) else None
+behind_width s past (Some y) = if is_below_max_active s past y then slice_get (open_of_same_pwq past y) (width s past y.place.queue.0) else None
 
 -- what is opened is active at once where fewer than the width are left beside it
 abbrev pub is_below_max_active_at_once : Layout → List Entry → Entry → Queueing → Bool

@@ -6,7 +6,7 @@ use Rattle.cmwq_theory_steps.specs.Histories.{OfEntries}
 use Rattle.cmwq_theory_steps.specs.Places.{active_count}
 use Rattle.cmwq_theory_steps.specs.Endings.{ending}
 use Rattle.cmwq_theory_steps.specs.TicketSteps.{ticket_ended}
-use Rattle.cmwq_theory_steps.specs.Waiting.{waiting}
+use Rattle.cmwq_theory_steps.specs.Waiting.{waiting_queueings}
 
 abbrev pub is_refusal : Reply → Bool
 is_refusal reply.Misuse = true
@@ -38,7 +38,7 @@ pub record ChangesNothing (s : Layout) (past : List Entry) (e : Entry) : Type 0 
   pub open_ones : still_open (e ∷ past) ≡ still_open past
   pub active : (x : Queueing) → x.number < length past → is_active s (e ∷ past) x ≡ is_active s past x
   pub active_count : (q c : ℕ) → active_count s (e ∷ past) q c ≡ active_count s past q c
-  pub waiting : waiting s (e ∷ past) ≡ waiting s past
+  pub waiting : waiting_queueings s (e ∷ past) ≡ waiting_queueings s past
   pub worklists : (p : PoolId) → worklist s (e ∷ past) p ≡ worklist s past p
   pub next : (p : PoolId) → next s (e ∷ past) p ≡ next s past p
   pub unstarted : (i : ℕ) → unstarted_queueing (e ∷ past) i ≡ unstarted_queueing past i

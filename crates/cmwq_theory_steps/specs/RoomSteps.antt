@@ -66,8 +66,8 @@ FrozenAreCounted = OfEntries (λ s past e. one (is_frozen (e ∷ past)) + one (i
 
 -- ---- so what is owed: what it was, less what the entry pays off, and what it takes on
 
-abbrev pub paid : List Entry → Entry → ℕ
-paid past e =
+abbrev pub room_paid : List Entry → Entry → ℕ
+room_paid past e =
     2 * one (is_some (number_started e.reply)) + 2 * one (ends_unstarted past e) + one (is_some (number_finished e.reply)) + one (is_woke e.reply)
     + 3 * one (settles_booked past e) + one (is_done e.reply) + one (is_thawed_now e.reply)
 
@@ -77,7 +77,7 @@ taken_on past e =
     + 3 * one (is_some (booking_of e (length past))) + one (gives_ticket e.reply) + one (is_frozen_now e.reply)
 
 abbrev pub OwedGoesOn : Type 0
-OwedGoesOn = OfEntries (λ s past e. owed s (e ∷ past) + paid past e ≡ owed s past + taken_on past e)
+OwedGoesOn = OfEntries (λ s past e. owed s (e ∷ past) + room_paid past e ≡ owed s past + taken_on past e)
 
 -- nothing at first
 abbrev pub NothingOwedAtFirst : Type 0

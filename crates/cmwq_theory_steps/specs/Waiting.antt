@@ -8,15 +8,15 @@ use Rattle.cmwq_theory_steps.specs.Activations.{waits, stay_count}
 
 -- ---- what waits: all that is open and inactive, by number
 
-abbrev pub waiting : Layout → List Entry → List Queueing
-waiting s past = filter (waits s past) (still_open past)
+abbrev pub waiting_queueings : Layout → List Entry → List Queueing
+waiting_queueings s past = filter (waits s past) (still_open past)
 
 -- what an entry may make active: what waited and is open after it, and so, what waited and survives, then what is opened
 abbrev pub candidates : Layout → List Entry → Entry → List Queueing
 candidates s past e = filter (waits s past) (still_open (e ∷ past))
 
 abbrev pub CandidatesAre : Type 0
-CandidatesAre = OfEntries (λ s past e. candidates s past e ≡ filter (survives past e) (waiting s past) ++ option_to_list (opening past e))
+CandidatesAre = OfEntries (λ s past e. candidates s past e ≡ filter (survives past e) (waiting_queueings s past) ++ option_to_list (opening past e))
 
 -- of these, what is below max_active after the entry becomes active, and what hasn't waits
 abbrev pub has_none : Layout → List Entry → Queueing → Bool
@@ -26,7 +26,7 @@ abbrev pub CandidatesBelowMaxActive : Type 0
 CandidatesBelowMaxActive = (s : Layout) (past : List Entry) (e : Entry) → newly_active s past e ≡ filter (is_below_max_active s (e ∷ past)) (candidates s past e)
 
 abbrev pub WaitingGoesOn : Type 0
-WaitingGoesOn = (s : Layout) (past : List Entry) (e : Entry) → waiting s (e ∷ past) ≡ filter (has_none s (e ∷ past)) (candidates s past e)
+WaitingGoesOn = (s : Layout) (past : List Entry) (e : Entry) → waiting_queueings s (e ∷ past) ≡ filter (has_none s (e ∷ past)) (candidates s past e)
 
 -- one pass finds them: each is below max_active where fewer than the width are active on its pool workqueue, counting those before it that became active in the pass
 abbrev pub WayByPicked : Type 0

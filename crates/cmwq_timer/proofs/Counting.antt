@@ -8,7 +8,7 @@ use Rattle.std.proofs.lemmas.List.Folds.{sum_by-replicate}
 use Rattle.std.proofs.lemmas.List.Sums.{count_by-le-length, sum_by-cons, sum_by-set}
 use Rattle.cmwq_timer.specs.declared.timer.Timer.{Timer}
 use Rattle.cmwq_timer.specs.declared.timers.TheConstants.{QUEUES}
-use Rattle.cmwq_timer.specs.Rows.{TimerRows, timer_of, is_timer_on, any_timer_on, AreCounted, counts_with, counts_without, HasRoomFor}
+use Rattle.cmwq_timer.specs.Rows.{TimerRows, timer_of, is_timer_on, any_timer_on, AreCounted, timer_counts_with, timer_counts_without, HasRoomFor}
 
 abbrev bit : ℕ → Option Timer → ℕ
 bit q o = cond (is_timer_on q o) 1 0
@@ -17,7 +17,7 @@ bit q o = cond (is_timer_on q o) 1 0
 written : (q : ℕ) (rows : TimerRows) (i : ℕ) (o : Option Timer) → i < length rows → count_by (is_timer_on q) (set rows i o) + bit q (timer_of rows i) ≡ count_by (is_timer_on q) rows + bit q o
 written q rows i o here = sum_by-set (bit q) rows i o None here
 
-with_at : (counts : List ℕ) (o : Option Timer) (q : ℕ) → q < length counts → slice_index (counts_with o counts) q ≡ slice_index counts q + bit q o
+with_at : (counts : List ℕ) (o : Option Timer) (q : ℕ) → q < length counts → slice_index (timer_counts_with o counts) q ≡ slice_index counts q + bit q o
 with_at counts None q inside = sym (nothing (slice_index counts q))
   where
     nothing : (n : ℕ) → n + 0 ≡ n
@@ -30,7 +30,7 @@ with_at counts (Some t) q inside = ⊎_elim
     none : (b : Bool) → (b ≡ true → ⊥) → slice_index counts q ≡ slice_index counts q + cond b 1 0
     none b h = grind arith
 
-without_at : (counts : List ℕ) (o : Option Timer) (q : ℕ) → q < length counts → slice_index (counts_without o counts) q ≡ slice_index counts q - bit q o
+without_at : (counts : List ℕ) (o : Option Timer) (q : ℕ) → q < length counts → slice_index (timer_counts_without o counts) q ≡ slice_index counts q - bit q o
 without_at counts None q inside = sym (nothing (slice_index counts q))
   where
     nothing : (n : ℕ) → n - 0 ≡ n
@@ -43,10 +43,10 @@ without_at counts (Some t) q inside = ⊎_elim
     none : (b : Bool) → (b ≡ true → ⊥) → slice_index counts q ≡ slice_index counts q - cond b 1 0
     none b h = grind arith
 
-length_with : (counts : List ℕ) (o : Option Timer) → length (counts_with o counts) ≡ length counts
+length_with : (counts : List ℕ) (o : Option Timer) → length (timer_counts_with o counts) ≡ length counts
 length_with counts o = grind (arith, length-set)
 
-length_without : (counts : List ℕ) (o : Option Timer) → length (counts_without o counts) ≡ length counts
+length_without : (counts : List ℕ) (o : Option Timer) → length (timer_counts_without o counts) ≡ length counts
 length_without counts o = grind (arith, length-set)
 
 -- a queue has a number below 256
@@ -55,14 +55,14 @@ module _ (rows : TimerRows) (counts : List ℕ) (are : AreCounted rows counts) w
   counted o t is = ap (bit t.place.queue.0) is ∙ ap (λ b. cond b 1 0) (eq-eqb t.place.queue.0 t.place.queue.0 refl)
 
   module _ (i : ℕ) (here : i < length rows) where
-    pub written_counts : (o : Option Timer) → AreCounted (set rows i o) (counts_with o (counts_without (timer_of rows i) counts))
+    pub written_counts : (o : Option Timer) → AreCounted (set rows i o) (timer_counts_with o (timer_counts_without (timer_of rows i) counts))
     written_counts o = record {
       few = rw (length-set rows i o) are.few;
-      many = length_with (counts_without (timer_of rows i) counts) o ∙ length_without counts (timer_of rows i) ∙ are.many;
+      many = length_with (timer_counts_without (timer_of rows i) counts) o ∙ length_without counts (timer_of rows i) ∙ are.many;
       exact = λ q less.
           let within : q < length counts = rw are.many less in
-          let within2 : q < length (counts_without (timer_of rows i) counts) = rw (length_without counts (timer_of rows i)) within in
-          let more = with_at (counts_without (timer_of rows i) counts) o q within2 in
+          let within2 : q < length (timer_counts_without (timer_of rows i) counts) = rw (length_without counts (timer_of rows i)) within in
+          let more = with_at (timer_counts_without (timer_of rows i) counts) o q within2 in
           let fewer = without_at counts (timer_of rows i) q within in
           let exact = are.exact q less in
           let change = written q rows i o here in
@@ -70,12 +70,12 @@ module _ (rows : TimerRows) (counts : List ℕ) (are : AreCounted rows counts) w
           omega (arith, more, fewer, exact, change, none);
     }
 
-    pub has_room : (o : Option Timer) → ((t : Timer) → o ≡ Some t → t.place.queue.0 < QUEUES) → HasRoomFor o (counts_without (timer_of rows i) counts)
+    pub has_room : (o : Option Timer) → ((t : Timer) → o ≡ Some t → t.place.queue.0 < QUEUES) → HasRoomFor o (timer_counts_without (timer_of rows i) counts)
     has_room None known = tt
     has_room (Some t) known =
         let q = t.place.queue.0 in
         let within : q < length counts = rw are.many (known t refl) in
-        let within2 : q < length (counts_without (timer_of rows i) counts) = rw (length_without counts (timer_of rows i)) within in
+        let within2 : q < length (timer_counts_without (timer_of rows i) counts) = rw (length_without counts (timer_of rows i)) within in
         let fewer = without_at counts (timer_of rows i) q within in
         let exact = are.exact q (known t refl) in
         let change = written q rows i (Some t) here in

@@ -26,13 +26,13 @@ pub record AreCounted (rows : TimerRows) (counts : List ℕ) : Type 0 where
   pub exact : (q : ℕ) → q < QUEUES → slice_index counts q ≡ count_by (is_timer_on q) rows
 
 -- an item more, or less, on the queue of a timer
-abbrev pub counts_with : Option Timer → List ℕ → List ℕ
-counts_with None counts = counts
-counts_with (Some t) counts = slice_set counts t.place.queue.0 (slice_index counts t.place.queue.0 + 1)
+abbrev pub timer_counts_with : Option Timer → List ℕ → List ℕ
+timer_counts_with None counts = counts
+timer_counts_with (Some t) counts = slice_set counts t.place.queue.0 (slice_index counts t.place.queue.0 + 1)
 
-abbrev pub counts_without : Option Timer → List ℕ → List ℕ
-counts_without None counts = counts
-counts_without (Some t) counts = slice_set counts t.place.queue.0 (slice_index counts t.place.queue.0 - 1)
+abbrev pub timer_counts_without : Option Timer → List ℕ → List ℕ
+timer_counts_without None counts = counts
+timer_counts_without (Some t) counts = slice_set counts t.place.queue.0 (slice_index counts t.place.queue.0 - 1)
 
 abbrev pub HasCountOf : Option Timer → List ℕ → Type 0
 HasCountOf None counts = Unit {0}

@@ -1,5 +1,5 @@
 ghost use Rattle.std.specs.Prelude.{◌≡◌, ◌<◌, Some, None, IfOk, IfSome, IfNone, length, replicate, slice_set};
-ghost use Rattle.cmwq_timer.specs.Rows.{timer_of, due_of, any_timer_on, counts_with, counts_without, HasCountOf, HasRoomFor, NoneMayFire, IsFirstToFire};
+ghost use Rattle.cmwq_timer.specs.Rows.{timer_of, due_of, any_timer_on, timer_counts_with, timer_counts_without, HasCountOf, HasRoomFor, NoneMayFire, IsFirstToFire};
 
 use crate::timer::Timer;
 use crate::tournament::Tournament;
@@ -114,7 +114,7 @@ impl Timers {
 /// One item less is booked on the queue of this timer.
 fn lower(counts: &mut Vec<u16>, timer: Option<Timer>)
     requires { HasCountOf timer counts.old.items }
-    ensures { counts.new.items ≡ counts_without timer counts.old.items }
+    ensures { counts.new.items ≡ timer_counts_without timer counts.old.items }
 {
     if let Some(timer) = timer {
         counts[usize::from(timer.place.queue.0)] -= 1;
@@ -124,7 +124,7 @@ fn lower(counts: &mut Vec<u16>, timer: Option<Timer>)
 /// One item more is booked on the queue of this timer.
 fn raise(counts: &mut Vec<u16>, timer: Option<Timer>)
     requires { HasRoomFor timer counts.old.items }
-    ensures { counts.new.items ≡ counts_with timer counts.old.items }
+    ensures { counts.new.items ≡ timer_counts_with timer counts.old.items }
 {
     if let Some(timer) = timer {
         counts[usize::from(timer.place.queue.0)] += 1;

@@ -245,7 +245,7 @@ impl State {
     /// Whether an item is booked on the queue.
     pub fn is_booked_on(&self, queue: QueueId) -> bool
         requires { queue.0 < length self.now.layout.queues }
-        ensures { result ≡ list_any (is_booked_on queue.0) (bookings.standing (past_of self.now.entries)) }
+        ensures { result ≡ list_any (is_booked_on queue.0) (bookings.standing_bookings (past_of self.now.entries)) }
     {
         self.timers.is_booked_on(queue)
     }

@@ -1,10 +1,10 @@
 use Rattle.std.proofs.Common.{refl, arith}
-use Rattle.cmwq_chart_text.specs.Bands.{shows, stacked}
+use Rattle.cmwq_chart_text.specs.Bands.{shows, stacked_rows}
 use Rattle.cmwq_chart_text.proofs.Stacked.{rows_more}
 use Rattle.cmwq_chart_text.proofs.bands.rows_marked.Goals as goal
 
 pub loop-row-init : goal.loop-row-init
-unfolding stacked
+unfolding stacked_rows
 loop-row-init c = record { placed = c.new-placed.ensures.items; top = refl; few = omega arith }
 
 pub loop-row-preserved : goal.loop-row-preserved

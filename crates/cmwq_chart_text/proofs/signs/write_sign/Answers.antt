@@ -1,7 +1,7 @@
 use Rattle.std.proofs.Common.{◌++◌}
 use Rattle.std.proofs.lemmas.Result.{err_from_is_err_and}
 use Rattle.cmwq_base.proofs.Fronts.{front_before, front_after}
-use Rattle.cmwq_chart_text.specs.Filled.{filled}
+use Rattle.cmwq_chart_text.specs.Filled.{filled_template}
 use Rattle.cmwq_chart_text.specs.SignText.{sign_template, sign_numbers, sign_text, told_text}
 use Rattle.cmwq_chart_text.proofs.signs.write_sign.Goals as goal
 
@@ -9,7 +9,7 @@ pub returns-in_err-write_label-clause-err : goal.returns-in_err-write_label-clau
 unfolding sign_text
 returns-in_err-write_label-clause-err g c =
     let p = err_from_is_err_and c.from_residual.result c.from_residual.ensures.1 in
-    let rest = filled (sign_template c.args.sign.now.kind) (sign_numbers c.args.page.now c.args.top c.args.sign.now) ++ told_text c.args.entries.now c.args.sign.now.at in
+    let rest = filled_template (sign_template c.args.sign.now.kind) (sign_numbers c.args.page.now c.args.top c.args.sign.now) ++ told_text c.args.entries.now c.args.sign.now.at in
     rw (p.1) (front_before _ _ _ rest c.in_err-write_label.ensures.err)
 
 pub returns-in_err-write_filled-clause-err : goal.returns-in_err-write_filled-clause-err

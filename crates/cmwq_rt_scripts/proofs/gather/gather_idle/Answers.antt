@@ -1,5 +1,5 @@
 use Rattle.cmwq_rt_scripts.specs.Common.{◌≡◌, ◌+◌, ◌++◌, ◌∷◌, [], length, length-append, arith, ap, sym, ◌∙◌, subst, slice_get, Some, View, made_by}
-use Rattle.cmwq_rt_scripts.specs.Ended.{caller_at}
+use Rattle.cmwq_text.specs.IdText.{caller_numbered}
 use Rattle.cmwq_rt_scripts.proofs.Gathering.{last_at, kept_at, one_before, silent_in}
 use Rattle.cmwq_rt_scripts.proofs.gather.gather_idle.Goals as goal
 
@@ -19,7 +19,7 @@ loop-preserved g c =
       (let i = inv.1 in let p = c.merge.ensures.parts in let q = share.0 in omega (arith, p, q, i)),
       (let i = inv.2 in let p = c.merge.ensures.amount in let q = share.1 in let z = serial in omega (arith, p, q, i, z)),
       (λ k x at. inv.3 k x (subst (λ l. slice_get l k ≡ Some x) (sym last) (kept_at new one x k at))),
-      one_before (λ k. made_by (caller_at k) c.args.monitor.now.history ≡ []) (first + length new) (first + length c.args.idle.items)
+      one_before (λ k. made_by (caller_numbered k) c.args.monitor.now.history ≡ []) (first + length new) (first + length c.args.idle.items)
           (silent_in (first + length new) c.args.monitor.now.history one c.settle_caller.new.caller fresh settled)
           (λ k le lt. inv.4 k (omega (arith, le, len)) lt),
     )

@@ -1,12 +1,12 @@
 use Rattle.cmwq_rt_scripts.specs.Common.{◌≡◌, ℕ, ◌+◌, ◌++◌, ◌∷◌, [], length, arith, ap, sym, ◌∙◌, subst, slice_get, Some, get_or_from_slice_get, View, Places}
 use Rattle.cmwq_model.specs.declared.id.CallerId.{CallerId}
-use Rattle.cmwq_rt_scripts.specs.Ended.{caller_at}
+use Rattle.cmwq_text.specs.IdText.{caller_numbered}
 use Rattle.cmwq_rt_scripts.proofs.Gathering.{all_push}
 use Rattle.cmwq_rt_scripts.proofs.start.start_callers.Goals as goal
 
 pub start_caller-requires-clause-who : goal.start_caller-requires-clause-who
 start_caller-requires-clause-who g c κs within =
-    ap (λ (v : View). v.who) c.in-Ok.ensures.given.0 ∙ ap caller_at (ap (λ (p : Places). p.callers) c.loop-k.invariant.1)
+    ap (λ (v : View). v.who) c.in-Ok.ensures.given.0 ∙ ap caller_numbered (ap (λ (p : Places). p.callers) c.loop-k.invariant.1)
 
 pub loop-k-preserved : goal.loop-k-preserved
 loop-k-preserved g c =

@@ -9,7 +9,7 @@ use Rattle.std_heap.specs.contracts.Global as global
 use Rattle.std_heap.specs.contracts.GlobalAllocator.TheImpl as impl
 use Rattle.std_heap.proofs.Global.TheLaws as laws
 use Rattle.cmwq_c.specs.contracts.session.Session as book
-use Rattle.cmwq_c.specs.Owned.{chunk, held}
+use Rattle.cmwq_c.specs.Owned.{chunk, owns_book}
 use Rattle.cmwq_c.specs.contracts.held.Held as Held
 use Rattle.cmwq_c.proofs.ApartValues.{both, apart_good, apart_in}
 use Rattle.cmwq_c.proofs.HeldValues.{held_of, held_good, held_told}
@@ -28,7 +28,7 @@ into_apart_spec 𝓤 𝓛 𝓜 𝓡 wired =
     let κs = z.0.0 in let qs = z.0.1 in let v = z.0.3.0 in let a = z.0.3.1.0 in let Post : Val → SProp 𝓤 = (walk_of 𝓛 En hs c).post z in let Run : List Val → SProp 𝓤 = λ ws. WpFn 𝓤 H 𝓣.C 𝓣.Λ fn ws Post in
     qed 𝓛 ((raw (alive 𝓛 En.signature κs qs) ⊛ ‵ (owns (types_at En.signature.params κs) z.0.3 z.0.4)) ∷ raw (fact 𝓤 (v.full ≡ true)) ∷ []) ∵
     move ! (1 ∷ []) $ heard ! (v.full ≡ true) (λ full. split ! $ move ! (1 ∷ []) $ fsplit3 ! $ move ! (1 ∷ []) $ handle_tells al ! a z.0.4.1.0 (λ h ea fits. move ! (1 ∷ []) $ fsplit ! $ drop ! $
-    rewrite ! 0 (λ (x : Bool). ‵ (held x v.at v.book)) full refl $
+    rewrite ! 0 (λ (x : Bool). ‵ (owns_book x v.at v.book)) full refl $
     in_a_block ! v.at (λ p. box_owns chunk R p v.book) (fst∗ 𝓤 (never 𝓤) (sem 𝓛 (chunk (bare (lone R.mir)) null_ptr))) (λ b o e.
     let w : Val = held_of (block_ptr b o) in let us : List Val = w ∷ h ∷ [] in
     let ew : z.0.4.0 ≡ w ∷ [] = held_told v.at z.0.4.0 are.0.0 ∙ ap (λ (p : Ptr). held_of p ∷ []) e in

@@ -3,7 +3,7 @@ use Rattle.std.proofs.Common.{ap₂}
 use Rattle.cmwq_flush.specs.declared.openings.Row.{Row}
 use Rattle.cmwq_flush.specs.Rows.{OpenRows, rows_at}
 use Rattle.cmwq_flush.specs.ItemNumbers.{numbers_open}
-use Rattle.cmwq_flush.specs.Openings.{node_row, numbers_of_nodes, opened_by, rows_of}
+use Rattle.cmwq_flush.specs.Openings.{node_row, numbers_of_nodes, opened_by, rows_of_nodes}
 use Rattle.cmwq_flush.proofs.Nodes.{not_listed, rows-pushed, listed_below}
 use Rattle.cmwq_flush.proofs.NodeNumbers.{item_inside, opened_at}
 use Rattle.cmwq_flush.proofs.Opening.{free_listed, chosen_low, opened-pushed, openings-pushed}
@@ -49,8 +49,8 @@ invariant_of-self c =
     let few = few_by s.lists.lists s.rows s.items c.args.item.0 there (rw (← c.self.view_is) at c.requires.free) in
     let low = chosen_low s.lists.lists s.rows s.items c.args.item.0 v there c.free_node-node.ensures few in
     let free = free_listed s.lists.lists s.rows s.items c.args.item.0 v there c.free_node-node.ensures few in
-    let below : (l : ℕ) → All (λ (r : Row). r.number < c.args.row.number) (rows_at (rows_of s.lists.lists s.rows) l) = rw (← c.self.view_is) at c.requires.latest in
-    let many : c.from.result < length s.lists.lists = let q : c.args.queue.0 < length (rows_of s.lists.lists s.rows) = rw (← c.self.view_is) at c.requires.queue in let size = length-map s.lists.lists (map (node_row s.rows)) in omega (arith, c.from.ensures) in
+    let below : (l : ℕ) → All (λ (r : Row). r.number < c.args.row.number) (rows_at (rows_of_nodes s.lists.lists s.rows) l) = rw (← c.self.view_is) at c.requires.latest in
+    let many : c.from.result < length s.lists.lists = let q : c.args.queue.0 < length (rows_of_nodes s.lists.lists s.rows) = rw (← c.self.view_is) at c.requires.queue in let size = length-map s.lists.lists (map (node_row s.rows)) in omega (arith, c.from.ensures) in
     rw (c.push_back.ensures, c.put.ensures) (openings-pushed s.items s.lists s.rows c.from.result v c.args.row c.self.invariant many (omega (arith, c.self.invariant.nodes)) free (λ w h. listed_below s.lists.lists s.rows c.args.row.number w below h))
 
 pub returns : goal.returns
@@ -61,8 +61,8 @@ returns c =
     let few = few_by s.lists.lists s.rows s.items c.args.item.0 there (rw (← c.self.view_is) at c.requires.free) in
     let low = chosen_low s.lists.lists s.rows s.items i v there c.free_node-node.ensures few in
     let free = free_listed s.lists.lists s.rows s.items i v there c.free_node-node.ensures few in
-    let below : (l : ℕ) → All (λ (r : Row). r.number < c.args.row.number) (rows_at (rows_of s.lists.lists s.rows) l) = rw (← c.self.view_is) at c.requires.latest in
-    let lt : c.args.queue.0 < length s.lists.lists = let q : c.args.queue.0 < length (rows_of s.lists.lists s.rows) = rw (← c.self.view_is) at c.requires.queue in let size = length-map s.lists.lists (map (node_row s.rows)) in omega arith in
+    let below : (l : ℕ) → All (λ (r : Row). r.number < c.args.row.number) (rows_at (rows_of_nodes s.lists.lists s.rows) l) = rw (← c.self.view_is) at c.requires.latest in
+    let lt : c.args.queue.0 < length s.lists.lists = let q : c.args.queue.0 < length (rows_of_nodes s.lists.lists s.rows) = rw (← c.self.view_is) at c.requires.queue in let size = length-map s.lists.lists (map (node_row s.rows)) in omega arith in
     let many = c.self.invariant.many in
     rw (c.push_back.ensures, c.put.ensures, c.from.ensures, ← c.self.view_is) (ap₂ (λ (rs : List (List Row)) (os : List (List ℕ)). let o : OpenRows = record { rows = rs; opened = os } in o)
     (rows-pushed s.lists.lists s.rows c.args.queue.0 v c.args.row lt (omega arith) free)
