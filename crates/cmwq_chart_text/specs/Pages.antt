@@ -8,7 +8,7 @@ use Rattle.cmwq_chart_text.specs.declared.page.Window.{Window}
 unfoldable pub page_of : Window → ℕ → Page
 page_of w n = record { first = min w.from n; end = max (min w.to n) (min w.from n) }
 
--- how many entries are entries_shown, how many columns a band has, and how wide each is
+-- how many entries are shown, how many columns a band has, and how wide each is
 abbrev pub entries_shown : Page → ℕ
 entries_shown p = p.end - p.first
 
