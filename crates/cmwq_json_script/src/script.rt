@@ -15,7 +15,7 @@ use crate::limits::{callers_in, items_in, queues_in};
 use crate::names::Names;
 use crate::queue::read_queues;
 use crate::top::Top;
-use cmwq_input::{Part, Refused};
+use cmwq_json::{Part, Refused};
 use cmwq_json::Members;
 use cmwq_model::{Call, Counts, QueueShape, Shape};
 use serde_json::Value;

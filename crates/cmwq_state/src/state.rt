@@ -23,7 +23,7 @@ use cmwq_inflight::Flights;
 use cmwq_model::{Call, Counts, Entry, NoMemory, QueueShape, Shape, Who};
 use cmwq_pool::Pools;
 use cmwq_pwq::Pwqs;
-use cmwq_tail::Trail;
+use crate::trail::Trail;
 use cmwq_ticket::Tickets;
 use cmwq_timer::Timers;
 use std::alloc::Global;

@@ -1,7 +1,7 @@
 //! `summary` over a worked history, whose page was recomputed elsewhere.
 
 use cmwq_base::{FailsAt, Memory};
-use cmwq_cmd_summary::run_summary;
+use cmwq_views::run_summary;
 use std::alloc::Global;
 use std::process::Abort;
 use std::test::Fail;

@@ -1,7 +1,7 @@
 //! The words of the program, over any source and sinks.
 
 use cmwq_cmd_history::{run_check, run_step, run_upgrade};
-use cmwq_cmd_replay::run_replay;
+use cmwq_replay::run_replay;
 use cmwq_cmd_run::run_run;
 use cmwq_io::{Memory, Sink, Source};
 use std::process::Abort;

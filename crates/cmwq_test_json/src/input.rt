@@ -1,5 +1,5 @@
 use crate::same::same;
-use cmwq_input::*;
+use cmwq_json::*;
 use cmwq_io::{FailsAt, Memory, tell};
 use serde_json::Value;
 use std::test::Fail;

@@ -1,5 +1,5 @@
 use crate::same::same;
-use cmwq_cmd_replay::*;
+use cmwq_replay::*;
 use cmwq_io::{FailsAt, Memory, Sink, Source};
 use std::alloc::Global;
 use std::process::Abort;

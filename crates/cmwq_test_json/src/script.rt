@@ -1,6 +1,6 @@
 use crate::lists::{numbered, times};
 use crate::same::is_spelled;
-use cmwq_input::{Part, Refused};
+use cmwq_json::{Part, Refused};
 use cmwq_json_script::*;
 use serde_json::Value;
 use std::process::Abort;

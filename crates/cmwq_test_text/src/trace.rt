@@ -1,6 +1,6 @@
 use crate::same::same;
 use cmwq_base::{FailsAt, Memory};
-use cmwq_cmd_trace::*;
+use cmwq_views::*;
 use std::process::Abort;
 
 const HISTORY: &[u8] = b"history 2

@@ -30,9 +30,9 @@ pub use Rattle.cmwq_model.specs.declared.record.Queueing.{Queueing}
 pub use Rattle.cmwq_model.specs.declared.record.Start.{Start}
 pub use Rattle.cmwq_model.specs.declared.record.Ticket.{Ticket}
 pub use Rattle.cmwq_model.specs.declared.reply.Reply.{Reply}
-pub use Rattle.cmwq_theory_active.proofs.Joined.{active_go_on, active_live, active_older, listed_live, not_live, stays_active}
-pub use Rattle.cmwq_theory_active.proofs.Opens.{open_before}
-pub use Rattle.cmwq_theory_active.proofs.Rising.{IsBelow, open_below, open_rise, opening_number, queueings_below, queueings_rise, rising_filter}
-pub use Rattle.cmwq_theory_active.proofs.Widths.{frozen_same, max_same, width_same}
-pub use Rattle.cmwq_theory_active.specs.Looks.{keeps_widths}
-pub use Rattle.cmwq_theory_active.specs.Rising.{IsRising}
+pub use Rattle.cmwq_theory_steps.proofs.Joined.{active_go_on, active_live, active_older, listed_live, not_live, stays_active}
+pub use Rattle.cmwq_theory_steps.proofs.Opens.{open_before}
+pub use Rattle.cmwq_theory_steps.proofs.Rising.{IsBelow, open_below, open_rise, opening_number, queueings_below, queueings_rise, rising_filter}
+pub use Rattle.cmwq_theory_steps.proofs.Widths.{frozen_same, max_same, width_same}
+pub use Rattle.cmwq_theory_steps.specs.Looks.{keeps_widths}
+pub use Rattle.cmwq_theory_steps.specs.Rising.{IsRising}
