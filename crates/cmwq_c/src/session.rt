@@ -7,9 +7,8 @@ ghost use Rattle.cmwq_core.specs.Plans.{IsPlan};
 ghost use Rattle.cmwq_core.specs.Lasting.{lasting_at_first, with_made, with_none_kept, has_space, lasting_entry};
 ghost use Rattle.cmwq_c.specs.Books.{is_inside, refusal_of, refused_by};
 
-use cmwq_core::Plan;
+use cmwq_core::{Plan, TailBook, Unmade};
 use cmwq_model::{Call, Entry, ItemId, NoMemory, Number, Shape, Who};
-use cmwq_core::{TailBook, Unmade};
 use std::alloc::Global;
 use std::marker::Model;
 

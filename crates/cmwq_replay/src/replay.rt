@@ -8,9 +8,9 @@ ghost use Rattle.cmwq_json.specs.declared.refused.Refused.{Refused as TheRefused
 ghost use Rattle.cmwq_replay.specs.Scenarios.{PlanWithNames, scenario_of};
 ghost use Rattle.cmwq_replay.specs.Replay.{ReplayEnds, table_text, replay_status};
 
-use cmwq_json::{Fault, fault_status, read_value, write_text};
-use cmwq_io::{Sink, Source, tell};
 use crate::read_scenario;
+use cmwq_io::{Sink, Source, tell};
+use cmwq_json::{Fault, fault_status, read_value, write_text};
 use cmwq_sim::spell_lines;
 use serde_json::Value;
 use std::alloc::Global;

@@ -11,9 +11,9 @@ ghost use Rattle.cmwq_json.specs.Readings.{map_ok};
 ghost use Rattle.cmwq_replay.specs.Scenarios as spec;
 ghost use Rattle.cmwq_replay.specs.Readings.{named_items, with_names_of, HasLimits};
 
-use cmwq_json::{Part, Refused};
 use cmwq_json::{
-    Members, array_at, has_keys, in_order, number_of, read_name, read_number, read_parts,
+    Members, Part, Refused, array_at, has_keys, in_order, number_of, read_name, read_number,
+    read_parts,
 };
 use cmwq_sim::{Scenario, SimItem, SimQueue};
 use indexmap::IndexSet;

@@ -4,9 +4,8 @@ ghost use Rattle.std.specs.Prelude.{◌≡◌};
 
 use crate::book::is_same;
 use crate::generator::{Generator, shape};
-use cmwq_core::{Book, Full};
+use cmwq_core::{Book, Full, TailBook, Unmade};
 use cmwq_model::{Call, Entry, Number, Shape, Who};
-use cmwq_core::{TailBook, Unmade};
 use std::alloc::Global;
 use std::process::Abort;
 use std::test::Fail;

@@ -1,9 +1,9 @@
 //! The words of the program, over any source and sinks.
 
 use cmwq_cmd_history::{run_check, run_step, run_upgrade};
-use cmwq_replay::run_replay;
 use cmwq_cmd_run::run_run;
 use cmwq_io::{Memory, Sink, Source};
+use cmwq_replay::run_replay;
 use std::process::Abort;
 use std::sync::Wait;
 use std::thread::Threads;

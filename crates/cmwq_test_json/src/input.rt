@@ -1,6 +1,6 @@
 use crate::same::same;
-use cmwq_json::*;
 use cmwq_io::{FailsAt, Memory, tell};
+use cmwq_json::*;
 use serde_json::Value;
 use std::test::Fail;
 

@@ -1,6 +1,6 @@
 use crate::same::same;
-use cmwq_replay::*;
 use cmwq_io::{FailsAt, Memory, Sink, Source};
+use cmwq_replay::*;
 use std::alloc::Global;
 use std::process::Abort;
 

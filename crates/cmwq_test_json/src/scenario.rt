@@ -1,7 +1,6 @@
 use crate::lists::numbered;
 use crate::same::{is_spelled, same};
-use cmwq_json::{Part, Refused};
-use cmwq_json::*;
+use cmwq_json::{Part, Refused, *};
 use cmwq_replay::*;
 use cmwq_sim::{replay, spell_lines};
 use serde_json::Value;
