@@ -25,6 +25,3 @@ all_unready p ns e = All-from_recursion (λ n. p n ≡ false) ns (all_fail p ns 
 
 nothing : (o : Option ℕ) → is_some o ≡ false → o ≡ None
 nothing o e = grind arith
-
-pub none_is_ready : (t : ℕ) (ns : List ℕ) (o : Option ℕ) (none : Bool) → o ≡ find (is_up_to t) ns → is_some o ≡ not none → (none ≡ true) ↔ All (λ n. t < n) ns
-none_is_ready t ns o none e is = grind (arith, all_unready, false≢true, find_none)

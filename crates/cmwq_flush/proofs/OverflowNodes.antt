@@ -204,9 +204,6 @@ none_from tickets t (x ∷ xs) = by (is_from tickets t x) refl (none_from ticket
         place all zero d lt = let less = leb-false t (ticket_of_node tickets x) e in omega arith
         place all (suc k) d lt = all k d (omega arith)
 
-pub latest_told : (tickets : List ℕ) (t : ℕ) (xs : List ℕ) (o : Option ℕ) (none : Bool) → o ≡ find (is_from tickets t) xs → is_some o ≡ not none → (none ≡ true) ↔ All (λ u. u < t) (tickets_of_nodes tickets xs)
-latest_told tickets t xs o none e is = grind (arith, none_from, false≢true)
-
 pub stands_told : (tickets : List ℕ) (t v : ℕ) (xs : List ℕ) → AreRising (tickets_of_nodes tickets xs) → find (is_from tickets t) xs ≡ Some v → ((ticket_of_node tickets v == t) ≡ true) ↔ Contains (tickets_of_nodes tickets xs) t
 stands_told tickets t v xs rise e = (
   (λ yes. subst (Contains (tickets_of_nodes tickets xs)) (eqb-true (ticket_of_node tickets v) t yes) (has_ticket tickets v xs (from_has tickets t v xs e))),

@@ -184,14 +184,3 @@ overflow_counted items rows (o ∷ overflow) [] e h = absurd (omega arith)
 overflow_counted items [] overflow (f ∷ fs) e h = absurd (omega arith)
 overflow_counted items (r ∷ rows) [] (f ∷ fs) e h = absurd (omega arith)
 overflow_counted items (r ∷ rows) (o ∷ overflow) (f ∷ fs) e h = sum_by-cons (λ (b : FlushBook). length b.overflow) (book_by items r o f) (books_by items rows overflow fs) ∙ ap (λ n. length o + n) (overflow_counted items rows overflow fs (omega arith) (omega arith)) ∙ sym (sum_by-cons length o overflow)
-
--- what a test of each queue says of the books
-pub before_told : (items n : ℕ) (rows : List (List Row)) (overflow : List (List ℕ)) (fs : List Flushes) → length rows ≡ length fs → length overflow ≡ length fs → (list_all (λ f. nat_le f.next n) fs ≡ true) ↔ All (λ b. b.next ≤ n) (books_by items rows overflow fs)
-before_told items n rows overflow fs e h =
-    let told = next_before items n rows overflow fs e h in (
-      (λ yes. told.1 (λ k d lt. leb-true (get_or fs k d).next n (AllPass-from_list_all (λ f. nat_le f.next n) fs yes k d lt))),
-      (λ all. list_all-from_AllPass (λ f. nat_le f.next n) fs (λ k d lt. le-leb (get_or fs k d).next n (told.0 all k d lt))),
-    )
-
-pub before_book : (n : ℕ) (books : List FlushBook) (q : ℕ) → q < length books → All (λ b. b.next ≤ n) books → (book_in books q).next ≤ n
-before_book n books q lt all = all q no_book lt

@@ -185,15 +185,3 @@ module _ (b : FlushBook) (rows : List Row) (colours : List ℕ) (t : ℕ) (is : 
 
   pub after_end-overflow : LacksTicket b.served t → flushes_without_wait b t ≡ record b { overflow = without t b.overflow }
   after_end-overflow absent = rw (not_served absent) refl
-
--- a ticket comes after all flushes where it comes after those that are served and those in overflow
-pub after_all : (served : List Served) (overflow : List ℕ) (t : ℕ) → All (λ s. s.ticket < t) served → All (λ u. u < t) overflow → All (λ u. u < t) (tickets_of_served served ++ overflow)
-after_all served overflow t first second = let IsEarlier : ℕ → Type 0 = λ u. u < t in All-append IsEarlier (tickets_of_served served) overflow (All-map IsEarlier ticket_of_served served first) second
-
-pub after_served : (served : List Served) (overflow : List ℕ) (t : ℕ) → All (λ u. u < t) (tickets_of_served served ++ overflow) → All (λ s. s.ticket < t) served
-after_served served overflow t all k d lt =
-    let IsEarlier : ℕ → Type 0 = λ u. u < t in
-    rw (← get_or-map ticket_of_served served k d 0 lt) (All_left IsEarlier (tickets_of_served served) overflow all k 0 (rw length-map lt))
-
-pub after_overflow : (served : List Served) (overflow : List ℕ) (t : ℕ) → All (λ u. u < t) (tickets_of_served served ++ overflow) → All (λ u. u < t) overflow
-after_overflow served overflow t all = let IsEarlier : ℕ → Type 0 = λ u. u < t in All_right IsEarlier (tickets_of_served served) overflow all

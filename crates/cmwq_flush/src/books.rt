@@ -68,17 +68,6 @@ impl FlushBooks {
         self.queues[usize::from(queue.0)].ended(colour);
     }
 
-    /// Whether a queueing may be opened: there are this queue and this item, the number comes after all that were opened, and the item has
-    /// one open at most. It looks at each queue.
-    pub fn may_open(&self, queue: QueueId, item: ItemId, number: Number) -> bool
-        ensures { IsTrue result ↔ CanOpenOn self.now queue.0 item.0 number }
-    {
-        if !self.is_there(queue, item) {
-            return false;
-        }
-        self.has_place(queue, item) && are_before(&self.queues, number)
-    }
-
     /// Whether there is this queue.
     pub fn has_queue(&self, queue: QueueId) -> bool
         ensures { IsTrue result ↔ (queue.0 < length self.now.books) }
@@ -91,23 +80,6 @@ impl FlushBooks {
         ensures { IsTrue result ↔ (item.0 < length self.now.opened) }
     {
         item.0 < self.openings.items()
-    }
-
-    /// Whether there are this queue and this item.
-    fn is_there(&self, queue: QueueId, item: ItemId) -> bool
-        ensures { IsTrue result ↔ ((queue.0 < length self.now.books) × (item.0 < length self.now.opened)) }
-    {
-        self.has_queue(queue) && self.has_item(item)
-    }
-
-    /// Whether one more of the item may be open on the queue.
-    fn has_place(&self, queue: QueueId, item: ItemId) -> bool
-        requires queue { queue.0 < length self.now.books }
-        requires item { item.0 < length self.now.opened }
-        ensures { IsTrue result ↔ ((length (book_in self.now.books queue.0).opened < 2 * (book_in self.now.books queue.0).items) × (length (numbers_open self.now.opened item.0) < 2)) }
-    {
-        self.openings.len(queue) < 2 * u32::from(self.openings.items())
-            && self.openings.of_item(item).takes_one()
     }
 
     /// Whether this queueing of the item is open on the queue.
@@ -161,15 +133,6 @@ impl FlushBooks {
         self.queues[usize::from(queue.0)].end(&mut self.overflow, queue, ticket);
     }
 
-    /// Whether a flush may begin with this ticket: it comes after those of all flushes of the queue that stand, and there is room in overflow.
-    pub fn may_begin(&self, queue: QueueId, ticket: Number) -> bool
-        requires { queue.0 < length self.now.books }
-        ensures { IsTrue result ↔ CanBegin self.now queue.0 ticket }
-    {
-        self.overflow.has_room()
-            && self.queues[usize::from(queue.0)].is_latest(&self.overflow, queue, ticket)
-    }
-
     /// Whether a flush of the queue has begun with this ticket and hasn't ended.
     pub fn stands(&self, queue: QueueId, ticket: Number) -> bool
         requires { queue.0 < length self.now.books }
@@ -186,14 +149,6 @@ impl FlushBooks {
     {
         self.openings.of_item(item).first_up_to(ticket)
     }
-
-    /// Whether a flush of the item with this ticket may end: nothing of the item is open up to its ticket.
-    pub fn is_item_ready(&self, item: ItemId, ticket: Number) -> bool
-        requires { item.0 < length self.now.opened }
-        ensures { IsTrue result ↔ IsItemReady self.now.opened item.0 ticket }
-    {
-        self.item_waits_for(item, ticket).is_none()
-    }
 }
 
 /// What is kept of each queue at first.
@@ -205,11 +160,4 @@ fn new_queues(alloc: Global, queues: usize) -> Result<Vec<Flushes>, AllocError>
         made.push_reserved(Flushes::new(alloc)?);
     }
     Ok(made)
-}
-
-/// Whether this number comes after all that were opened on these queues.
-fn are_before(queues: &[Flushes], number: Number) -> bool
-    ensures { result ≡ list_all (λ f. nat_le f.next number) queues.now }
-{
-    queues.iter().all(|flushes| flushes.next <= number)
 }

@@ -41,13 +41,6 @@ impl Open {
         }
     }
 
-    /// Whether one more may be open.
-    pub(crate) fn takes_one(self) -> bool
-        ensures { IsTrue result ↔ (length (numbers_in self) < 2) }
-    {
-        !matches!(self, Open::Two(..))
-    }
-
     /// Whether this number is open.
     pub(crate) fn has(self, number: Number) -> bool
         ensures { IsTrue result ↔ Contains (numbers_in self) number }

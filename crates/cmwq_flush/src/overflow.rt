@@ -47,13 +47,6 @@ impl Overflow {
         Ok(Overflow { lists, tickets })
     }
 
-    /// Whether one more flush may be in overflow.
-    pub(crate) fn has_room(&self) -> bool
-        ensures { IsTrue result ↔ (sum_by length self.now.queues < self.now.room) }
-    {
-        self.lists.len(FREE) > 0
-    }
-
     /// A flush of the queue is in overflow, the youngest of them.
     pub(crate) fn push_back(&mut self, queue: QueueId, ticket: Number)
         requires queue { queue.0 < length self.old.queues }
@@ -86,14 +79,6 @@ impl Overflow {
     {
         let node = first_from(&self.lists, &self.tickets, list_of(queue), ticket).unwrap();
         free(&mut self.lists, node);
-    }
-
-    /// Whether this ticket comes after those of all of the queue's flushes.
-    pub(crate) fn is_latest(&self, queue: QueueId, ticket: Number) -> bool
-        requires { queue.0 < length self.now.queues }
-        ensures { IsTrue result ↔ All (λ t. t < ticket) (tickets_at self.now.queues queue.0) }
-    {
-        first_from(&self.lists, &self.tickets, list_of(queue), ticket).is_none()
     }
 
     /// Whether the flush with this ticket is among the queue's.

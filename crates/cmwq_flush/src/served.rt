@@ -22,17 +22,6 @@ pub(crate) fn find_served(served: &[Served], ticket: Number) -> Option<usize>
         .ok()
 }
 
-/// Whether this ticket comes after those of all of these flushes.
-pub(crate) fn is_latest_served(served: &[Served], ticket: Number) -> bool
-    requires { AllPairs IsOlderServed served.now }
-    ensures { IsTrue result ↔ All (λ s. s.ticket < ticket) served.now }
-{
-    match served.last() {
-        Some(latest) => latest.ticket < ticket,
-        None => true,
-    }
-}
-
 /// Whether the flush with this ticket is among these.
 pub(crate) fn is_served(served: &[Served], ticket: Number) -> bool
     requires { AllPairs IsOlderServed served.now }

@@ -119,18 +119,6 @@ module _ (lists : Listed) (notes : List Note) (workers : List (List Slot)) (i : 
   pub may_be_listed : (pools : List PoolState) (p : ℕ) → pools_seen lists notes workers ≡ pools → p < length workers → length lists.lists ≡ length workers → may_list pools p i ≡ true → (i < lists.items) × ((q : ℕ) → has_item i (list_at lists.lists q) ≡ false)
   may_be_listed pools p is less many may = grind (arith, seen_at, false_from_ne_true, false≢true, one_lists, get_or_past)
 
-  pub may_list_is : (pools : List PoolState) (p : ℕ) (o : Option ℕ) → pools_seen lists notes workers ≡ pools → p < length workers → length lists.lists ≡ length workers → i < lists.items → list_of lists.lists i ≡ o → may_list pools p i ≡ not (is_some o)
-  may_list_is pools p o is less many low found =
-      let items : (pool_numbered pools p).items ≡ lists.items = ap (λ ps. (pool_numbered ps p).items) (sym is) ∙ ap (λ (l : PoolState). l.items) (seen_at lists notes workers p less) in
-      ap₂ (λ a b. a && not b) (ap (ltb i) items ∙ lt-ltb i lists.items low) (ap (list_any (lists_item i)) (sym is) ∙ by o found)
-    where
-      by : (o : Option ℕ) → list_of lists.lists i ≡ o → list_any (lists_item i) (pools_seen lists notes workers) ≡ is_some o
-      by None h = none_lists (λ q. no_owner lists.lists i q h)
-      by (Some q) h = let owned = owner_has lists.lists i q h in one_lists q (⊎_elim (λ below. rw (← many) below) (λ past. absurd (false≢true (sym (ap (has_item i) (get_or_past lists.lists q [] past)) ∙ owned))) (cases_lt q (length lists.lists))) owned
-
-  pub may_not_list : (pools : List PoolState) (p : ℕ) → pools_seen lists notes workers ≡ pools → p < length workers → ltb i lists.items ≡ false → may_list pools p i ≡ false
-  may_not_list pools p is less high = grind (arith, seen_at)
-
 -- ---- new pools
 
 pub seen_at_first : (pools items : ℕ) (notes : List Note) (slots : List Slot) → pools_seen (record { items = items; lists = replicate pools [] }) notes (replicate pools slots) ≡ replicate pools (record { items = items; listed = []; slots = slots })

@@ -60,14 +60,6 @@ impl Pools {
         self.workers.len()
     }
 
-    /// Whether a queueing of this item may be listed in a pool: the item is one of the pool's, and none lists it.
-    pub fn may_add(&self, pool: u16, item: ItemId) -> bool
-        requires { pool < length self.now }
-        ensures { result ≡ may_list self.now pool item.0 }
-    {
-        usize::from(item.0) < self.notes.len() && self.lists.list_of(u32::from(item.0)).is_none()
-    }
-
     /// Lists a queueing that became active in its pool, behind all others (the kernel's `insert_work`).
     #[inline(always)]
     pub fn add(&mut self, pool: u16, number: Number, item: ItemId, intensive: bool)

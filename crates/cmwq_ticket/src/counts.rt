@@ -89,17 +89,6 @@ impl Counts {
     }
 }
 
-/// Whether a ticket of this call has its counts: its item or queue is one of so many.
-pub(crate) fn is_counted(items: u16, queues: usize, call: Call) -> bool
-    ensures { result ≡ is_counted items queues call }
-{
-    match call {
-        Call::CancelSync { item } => item.0 < items,
-        Call::Drain { queue } | Call::Destroy { queue } => usize::from(queue.0) < queues,
-        _ => true,
-    }
-}
-
 /// Whether something is counted at this place.
 pub(crate) fn has_some(counts: &[u16], place: usize) -> bool
     ensures { result ≡ nat_lt 0 (slice_index counts.now place) }

@@ -76,13 +76,6 @@ impl Row {
         Some(wait.ticket(self.caller))
     }
 
-    /// Whether all tickets have lesser numbers than this one.
-    pub(crate) fn are_before(&self, later: &Ticket) -> bool
-        ensures { result ≡ list_all (comes_before later.now) self.now }
-    {
-        are_below(&self.waits, later.number)
-    }
-
     /// Puts a ticket behind all others, which are of the same caller.
     pub(crate) fn push(&mut self, ticket: Ticket)
         requires room { length self.old < TICKETS_OF_CALLER }
@@ -109,13 +102,6 @@ fn find_wait(waits: &[Wait], number: Number) -> Option<Wait>
     ensures { result ≡ find (is_wait_numbered number) waits.now }
 {
     waits.iter().copied().find(|wait| wait.number == number)
-}
-
-/// Whether all have lesser numbers.
-fn are_below(waits: &[Wait], number: Number) -> bool
-    ensures { result ≡ list_all (λ wait. nat_lt wait.number number) waits.now }
-{
-    waits.iter().all(|wait| wait.number < number)
 }
 
 /// Takes out the wait with this number.

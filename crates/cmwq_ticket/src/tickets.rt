@@ -1,7 +1,7 @@
 ghost use Rattle.std.specs.Prelude.{◌≡◌, ℕ, ◌<◌, ◌↔◌, [], IfOk, IsSome, IsTrue, length, nat_lt, replicate, slice_index};
 ghost use Rattle.cmwq_ticket.specs.Rows.{any_ticket, count, new_tickets, tickets_without, tickets_with, any_destroys, any_cancels, is_row_crowded, any_drains, may_give, ticket_of_caller};
 
-use crate::counts::{Counts, has_some, is_counted};
+use crate::counts::{Counts, has_some};
 use crate::row::{Row, TICKETS_OF_CALLER};
 use cmwq_model::{CallerId, ItemId, NoMemory, Number, QueueId, Ticket};
 use std::alloc::Global;
@@ -122,21 +122,6 @@ impl Tickets {
         ensures { IsTrue result ↔ (count self.now.rows ≡ 0) }
     {
         self.len == 0
-    }
-
-    /// Whether a ticket may be given: its caller is one of these and isn't crowded, its number is later than those of the
-    /// caller's unended tickets, and an item that it cancels, or a queue that it drains or destroys, is one of those that there are.
-    pub fn may_give(&self, ticket: &Ticket) -> bool
-        ensures { result ≡ may_give self.now ticket.now }
-    {
-        let place = usize::from(ticket.caller.0);
-        if place >= self.rows.len() {
-            return false;
-        }
-        let row = &self.rows[place];
-        row.len() < TICKETS_OF_CALLER
-            && row.are_before(ticket)
-            && is_counted(self.items, self.queues, ticket.call)
     }
 
     /// Gives a ticket to its caller, which begins to wait (`flush_workqueue`, `cancel_work_sync` and the like, up to their wait).
