@@ -1,5 +1,5 @@
 -- An entry puts nothing ahead of an older queueing.
-use Rattle.cmwq_theory_steps.specs.ActiveCommon.{◌≡◌, ◌<◌, ◌≤◌, ◌+◌, ℕ, Bool, true, false, cond, ◌&&◌, List, [], ◌∷◌, ◌++◌, length, filter, count_by, Option, Some, None, option_to_list, refl, ap, ◌∙◌, arith, AllByRecursion, nat_tests, Entry, Queueing, queueings, opening, is_live, still_open, is_ahead}
+use Rattle.cmwq_theory_steps.specs.Common.{◌≡◌, ◌<◌, ◌≤◌, ◌+◌, ℕ, Bool, true, false, cond, ◌&&◌, List, [], ◌∷◌, ◌++◌, length, filter, count_by, Option, Some, None, option_to_list, refl, ap, ◌∙◌, arith, AllByRecursion, nat_tests, Entry, Queueing, queueings, opening, is_live, still_open, is_ahead}
 use Rattle.cmwq_lemmas.proofs.Lists.{All_map, count_by-head}
 use Rattle.cmwq_theory_steps.proofs.Rising.{IsBelow, queueings_below, opening_number}
 use Rattle.cmwq_theory_steps.proofs.Opens.{open_before}

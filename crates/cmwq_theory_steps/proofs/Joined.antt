@@ -1,5 +1,5 @@
 -- What is active after an entry, and that it stays so while it is open.
-use Rattle.cmwq_theory_steps.specs.ActiveCommon.{◌≡◌, ◌<◌, true, false, ◌&&◌, ◌||◌, List, [], ◌∷◌, length, refl, ap, ap₂, ◌∙◌, arith, ltb-true, Entry, Queueing, Layout, is_live, is_below_max_active, is_active, is_listed}
+use Rattle.cmwq_theory_steps.specs.Common.{◌≡◌, ◌<◌, true, false, ◌&&◌, ◌||◌, List, [], ◌∷◌, length, refl, ap, ap₂, ◌∙◌, arith, ltb-true, Entry, Queueing, Layout, is_live, is_below_max_active, is_active, is_listed}
 use Rattle.cmwq_model.specs.declared.id.PoolId.{PoolId}
 
 pub active_go_on : (s : Layout) (past : List Entry) (e : Entry) (x : Queueing) → is_active s (e ∷ past) x ≡ (is_live (e ∷ past) x && (is_active s past x || is_below_max_active s (e ∷ past) x))

@@ -1,5 +1,5 @@
 -- What is active, told by few looks: whether it was below max_active before each entry that changed a width, or is now.
-use Rattle.cmwq_theory_steps.specs.ActiveCommon.{◌≡◌, ◌<◌, Bool, true, false, not, ◌&&◌, ◌||◌, List, [], ◌∷◌, length, nat_lt, count_by, refl, sym, ap, ◌∙◌, arith, ltb-true, lt-ltb, nat_tests, Entry, Queueing, Layout, width, is_live, still_open, is_ahead, is_below_max_active, is_active}
+use Rattle.cmwq_theory_steps.specs.Common.{◌≡◌, ◌<◌, Bool, true, false, not, ◌&&◌, ◌||◌, List, [], ◌∷◌, length, nat_lt, count_by, refl, sym, ap, ◌∙◌, arith, ltb-true, lt-ltb, nat_tests, Entry, Queueing, Layout, width, is_live, still_open, is_ahead, is_below_max_active, is_active}
 use Rattle.cmwq_theory_steps.specs.Looks.{was_below_max_active, keeps_widths}
 use Rattle.cmwq_theory_steps.proofs.Opens.{open_before}
 use Rattle.cmwq_theory_steps.proofs.Joined.{active_go_on, not_live}

@@ -1,5 +1,5 @@
 -- Queueings stand by their numbers.
-use Rattle.cmwq_theory_steps.specs.ActiveCommon.{◌≡◌, ◌<◌, ◌≤◌, ℕ, suc, Bool, true, false, cond, List, [], ◌∷◌, ◌++◌, length, append-nil, filter, find, Option, Some, None, option_to_list, refl, sym, ap, arith, subst, AllByRecursion, option_map, option_and_then, if◌then◌else◌, Entry, Queueing, item_of, queueings, opening, opens, is_live, queued_at, place_wanted, still_open}
+use Rattle.cmwq_theory_steps.specs.Common.{◌≡◌, ◌<◌, ◌≤◌, ℕ, suc, Bool, true, false, cond, List, [], ◌∷◌, ◌++◌, length, append-nil, filter, find, Option, Some, None, option_to_list, refl, sym, ap, arith, subst, AllByRecursion, option_map, option_and_then, if◌then◌else◌, Entry, Queueing, item_of, queueings, opening, opens, is_live, queued_at, place_wanted, still_open}
 use Rattle.cmwq_model.specs.declared.record.Place.{Place}
 use Rattle.cmwq_theory_steps.specs.Rising.{IsRising}
 use Rattle.cmwq_lemmas.proofs.Lists.{All_map, All_append, All_filter}

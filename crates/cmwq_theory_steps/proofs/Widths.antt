@@ -1,5 +1,5 @@
 -- Widths that stay.
-use Rattle.cmwq_theory_steps.specs.ActiveCommon.{◌≡◌, ℕ, Bool, true, false, ◌&&◌, List, ◌∷◌, None, refl, ap, ap₂, ◌∙◌, if◌then◌else◌, Entry, Reply, Layout, is_freezable, width, max_active, is_frozen, frozen_after, sets_max, width_told}
+use Rattle.cmwq_theory_steps.specs.Common.{◌≡◌, ℕ, Bool, true, false, ◌&&◌, List, ◌∷◌, None, refl, ap, ap₂, ◌∙◌, if◌then◌else◌, Entry, Reply, Layout, is_freezable, width, max_active, is_frozen, frozen_after, sets_max, width_told}
 use Rattle.cmwq_model.specs.declared.reply.Reply.TheVariants as reply
 use Rattle.std.specs.Option.{option_map_or}
 use Rattle.cmwq_theory_steps.specs.Looks.{keeps_widths}

@@ -1,6 +1,6 @@
 -- What is active, told by few looks.
 use Rattle.std.specs.Prelude.{◌≡◌, ◌&&◌, ◌||◌, ◌∷◌}
-use Rattle.cmwq_theory_steps.specs.ActiveCommon.{Bool, true, false, not, List, [], Entry, Queueing, Reply, Layout, is_live, is_below_max_active, is_active}
+use Rattle.cmwq_theory_steps.specs.Common.{Bool, true, false, not, List, [], Entry, Queueing, Reply, Layout, is_live, is_below_max_active, is_active}
 use Rattle.cmwq_model.specs.declared.reply.Reply.TheVariants as reply
 
 -- a reply of an entry that changes no width
