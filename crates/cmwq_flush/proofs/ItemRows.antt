@@ -1,10 +1,8 @@
 -- What a wait for an item finds among the item's open numbers.
-use Rattle.cmwq_flush.specs.Common.{◌≡◌, ℕ, ◌<◌, ◌≤◌, Bool, true, false, not, cond, List, [], ◌∷◌, suc, Option, Some, None, IfSome, is_some, refl, arith, ⊎_elim, find, All, ◌↔◌, cases_lt, false≢true, nat_tests}
+use Rattle.cmwq_flush.specs.Common.{◌≡◌, ℕ, ◌<◌, ◌≤◌, Bool, true, false, cond, List, [], ◌∷◌, suc, Option, Some, None, IfSome, is_some, refl, arith, ⊎_elim, find, All, cases_lt, nat_tests}
 use Rattle.cmwq_flush.specs.Numbers.{AreRising}
 use Rattle.cmwq_flush.specs.ItemNumbers.{is_up_to}
-use Rattle.cmwq_lemmas.proofs.Lists.{find_none as all_fail}
 use Rattle.cmwq_flush.proofs.Search.{find_none}
-use Rattle.std.proofs.lemmas.List.Elements.{All-from_recursion}
 
 all_above : (n x : ℕ) (ns : List ℕ) → AreRising (x ∷ ns) → n ≤ x → All (λ m. n ≤ m) (x ∷ ns)
 all_above n x ns rise le k d lt = ⊎_elim (λ (later : 0 < k). let above = rise 0 k d later lt in omega arith) (λ (first : k ≤ 0). let here : k ≡ 0 = omega arith in rw here le) (cases_lt 0 k)
@@ -19,9 +17,6 @@ least_by false t x ns is rise =
 pub first_is_least : (t : ℕ) (ns : List ℕ) (o : Option ℕ) → o ≡ find (is_up_to t) ns → AreRising ns → IfSome o (λ n. All (λ m. n ≤ m) ns)
 first_is_least t [] o e rise = rw e tt
 first_is_least t (x ∷ ns) o e rise = rw e (least_by (is_up_to t x) t x ns refl rise)
-
-all_unready : (p : ℕ → Bool) (ns : List ℕ) → find p ns ≡ None → All (λ n. p n ≡ false) ns
-all_unready p ns e = All-from_recursion (λ n. p n ≡ false) ns (all_fail p ns e)
 
 nothing : (o : Option ℕ) → is_some o ≡ false → o ≡ None
 nothing o e = grind arith

@@ -1,6 +1,6 @@
 -- Which flushes are in overflow, as nodes move from one list to another.
-use Rattle.cmwq_flush.specs.Common.{◌≡◌, ◌≢◌, ℕ, ◌+◌, ◌<◌, ◌≤◌, Bool, true, false, not, cond, List, [], ◌∷◌, ◌++◌, length, get_or, set, zero, suc, replicate, Option, Some, None, IsSome, is_some, sym, ap, ap₂, refl, ◌∙◌, arith, ⊎_elim, map, find, All, Contains, ◌↔◌, ◌⊎◌, false≢true, cases_lt, get_or-map, length-map, length-append, map-set, map_push, get_or-set_same, get_or-set_other, range_with_len}
-use Rattle.std.specs.Prelude.{◌&&◌, ◌||◌, ◌==◌, nat_eq, slice_get}
+use Rattle.cmwq_flush.specs.Common.{◌≡◌, ◌≢◌, ℕ, ◌+◌, ◌<◌, ◌≤◌, Bool, true, false, not, cond, List, [], ◌∷◌, ◌++◌, length, get_or, set, zero, suc, replicate, Option, Some, None, IsSome, is_some, sym, ap, ap₂, refl, ◌∙◌, arith, ⊎_elim, map, find, All, Contains, ◌↔◌, false≢true, cases_lt, get_or-map, length-map, length-append, map-set, map_push, get_or-set_same, get_or-set_other, range_with_len}
+use Rattle.std.specs.Prelude.{◌&&◌, ◌||◌, nat_eq, slice_get}
 use Rattle.std.specs.List.{list_any, sum_by}
 use Rattle.std.proofs.lemmas.Bool.{or_parts, eq-eqb, eqb-true, eqb-false, leb-true, leb-false, ne_eqb, or_cases, and_parts}
 use Rattle.std.proofs.lemmas.List.{length-set}
@@ -203,15 +203,6 @@ none_from tickets t (x ∷ xs) = by (is_from tickets t x) refl (none_from ticket
         place : All (λ u. u < t) (tickets_of_nodes tickets xs) → All (λ u. u < t) (tickets_of_nodes tickets (x ∷ xs))
         place all zero d lt = let less = leb-false t (ticket_of_node tickets x) e in omega arith
         place all (suc k) d lt = all k d (omega arith)
-
-pub stands_told : (tickets : List ℕ) (t v : ℕ) (xs : List ℕ) → AreRising (tickets_of_nodes tickets xs) → find (is_from tickets t) xs ≡ Some v → ((ticket_of_node tickets v == t) ≡ true) ↔ Contains (tickets_of_nodes tickets xs) t
-stands_told tickets t v xs rise e = (
-  (λ yes. subst (Contains (tickets_of_nodes tickets xs)) (eqb-true (ticket_of_node tickets v) t yes) (has_ticket tickets v xs (from_has tickets t v xs e))),
-  (λ found. let is = from_is tickets t xs rise found in eq-eqb (ticket_of_node tickets v) t (let same : v ≡ is.0 = let both : Some v ≡ Some is.0 = sym e ∙ is.1 in cc in ap (ticket_of_node tickets) same ∙ is.2)),
-)
-
-pub absent_told : (tickets : List ℕ) (t : ℕ) (xs : List ℕ) → AreRising (tickets_of_nodes tickets xs) → find (is_from tickets t) xs ≡ None → Contains (tickets_of_nodes tickets xs) t → ⊥
-absent_told tickets t xs rise e found = let is = from_is tickets t xs rise found in let bad : None ≡ Some is.0 = sym e ∙ is.1 in cc
 
 pub found_ticket : (tickets : List ℕ) (t v : ℕ) (xs : List ℕ) → AreRising (tickets_of_nodes tickets xs) → Contains (tickets_of_nodes tickets xs) t → find (is_from tickets t) xs ≡ Some v → ticket_of_node tickets v ≡ t
 found_ticket tickets t v xs rise found e = let is = from_is tickets t xs rise found in let both : Some v ≡ Some is.0 = sym e ∙ is.1 in let same : v ≡ is.0 = cc in ap (ticket_of_node tickets) same ∙ is.2

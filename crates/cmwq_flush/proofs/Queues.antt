@@ -1,10 +1,8 @@
 -- What each call keeps of one queue, and of all.
 use Rattle.std.proofs.Common.{ap₂}
 use Rattle.cmwq_flush.specs.Common.{◌≡◌, ℕ, ◌+◌, ◌-◌, ◌<◌, ◌≤◌, List, [], ◌∷◌, ◌++◌, length, get_or, set, zero, suc, replicate, sym, ap, refl, ◌∙◌, arith, ⊎_elim, remove, slice_index, All, AllPairs, Contains, ◌↔◌, cases_eq, cases_lt, map_push, get_or_default, get_or-set_same, get_or-set_other, get_or_past, All-head, All-tail, All-cons}
-use Rattle.std.specs.Prelude.{nat_le, true}
-use Rattle.std.specs.List.{list_all, sum_by}
-use Rattle.std.proofs.lemmas.Bool.{leb-true, le-leb}
-use Rattle.std.proofs.lemmas.List.Sums.{AllPass-from_list_all, list_all-from_AllPass, sum_by-cons}
+use Rattle.std.specs.List.{sum_by}
+use Rattle.std.proofs.lemmas.List.Sums.{sum_by-cons}
 use Rattle.std.proofs.lemmas.List.{length-set, length-replicate, get_or-replicate, set-get_or}
 use Rattle.cmwq_flush.specs.declared.flushes.Flushes.{Flushes}
 use Rattle.cmwq_flush.specs.declared.openings.Row.{Row}
@@ -12,7 +10,7 @@ use Rattle.cmwq_flush.specs.Rows.{ComesBefore, number_of_row, row_numbers, rows_
 use Rattle.cmwq_flush.specs.Overflow.{tickets_at}
 use Rattle.cmwq_flush.specs.FlushBook.{FlushBook, flushes_with_open, flushes_without_open, new_book}
 use Rattle.cmwq_flush.specs.Queues.{IsQueueRight, AreQueuesRight, book_by, books_by}
-use Rattle.cmwq_flush.specs.FlushBooks.{no_book, book_in, overflow_count}
+use Rattle.cmwq_flush.specs.FlushBooks.{book_in, overflow_count}
 use Rattle.cmwq_flush.proofs.Search.{remove_at}
 use Rattle.cmwq_flush.proofs.Counts.{IsTally-push, IsTally-remove}
 use Rattle.cmwq_flush.proofs.Rightness.{right_opened, right_ended, numbers_of-without}

@@ -1,5 +1,5 @@
 -- Each call keeps a flush book right.
-use Rattle.cmwq_flush.specs.Common.{◌≡◌, ℕ, ◌+◌, ◌<◌, ◌≤◌, Bool, true, cond, List, [], ◌∷◌, ◌++◌, length, get_or, take, Some, None, refl, arith, ⊎_elim, All, AllPairs, Contains, map, ◌↔◌, Option, IfSome, slice_get, remove, range_with_len, cases_lt, get_or-map, get_or_default, length-map, length-append, All-map, All-append, Contains-append_cases, length-remove}
+use Rattle.cmwq_flush.specs.Common.{◌≡◌, ℕ, ◌+◌, ◌<◌, ◌≤◌, Bool, true, cond, List, [], ◌∷◌, ◌++◌, length, get_or, take, Some, None, refl, arith, ⊎_elim, All, AllPairs, Contains, map, ◌↔◌, Option, IfSome, slice_get, remove, range_with_len, cases_lt, get_or-map, get_or_default, length-map, length-append, All-map, Contains-append_cases, length-remove}
 use Rattle.std.proofs.lemmas.List.FromFn.{get_or-range_with_len}
 use Rattle.cmwq_flush.specs.declared.served.Served.{Served}
 use Rattle.cmwq_flush.specs.declared.openings.Row.{Row}
@@ -9,7 +9,7 @@ use Rattle.cmwq_flush.specs.Served.{ticket_of_served, tickets_of_served, IsOlder
 use Rattle.cmwq_flush.specs.FlushBook.{FlushBook, new_book, flush_from, flush_tickets, served_of, IsReady, IsLatestFlush, served_with_oldest, without_oldest, serve_oldest, flushes_without_wait}
 use Rattle.cmwq_flush.specs.Colouring.{IsOrderly, IsColouring, IsRight, IsToldByColours, AreUnused}
 use Rattle.cmwq_flush.proofs.Search.{find_at_key, find_absent, absent_is_none, remove_at}
-use Rattle.cmwq_flush.proofs.Orderly.{orderly_opened, orderly_ended, orderly_overflow, orderly_served, orderly_removed, orderly_left, rising_served, rising_overflow, All_left, All_right}
+use Rattle.cmwq_flush.proofs.Orderly.{orderly_opened, orderly_ended, orderly_overflow, orderly_served, orderly_removed, orderly_left, rising_served, rising_overflow}
 use Rattle.cmwq_flush.proofs.Recolouring.{colouring_opened, colouring_ended, colouring_served, colouring_removed}
 use Rattle.cmwq_lemmas.proofs.Lists.{filter_shorter}
 

@@ -1,5 +1,5 @@
 -- What a binary search finds among elements whose keys rise, and what is left when the one it found is removed.
-use Rattle.cmwq_flush.specs.Common.{◌≡◌, ◌≢◌, ℕ, ◌-◌, ◌<◌, ◌≤◌, Bool, true, false, not, eqb, ltb, List, [], ◌∷◌, length, get_or, zero, suc, Option, Some, None, Result, IfSome, IfNone, IsSome, sym, ap, refl, ◌∙◌, arith, ⊎_elim, map, filter, find, All, AllPairs, Contains, ◌↔◌, HoldsAt, remove, IsSearchInRange, IsBinarySearchResult, cases_lt, nat_tests, get_or-map, length-map}
+use Rattle.cmwq_flush.specs.Common.{◌≡◌, ◌≢◌, ℕ, ◌<◌, Bool, true, false, not, eqb, List, [], ◌∷◌, length, get_or, zero, suc, Some, None, Result, IfSome, IfNone, sym, ap, refl, ◌∙◌, arith, map, filter, find, All, AllPairs, Contains, HoldsAt, remove, IsSearchInRange, IsBinarySearchResult, nat_tests, get_or-map, length-map}
 use Rattle.std.specs.Result.{result_ok}
 use Rattle.std.specs.Ordering.{nat_cmp}
 use Rattle.std.proofs.lemmas.List.Elements.{recursion_from_All}
@@ -34,21 +34,10 @@ module _ {X : Type 0} (key : X → ℕ) (xs : List X) (n : ℕ) where
   abbrev pub IsAbsent : Type 0
   IsAbsent = All (λ x. key x ≢ n) xs
 
-  pub contains_from_at : (any : X) (i : ℕ) → IsAt i → Contains (map key xs) n
-  contains_from_at any i at = (i, rw length-map at.0, get_or-map key xs i any n at.0 ∙ at.1 any)
-
   pub absent_is_none : (any : X) → IsAbsent → Contains (map key xs) n → ⊥
   absent_is_none any absent found =
       let lt : found.0 < length xs = rw length-map at found.1 in
       absent found.0 any lt (sym (get_or-map key xs found.0 any n lt) ∙ found.2)
-
-  -- what was found or not tells whether the key is there
-  pub some_from_found : (any : X) (o : Option ℕ) → IfNone o IsAbsent → Contains (map key xs) n → IsSome o
-  some_from_found any o absent found = grind (arith, absent_is_none)
-
-  pub found_from_some : (any : X) (o : Option ℕ) → IfSome o IsAt → IsSome o → Contains (map key xs) n
-  found_from_some any (Some i) at some = contains_from_at any i at
-  found_from_some any None at some = cc
 
   pub find_absent : IsAbsent → find (λ x. eqb (key x) n) xs ≡ None
   find_absent absent = find_none (λ x. eqb (key x) n) xs (λ k d lt. let differs = absent k d lt in grind (arith, nat_tests))
@@ -64,9 +53,3 @@ module _ {X : Type 0} (key : X → ℕ) (xs : List X) (n : ℕ) where
     -- the removal of the element with the key keeps those with another
     pub remove_at : (i : ℕ) → IsAt i → remove xs i ≡ filter (λ x. not (eqb (key x) n)) xs
     remove_at i at = remove_is_filter (λ x. not (eqb (key x) n)) xs i at.0 (λ d. grind (arith, nat_tests, at.1 d)) (λ k d lt differs. grind (arith, nat_tests, at.1 d, rising i k d, rising k i d))
-
--- what rises is below a bound where its last is
-pub below_from_last : {X : Type 0} (key : X → ℕ) (xs : List X) (last : X) (n : ℕ) → AllPairs (λ x y. key x < key y) xs → 0 < length xs → ((d : X) → last ≡ get_or xs (length xs - 1) d) → (ltb (key last) n ≡ true) ↔ All (λ x. key x < n) xs
-below_from_last {X} key xs last n rise some is =
-    let ends : (d : X) → key last ≡ key (get_or xs (length xs - 1) d) = λ d. ap key (is d) in
-    (λ less k d lt. ⊎_elim (λ (before : k < length xs - 1). let older = rise k (length xs - 1) d before (omega arith) in let at_last = ends d in grind (arith, nat_tests)) (λ (after : length xs - 1 ≤ k). let here : k ≡ length xs - 1 = omega arith in rw here (let at_last = ends d in grind (arith, nat_tests))) (cases_lt k (length xs - 1)), λ all. let less = all (length xs - 1) last (omega arith) in let at_last = ends last in grind (arith, nat_tests))

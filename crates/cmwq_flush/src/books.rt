@@ -68,30 +68,6 @@ impl FlushBooks {
         self.queues[usize::from(queue.0)].ended(colour);
     }
 
-    /// Whether there is this queue.
-    pub fn has_queue(&self, queue: QueueId) -> bool
-        ensures { IsTrue result ↔ (queue.0 < length self.now.books) }
-    {
-        usize::from(queue.0) < self.queues.len()
-    }
-
-    /// Whether there is this item.
-    pub fn has_item(&self, item: ItemId) -> bool
-        ensures { IsTrue result ↔ (item.0 < length self.now.opened) }
-    {
-        item.0 < self.openings.items()
-    }
-
-    /// Whether this queueing of the item is open on the queue.
-    pub fn is_open(&self, queue: QueueId, item: ItemId, number: Number) -> bool
-        ensures { IsTrue result ↔ IsOpenOn self.now queue.0 item.0 number }
-    {
-        if !self.is_there(queue, item) {
-            return false;
-        }
-        self.openings.of_item(item).has(number) && self.openings.is_open(queue, item, number)
-    }
-
     /// The least number that is open of a queue.
     pub fn least_open(&self, queue: QueueId) -> Option<Number>
         requires { queue.0 < length self.now.books }
@@ -131,14 +107,6 @@ impl FlushBooks {
         ensures { self.new ≡ with_book self.old queue.0 (flushes_without_wait (book_in self.old.books queue.0) ticket) }
     {
         self.queues[usize::from(queue.0)].end(&mut self.overflow, queue, ticket);
-    }
-
-    /// Whether a flush of the queue has begun with this ticket and hasn't ended.
-    pub fn stands(&self, queue: QueueId, ticket: Number) -> bool
-        requires { queue.0 < length self.now.books }
-        ensures { IsTrue result ↔ Contains (flush_tickets (book_in self.now.books queue.0)) ticket }
-    {
-        self.queues[usize::from(queue.0)].stands(&self.overflow, queue, ticket)
     }
 
     /// The least open number that a flush of the item with this ticket waits for: one up to the ticket (`insert_wq_barrier`).

@@ -11,7 +11,7 @@ ghost use Rattle.cmwq_flush.specs.Served.{bound_of};
 use crate::limits::{COLOURS, MOST_SERVED};
 use crate::openings::Colour;
 use crate::overflow::Overflow;
-use crate::served::{Served, find_served, is_served};
+use crate::served::{Served, find_served};
 use cmwq_model::{Number, QueueId};
 use std::alloc::{AllocError, Global};
 
@@ -117,15 +117,6 @@ impl Flushes {
             }
             None => overflow.remove(queue, ticket),
         }
-    }
-
-    /// Whether a flush of this queue has begun with this ticket and hasn't ended.
-    pub(crate) fn stands(&self, overflow: &Overflow, queue: QueueId, ticket: Number) -> bool
-        requires queue { queue.0 < length overflow.now.queues }
-        requires right { (items : ℕ) × (rows : List Row) × IsQueueRight items rows (tickets_at overflow.now.queues queue.0) self.now }
-        ensures { (items : ℕ) (rows : List Row) → IsTrue result ↔ Contains (flush_tickets (book_by items rows (tickets_at overflow.now.queues queue.0) self.now)) ticket }
-    {
-        is_served(&self.served, ticket) || overflow.stands(queue, ticket)
     }
 }
 

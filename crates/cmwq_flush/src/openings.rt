@@ -40,17 +40,6 @@ impl Open {
             Open::Two(_, next) => (next <= ticket).then_some(next),
         }
     }
-
-    /// Whether this number is open.
-    pub(crate) fn has(self, number: Number) -> bool
-        ensures { IsTrue result ↔ Contains (numbers_in self) number }
-    {
-        match self {
-            Open::Nothing => false,
-            Open::One(run) => run == number,
-            Open::Two(run, next) => run == number || next == number,
-        }
-    }
 }
 
 /// The open queueings, in a list for each queue, by rising number. An item has two nodes, for its run and its unstarted queueing.
@@ -125,33 +114,6 @@ impl Openings {
         ensures { IsTrue result ↔ (rows_at self.now.rows queue.0 ≡ []) }
     {
         self.lists.len(u16::from(queue.0)) == 0
-    }
-
-    /// How many are open of a queue.
-    pub(crate) fn len(&self, queue: QueueId) -> u32
-        requires { queue.0 < length self.now.rows }
-        ensures { result ≡ length (rows_at self.now.rows queue.0) }
-    {
-        self.lists.len(u16::from(queue.0))
-    }
-
-    /// How many items there are.
-    pub(crate) fn items(&self) -> u16
-        ensures { result ≡ length self.now.opened }
-    {
-        self.items
-    }
-
-    /// Whether the item's queueing of this number is open on the queue.
-    pub(crate) fn is_open(&self, queue: QueueId, item: ItemId, number: Number) -> bool
-        requires queue { queue.0 < length self.now.rows }
-        requires item { item.0 < length self.now.opened }
-        requires of { Contains (numbers_open self.now.opened item.0) number }
-        ensures { IsTrue result ↔ Contains (row_numbers (rows_at self.now.rows queue.0)) number }
-    {
-        let node = node_of(&self.lists, &self.rows, item, number);
-        let list = u16::from(queue.0);
-        self.lists.len(list) > 0 && self.lists.list_of(node) == Some(list)
     }
 
     /// What is open of an item.

@@ -80,18 +80,6 @@ impl Overflow {
         let node = first_from(&self.lists, &self.tickets, list_of(queue), ticket).unwrap();
         free(&mut self.lists, node);
     }
-
-    /// Whether the flush with this ticket is among the queue's.
-    pub(crate) fn stands(&self, queue: QueueId, ticket: Number) -> bool
-        requires queue { queue.0 < length self.now.queues }
-        requires rise { AreRising (tickets_at self.now.queues queue.0) }
-        ensures { IsTrue result ↔ Contains (tickets_at self.now.queues queue.0) ticket }
-    {
-        match first_from(&self.lists, &self.tickets, list_of(queue), ticket) {
-            Some(node) => self.tickets[node as usize] == ticket,
-            None => false,
-        }
-    }
 }
 
 /// The list of a queue.

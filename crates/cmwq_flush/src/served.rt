@@ -21,11 +21,3 @@ pub(crate) fn find_served(served: &[Served], ticket: Number) -> Option<usize>
         .binary_search_by_key(&ticket, |flush| flush.ticket)
         .ok()
 }
-
-/// Whether the flush with this ticket is among these.
-pub(crate) fn is_served(served: &[Served], ticket: Number) -> bool
-    requires { AllPairs IsOlderServed served.now }
-    ensures { IsTrue result ↔ Contains (tickets_of_served served.now) ticket }
-{
-    find_served(served, ticket).is_some()
-}

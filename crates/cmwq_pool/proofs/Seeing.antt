@@ -100,13 +100,6 @@ module _ (lists : Listed) (notes : List Note) (workers : List (List Slot)) (i : 
   lists_it : (q : ℕ) → lists_item i (pool_seen lists notes workers q) ≡ has_item i (list_at lists.lists q)
   lists_it q = any_item notes i (list_at lists.lists q)
 
-  pub none_lists : ((q : ℕ) → has_item i (list_at lists.lists q) ≡ false) → list_any (lists_item i) (pools_seen lists notes workers) ≡ false
-  none_lists nowhere = go 0 (length workers)
-    where
-      go : (a n : ℕ) → list_any (lists_item i) (map (pool_seen lists notes workers) (range_with_len a n)) ≡ false
-      go a zero = refl
-      go a (suc n) = ap₂ (λ b c. b || c) (lists_it a ∙ nowhere a) (go (a + 1) n)
-
   pub one_lists : (q : ℕ) → q < length workers → has_item i (list_at lists.lists q) ≡ true → list_any (lists_item i) (pools_seen lists notes workers) ≡ true
   one_lists q low here = go 0 q (length workers) (omega arith) low
     where
