@@ -1,0 +1,129 @@
+//! The figures of a history, which an execution makes.
+
+ghost use Rattle.std.specs.Prelude.{◌≡◌};
+
+use crate::fixture::{CALLER, FIRST, FLUSH, SMALL, WORKER, queue, shape};
+use cmwq_core::Execution;
+use cmwq_model::{Call, CallerId, ItemId, QueueId, Who};
+use cmwq_summary::{CALL_KINDS, Span, Summary, Told, Total};
+use std::process::Abort;
+
+/// An execution, and the summary of its entries.
+#[derive(Drop)]
+struct Summing {
+    execution: Execution,
+    summary: Summary,
+    ghost same: { (summary.layout ≡ execution.layout) × (summary.entries ≡ execution.entries) },
+}
+
+impl Summing {
+    fn take(&mut self, rt: &impl Abort, who: Who, call: Call) {
+        assert!(rt; self.summary.shape().fits(who, call));
+        let Ok(plan) = self.execution.plan(who, call) else {
+            panic!(rt; "there is room");
+        };
+        let told = Told {
+            entry: plan.mark.entry,
+            started: self.execution.started_by(&plan),
+            opened: self.execution.opened_by(&plan),
+            ended: self.execution.ended_by(&plan),
+            ended_ticket: self.execution.done_by(&plan),
+        };
+        self.execution.commit(&plan);
+        // it shows that the entries are few
+        let _len = self.execution.len();
+        self.summary.add(&told, self.execution.active_counts());
+    }
+
+    /// What is read of the execution.
+    fn show(&self, rt: &impl Abort) {
+        assert!(rt; self.summary.shape().fits(CALLER, queue(0)));
+        let _counts = self.summary.shape().counts();
+        assert_eq!(rt; self.execution.width(QueueId(0)), 2);
+        assert_eq!(rt;
+            (self.execution.len(), self.execution.open_count()),
+            (10, 0)
+        );
+        assert!(rt; !self.execution.ready(3) && self.execution.bits(ItemId(0)) == 0);
+        let would = self.execution.would(CALLER, queue(0));
+        assert!(rt; would.is_ok_and(|mark| mark.bits == 1));
+    }
+}
+
+/// So many entries, and no ticks.
+fn entries(entries: u64) -> Span {
+    Span { entries, ticks: 0 }
+}
+
+/// Who does what, how often and how long.
+fn count_calls(rt: &impl Abort, summary: &Summary) {
+    let counts = summary.shape().counts();
+    assert!(rt; counts.callers > 0 && counts.items > 1 && counts.cpus > 0 && CALL_KINDS == 21);
+    assert_eq!(rt; (summary.len(), summary.time()), (10, 3));
+    assert_eq!(rt; (summary.calls(0), summary.replies(0)), (2, 2));
+    let caller = CallerId(0);
+    assert_eq!(rt; (summary.calls_by(caller), summary.tickets(caller)), (6, 1));
+    assert_eq!(rt; summary.longest_wait(caller), entries(4));
+    assert_eq!(rt;
+        (summary.runs(ItemId(0)), summary.cancels(ItemId(1))),
+        (1, 1)
+    );
+    assert_eq!(rt; summary.starts_by(0), 1);
+    assert_eq!(rt;
+        (summary.awake(FIRST), summary.asleep(FIRST)),
+        (entries(3), entries(1))
+    );
+}
+
+/// What became of the queueings on the one queue.
+fn count_queueings(rt: &impl Abort, summary: &Summary) {
+    let _counts = summary.shape().counts();
+    assert!(rt; !summary.shape().queues().is_empty());
+    assert_eq!(rt;
+        (
+            summary.queueings_at(0),
+            summary.starts_at(0),
+            summary.cancels_at(0)
+        ),
+        (2, 1, 1)
+    );
+    assert_eq!(rt; (summary.most_open(0), summary.most_active(0)), (1, 1));
+    let longest = Span {
+        entries: 2,
+        ticks: 3,
+    };
+    assert_eq!(rt; summary.longest_start(0), longest);
+    let all = Total {
+        entries: 2,
+        ticks: 3,
+    };
+    assert_eq!(rt; summary.all_starts(0), all);
+}
+
+/// An item is queued, runs, sleeps and finishes while a caller flushes, and another is queued and taken back.
+#[test]
+fn a_history_is_summed_up(rt: HostRuntime) {
+    let shape = shape(&rt, SMALL, 1);
+    let mut summing = Summing {
+        execution: Execution::new(rt.alloc(), &shape, 100).expect(&rt, "memory"),
+        summary: Summary::new(rt.alloc(), shape).expect(&rt, "memory"),
+    };
+    for (who, call) in [
+        (CALLER, queue(0)),
+        (CALLER, Call::Tick { ticks: 3 }),
+        (WORKER, Call::Take),
+        (CALLER, FLUSH),
+        (WORKER, Call::Sleep),
+        (WORKER, Call::Wake),
+        (WORKER, Call::Finish),
+        (CALLER, Call::End { ticket: 3 }),
+        (CALLER, queue(1)),
+        (CALLER, Call::Cancel { item: ItemId(1) }),
+    ] {
+        summing.take(&rt, who, call);
+    }
+    summing.show(&rt);
+    count_calls(&rt, &summing.summary);
+    count_queueings(&rt, &summing.summary);
+    summing.execution.end();
+}

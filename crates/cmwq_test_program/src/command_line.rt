@@ -1,0 +1,170 @@
+//! The command line: the subcommands and their flags, what is no use of them, and what help, the version and faults say.
+
+use crate::same::same;
+use cmwq_cli::{Word, word_of};
+use std::process::Abort;
+
+/// Each subcommand without its flags.
+const WORDS: [(&str, Word); 8] = [
+    ("step", Word::Step { live: false }),
+    ("check", Word::Check { front: false }),
+    ("upgrade", Word::Upgrade),
+    ("summary", Word::Summary),
+    (
+        "chart",
+        Word::Chart {
+            from: None,
+            to: None,
+        },
+    ),
+    ("trace", Word::Trace),
+    ("replay", Word::Replay),
+    ("run", Word::Run),
+];
+
+#[test]
+fn subcommands_and_flags_are_read(rt: HostRuntime) {
+    for (name, word) in WORDS {
+        for (words, explain) in [
+            (["cmwq", name].as_slice(), false),
+            (&["cmwq", name, "--explain"], true),
+        ] {
+            let asked = word_of(rt.alloc(), words).expect(&rt, "a subcommand");
+            same(&rt, (asked.word, asked.explain), (word, explain));
+        }
+    }
+    let window = Word::Chart {
+        from: Some(10),
+        to: Some(40),
+    };
+    for (words, word) in [
+        (
+            ["cmwq", "check", "--front"].as_slice(),
+            Word::Check { front: true },
+        ),
+        (&["cmwq", "step", "--live"], Word::Step { live: true }),
+        (&["cmwq", "chart", "--from", "10", "--to=40"], window),
+    ] {
+        let asked = word_of(rt.alloc(), words).expect(&rt, "a subcommand");
+        same(&rt, asked.word, word);
+    }
+}
+
+/// What is said where these words are no subcommand, and whether on standard error.
+fn said(rt: &(impl Abort + AllocGlobal), words: &[&str]) -> (String, bool) {
+    let error = word_of(rt.alloc(), words).err().expect(rt, "no subcommand");
+    let text = format!(in rt.alloc(); "{error}").expect(rt, "memory");
+    (text, error.use_stderr())
+}
+
+/// Wrong uses, and what is told of each before the line that names `--help`.
+const WRONG_USES: [(&[&str], &str); 8] = [
+    (
+        &["cmwq"],
+        "error: 'cmwq' requires a subcommand but one was not provided\n  [subcommands: step, check, upgrade, summary, chart, trace, replay, run, help]\n\nUsage: cmwq <COMMAND>\n",
+    ),
+    (
+        &["cmwq", "steps"],
+        "error: unrecognized subcommand 'steps'\n\n  tip: a similar subcommand exists: 'step'\n\nUsage: cmwq <COMMAND>\n",
+    ),
+    (
+        &["cmwq", "step", "--front"],
+        "error: unexpected argument '--front' found\n\nUsage: cmwq step [OPTIONS]\n",
+    ),
+    (
+        &["cmwq", "check", "--live"],
+        "error: unexpected argument '--live' found\n\nUsage: cmwq check [OPTIONS]\n",
+    ),
+    (
+        &["cmwq", "check", "--front", "--front"],
+        "error: the argument '--front' cannot be used multiple times\n\nUsage: cmwq check [OPTIONS]\n",
+    ),
+    (
+        &["cmwq", "check", "FILE"],
+        "error: unexpected argument 'FILE' found\n\nUsage: cmwq check [OPTIONS]\n",
+    ),
+    (
+        &["cmwq", "chart", "--from", "x"],
+        "error: invalid value 'x' for '--from <NUMBER>': invalid digit found in string\n",
+    ),
+    (
+        &["cmwq", "chart", "--to"],
+        "error: a value is required for '--to <NUMBER>' but none was supplied\n",
+    ),
+];
+
+#[test]
+fn wrong_uses_are_told(rt: HostRuntime) {
+    for (words, wanted) in WRONG_USES {
+        let (text, is_error) = said(&rt, words);
+        let told = text
+            .as_str()
+            .strip_suffix("\nFor more information, try '--help'.\n");
+        assert_eq!(rt; (told, is_error), (Some(wanted), true));
+    }
+}
+
+/// Subcommands, what each does, and a line of its input that its help shows.
+const HELP: [(&str, &str, &str); 8] = [
+    (
+        "step",
+        "Reads call lines from standard input and writes the history of their answers",
+        "\n  w0n0 take\n",
+    ),
+    (
+        "check",
+        "Reads a history from standard input and writes whether it is legal, or its first wrong entry",
+        "\n  w0n0 0 take = started 0 enlist 1\n",
+    ),
+    (
+        "upgrade",
+        "Reads a history from standard input and writes it, if it is legal: one of format 1 in format 2, and others as they are",
+        "\n  c0 0 queue 0 0 0 = yes 0\n",
+    ),
+    (
+        "summary",
+        "Reads a history from standard input and writes its figures, if it is legal",
+        "\n  entries 3, ticks 0\n",
+    ),
+    (
+        "chart",
+        "Reads a history from standard input and writes its picture as SVG, if it is legal",
+        "\n      --from <NUMBER>  Shows the history from this entry on\n",
+    ),
+    (
+        "trace",
+        "Reads a history from standard input and writes its trace in JSON, if it is legal",
+        "\n  w0n0 1 finish = finished 0\n",
+    ),
+    (
+        "replay",
+        "Reads a scenario in JSON from standard input and writes its table of times and events",
+        "\n   \"items\":[{\"name\":\"w0\",\"queue\":\"q0\",\"ms\":[5,10,5]},\n",
+    ),
+    (
+        "run",
+        "Reads a script in JSON from standard input, runs it on threads and writes the history of that run",
+        "\n  {\"cpus\":1,\"workers\":2,\"room\":100,\n",
+    ),
+];
+
+#[test]
+fn help_and_the_version_are_shown(rt: HostRuntime) {
+    let (all, is_error) = said(&rt, &["cmwq", "--help"]);
+    assert!(rt; !is_error && all.as_str().contains("\nUsage: cmwq <COMMAND>\n"));
+    for (name, about, line) in HELP {
+        let (text, is_error) = said(&rt, &["cmwq", name, "--help"]);
+        let usage = format!(in rt.alloc(); "{about}\n\nUsage: cmwq {name} [OPTIONS]\n");
+        let usage = usage.expect(&rt, "memory");
+        assert!(rt;
+            !is_error && text.as_str().starts_with(usage.as_str()),
+            "{text}"
+        );
+        assert!(rt; text.as_str().contains(line), "{text}");
+        assert!(rt; text.as_str().contains("      --explain"), "{text}");
+        let listed = format!(in rt.alloc(); "\n  {name:<7}  {about}\n").expect(&rt, "memory");
+        assert!(rt; all.as_str().contains(listed.as_str()), "{all}");
+    }
+    let (version, is_error) = said(&rt, &["cmwq", "--version"]);
+    assert_eq!(rt; (version.as_str(), is_error), ("cmwq 0.1.0\n", false));
+}

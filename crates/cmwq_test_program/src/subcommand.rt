@@ -1,0 +1,106 @@
+//! The subcommands that need no threads, over any source and sinks.
+
+use crate::same::same;
+use cmwq_views::{Window, run_chart};
+use cmwq_cmd_history::{run_check, run_front_check, run_step, run_step_live, run_upgrade};
+use cmwq_replay::run_replay;
+use cmwq_views::run_summary;
+use cmwq_views::run_trace;
+use cmwq_io::{Memory, Sink, Source};
+use std::alloc::Global;
+use std::process::Abort;
+
+/// A subcommand, `step` and `check` with their flags too.
+#[derive(Clone, Copy, Debug, PartialEq, Eq)]
+pub(crate) enum Subcommand {
+    Step,
+    Live,
+    Check,
+    Front,
+    Upgrade,
+    Summary,
+    Chart,
+    Trace,
+    Replay,
+}
+
+/// The whole of a history.
+const WHOLE: Window = Window { from: 0, to: 100 };
+
+impl Subcommand {
+    /// Runs it. Returns the status, and promises nothing of it, so that what calls it is short to prove.
+    pub(crate) fn run<S: Source, O: Sink, E: Sink>(
+        self,
+        alloc: Global,
+        input: &mut S,
+        output: &mut O,
+        errors: &mut E,
+    ) -> u8 {
+        match self {
+            Subcommand::Step => run_step(alloc, input, output, errors),
+            Subcommand::Live => run_step_live(alloc, input, output, errors),
+            Subcommand::Check => run_check(alloc, input, output, errors),
+            Subcommand::Front => run_front_check(alloc, input, output, errors),
+            Subcommand::Upgrade => run_upgrade(alloc, input, output, errors),
+            Subcommand::Summary => run_summary(alloc, input, output, errors),
+            Subcommand::Chart => run_chart(alloc, input, output, errors, WHOLE),
+            Subcommand::Trace => run_trace(alloc, input, output, errors),
+            Subcommand::Replay => run_replay(alloc, input, output, errors),
+        }
+    }
+}
+
+/// How a subcommand ended: its status, what it wrote and what it told.
+#[derive(Drop)]
+pub(crate) struct Ended {
+    pub(crate) status: u8,
+    pub(crate) output: Memory<Vec<u8>>,
+    pub(crate) told: Memory<Vec<u8>>,
+}
+
+/// Memory to write, which has room for what a subcommand writes.
+pub(crate) fn room(rt: &(impl Abort + AllocGlobal)) -> Memory<Vec<u8>> {
+    Memory::writer(rt.alloc(), 10_000).expect(rt, "memory")
+}
+
+/// Runs a subcommand over an input in memory.
+pub(crate) fn run(rt: &(impl Abort + AllocGlobal), subcommand: Subcommand, text: &[u8]) -> Ended {
+    let mut output = room(rt);
+    let mut told = room(rt);
+    let mut input = Memory::reader(text);
+    let status = subcommand.run(rt.alloc(), &mut input, &mut output, &mut told);
+    Ended {
+        status,
+        output,
+        told,
+    }
+}
+
+/// `step --live` ends at the first call without room, and reads no line after it.
+#[test]
+fn step_live_ends_at_the_first_call_without_room(rt: HostRuntime) {
+    let ended = run(&rt, Subcommand::Live, b"shape 1 1 1 1 0\nwq 1 -\nc0 fire\n");
+    same(
+        &rt,
+        (ended.status, ended.output.as_slice()),
+        (4, b"".as_slice()),
+    );
+    same(
+        &rt,
+        ended.told.as_slice(),
+        b"cmwq: line 3: no room\n".as_slice(),
+    );
+    let calls = b"shape 1 1 1 1 1\nwq 1 -\nc0 fire\nc0 fire\nno call\n";
+    let history = b"history 2\nshape 1 1 1 1 1\nwq 1 -\nc0 0 fire = nothing\n";
+    let ended = run(&rt, Subcommand::Live, calls);
+    same(
+        &rt,
+        (ended.status, ended.output.as_slice()),
+        (4, history.as_slice()),
+    );
+    same(
+        &rt,
+        ended.told.as_slice(),
+        b"cmwq: line 4: no room\n".as_slice(),
+    );
+}
