@@ -11,10 +11,4 @@ mod faults;
 #[cfg(test)]
 mod inputs;
 #[cfg(test)]
-mod journal;
-#[cfg(test)]
-mod large;
-#[cfg(test)]
-mod run;
-#[cfg(test)]
 mod word;
