@@ -115,7 +115,7 @@ const FLUSH: Step = Step::Make(Call::Flush { queue: QUEUE });
 
 const TICK: Step = Step::Make(Call::Tick { ticks: 1 });
 
-/// Plays one caller with room for so many entries: each of its last three calls has this fault, and those before have none.
+/// Plays one caller with room for so many entries. Its last three calls have this fault, and those before have none.
 fn is_refused<R: Threads + Wait + Clock + Abort + AllocGlobal + Sync>(
     rt: &R,
     room: u64,

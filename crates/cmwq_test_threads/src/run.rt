@@ -1,4 +1,4 @@
-//! The subcommand `run`: gates, refused scripts, calls without room, faults, and histories that are written as they are made.
+//! The subcommand `run`: gates, refused scripts, calls without room, faults, and histories written as they are made.
 
 use crate::scene::NEVER;
 use crate::sink::{Output, entries_of, output};
@@ -19,7 +19,7 @@ struct Ran {
     errors: Output,
 }
 
-/// Runs a script, where the calls with these numbers of the source, of the output and of the errors fail, counted from 1.
+/// Runs a script. The calls with these numbers of the source, of the output and of the errors fail, counted from 1.
 fn run_faulty<R: Threads + Wait + Clock + Abort + AllocGlobal + Sync>(
     rt: &R,
     script: &[u8],
@@ -37,7 +37,7 @@ fn run_faulty<R: Threads + Wait + Clock + Abort + AllocGlobal + Sync>(
     }
 }
 
-/// Runs a script, and compares the status and what is told. So many entries are written, if any: they are a legal history.
+/// Runs a script, and compares the status and what is told. The entries that are written, so many, are a legal history.
 fn ends_so<R: Threads + Wait + Clock + Abort + AllocGlobal + Sync>(
     rt: &R,
     script: &[u8],
@@ -61,11 +61,13 @@ const GATE: &[u8] = br#"{"cpus":1,"workers":2,"room":100,
 "items":[{"name":"A","does":[["sleep_at","g"]]},{"name":"B","does":[["open","g"]]}],
 "callers":[[["queue","A","q0",0],["queue","B","q0",0],["flush","q0"]]]}"#;
 
-/// There is room for two runs: item A passes a gate that item B opens, without sleep, and then one that nobody opens, since there is no room for what
-/// would. The history is written all the same.
+/// There is room for two runs. Item A passes a gate that item B opens, without sleep, and then one that nobody opens,
+/// since there is no room for what would. The history is written all the same.
 const SECOND_GATE_SHUT: &[u8] = br#"{"cpus":1,"workers":1,"room":6,"journal":2,
-"queues":[{"name":"q0","max_active":1,"high":false,"intensive":false},{"name":"q1","max_active":1,"high":true,"intensive":false}],
-"items":[{"name":"A","does":[["sleep_at","g"],["sleep_at","h"]]},{"name":"B","does":[["open","g"]]},{"name":"C","does":[["open","h"]]}],
+"queues":[{"name":"q0","max_active":1,"high":false,"intensive":false},
+{"name":"q1","max_active":1,"high":true,"intensive":false}],
+"items":[{"name":"A","does":[["sleep_at","g"],["sleep_at","h"]]},{"name":"B","does":[["open","g"]]},
+{"name":"C","does":[["open","h"]]}],
 "callers":[[["queue","A","q0",0],["queue","B","q1",0],["queue","C","q1",0]]]}"#;
 
 #[test]
@@ -150,7 +152,8 @@ fn busy(rt: &impl AllocGlobal, keys: &str) -> Result<String, Fail> {
         r#"{{"cpus":1,"workers":2,{keys},
         "queues":[{{"name":"q0","max_active":2,"high":false,"intensive":false}}],
         "items":[{{"name":"A","does":[]}},{{"name":"B","does":[]}},{{"name":"C","does":[]}}],
-        "callers":[[["queue","A","q0",0],["flush","q0"],["delay","B","q0",0,1],["tick",2],["flush_item","B"],["drain","q0"],["queue","A","q0",0],["flush","q0"]],
+        "callers":[[["queue","A","q0",0],["flush","q0"],["delay","B","q0",0,1],["tick",2],["flush_item","B"],
+        ["drain","q0"],["queue","A","q0",0],["flush","q0"]],
         [["delay","C","q0",0,9],["cancel","C"],["delay","C","q0",0,9],["cancel","C"]]]}}"#
     )?)
 }

@@ -10,7 +10,7 @@ use std::sync::Wait;
 use std::sync::atomic::{AtomicBool, AtomicU64, Ordering};
 use std::thread;
 
-/// A queue of normal priority that lets one item at a time be active on a CPU, and is neither CPU intensive nor freezable.
+/// A queue of normal priority that lets one item at a time be active on a CPU.
 pub(crate) const PLAIN: QueueShape = QueueShape {
     max_active: 1,
     high: false,
@@ -69,16 +69,16 @@ pub(crate) enum Fate {
 pub(crate) enum Taker {
     /// It drops them.
     Drops,
-    /// It writes them to a sink whose call with this number fails, counted from 1. It begins at a step of a caller or when all threads have
-    /// ended, or at once.
+    /// It writes them to a sink whose call with this number fails, counted from 1. It begins at once, or late: at a
+    /// step of a caller, or when all callers and workers have ended.
     Writes { failing: u64, is_late: bool },
 }
 
 /// The call of no run.
 pub(crate) const NEVER: u64 = u64::MAX;
 
-/// What happens on a hub. Callers for whom there is no role have the last one, and items for which there is no deed begin anew with the first, at
-/// the next gate. Without deeds the hub has no workers.
+/// What happens on a hub. Callers for whom there is no role have the last one. Items for which there is no deed begin
+/// anew with the first, at the next gate. Without deeds the hub has no workers.
 #[derive(Drop)]
 pub(crate) struct Scene<'a> {
     pub(crate) roles: &'a [Role<'a>],

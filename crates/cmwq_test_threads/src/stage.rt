@@ -375,7 +375,8 @@ pub(crate) fn starts_in(history: &[Entry]) -> u64 {
         .count() as u64
 }
 
-/// Plays a scene to its end on a hub of its own. A history of which nothing is missing is legal, and each start in it was one run.
+/// Plays a scene to its end on a hub of its own. A history of which nothing is missing is legal, and each start in it
+/// was one run.
 pub(crate) fn play<R: Threads + Wait + Clock + Abort + AllocGlobal + Sync>(
     rt: &R,
     counts: Counts,
