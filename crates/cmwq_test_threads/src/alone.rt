@@ -1,9 +1,9 @@
 //! One caller and no worker.
 
+use crate::blocked::play_well;
 use crate::scene::{Fate, IDLE, PLAIN, Role, Scene};
 use crate::stage::{Played, play};
 use crate::step::{Event, Step};
-use crate::waking::play_well;
 use cmwq_model::{Call, Counts, CpuId, ItemId, QueueId, QueueShape, Shape};
 use cmwq_publish::Opening;
 use cmwq_rt::RunFault;

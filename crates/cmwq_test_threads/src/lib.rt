@@ -4,7 +4,11 @@
 #[cfg(test)]
 mod alone;
 #[cfg(test)]
-mod run;
+mod batches;
+#[cfg(test)]
+mod blocked;
+#[cfg(test)]
+mod random;
 #[cfg(test)]
 mod scene;
 #[cfg(test)]
@@ -18,10 +22,6 @@ mod stage;
 #[cfg(test)]
 mod step;
 #[cfg(test)]
-mod stress;
+mod subcommand;
 #[cfg(test)]
 mod table;
-#[cfg(test)]
-mod tails;
-#[cfg(test)]
-mod waking;

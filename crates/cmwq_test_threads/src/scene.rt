@@ -136,12 +136,13 @@ fn queue<N: HubName, R: Wait>(item: ItemId, context: &mut RunCtx<N, R>)
 impl<'a> Work for Scene<'a> {
     fn run<N: HubName, R: Wait>(&self, item: ItemId, context: &mut RunCtx<N, R>) {
         let before = self.runs.fetch_add(1, Ordering::SeqCst);
-        let place = usize::from(item.0);
-        let Some(turn) = place.checked_div(self.deeds.len()) else {
+        let (number, deeds) = (usize::from(item.0), self.deeds.len());
+        let (Some(turn), Some(place)) = (number.checked_div(deeds), number.checked_rem(deeds))
+        else {
             return;
         };
         let gate = (turn % 16) as u8;
-        match self.deeds[place % self.deeds.len()] {
+        match self.deeds.get(place).copied().unwrap_or(Deed::Nothing) {
             Deed::Nothing => {}
             Deed::Doze => {
                 let _slept = context.sleep();

@@ -101,7 +101,7 @@ fn delay_all<N: HubName, R: Wait + Abort>(
     ticks: u32,
 ) -> Result<(), RunFault> {
     let counts = hub.shape().counts();
-    let queues = hub.shape().queues().len() as u16;
+    let queues = u16::try_from(hub.shape().queues().len()).unwrap_or(1);
     for item in 0..counts.items {
         let queue = (item / 8).checked_rem(queues).unwrap_or(0);
         let cpu = (item / 16).checked_rem(u16::from(counts.cpus)).unwrap_or(0);

@@ -1,9 +1,9 @@
 //! Hubs that keep few entries at a time: they are dropped, or a thread takes them.
 
+use crate::blocked::play_well;
 use crate::scene::{Deed, Fate, IDLE, NEVER, PLAIN, Role, Scene, Taker};
 use crate::stage::play;
 use crate::step::{Event, Step};
-use crate::waking::play_well;
 use cmwq_model::{Call, Counts, ItemId, QueueId, Reply};
 use cmwq_rt::RunFault;
 use cmwq_rt_journal::JournalFault;

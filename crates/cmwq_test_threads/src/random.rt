@@ -1,8 +1,8 @@
 //! Many callers and workers at once.
 
+use crate::blocked::play_well;
 use crate::scene::{Deed, Fate, IDLE, PLAIN, Role, Scene};
 use crate::step::Step;
-use crate::waking::play_well;
 use cmwq_model::{Counts, QueueShape};
 
 /// Each caller makes so many calls.
