@@ -140,7 +140,7 @@ int main(void)
     short_buffers(&book);
     reads(&book);
     refused_calls(&book);
-    wrong.cpus = 5;
+    wrong.cpus = 65;
     CHECK(cmwq_open(&book, &wrong, &queue, 1) == CMWQ_REFUSED && cmwq_len(&book) == 4);
     CHECK(cmwq_open(&book, &shape, &queue, 0) == CMWQ_REFUSED && cmwq_len(&book) == 4);
     CHECK(cmwq_open(&book, &shape, &queue, 1) == CMWQ_OK && cmwq_len(&book) == 0);

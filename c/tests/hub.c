@@ -83,7 +83,7 @@ int main(void)
         pthread_mutex_init(&items[i].lock, NULL);
         works[i] = (struct cmwq_work){work, &items[i]};
     }
-    wrong.workers = 9;
+    wrong.workers = 65;
     CHECK(cmwq_hub_open(&hub, &wrong, queues, 2, works, NULL, NULL) == CMWQ_REFUSED);
     CHECK(cmwq_hub_open(&hub, &shape, queues, 2, works, count_line, NULL) == CMWQ_OK);
     for (int i = 0; i < CALLERS; i++) {

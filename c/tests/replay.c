@@ -43,7 +43,7 @@ static unsigned long replay(const char *name)
     size_t all = read_all(name), len, number_len;
     char *line = text, *end, call[CMWQ_LINE];
     struct cmwq_shape shape = {0};
-    struct cmwq_queue queues[64];
+    struct cmwq_queue queues[255];
     struct cmwq_book book = {0}, by_number = {0};
     unsigned long long room, wrong_at = ~0ull, made = 0;
     unsigned cpus, workers, callers, items, max_active, count = 0;
@@ -66,7 +66,7 @@ static unsigned long replay(const char *name)
     for (; sscanf(line, "wq %u %7s", &max_active, flags) == 2; line = strchr(line, '\n') + 1)
         queues[count++] = (struct cmwq_queue){(uint16_t)max_active, strchr(flags, 'h') != NULL, strchr(flags, 'i') != NULL, strchr(flags, 'f') != NULL};
     CHECK(cmwq_open(&book, &shape, queues, count) == CMWQ_OK && cmwq_open(&by_number, &shape, queues, count) == CMWQ_OK);
-    /* a history of format 3 has a last line behind its entries */
+    /* a history of format 3 has a last line after its entries */
     for (; line < text + all && strncmp(line, "end ", 4) != 0; line = end + 1, made++) {
         struct cmwq_entry entry;
         struct cmwq_reply reply;

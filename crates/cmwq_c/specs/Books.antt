@@ -1,8 +1,8 @@
 -- Which calls of C are refused, and which callers and workers there are.
 use Rattle.cmwq_c.specs.Common.{option_map, nat_lt, Who, Caller, Worker, Call, Layout, fits, Lasting, unmade_by}
 use Rattle.std.specs.Prelude.{Bool, ◌&&◌, if◌then◌else◌, Option, Some}
-use Rattle.cmwq_tail_book.specs.declared.book.Unmade.{Unmade}
-use Rattle.cmwq_tail_book.specs.declared.book.Unmade.TheVariants as unmade
+use Rattle.cmwq_core.specs.declared.tail_book.Unmade.{Unmade}
+use Rattle.cmwq_core.specs.declared.tail_book.Unmade.TheVariants as unmade
 use Rattle.cmwq_c.specs.declared.session.Refusal.{Refusal}
 use Rattle.cmwq_c.specs.declared.session.Refusal.TheVariants.{Unfit, Crowded, Full}
 

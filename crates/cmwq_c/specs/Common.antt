@@ -45,4 +45,4 @@ pub use Rattle.cmwq_model.specs.declared.id.Who.{Who}
 pub use Rattle.cmwq_model.specs.declared.id.Who.TheVariants.{Caller, Worker}
 pub use Rattle.cmwq_model.specs.declared.reply.Reply.{Reply}
 pub use Rattle.cmwq_model.specs.declared.verdict.Illegal.{Illegal}
-pub use Rattle.cmwq_tail_book.specs.Lasting.{Lasting, unmade_by}
+pub use Rattle.cmwq_core.specs.Lasting.{Lasting, unmade_by}

@@ -1,6 +1,6 @@
 //! A book of the heap as C holds it: by a pointer of no type.
 ghost use Rattle.std.specs.Prelude.{◌≡◌, true, false, Bool};
-ghost use Rattle.cmwq_tail_book.specs.Lasting.{Lasting};
+ghost use Rattle.cmwq_core.specs.Lasting.{Lasting};
 ghost use Rattle.cmwq_c.specs.Owned.{owns_book};
 
 use crate::apart::Apart;

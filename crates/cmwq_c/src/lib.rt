@@ -9,7 +9,7 @@ ghost use Rattle.cmwq_model.specs.Legal as legal;
 ghost use Rattle.cmwq_text.specs.CallText.{call_read};
 ghost use Rattle.cmwq_text.specs.EntryText.{entry_text};
 ghost use Rattle.cmwq_core.specs.History.{next_entry, past_in, is_ready};
-ghost use Rattle.cmwq_tail_book.specs.Lasting.{lasting_at_first, with_made, with_none_kept, lasting_entry};
+ghost use Rattle.cmwq_core.specs.Lasting.{lasting_at_first, with_made, with_none_kept, lasting_entry};
 ghost use Rattle.cmwq_c.specs.Numbers.{shape_of, who_of_numbers, asked_of, reply_numbers, entry_numbers};
 ghost use Rattle.cmwq_base.specs.declared.refusal.Refusal.{Refusal};
 ghost use Rattle.cmwq_base.specs.Kinds.{history_file_of};

@@ -4,12 +4,11 @@ ghost use Rattle.cmwq_model.specs.Prelude.{fits, serial_of, still_open, is_activ
 ghost use Rattle.cmwq_model.specs.Legal as legal;
 ghost use Rattle.cmwq_core.specs.History.{next_entry, past_in, is_ready};
 ghost use Rattle.cmwq_core.specs.Plans.{IsPlan};
-ghost use Rattle.cmwq_tail_book.specs.Lasting.{lasting_at_first, with_made, with_none_kept, has_space, lasting_entry};
+ghost use Rattle.cmwq_core.specs.Lasting.{lasting_at_first, with_made, with_none_kept, has_space, lasting_entry};
 ghost use Rattle.cmwq_c.specs.Books.{is_inside, refusal_of, refused_by};
 
-use cmwq_core::Plan;
+use cmwq_core::{Plan, TailBook, Unmade};
 use cmwq_model::{Call, Entry, ItemId, NoMemory, Number, Shape, Who};
-use cmwq_tail_book::{TailBook, Unmade};
 use std::alloc::Global;
 use std::marker::Model;
 
@@ -42,7 +41,7 @@ pub struct Session {
 
 impl Model for Session {
     ghost use Rattle.std.specs.Prelude.{◌≡◌};
-    ghost use Rattle.cmwq_tail_book.specs.Lasting.{Lasting};
+    ghost use Rattle.cmwq_core.specs.Lasting.{Lasting};
 
     ghost Value = { Lasting };
 

@@ -6,7 +6,7 @@ ghost use Rattle.cmwq_text.specs.CallText.{call_read};
 ghost use Rattle.cmwq_text.specs.EntryText.{entry_text};
 ghost use Rattle.cmwq_core.specs.History.{next_entry, past_in};
 ghost use Rattle.cmwq_core.specs.Plans.{IsPlan};
-ghost use Rattle.cmwq_tail_book.specs.Lasting.{lasting_at_first, with_made, lasting_entry, has_space};
+ghost use Rattle.cmwq_core.specs.Lasting.{lasting_at_first, with_made, lasting_entry, has_space};
 ghost use Rattle.cmwq_c.specs.Numbers.{shape_of, who_of_numbers, asked_of, reply_numbers, entry_numbers};
 ghost use Rattle.cmwq_c.specs.Statuses.{call_status, line_status, space_status, entry_status, entry_line_status, serial_status, IsTextWritten};
 

@@ -8,7 +8,7 @@ use cmwq_model::{Entry, ItemId, Number, Reply, WorkerId};
 use std::alloc::{AllocError, Global};
 
 /// A run: what was started by which worker, and the places of the entries that started and finished it. One that has not finished has only the first.
-#[derive(Clone, Copy, Debug)]
+#[derive(Clone, Copy)]
 pub struct Bar {
     pub worker: WorkerId,
     pub item: ItemId,

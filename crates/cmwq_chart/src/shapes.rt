@@ -9,7 +9,7 @@ use cmwq_model::{Place, WorkerId};
 
 /// All that is shown of a history: what its callers did, the workers that have entries, what they did, the queues on CPUs that had queueings,
 /// and how high these stood.
-#[derive(Debug, Drop)]
+#[derive(Drop)]
 pub struct Shapes {
     pub callers: CallerShapes,
     pub lanes: Vec<WorkerId>,

@@ -8,7 +8,7 @@ use cmwq_model::{Entry, Reply, Who};
 use std::alloc::{AllocError, Global};
 
 /// What an entry did.
-#[derive(Clone, Copy, Debug, PartialEq, Eq)]
+#[derive(Clone, Copy, PartialEq, Eq)]
 pub enum SignKind {
     /// Queued an item, maybe anew.
     Queued,
@@ -29,7 +29,7 @@ pub enum SignKind {
 }
 
 /// What a caller or a worker did, of which item if of one, and the place of the entry.
-#[derive(Clone, Copy, Debug)]
+#[derive(Clone, Copy)]
 pub struct Sign {
     pub who: Who,
     pub kind: SignKind,

@@ -8,7 +8,7 @@ use cmwq_model::{Entry, Reply, Who, WorkerId};
 use std::alloc::{AllocError, Global};
 
 /// A sleep of a worker's run: the places of the entries by which it sleeps and goes on. One that has not ended has only the first.
-#[derive(Clone, Copy, Debug)]
+#[derive(Clone, Copy)]
 pub struct Sleep {
     pub worker: WorkerId,
     pub from: u32,
@@ -97,7 +97,7 @@ fn keep(sleeps: &mut Vec<Sleep>, sleep: Option<Sleep>) -> Result<(), AllocError>
 const WORKERS: usize = 131_072;
 
 /// What is known of a worker behind some entries: its sleeps that ended, and since where it sleeps.
-#[derive(Debug, Drop)]
+#[derive(Drop)]
 struct WorkerSleeps {
     ended: Vec<Sleep>,
     since: Option<u32>,

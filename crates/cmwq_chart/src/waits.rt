@@ -9,7 +9,7 @@ use std::alloc::{AllocError, Global};
 
 /// A wait of a caller, in a row of its own where several overlap: the places of the entries that gave its ticket and that ended it. One that
 /// has not ended has only the first.
-#[derive(Clone, Copy, Debug)]
+#[derive(Clone, Copy)]
 pub struct CallerWait {
     pub caller: CallerId,
     pub row: u32,
@@ -18,7 +18,7 @@ pub struct CallerWait {
 }
 
 /// An entry that asks for the end of a wait, and whether that is done then.
-#[derive(Clone, Copy, Debug)]
+#[derive(Clone, Copy)]
 pub struct WaitSign {
     pub caller: CallerId,
     pub row: u32,
@@ -27,7 +27,7 @@ pub struct WaitSign {
 }
 
 /// A caller, and in how many rows its waits stand.
-#[derive(Clone, Copy, Debug)]
+#[derive(Clone, Copy)]
 pub struct CallerLane {
     pub caller: CallerId,
     pub rows: u8,
@@ -360,7 +360,7 @@ fn push_waits(
 }
 
 /// What a history shows of its callers: a lane for each, their waits, one caller after the other, and where the ends of these were asked for.
-#[derive(Debug, Drop)]
+#[derive(Drop)]
 pub struct CallerShapes {
     pub lanes: Vec<CallerLane>,
     pub waits: Vec<CallerWait>,

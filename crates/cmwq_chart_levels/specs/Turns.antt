@@ -6,7 +6,7 @@ use Rattle.cmwq_model.specs.declared.record.Place.{Place}
 use Rattle.cmwq_model.specs.declared.record.Queueing.{Queueing}
 use Rattle.cmwq_model.specs.declared.reply.Reply.{Reply}
 use Rattle.cmwq_model.specs.Prelude.{Layout, IsLegal, opening}
-use Rattle.cmwq_theory_active.specs.Looks.{keeps_widths}
+use Rattle.cmwq_theory_steps.specs.Looks.{keeps_widths}
 use Rattle.cmwq_theory_steps.specs.Endings.{ending}
 use Rattle.cmwq_core.specs.History.{History, past_in}
 use Rattle.cmwq_chart.specs.declared.levels.Height.{Height}

@@ -9,7 +9,7 @@ ghost use Rattle.cmwq_cmd_history.specs.Judging.{IsVerdictOf};
 
 use cmwq_base::{Entry, Gather, Illegal, NoMemory, Shape};
 use cmwq_core::Judge;
-use cmwq_tail::Trail;
+use cmwq_state::Trail;
 use std::alloc::Global;
 use std::marker::Model;
 

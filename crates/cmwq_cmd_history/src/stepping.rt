@@ -9,7 +9,7 @@ ghost use Rattle.cmwq_cmd_history.specs.Live.{live_steps};
 
 use cmwq_base::{Call, Entry, Gather, NoMemory, Shape, Who};
 use cmwq_core::{Execution, Full};
-use cmwq_tail::Trail;
+use cmwq_state::Trail;
 use std::alloc::Global;
 use std::marker::Model;
 

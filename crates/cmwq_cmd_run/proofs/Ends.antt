@@ -1,8 +1,8 @@
 -- How a run ends, from what its parts promise.
 use Rattle.cmwq_cmd_run.specs.Common.{◌≡◌, List, ℕ, Option, None, Some, Ok, Err, inr, IfSome, IsJson, Run, run_said}
 use Rattle.serde_json.specs.Data.{Data}
-use Rattle.cmwq_input.specs.declared.fault.Fault.TheVariants as fault
-use Rattle.cmwq_input.specs.declared.refused.Refused.{Refused}
+use Rattle.cmwq_json.specs.declared.fault.Fault.TheVariants as fault
+use Rattle.cmwq_json.specs.declared.refused.Refused.{Refused}
 use Rattle.cmwq_cmd_run.specs.declared.failure.Failure.TheVariants as failure
 use Rattle.cmwq_cmd_run.specs.Run.{InputEnds, Runs, ScriptEnds}
 use Rattle.std.proofs.KnownBytes.{Keeps-refl}

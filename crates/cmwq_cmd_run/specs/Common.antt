@@ -2,7 +2,7 @@
 pub use Rattle.std.proofs.Common.{Err, List, None, Ok, Option, Result, Some, [], ap, get_or, inl, inr, length, refl, subst, sym, take, ℕ, ◌++◌, ◌+◌, ◌<◌, ◌∙◌, ◌∷◌, ◌≡◌}
 pub use Rattle.std.specs.Io.KnownBytes.{Appends, Keeps}
 pub use Rattle.std.specs.Prelude.{IfErr, IfOk, IfSome, MatchBool, MatchOption, slice_get, suc, zero}
-pub use Rattle.cmwq_input.specs.Inputs.{IsJson, IsLong, IsNoJson, Says}
+pub use Rattle.cmwq_json.specs.Inputs.{IsJson, IsLong, IsNoJson, Says}
 pub use Rattle.cmwq_json_script.specs.Runs.{Run, run_said}
 pub use Rattle.cmwq_json_script.specs.Scripts.{is_own, run_of}
 pub use Rattle.cmwq_json_script.specs.declared.action.Action.{Action}

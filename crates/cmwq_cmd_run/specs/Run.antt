@@ -4,8 +4,8 @@ use Rattle.cmwq_cmd_run.specs.Common.{ℕ, zero, suc, List, Result, Ok, Err, Opt
 use Rattle.cmwq_io.specs.Moves.{AppendsFront}
 use Rattle.cmwq_model.specs.declared.entry.Entry.{Entry}
 use Rattle.cmwq_text.specs.HistoryText.{text_of_format}
-use Rattle.cmwq_input.specs.declared.fault.Fault.TheVariants as fault
-use Rattle.cmwq_input.specs.Statuses.{fault_status}
+use Rattle.cmwq_json.specs.declared.fault.Fault.TheVariants as fault
+use Rattle.cmwq_json.specs.Statuses.{fault_status}
 use Rattle.cmwq_monitor.specs.declared.fault.RunFault.TheVariants as run_fault
 use Rattle.cmwq_rt_scripts.specs.Ended.{FailsAs, IsLeft}
 use Rattle.cmwq_cmd_run.specs.Interpreted.{plays}

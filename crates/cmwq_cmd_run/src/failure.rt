@@ -1,11 +1,11 @@
 //! Why a run wrote no history, or not all of it, and what is told of that.
 ghost use Rattle.std.specs.Prelude.{◌≡◌};
 ghost use Rattle.cmwq_cmd_run.specs.declared.failure.Failure.TheVariants as failure;
-ghost use Rattle.cmwq_input.specs.declared.fault.Fault.TheVariants as fault;
+ghost use Rattle.cmwq_json.specs.declared.fault.Fault.TheVariants as fault;
 ghost use Rattle.cmwq_cmd_run.specs.Run.{failure_status, failed_run};
 
 use arrayvec::ArrayString;
-use cmwq_input::{Fault, fault_status};
+use cmwq_json::{Fault, fault_status};
 use cmwq_rt::RunFault;
 use std::alloc::AllocError;
 use thiserror::Error;

@@ -4,15 +4,15 @@ ghost use Rattle.cmwq_io.specs.Counts.{Rises};
 ghost use Rattle.cmwq_cmd_run.specs.declared.failure.Failure.{Failure as TheFailure};
 ghost use Rattle.cmwq_cmd_run.specs.declared.failure.Failure.TheVariants as failure;
 ghost use Rattle.cmwq_cmd_run.specs.Run.{InputEnds, ScriptEnds, RunLeaves, FailsOn, IsNamed, run_status};
-ghost use Rattle.cmwq_input.specs.declared.fault.Fault.TheVariants as fault;
+ghost use Rattle.cmwq_json.specs.declared.fault.Fault.TheVariants as fault;
 ghost use Rattle.cmwq_json_script.specs.Scripts.{run_of, MayRun};
 
 use crate::failure::{Failure, GateName, failure_status_of};
 use crate::interpreter::Interpreter;
 use cmwq_cmd_history::{tell_full, write_history};
 use cmwq_explain::explain_gate;
-use cmwq_input::{Fault, read_value};
 use cmwq_io::{Sink, Source, tell};
+use cmwq_json::{Fault, read_value};
 use cmwq_json_script::{Script, read_script};
 use cmwq_rt_scripts::{Report, Unwritten, run_scripts, run_scripts_with_journal};
 use std::alloc::Global;

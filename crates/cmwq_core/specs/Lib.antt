@@ -6,3 +6,4 @@ pub mod Relied
 pub mod Book
 pub mod Effects
 pub mod Judged
+pub mod Lasting

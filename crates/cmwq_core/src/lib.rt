@@ -1,4 +1,4 @@
-//! The book of a work queue runtime.
+//! The books of a work queue runtime: `Book` keeps its history to the end, `TailBook` until its entries are given away.
 #![tactic(auto)]
 
 mod answers;
@@ -9,6 +9,7 @@ mod execution;
 mod judge;
 mod marks;
 mod plan;
+mod tail_book;
 mod workers;
 
 pub use book::Book;
@@ -16,3 +17,4 @@ pub use cmwq_state::those_who_fit_are_there;
 pub use execution::{Execution, Full};
 pub use judge::{Judge, check};
 pub use plan::Plan;
+pub use tail_book::{TailBook, Unmade};

@@ -1,7 +1,7 @@
 //! The readers of JSON inputs, and a sample of each object that they take. What is right at a place is what a reader takes there in a sample.
 
-use cmwq_json_scenario::read_scenario;
 use cmwq_json_script::read_script;
+use cmwq_replay::read_scenario;
 use serde_json::Value;
 use std::alloc::{AllocError, Global};
 

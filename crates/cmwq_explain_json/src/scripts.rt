@@ -6,7 +6,7 @@ use crate::grammar::Place;
 use crate::members::{Path, say_value, tell_object};
 use crate::objects::World;
 use cmwq_explain::Text;
-use cmwq_input::{Part, Refused};
+use cmwq_json::{Part, Refused};
 use serde_json::Value;
 use std::alloc::AllocError;
 

@@ -15,7 +15,7 @@ use std::alloc::{AllocError, Global};
 use std::marker::Model;
 
 /// What flushes and drains of all queues wait for, and flushes of items: the open queueings, and the flush book of each queue.
-#[derive(Debug, Drop)]
+#[derive(Drop)]
 pub struct FlushBooks {
     openings: Openings,
     overflow: Overflow,

@@ -17,7 +17,7 @@ use std::alloc::{AllocError, Global};
 
 /// The flushes of a queue that are served, with how many of its open queueings have each colour. At most 15 flushes are
 /// served at once; others are in overflow until an older one ends.
-#[derive(Debug, Drop)]
+#[derive(Drop)]
 pub(crate) struct Flushes {
     pub(crate) next: u64,
     pub(crate) counts: [u32; COLOURS],

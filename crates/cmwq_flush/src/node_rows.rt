@@ -8,7 +8,7 @@ use std::marker::Model;
 
 /// Of each node the open queueing for which it stands, or the last for which it did. It takes nine bytes a node, where rows beside
 /// one another would take sixteen.
-#[derive(Debug, Drop)]
+#[derive(Drop)]
 pub(crate) struct NodeRows {
     numbers: Vec<Number>,
     colours: Vec<Colour>,

@@ -14,14 +14,14 @@ use std::marker::Model;
 pub(crate) type Colour = u8;
 
 /// An open queueing.
-#[derive(Clone, Copy, Debug)]
+#[derive(Clone, Copy)]
 pub(crate) struct Row {
     pub(crate) number: Number,
     pub(crate) colour: Colour,
 }
 
 /// What is open of an item: its run and its unstarted queueing, the older one first.
-#[derive(Clone, Copy, Debug)]
+#[derive(Clone, Copy)]
 pub(crate) enum Open {
     Nothing,
     One(Number),
@@ -43,7 +43,7 @@ impl Open {
 }
 
 /// The open queueings, in a list for each queue, by rising number. An item has two nodes, for its run and its unstarted queueing.
-#[derive(Debug, Drop)]
+#[derive(Drop)]
 pub(crate) struct Openings {
     items: u16,
     lists: Lists,

@@ -14,7 +14,7 @@ use std::marker::Model;
 const FREE: u16 = 0;
 
 /// The flushes in overflow of all queues, in a list for each queue, by age.
-#[derive(Debug, Drop)]
+#[derive(Drop)]
 pub(crate) struct Overflow {
     lists: Lists,
     /// The ticket of each node that isn't free.

@@ -4,7 +4,7 @@ ghost use Rattle.cmwq_flush.specs.Served.{IsOlderServed, LacksTicket, HasTicketA
 use cmwq_model::Number;
 
 /// A flush that is served.
-#[derive(Clone, Copy, Debug)]
+#[derive(Clone, Copy)]
 pub struct Served {
     pub ticket: Number,
     /// It waits for the queueings below this number: those that were opened before it was served.

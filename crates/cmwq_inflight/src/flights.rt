@@ -12,14 +12,14 @@ use std::marker::Model;
 const MOST_KEYS: usize = u32::MAX as usize;
 
 /// Where an item's queueings stand: their keys in the slab.
-#[derive(Clone, Copy, Debug)]
+#[derive(Clone, Copy)]
 struct Keys {
     run: Key,
     unstarted: Key,
 }
 
 /// The queueings in flight of all items of a runtime. An item has at most one that runs and one that hasn't started.
-#[derive(Debug, Drop)]
+#[derive(Drop)]
 pub struct Flights {
     /// All that are open. There is room for two of each item.
     queueings: Slab<Queueing>,

@@ -6,7 +6,7 @@ use std::marker::Model;
 const NONE: u32 = u32::MAX;
 
 /// The key of a queueing in a slab, or none, in four bytes: an `Option` takes eight.
-#[derive(Clone, Copy, Debug)]
+#[derive(Clone, Copy)]
 pub(crate) struct Key(u32);
 
 impl Model for Key {

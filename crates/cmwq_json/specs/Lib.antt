@@ -7,3 +7,5 @@ pub mod Numbers
 pub mod Parts
 pub mod Queues
 pub mod Readings
+pub mod Inputs
+pub mod Statuses

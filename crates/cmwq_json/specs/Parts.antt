@@ -1,7 +1,7 @@
 -- Which member of an input is refused.
 use Rattle.std.specs.Prelude.{ℕ}
-use Rattle.cmwq_input.specs.declared.refused.Part.TheVariants as part
-use Rattle.cmwq_input.specs.declared.refused.Refused.{Refused}
+use Rattle.cmwq_json.specs.declared.refused.Part.TheVariants as part
+use Rattle.cmwq_json.specs.declared.refused.Refused.{Refused}
 
 abbrev pub top : Refused
 top = record { part = part.Top; index = 0 }

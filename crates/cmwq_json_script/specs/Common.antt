@@ -16,7 +16,7 @@ pub use Rattle.serde_json.specs.Data.{Data, Items, item, no_items}
 pub use Rattle.serde_json.specs.Find.{as_array, as_bool, as_number, as_str, as_u64, get}
 pub use Rattle.serde_json.specs.View.{items_view, view}
 pub use Rattle.serde_json.specs.declared.value.Value.{Value}
-pub use Rattle.cmwq_input.specs.declared.refused.Refused.{Refused}
+pub use Rattle.cmwq_json.specs.declared.refused.Refused.{Refused}
 pub use Rattle.cmwq_json.proofs.Adding.{same, taken}
 pub use Rattle.cmwq_json.proofs.Limited.{AreKept, added, number_limits, parts_limits, placed}
 pub use Rattle.cmwq_json.proofs.Turns.{array_said, done, drop_end, kept, stopped, went_on}

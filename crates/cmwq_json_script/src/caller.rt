@@ -11,7 +11,7 @@ ghost use Rattle.cmwq_json_script.specs.Views.{calls_of};
 
 use crate::call::read_call;
 use crate::names::Names;
-use cmwq_input::{Part, Refused};
+use cmwq_json::{Part, Refused};
 use cmwq_model::Call;
 use serde_json::Value;
 use std::alloc::{AllocError, Global};

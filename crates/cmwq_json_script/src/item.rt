@@ -12,8 +12,7 @@ ghost use Rattle.cmwq_json_script.specs.Views.{work_of};
 use crate::action::{Action, read_actions};
 use crate::gates::Gates;
 use crate::names::{Names, name_at};
-use cmwq_input::{Part, Refused};
-use cmwq_json::{Members, has_keys};
+use cmwq_json::{Members, Part, Refused, has_keys};
 use serde_json::Value;
 use std::alloc::{AllocError, Global};
 

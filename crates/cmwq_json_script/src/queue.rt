@@ -10,8 +10,7 @@ ghost use Rattle.cmwq_json.specs.Readings.{map_ok};
 ghost use Rattle.cmwq_json_script.specs.Queues as spec;
 ghost use Rattle.cmwq_json_script.specs.Runs.{some_of};
 
-use cmwq_input::{Part, Refused};
-use cmwq_json::{Members, has_keys, read_parts};
+use cmwq_json::{Members, Part, Refused, has_keys, read_parts};
 use cmwq_model::QueueShape;
 use serde_json::Value;
 use std::alloc::{AllocError, Global};

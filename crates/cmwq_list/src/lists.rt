@@ -7,7 +7,7 @@ use std::marker::Model;
 
 /// Lists of items, by their numbers. An item is in one of them at most. Only `new` takes memory: 10 bytes an item, and 12 a
 /// list.
-#[derive(Debug, Drop)]
+#[derive(Drop)]
 pub struct Lists {
     /// What follows each item, and then what follows the sentinel of each list.
     next: Vec<u32>,

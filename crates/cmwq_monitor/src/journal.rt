@@ -4,7 +4,7 @@ ghost use Rattle.cmwq_model.specs.Prelude.{IsLegal, past_of};
 use crate::fault::RunFault;
 use cmwq_model::Entry;
 use cmwq_publish::{HubName, Prefix};
-use cmwq_tail::Tail;
+use cmwq_state::Tail;
 use std::marker::Model;
 
 /// What was not handed over when a hub ended.

@@ -21,7 +21,7 @@ use crate::sleepers::{Sleepers, Wakes};
 use cmwq_core::{Execution, Full, Plan};
 use cmwq_model::{Call, Entry, ItemId, NoMemory, Number, Queueing, Reply, Shape, Ticket, Who};
 use cmwq_publish::{HubName, Publisher};
-use cmwq_tail::Tail;
+use cmwq_state::Tail;
 use std::marker::Model;
 use std::sync::ledger::Share;
 use std::sync::{Wait, ledger};

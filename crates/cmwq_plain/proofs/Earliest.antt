@@ -1,7 +1,7 @@
 -- The first of a pool's worklist that it may start is the earliest one that became active.
 use Rattle.cmwq_plain.specs.Common.{◌≡◌, ℕ, suc, ◌+◌, ◌<◌, ◌≤◌, Bool, true, false, ◌&&◌, not, List, [], ◌∷◌, ◌++◌, length, filter, find, fold, Option, Some, None, option_map, option_and_then, option_to_list, nat_lt, cond, if◌then◌else◌, refl, ap, ◌∙◌, sym, arith, option_or, IfSome, append-nil, find-append, lt-ltb, le-ltb, PoolId, Entry, Queueing, Layout, item_of, queueings, opening, opens, queued_at, place_wanted, is_active, is_newly_active, newly_active, is_listed, is_startable, became_active, worklist, next, is_live}
 use Rattle.cmwq_model.specs.declared.record.Place.{Place}
-use Rattle.cmwq_theory_active.proofs.Joined.{not_live}
+use Rattle.cmwq_theory_steps.proofs.Joined.{not_live}
 use Rattle.cmwq_plain.specs.Past.{upto}
 use Rattle.cmwq_plain.proofs.Parts.{upto-none, upto-all, upto-grows, length-upto}
 use Rattle.cmwq_plain.proofs.PastSteps.{queueings_step}

@@ -1,6 +1,6 @@
 ghost use Rattle.cmwq_model.specs.Prelude.{is_live, same_place, is_ahead, is_active, is_listed, next, is_below_max_active};
 ghost use Rattle.std.specs.Prelude.{◌≡◌, ◌&&◌, ◌<◌, ◌+◌, length, if◌then◌else◌, option_map};
-ghost use Rattle.cmwq_theory_active.specs.Looks.{keeps_widths, was_below_max_active};
+ghost use Rattle.cmwq_theory_steps.specs.Looks.{keeps_widths, was_below_max_active};
 ghost use Rattle.cmwq_plain.specs.Partial.{ahead_upto};
 ghost use Rattle.cmwq_plain.specs.Earliest.{may_start, earliest_since, earlier, better, best_upto, queueing_of};
 
@@ -90,7 +90,7 @@ fn was_below_max_active(shape: &Shape, past: &Past<'_>, queueing: &Queueing) -> 
 }
 
 /// Whether the queueing is active: open, and it is below max_active, or was before a width changed.
-#[tactic(auto, using(cmwq_theory_active::proofs::Looks::active_by_looks))]
+#[tactic(auto, using(cmwq_theory_steps::proofs::Looks::active_by_looks))]
 fn is_active(shape: &Shape, past: &Past<'_>, queueing: &Queueing) -> bool
     ensures { result ≡ is_active shape.now past.now queueing.now }
 {

@@ -6,7 +6,7 @@ ghost use Rattle.cmwq_pool.specs.Workers.{counts_of};
 use crate::slot::Slot;
 
 /// How many of a pool's workers are idle, are enlisted and have a run, have a run, and hold the pool.
-#[derive(Clone, Copy, Debug)]
+#[derive(Clone, Copy)]
 pub(crate) struct WorkerCounts {
     pub(crate) idle: u8,
     pub(crate) occupied: u8,

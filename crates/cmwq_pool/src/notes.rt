@@ -7,7 +7,7 @@ use std::alloc::{AllocError, Global};
 use std::marker::Model;
 
 /// What is noted of each item. It takes nine bytes an item, where notes beside one another would take sixteen.
-#[derive(Debug, Drop)]
+#[derive(Drop)]
 pub(crate) struct Notes {
     numbers: Vec<Number>,
     intensive: Vec<bool>,

@@ -10,7 +10,7 @@ use std::alloc::{AllocError, Global};
 use std::marker::Model;
 
 /// The workers of one pool: their slots, and what is asked of all of them. Only `new` takes memory.
-#[derive(Debug, Drop)]
+#[derive(Drop)]
 pub(crate) struct PoolWorkers {
     slots: Vec<Slot>,
     counts: WorkerCounts,

@@ -16,7 +16,7 @@ use std::marker::Model;
 
 /// The worker pools of all CPUs (the kernel's `worker_pool`), numbered from 0. A contract sees what each of them lists,
 /// and each worker's slot. An item is listed in one pool at most. Only `new` takes memory.
-#[derive(Debug, Drop)]
+#[derive(Drop)]
 pub struct Pools {
     /// The items that each pool lists, in their order.
     lists: Lists,

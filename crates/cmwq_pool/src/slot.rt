@@ -4,7 +4,7 @@ ghost use Rattle.cmwq_pool.specs.Slots.{new_slot, slot_has_run, slot_runs_awake,
 use crate::task::Task;
 
 /// A worker in its pool.
-#[derive(Clone, Copy, Debug)]
+#[derive(Clone, Copy)]
 pub struct Slot {
     /// Whether the worker is one of those that start queueings, and not of the reserve.
     pub enlisted: bool,

@@ -1,7 +1,7 @@
 use cmwq_model::{ItemId, Number};
 
 /// A queueing as its pool sees it: active, and listed until it starts.
-#[derive(Clone, Copy, Debug)]
+#[derive(Clone, Copy)]
 pub struct Task {
     pub number: Number,
     pub item: ItemId,

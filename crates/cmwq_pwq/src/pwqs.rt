@@ -10,7 +10,7 @@ use std::marker::Model;
 
 /// What waits to become active, and how many queueings are active of each queue on each CPU (the kernel's
 /// `inactive_works` and `nr_active`). Only `new` takes memory.
-#[derive(Debug, Drop)]
+#[derive(Drop)]
 pub struct Pwqs {
     counts: Vec<u32>,
     waiting: Waiting,

@@ -7,7 +7,7 @@ use std::marker::Model;
 
 /// Of each item a queueing: the one that waits, or the last that did. It takes ten bytes an item, where queueings beside one
 /// another would take sixteen.
-#[derive(Debug, Drop)]
+#[derive(Drop)]
 pub(crate) struct Rows {
     numbers: Vec<Number>,
     places: Vec<Place>,

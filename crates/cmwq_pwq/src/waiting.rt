@@ -16,7 +16,7 @@ use std::alloc::Global;
 use std::marker::Model;
 
 /// What waits to become active: of each item at most one queueing. Each is put in and taken out in a fixed number of steps.
-#[derive(Debug, Drop)]
+#[derive(Drop)]
 pub(crate) struct Waiting {
     /// Of each item the queueing that waits, or the last that did.
     rows: Rows,

@@ -1,7 +1,7 @@
 -- What a pool answers is what the definitions say.
 use Rattle.cmwq_refinement.specs.Common.{◌≡◌, ◌<◌, ◌+◌, ℕ, Bool, true, false, not, ◌&&◌, List, [], ◌∷◌, length, map, count_by, Option, Some, None, refl, sym, ap, ap₂, ◌∙◌, subst, arith, option_map, option_and_then, is_some, option_map_or, AllByRecursion, list_any, length-map-range_with_len, get_or-map-range_with_len, PoolId, WorkerId, Entry, Queueing, Layout, indices, is_intensive, pool_at, same_pool, is_started, run, has_run, queueings, still_open, is_live, queueing_at, run_queue, is_active, worklist, is_listed, worker_at, is_enlisted, is_holding, is_idle, is_occupied, is_reserve, is_other_idle, runnable, enlisted_by, has_spare, may_retire, IsLegal, All_map, count_by-cons, found_number, runs_are_in_pools, same_pool-true, worklist_is, Task, Slot, no_slot, slot_at, is_reserve_at}
 use Rattle.cmwq_refinement.proofs.Numbers.{In, contained_in, filter_in, find_same, range_below}
-use Rattle.cmwq_theory_active.proofs.Joined.{active_live}
+use Rattle.cmwq_theory_steps.proofs.Joined.{active_live}
 use Rattle.cmwq_pool.specs.Slots.{slot_is_holding as slot_holds, slot_is_idle, slot_is_occupied, slot_is_reserve, slot_is_other_idle as is_other_slot, slots_runnable, slots_enlisted_by, slot_may_retire}
 use Rattle.cmwq_refinement.specs.Pools.{task_for, run_task, slot_of, pool_of, IsSlotOf}
 

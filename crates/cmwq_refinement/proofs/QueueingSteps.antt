@@ -1,7 +1,7 @@
 -- The one open queueing that an entry ends, and those that it spares.
 use Rattle.cmwq_refinement.specs.Common.{◌≡◌, ◌==◌, Bool, true, false, not, List, [], ◌∷◌, Option, Some, None, sym, ap, ◌∙◌, refl, AllByRecursion, eqb-true, eq-eqb, not-false, same_Some, Entry, Queueing, Layout, still_open, IsLegal, survives, is_ended, ending, All_map, find_none, open_rise, one_ends, arith}
 use Rattle.cmwq_refinement.proofs.Numbers.{In, RisesBy, all_in, filter_in, found, in_option, number_of_queueing, rises_unique}
-use Rattle.cmwq_theory_active.specs.Rising.{IsRising}
+use Rattle.cmwq_theory_steps.specs.Rising.{IsRising}
 
 rises_by_number : (xs : List Queueing) → IsRising xs → RisesBy number_of_queueing xs
 rises_by_number [] h = tt

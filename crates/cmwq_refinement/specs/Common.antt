@@ -39,7 +39,7 @@ pub use Rattle.cmwq_pool.specs.PoolState.{PoolState, is_other_task, may_add, new
 pub use Rattle.cmwq_pool.specs.Slots.{is_reserve_at, new_slot, no_slot, run_number, slot_asleep, slot_at, slot_awake, slot_enlisted, slot_free, slot_retired, slot_running, slot_runs, slots_run_item, with_enlisted, with_slot}
 pub use Rattle.cmwq_pool.specs.declared.slot.Slot.{Slot}
 pub use Rattle.cmwq_pool.specs.declared.task.Task.{Task}
-pub use Rattle.cmwq_theory_active.proofs.Rising.{open_rise, opening_number, queueings_below}
+pub use Rattle.cmwq_theory_steps.proofs.Rising.{open_rise, opening_number, queueings_below}
 pub use Rattle.cmwq_theory_steps.proofs.Causes.{cause_of}
 pub use Rattle.cmwq_theory_steps.proofs.Ended.{ends_which, one_ends, found_unstarted}
 pub use Rattle.cmwq_theory_steps.proofs.Endings.{open_go_on}

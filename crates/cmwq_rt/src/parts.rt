@@ -10,7 +10,7 @@ use cmwq_core::Execution;
 use cmwq_model::{Entry, MOST_CALLERS, MOST_CPUS, MOST_WORKERS, NoMemory, Shape};
 use cmwq_monitor::{MOST_FIRES, Monitor, RunFault, Sleepers};
 use cmwq_publish::{HubName, Opening};
-use cmwq_tail::Tail;
+use cmwq_state::Tail;
 use std::alloc::Global;
 use std::sync::Wait;
 use std::sync::ledger::Blank;

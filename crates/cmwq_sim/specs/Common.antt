@@ -30,9 +30,9 @@ pub use Rattle.cmwq_model.specs.declared.record.Start.{Start}
 pub use Rattle.cmwq_model.specs.declared.reply.Reply.{Reply}
 pub use Rattle.cmwq_model.specs.declared.shape.QueueShape.{QueueShape}
 pub use Rattle.cmwq_refinement.proofs.PoolNext.{runner_there}
-pub use Rattle.cmwq_theory_active.proofs.Joined.{active_live, stays_active}
-pub use Rattle.cmwq_theory_active.proofs.Widths.{width_same}
-pub use Rattle.cmwq_theory_active.specs.Looks.{keeps_widths}
+pub use Rattle.cmwq_theory_steps.proofs.Joined.{active_live, stays_active}
+pub use Rattle.cmwq_theory_steps.proofs.Widths.{width_same}
+pub use Rattle.cmwq_theory_steps.specs.Looks.{keeps_widths}
 pub use Rattle.cmwq_theory_laws.specs.FirstWidths.{HasFirstWidths}
 pub use Rattle.cmwq_theory_steps.proofs.Endings.{open_go_on}
 pub use Rattle.cmwq_theory_steps.proofs.ItemRuns.{same_worker-true, same_worker_itself}

@@ -25,7 +25,7 @@ use std::alloc::{AllocError, Global};
 use std::mem::{drop, replace};
 
 /// An item on the CPU's list: what is left of its burn, and which of its parts comes next.
-#[derive(Clone, Copy, Debug)]
+#[derive(Clone, Copy)]
 struct Running {
     item: u8,
     burn: u16,
@@ -33,7 +33,7 @@ struct Running {
 }
 
 /// An item that sleeps: when it wakes, and which of its parts comes next.
-#[derive(Clone, Copy, Debug)]
+#[derive(Clone, Copy)]
 struct Asleep {
     item: u8,
     until: u32,

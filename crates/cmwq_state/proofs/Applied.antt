@@ -1,7 +1,7 @@
 -- The parts to which an effect is applied are those of the longer history, and it may be applied to them.
 use Rattle.cmwq_state.specs.Common.{◌≡◌, ℕ, ◌*◌, ◌<◌, ◌≤◌, Bool, true, false, ⊎_elim, List, [], ◌∷◌, length, filter, Option, Some, None, refl, sym, ap, ap₂, ◌∙◌, subst, arith, nat_lt, if◌then◌else◌, is_some, IfSome, PoolId, Entry, Queueing, QueueShape, Call, Ticket, Layout, item_of, settles, booking_of, still_open, opening, IsLegal, newly_active, is_below_max_active, has_numbers, number_finished, PoolState, lists_item, no_pool, FlushBook, TimerRows, ending, is_ended, pools_refine, flushes_refine, numbers_refine, opened_are_there, open_are_there, In, all_in, in_filter, found, in_contained, eq-eqb, is_in, MayAllBeAdded, PwqState, IsPassed, IsPlacedIf, is_waiting, ArePlaced, width_by, ltb-true, false_from_ne_true, cases_lt, All-from_recursion, waits, candidates, newly_are, filter_none, ticket_ended, ended_ready, unended_fit, Flight, tickets_refine, entries_apply_to_tickets, flights_refine, entries_apply_to_flights, pool_after_activation, pool_after_cancel, pool_after_worker, pool_before_activation, pool_of, AreFlushes, MayBeDoneInFlushes, MayBeginInFlushes, MayEndInFlushes, MayOpenInFlushes, flushes_after_begun, flushes_after_done, flushes_after_end, flushes_after_opening, flushes_after_queueings, MayEndInNumbers, MayOpenInNumbers, numbers_after_end, numbers_after_opening, numbers_of, MayBeSet, timers_after_settling, timers_of, MayEndInFlight, MayOpenInFlight, MayStartInFlight, flights_after, flights_after_end, flights_after_opening, flights_after_start, flights_of, MayEndTicket, MayGiveTicket, tickets_after_end, tickets_after_giving, tickets_of, MayEndInPwqs, MayOpenInPwqs, pwqs_after_end, pwqs_after_opening}
 use Rattle.cmwq_ticket.specs.Rows.{TicketBook}
-use Rattle.cmwq_theory_active.proofs.Rising.{opening_number}
+use Rattle.cmwq_theory_steps.proofs.Rising.{opening_number}
 use Rattle.cmwq_refinement.specs.Places as places
 use Rattle.std.specs.Prelude.{All}
 use Rattle.std.proofs.lemmas.List.{get_or_default}

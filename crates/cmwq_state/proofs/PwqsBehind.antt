@@ -1,7 +1,7 @@
 -- What waits is behind the width, and what finishes doesn't wait.
 use Rattle.cmwq_state.specs.Common.{◌≡◌, ℕ, ◌<◌, ◌≤◌, Bool, true, false, not, List, [], ◌∷◌, length, count_by, max, min, Option, Some, None, is_some, refl, sym, ap, ◌∙◌, subst, arith, IfSome, option_and_then, list_any, same_Some, not-true, count_by-le-length, Who, Reply, Entry, Queueing, Layout, width, item_of, number_finished, queueings, still_open, opening, queueing_at, has_number, is_active, IsLegal, count_by-cons, queueing_run, ending, is_ended, is_on, open_on, active_count, waits, waiting_queueings, run_is_active, In, all_in, found, in_filter, filter_in, open_there, opened_are_there, PwqState, is_waiting, AreBehind, IsBehind, IsPlacedIf, on_itself, place_inside, ended_by, ends_as_told, most_cpus}
-use Rattle.cmwq_theory_active.specs.Looks.{keeps_widths}
-use Rattle.cmwq_theory_active.proofs.Widths.{width_same}
+use Rattle.cmwq_theory_steps.specs.Looks.{keeps_widths}
+use Rattle.cmwq_theory_steps.proofs.Widths.{width_same}
 use Rattle.cmwq_theory_steps.proofs.Active.{active_counted}
 use Rattle.cmwq_theory_steps.proofs.Fresh.{finishes_run}
 use Rattle.cmwq_state.specs.Pwqs.{ArePwqsOf}

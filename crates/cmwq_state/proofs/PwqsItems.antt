@@ -4,7 +4,7 @@ use Rattle.std.proofs.lemmas.Bool.{false≢true}
 use Rattle.std.proofs.lemmas.List.Folds.{list_any_none}
 use Rattle.cmwq_model.specs.Prelude.{is_started, starts}
 use Rattle.cmwq_theory_steps.specs.Endings.{survives}
-use Rattle.cmwq_theory_active.proofs.Rising.{opening_number, queueings_below}
+use Rattle.cmwq_theory_steps.proofs.Rising.{opening_number, queueings_below}
 use Rattle.cmwq_theory_steps.proofs.Endings.{open_go_on}
 use Rattle.cmwq_theory_steps.proofs.StartsListed.{queueings_found}
 use Rattle.cmwq_theory_steps.proofs.WorklistSteps.{opening_inert, started_are_active, starts_only_active}

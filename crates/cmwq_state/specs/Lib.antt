@@ -7,3 +7,4 @@ pub mod Widths
 pub mod History
 pub mod Effects
 pub mod State
+pub mod Tails

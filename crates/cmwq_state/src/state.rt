@@ -18,12 +18,12 @@ use crate::apply::{
 use crate::effect::Effect;
 use crate::new::{new_flush_parts, new_item_parts, new_queue_parts};
 use crate::tables::who_place;
+use crate::trail::Trail;
 use cmwq_flush::FlushBooks;
 use cmwq_inflight::Flights;
 use cmwq_model::{Call, Counts, Entry, NoMemory, QueueShape, Shape, Who};
 use cmwq_pool::Pools;
 use cmwq_pwq::Pwqs;
-use cmwq_tail::Trail;
 use cmwq_ticket::Tickets;
 use cmwq_timer::Timers;
 use std::alloc::Global;

@@ -18,7 +18,7 @@ ghost use Rattle.cmwq_refinement.specs.Tickets.{MayEndTicket, MayGiveTicket, tic
 ghost use Rattle.cmwq_state.specs.Gone.{LosesQueue, MayLoseQueue};
 ghost use Rattle.cmwq_pwq.specs.Pwqs.{AreBehind, ArePlaced, IsPassed, IsPlacedIf, MayEndInPwqs, MayOpenInPwqs, is_waiting, pwqs_after_end, pwqs_after_opening, width_by};
 ghost use Rattle.cmwq_state.specs.Widths.{MaySetWidth, SetsWidth};
-ghost use Rattle.cmwq_theory_active.specs.Looks.{keeps_widths};
+ghost use Rattle.cmwq_theory_steps.specs.Looks.{keeps_widths};
 
 use cmwq_flush::FlushBooks;
 use cmwq_inflight::Flights;

@@ -21,7 +21,7 @@ use Rattle.cmwq_refinement.proofs.PlacesFit.{opened_are_there, open_there}
 use Rattle.cmwq_model.proofs.Limits.{limits_of}
 use Rattle.cmwq_state.specs.Pwqs.{AreActiveCounts}
 use Rattle.cmwq_summary.specs.Figures.{place_number}
-use Rattle.cmwq_theory_active.specs.Looks.{keeps_widths}
+use Rattle.cmwq_theory_steps.specs.Looks.{keeps_widths}
 use Rattle.cmwq_summary.specs.Tallies.{with_one}
 use Rattle.cmwq_summary.proofs.ActiveRises.{no_more_active}
 use Rattle.cmwq_summary.specs.Peaks.{peak, open_count_at, active_count_at, most_open_at, most_active_at, AreMeasured, AreRaised, raised_at, without_one}

@@ -8,7 +8,7 @@ use Rattle.cmwq_model.specs.declared.entry.Entry.{Entry}
 use Rattle.cmwq_model.specs.declared.record.Queueing.{Queueing}
 use Rattle.cmwq_model.specs.Prelude.{Layout, opening, queueings, still_open, is_started, is_unstarted, unstarted_queueing, IsLegal}
 use Rattle.cmwq_lemmas.proofs.Members.{In, of_in, in_right, option_in}
-use Rattle.cmwq_theory_active.proofs.Rising.{opening_number}
+use Rattle.cmwq_theory_steps.proofs.Rising.{opening_number}
 use Rattle.cmwq_theory_steps.specs.Activations.{is_left}
 use Rattle.cmwq_theory_steps.specs.Endings.{survives}
 use Rattle.cmwq_theory_steps.specs.ItemQueueings.{of_item, still_unstarted}

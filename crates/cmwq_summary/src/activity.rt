@@ -6,7 +6,7 @@ use crate::span::{NO_TIME, Span};
 use cmwq_model::Reply;
 
 /// What a worker does.
-#[derive(Clone, Copy, Debug, PartialEq, Eq)]
+#[derive(Clone, Copy, PartialEq, Eq)]
 pub(crate) enum Doing {
     /// It has no run.
     Nothing,

@@ -3,7 +3,7 @@ ghost use Rattle.std.specs.Prelude.{◌≡◌, ◌<◌, [], ◌∷◌, List, len
 ghost use Rattle.cmwq_model.specs.declared.entry.Entry as entries;
 ghost use Rattle.cmwq_model.specs.Prelude.{Layout};
 ghost use Rattle.cmwq_state.specs.Pwqs.{AreActiveCounts};
-ghost use Rattle.cmwq_theory_active.specs.Looks.{keeps_widths};
+ghost use Rattle.cmwq_theory_steps.specs.Looks.{keeps_widths};
 ghost use Rattle.cmwq_summary.specs.Parts.{ArePeaks};
 ghost use Rattle.cmwq_summary.specs.Summed.{IsNext};
 

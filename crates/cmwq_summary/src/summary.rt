@@ -21,7 +21,7 @@ use crate::told::Told;
 use crate::totals::Total;
 use crate::workers::{Workers, activity_in};
 use cmwq_model::{CallerId, Entry, ItemId, NoMemory, Shape, WorkerId};
-use cmwq_tail::Trail;
+use cmwq_state::Trail;
 use std::alloc::Global;
 use std::marker::Model;
 

@@ -4,7 +4,7 @@ ghost use Rattle.cmwq_summary.specs.Figures.{cancelled_from};
 use cmwq_model::{Entry, Queueing, Reply, Ticket};
 
 /// An entry, and what a summary is to know of what it does.
-#[derive(Clone, Copy, Debug)]
+#[derive(Clone, Copy)]
 pub struct Told {
     pub entry: Entry,
     /// The queueing that it starts.

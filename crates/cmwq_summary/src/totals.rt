@@ -9,7 +9,7 @@ use std::alloc::Global;
 use std::marker::Model;
 
 /// So many entries and so many ticks, of any number of spans.
-#[derive(Clone, Copy, Debug, PartialEq, Eq)]
+#[derive(Clone, Copy, PartialEq, Eq)]
 pub struct Total {
     pub entries: u128,
     pub ticks: u128,

@@ -4,12 +4,11 @@ ghost use Rattle.std.specs.Prelude.{◌≡◌};
 
 use crate::fixture::shape;
 use crate::generator::Generator;
-use cmwq_core::{Book, Full, Judge};
+use cmwq_core::{Book, Full, Judge, TailBook, Unmade};
 use cmwq_model::{
     Call, Counts, Entry, Illegal, ItemId, Mark, Number, Reply, Shape, Wanted, Who, all_fit,
 };
 use cmwq_plain::{Past, has_room, is_pending, item_runs, reply_of, serial_of};
-use cmwq_tail_book::{TailBook, Unmade};
 use cmwq_text::{entry_line, illegal_line};
 use std::mem::drop;
 use std::process::Abort;

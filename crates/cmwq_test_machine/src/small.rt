@@ -2,9 +2,8 @@
 
 use crate::fixture::{CALLER, FLUSH, SMALL, WORKER, entry, first_run, queue, shape};
 use crate::machines::{Machines, verdict};
-use cmwq_core::Book;
+use cmwq_core::{Book, TailBook};
 use cmwq_model::{Call, Counts, Reply, Wanted, Who};
-use cmwq_tail_book::TailBook;
 use std::mem::drop;
 use std::process::Abort;
 

@@ -1,14 +1,13 @@
 //! Values of JSON, and the scenarios and scripts that are read of them.
 
 use crate::same::{is_displayed, is_spelled, same};
-use cmwq_input::{Fault, MOST_BYTES, Part, Refused, fault_status, read_value, write_text};
 use cmwq_io::{FailsAt, Memory};
 use cmwq_json::{
-    Members, array_at, has_keys, in_order, is_name, number_of, read_name, read_number, read_parts,
-    read_width,
+    Fault, MOST_BYTES, Members, Part, Refused, array_at, fault_status, has_keys, in_order, is_name,
+    number_of, read_name, read_number, read_parts, read_value, read_width, write_text,
 };
-use cmwq_json_scenario::read_scenario;
 use cmwq_json_script::read_script;
+use cmwq_replay::read_scenario;
 use cmwq_sim::{Line, LineKind, replay, spell_lines};
 use serde_json::Value;
 use std::process::Abort;

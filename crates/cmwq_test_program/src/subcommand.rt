@@ -1,12 +1,10 @@
 //! The subcommands that need no threads, over any source and sinks.
 
 use crate::same::same;
-use cmwq_cmd_chart::{Window, run_chart};
 use cmwq_cmd_history::{run_check, run_front_check, run_step, run_step_live, run_upgrade};
-use cmwq_cmd_replay::run_replay;
-use cmwq_cmd_summary::run_summary;
-use cmwq_cmd_trace::run_trace;
 use cmwq_io::{Memory, Sink, Source};
+use cmwq_replay::run_replay;
+use cmwq_views::{Window, run_chart, run_summary, run_trace};
 use std::alloc::Global;
 use std::process::Abort;
 

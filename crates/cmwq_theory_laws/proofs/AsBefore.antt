@@ -3,7 +3,7 @@ use Rattle.cmwq_theory_laws.specs.Common.{cause_of, and-false, ◌≡◌, ℕ, B
 use Rattle.cmwq_model.specs.declared.call.Call.TheVariants as call
 use Rattle.cmwq_theory_laws.specs.FirstWidths.{queue_before, modify_before, wait_before, is_first, is_newly_first, ever_first, is_listed_before, next_before, HasFirstWidths, is_old, take_before, answer_before, entry_before, IsLegalBefore}
 use Rattle.cmwq_theory_steps.proofs.Causes as cause
-use Rattle.cmwq_theory_active.proofs.Ahead.{fewer_ahead}
+use Rattle.cmwq_theory_steps.proofs.Ahead.{fewer_ahead}
 use Rattle.cmwq_lemmas.proofs.Passing.{all_kept}
 
 -- ---- with the layout's widths

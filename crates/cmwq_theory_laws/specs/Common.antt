@@ -26,8 +26,8 @@ pub use Rattle.cmwq_model.specs.declared.record.Start.{Start}
 pub use Rattle.cmwq_model.specs.declared.record.Ticket.{Ticket}
 pub use Rattle.cmwq_model.specs.declared.reply.Reply.{Reply}
 pub use Rattle.cmwq_model.specs.declared.verdict.Illegal.{Illegal}
-pub use Rattle.cmwq_theory_active.proofs.Joined.{active_go_on, active_live}
-pub use Rattle.cmwq_theory_active.proofs.Rising.{IsBelow, find_least, open_rise, opening_number, queueings_below}
+pub use Rattle.cmwq_theory_steps.proofs.Joined.{active_go_on, active_live}
+pub use Rattle.cmwq_theory_steps.proofs.Rising.{IsBelow, find_least, open_rise, opening_number, queueings_below}
 pub use Rattle.cmwq_theory_steps.proofs.Activated.{find_holds, next_holds}
 pub use Rattle.cmwq_theory_steps.proofs.Active.{active_are_first, active_on, first_active, fronts_below_max_active, kept_front, ways_counted}
 pub use Rattle.cmwq_theory_steps.proofs.Causes.{Cause, IsFree, cause_of, causes}

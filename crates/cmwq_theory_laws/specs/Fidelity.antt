@@ -2,7 +2,7 @@
 use Rattle.std.specs.Prelude.{◌≡◌, ◌≤◌, ◌∷◌}
 use Rattle.cmwq_theory_laws.specs.Common.{ℕ, true, List, length, filter, take, Some, AllByRecursion, Call, Entry, WorkerId, Layout, queueings, still_open, is_active, holds_up, waits_for, item_at, run, item_run, IsLegal, open_on, active_count}
 use Rattle.cmwq_theory_steps.specs.Reasons.{number_given}
-use Rattle.cmwq_theory_active.specs.Rising.{IsRising}
+use Rattle.cmwq_theory_steps.specs.Rising.{IsRising}
 
 -- a reply that opens a queueing or gives a ticket names its own entry
 abbrev pub NamesItself : Type 0

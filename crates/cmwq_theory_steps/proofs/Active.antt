@@ -1,5 +1,8 @@
 -- The active queueings are the first of the open ones, as many as there were and are, or as are within the width.
-use Rattle.cmwq_theory_steps.specs.Common.{◌≡◌, ◌≤◌, ◌-◌, ◌+◌, ℕ, suc, min, max, Bool, true, false, ◌&&◌, ◌||◌, List, [], ◌∷◌, ◌++◌, length, filter, count_by, take, nat_lt, option_to_list, refl, sym, ap, ap₂, ◌∙◌, arith, zero-add, subst, le-ltb, nat_tests, length-take, filter-append, AllByRecursion, Entry, Queueing, Layout, width, queueings, opening, is_live, still_open, is_active, is_ahead, is_below_max_active, All_map, All_each, All_filter, count_by-filter, count_by-none, IsBelow, queueings_below, open_rise, rising_filter, opening_number, open_before, active_go_on, not_live}
+use Rattle.cmwq_theory_steps.specs.Common.{◌≡◌, ◌≤◌, ◌-◌, ◌+◌, ℕ, suc, min, max, Bool, true, false, ◌&&◌, ◌||◌, List, [], ◌∷◌, ◌++◌, length, filter, count_by, take, nat_lt, option_to_list, refl, sym, ap, ap₂, ◌∙◌, arith, zero-add, subst, le-ltb, nat_tests, length-take, filter-append, AllByRecursion, Entry, Queueing, Layout, width, queueings, opening, is_live, still_open, is_active, is_ahead, is_below_max_active, All_map, All_each, All_filter, count_by-filter, count_by-none}
+use Rattle.cmwq_theory_steps.proofs.Rising.{IsBelow, queueings_below, open_rise, rising_filter, opening_number}
+use Rattle.cmwq_theory_steps.proofs.Opens.{open_before}
+use Rattle.cmwq_theory_steps.proofs.Joined.{active_go_on, not_live}
 use Rattle.cmwq_theory_steps.proofs.Lemmas.{add-one, all_kept, count_append, count_by-same, filter_same, filter_twice, flip, length-filter, take_all}
 use Rattle.cmwq_theory_steps.specs.Places.{is_on, open_on, active_ended, active_count}
 use Rattle.cmwq_theory_steps.proofs.Fronts.{IsFront, front_filter, front_append, front_same, front_or, front_taken, count_or, count_split}

@@ -1,5 +1,7 @@
 -- How many are active on a queue and CPU after an entry, and what waits there.
-use Rattle.cmwq_theory_steps.specs.Common.{All_map, ◌≡◌, ◌+◌, ◌-◌, ℕ, zero, suc, Bool, false, cond, not, ◌&&◌, List, [], ◌∷◌, filter, count_by, take, drop, option_to_list, refl, sym, ap, ◌∙◌, arith, AllByRecursion, sum_by-filter_both, Entry, Layout, width, queueings, opening, still_open, is_below_max_active, is_active, is_newly_active, newly_active, IsLegal, All_each, count_by-none, count_by-filter, opening_number, stays_active}
+use Rattle.cmwq_theory_steps.specs.Common.{All_map, ◌≡◌, ◌+◌, ◌-◌, ℕ, zero, suc, Bool, false, cond, not, ◌&&◌, List, [], ◌∷◌, filter, count_by, take, drop, option_to_list, refl, sym, ap, ◌∙◌, arith, AllByRecursion, sum_by-filter_both, Entry, Layout, width, queueings, opening, still_open, is_below_max_active, is_active, is_newly_active, newly_active, IsLegal, All_each, count_by-none, count_by-filter}
+use Rattle.cmwq_theory_steps.proofs.Rising.{opening_number}
+use Rattle.cmwq_theory_steps.proofs.Joined.{stays_active}
 use Rattle.cmwq_theory_steps.proofs.Lemmas.{and_false, count_append, count_by-same, drop_all, filter_all, filter_none, flip, none_kept}
 use Rattle.cmwq_theory_steps.specs.Histories.{one}
 use Rattle.cmwq_theory_steps.specs.Places.{is_on, open_on, active_count}

@@ -1,5 +1,8 @@
 -- What an entry ends is one queueing at most, and which.
-use Rattle.cmwq_theory_steps.specs.Common.{if◌then◌else◌, Who, ap₂, option_or, option_and_then, is_some, item_fired, ◌||◌, AllByRecursion, ◌≡◌, ◌<◌, ◌≤◌, ℕ, Bool, true, false, List, [], ◌∷◌, filter, find, count_by, Option, Some, None, option_to_list, refl, sym, ap, ◌∙◌, subst, arith, option_map, nat_tests, Reply, Entry, Queueing, Layout, item_of, number_finished, number_cancelled, replaces, queueings, queueing_at, has_number, is_live, still_open, is_unstarted, unstarted_queueing, IsLegal, IsRising, All_each, All_map, count_by-cons, count_by-none, open_rise, active_live}
+use Rattle.cmwq_theory_steps.specs.Common.{if◌then◌else◌, Who, ap₂, option_or, option_and_then, is_some, item_fired, ◌||◌, AllByRecursion, ◌≡◌, ◌<◌, ◌≤◌, ℕ, Bool, true, false, List, [], ◌∷◌, filter, find, count_by, Option, Some, None, option_to_list, refl, sym, ap, ◌∙◌, subst, arith, option_map, nat_tests, Reply, Entry, Queueing, Layout, item_of, number_finished, number_cancelled, replaces, queueings, queueing_at, has_number, is_live, still_open, is_unstarted, unstarted_queueing, IsLegal, All_each, All_map, count_by-cons, count_by-none}
+use Rattle.cmwq_theory_steps.specs.Rising.{IsRising}
+use Rattle.cmwq_theory_steps.proofs.Rising.{open_rise}
+use Rattle.cmwq_theory_steps.proofs.Joined.{active_live}
 use Rattle.cmwq_theory_steps.proofs.Lemmas.{all_kept, count_by-same, filter_one, find-filter, find_same, none_found}
 use Rattle.cmwq_model.specs.declared.reply.Reply.TheVariants as reply
 use Rattle.cmwq_theory_steps.specs.Endings.{is_ended, ending, number_ended}

@@ -1,5 +1,6 @@
 -- What is open after one more entry.
-use Rattle.cmwq_theory_steps.specs.Common.{◌≡◌, ◌<◌, ℕ, true, ◌&&◌, not, List, ◌∷◌, ◌++◌, length, filter, Some, option_to_list, nat_lt, sym, ap, ap₂, ◌∙◌, arith, lt-ltb, filter-append, Entry, Queueing, Layout, is_of_item, finishes, takes_back, replaces, is_started, is_cancelled, is_open, queueings, is_live, still_open, opening, IsLegal, All_map, IsBelow, queueings_below, opening_number}
+use Rattle.cmwq_theory_steps.specs.Common.{◌≡◌, ◌<◌, ℕ, true, ◌&&◌, not, List, ◌∷◌, ◌++◌, length, filter, Some, option_to_list, nat_lt, sym, ap, ap₂, ◌∙◌, arith, lt-ltb, filter-append, Entry, Queueing, Layout, is_of_item, finishes, takes_back, replaces, is_started, is_cancelled, is_open, queueings, is_live, still_open, opening, IsLegal, All_map}
+use Rattle.cmwq_theory_steps.proofs.Rising.{IsBelow, queueings_below, opening_number}
 use Rattle.cmwq_theory_steps.proofs.Lemmas.{filter_all, filter_same, filter_twice}
 use Rattle.cmwq_theory_steps.specs.Endings.{survives}
 use Rattle.cmwq_theory_steps.proofs.Fresh.{open_at_once}

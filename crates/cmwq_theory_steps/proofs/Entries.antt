@@ -1,5 +1,6 @@
 -- Entries and queueings by their numbers, as a history grows.
-use Rattle.cmwq_theory_steps.specs.Common.{◌≡◌, ◌-◌, ◌<◌, ℕ, suc, true, List, [], ◌∷◌, length, Option, Some, option_to_list, ap, ◌∙◌, arith, option_and_then, AllByRecursion, nat_tests, Entry, Queueing, item_of, entry_at, item_at, queueings, opening, is_at, All_map, All_append, opening_number}
+use Rattle.cmwq_theory_steps.specs.Common.{◌≡◌, ◌-◌, ◌<◌, ℕ, suc, true, List, [], ◌∷◌, length, Option, Some, option_to_list, ap, ◌∙◌, arith, option_and_then, AllByRecursion, nat_tests, Entry, Queueing, item_of, entry_at, item_at, queueings, opening, is_at, All_map, All_append}
+use Rattle.cmwq_theory_steps.proofs.Rising.{opening_number}
 use Rattle.cmwq_lemmas.proofs.Lists.{of_option}
 
 pub entry_at-older : (e : Entry) (past : List Entry) (n : ℕ) → n < length past → entry_at (e ∷ past) n ≡ entry_at past n

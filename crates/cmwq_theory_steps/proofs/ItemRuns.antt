@@ -1,5 +1,6 @@
 -- On a legal history the run of a worker is the run of its item.
-use Rattle.cmwq_theory_steps.specs.Common.{nat_tests, ◌≡◌, ◌==◌, ◌<◌, ℕ, Bool, true, false, List, [], ◌∷◌, length, Option, Some, None, refl, sym, ap, ◌∙◌, subst, arith, is_some, if◌then◌else◌, option_map_or, eq-eqb, beq, WorkerId, Who, Worker, Entry, Start, Layout, is_by, same_worker, same_who, item_at, number_started, is_open, is_number_open, last_start, run, item_start, item_run, item_runs, start_in, starts_item, IsLegal, open_before}
+use Rattle.cmwq_theory_steps.specs.Common.{nat_tests, ◌≡◌, ◌==◌, ◌<◌, ℕ, Bool, true, false, List, [], ◌∷◌, length, Option, Some, None, refl, sym, ap, ◌∙◌, subst, arith, is_some, if◌then◌else◌, option_map_or, eq-eqb, beq, WorkerId, Who, Worker, Entry, Start, Layout, is_by, same_worker, same_who, item_at, number_started, is_open, is_number_open, last_start, run, item_start, item_run, item_runs, start_in, starts_item, IsLegal}
+use Rattle.cmwq_theory_steps.proofs.Opens.{open_before}
 use Rattle.cmwq_theory_steps.proofs.Lemmas.{cond_some, not-true, option_and_then_some, same_Some}
 use Rattle.cmwq_theory_steps.proofs.Entries.{IsKnown, known_more, queueings_known, item_at-older}
 use Rattle.cmwq_theory_steps.proofs.Activated.{next_holds}

@@ -48,3 +48,9 @@ pub mod Waiting
 pub mod Way
 pub mod Worklist
 pub mod WorklistSteps
+pub mod Ahead
+pub mod Joined
+pub mod Looks
+pub mod Opens
+pub mod Rising
+pub mod Widths

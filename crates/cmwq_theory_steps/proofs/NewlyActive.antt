@@ -1,5 +1,9 @@
 -- What one more entry makes active: the first behind the width where an active one ends, and what it opens where it is below max_active.
-use Rattle.cmwq_theory_steps.specs.Common.{option_map_or, ◌≡◌, ◌<◌, ◌≤◌, ◌+◌, ◌==◌, ℕ, Bool, true, false, cond, not, ◌&&◌, ◌||◌, List, [], ◌∷◌, ◌++◌, length, filter, count_by, Option, Some, None, option_to_list, append-nil, nat_lt, refl, sym, ap, ap₂, ◌∙◌, subst, arith, slice_get, if◌then◌else◌, AllByRecursion, ltb-true, ltb-false, eqb-true, nat_tests, filter-append, sum_by-filter_both, Entry, Queueing, Reply, Layout, number_finished, number_cancelled, replaces, width, queueings, opens, opening, is_live, still_open, is_ahead, is_below_max_active, is_active, newly_active, IsLegal, keeps_widths, All_map, All_both, All_each, All_filter, All_unfilter, count_by-cons, opening_number, active_go_on, width_same, open_below}
+use Rattle.cmwq_theory_steps.specs.Common.{option_map_or, ◌≡◌, ◌<◌, ◌≤◌, ◌+◌, ◌==◌, ℕ, Bool, true, false, cond, not, ◌&&◌, ◌||◌, List, [], ◌∷◌, ◌++◌, length, filter, count_by, Option, Some, None, option_to_list, append-nil, nat_lt, refl, sym, ap, ap₂, ◌∙◌, subst, arith, slice_get, if◌then◌else◌, AllByRecursion, ltb-true, ltb-false, eqb-true, nat_tests, filter-append, sum_by-filter_both, Entry, Queueing, Reply, Layout, number_finished, number_cancelled, replaces, width, queueings, opens, opening, is_live, still_open, is_ahead, is_below_max_active, is_active, newly_active, IsLegal, All_map, All_both, All_each, All_filter, All_unfilter, count_by-cons}
+use Rattle.cmwq_theory_steps.specs.Looks.{keeps_widths}
+use Rattle.cmwq_theory_steps.proofs.Rising.{opening_number, open_below}
+use Rattle.cmwq_theory_steps.proofs.Joined.{active_go_on}
+use Rattle.cmwq_theory_steps.proofs.Widths.{width_same}
 use Rattle.cmwq_model.specs.declared.reply.Reply.TheVariants as reply
 use Rattle.cmwq_theory_steps.specs.Endings.{survives, is_ended, ending}
 use Rattle.cmwq_theory_steps.specs.Activations.{waits, is_of_same_pwq, open_of_same_pwq, behind_width, is_below_max_active_at_once}

@@ -1,5 +1,7 @@
 -- An open queueing that has started is the run of its item, so an item has one run at most.
-use Rattle.cmwq_theory_steps.specs.Common.{◌==◌, ◌≡◌, ◌<◌, ◌≤◌, ℕ, Bool, true, false, ◌||◌, List, [], ◌∷◌, length, count_by, Option, Some, None, refl, sym, ap, ◌∙◌, arith, option_map, is_some, AllByRecursion, false_from_ne_true, eqb-true, eq-eqb, Entry, Queueing, Start, Layout, item_at, starts, number_started, is_started, is_open, item_run, queueings, still_open, is_live, has_number, IsLegal, All_map, All_filter, count_by-none, open_rise, open_before}
+use Rattle.cmwq_theory_steps.specs.Common.{◌==◌, ◌≡◌, ◌<◌, ◌≤◌, ℕ, Bool, true, false, ◌||◌, List, [], ◌∷◌, length, count_by, Option, Some, None, refl, sym, ap, ◌∙◌, arith, option_map, is_some, AllByRecursion, false_from_ne_true, eqb-true, eq-eqb, Entry, Queueing, Start, Layout, item_at, starts, number_started, is_started, is_open, item_run, queueings, still_open, is_live, has_number, IsLegal, All_map, All_filter, count_by-none}
+use Rattle.cmwq_theory_steps.proofs.Rising.{open_rise}
+use Rattle.cmwq_theory_steps.proofs.Opens.{open_before}
 use Rattle.std.proofs.lemmas.Bool.{and_parts, both_ways, ltb-false, ltb-true, true_from_ne_false}
 use Rattle.std.proofs.lemmas.Option.{none-some, same_Some}
 use Rattle.cmwq_theory_steps.specs.Pending.{is_run_of}

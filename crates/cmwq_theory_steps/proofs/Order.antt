@@ -1,5 +1,9 @@
 -- A pool's worklist stands in the order in which its queueings became active.
-use Rattle.cmwq_theory_steps.specs.Common.{◌≡◌, ◌<◌, ◌≤◌, ℕ, Bool, true, List, [], ◌∷◌, ◌++◌, length, filter, Option, Some, None, refl, ap, arith, inl, inr, if◌then◌else◌, AllByRecursion, option_or, Entry, Queueing, Layout, queueings, is_live, is_active, is_newly_active, newly_active, became_active, IsRising, All_map, All_both, All_append, All_each, All_filter, queueings_rise, rising_filter, open_before, stays_active, active_older, active_live}
+use Rattle.cmwq_theory_steps.specs.Common.{◌≡◌, ◌<◌, ◌≤◌, ℕ, Bool, true, List, [], ◌∷◌, ◌++◌, length, filter, Option, Some, None, refl, ap, arith, inl, inr, if◌then◌else◌, AllByRecursion, option_or, Entry, Queueing, Layout, queueings, is_live, is_active, is_newly_active, newly_active, became_active, All_map, All_both, All_append, All_each, All_filter}
+use Rattle.cmwq_theory_steps.specs.Rising.{IsRising}
+use Rattle.cmwq_theory_steps.proofs.Rising.{queueings_rise, rising_filter}
+use Rattle.cmwq_theory_steps.proofs.Opens.{open_before}
+use Rattle.cmwq_theory_steps.proofs.Joined.{stays_active, active_older, active_live}
 use Rattle.std.proofs.lemmas.Bool.{cond_both}
 use Rattle.cmwq_lemmas.proofs.Passing.{all_kept}
 use Rattle.cmwq_theory_steps.specs.Order.{since, IsSooner, AreInOrder}

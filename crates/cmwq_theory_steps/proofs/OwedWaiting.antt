@@ -1,5 +1,7 @@
 -- How many open queueings wait to start after one more entry.
-use Rattle.cmwq_theory_steps.specs.Common.{◌≡◌, ◌+◌, ◌==◌, ℕ, true, false, cond, ◌&&◌, ◌||◌, not, List, [], ◌∷◌, filter, count_by, Option, Some, None, option_to_list, refl, sym, ap, ap₂, ◌∙◌, arith, is_some, AllByRecursion, option_map_or, eqb-true, eq-eqb, nat_tests, sum_by-filter_both, Entry, Queueing, Layout, is_at, is_of_item, number_started, starts, is_started, still_open, opening, has_number, has_not_started, IsLegal, listed_live, All_each, count_by-cons, open_rise}
+use Rattle.cmwq_theory_steps.specs.Common.{◌≡◌, ◌+◌, ◌==◌, ℕ, true, false, cond, ◌&&◌, ◌||◌, not, List, [], ◌∷◌, filter, count_by, Option, Some, None, option_to_list, refl, sym, ap, ap₂, ◌∙◌, arith, is_some, AllByRecursion, option_map_or, eqb-true, eq-eqb, nat_tests, sum_by-filter_both, Entry, Queueing, Layout, is_at, is_of_item, number_started, starts, is_started, still_open, opening, has_number, has_not_started, IsLegal, All_each, count_by-cons}
+use Rattle.cmwq_theory_steps.proofs.Joined.{listed_live}
+use Rattle.cmwq_theory_steps.proofs.Rising.{open_rise}
 use Rattle.cmwq_theory_steps.specs.Endings.{survives, is_ended, ending}
 use Rattle.cmwq_theory_steps.specs.Histories.{one}
 use Rattle.cmwq_theory_steps.specs.RoomSteps.{waiting_count, ends_unstarted}

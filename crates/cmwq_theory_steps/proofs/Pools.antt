@@ -1,5 +1,6 @@
 -- Runs, queueings and bookings of one item keep together: on one queue, and in one pool.
-use Rattle.cmwq_theory_steps.specs.Common.{booking_of, item_of, place_called, ◌≡◌, ◌==◌, ℕ, Bool, true, false, not, ◌&&◌, List, [], ◌∷◌, ◌++◌, length, filter, Option, Some, None, option_to_list, refl, sym, ap, ap₂, ◌∙◌, subst, arith, option_map, option_and_then, is_some, if◌then◌else◌, option_or, option_map_or, AllByRecursion, eq-eqb, eqb-true, PoolId, WorkerId, Who, Reply, Entry, Booking, Place, Queueing, Start, Layout, pool_at, queue_at, is_at, same_pool, item_fired, is_of_item, item_at, settles, due_in, booked_by, booking, number_started, starts, is_started, run, item_start, item_run, start_in, starts_item, queueings, queue_of, has_number, is_live, still_open, opening, opens, queued_at, place_wanted, cpu_for, is_unstarted, unstarted_queueing, runs_elsewhere, IsLegal, All_map, All_unfilter, All_append, All_filter, active_live, listed_live}
+use Rattle.cmwq_theory_steps.specs.Common.{booking_of, item_of, place_called, ◌≡◌, ◌==◌, ℕ, Bool, true, false, not, ◌&&◌, List, [], ◌∷◌, ◌++◌, length, filter, Option, Some, None, option_to_list, refl, sym, ap, ap₂, ◌∙◌, subst, arith, option_map, option_and_then, is_some, if◌then◌else◌, option_or, option_map_or, AllByRecursion, eq-eqb, eqb-true, PoolId, WorkerId, Who, Reply, Entry, Booking, Place, Queueing, Start, Layout, pool_at, queue_at, is_at, same_pool, item_fired, is_of_item, item_at, settles, due_in, booked_by, booking, number_started, starts, is_started, run, item_start, item_run, start_in, starts_item, queueings, queue_of, has_number, is_live, still_open, opening, opens, queued_at, place_wanted, cpu_for, is_unstarted, unstarted_queueing, runs_elsewhere, IsLegal, All_map, All_unfilter, All_append, All_filter}
+use Rattle.cmwq_theory_steps.proofs.Joined.{active_live, listed_live}
 use Rattle.cmwq_model.specs.declared.reply.Reply.TheVariants as reply
 use Rattle.cmwq_theory_steps.specs.Endings.{survives}
 use Rattle.cmwq_theory_steps.specs.RunSteps.{ends_run}

@@ -1,5 +1,6 @@
 -- What an entry makes active on a queue and CPU.
-use Rattle.cmwq_theory_steps.specs.Common.{◌≡◌, ◌-◌, ◌+◌, ℕ, suc, Bool, true, false, cond, not, ◌&&◌, List, [], ◌∷◌, filter, count_by, take, nat_lt, refl, sym, ap, ap₂, ◌∙◌, arith, AllByRecursion, Entry, Queueing, Layout, width, queueings, is_live, still_open, is_active, is_below_max_active, is_newly_active, newly_active, All_map, All_each, count_by-cons, count_by-none, active_go_on, not_live}
+use Rattle.cmwq_theory_steps.specs.Common.{◌≡◌, ◌-◌, ◌+◌, ℕ, suc, Bool, true, false, cond, not, ◌&&◌, List, [], ◌∷◌, filter, count_by, take, nat_lt, refl, sym, ap, ap₂, ◌∙◌, arith, AllByRecursion, Entry, Queueing, Layout, width, queueings, is_live, still_open, is_active, is_below_max_active, is_newly_active, newly_active, All_map, All_each, count_by-cons, count_by-none}
+use Rattle.cmwq_theory_steps.proofs.Joined.{active_go_on, not_live}
 use Rattle.cmwq_theory_steps.specs.Places.{is_on, open_on}
 use Rattle.cmwq_theory_steps.specs.Activations.{waits, stay_count}
 use Rattle.std.proofs.Math.Seq.{take-nil}

@@ -1,5 +1,6 @@
 -- Queueings by number, and the queues of runs, after one more entry.
-use Rattle.cmwq_theory_steps.specs.Common.{arith, ◌≡◌, ◌==◌, ℕ, Bool, true, false, cond, List, ◌∷◌, length, find, Option, Some, None, option_to_list, refl, sym, ap, ◌∙◌, option_map, option_and_then, if◌then◌else◌, option_or, eq-eqb, WorkerId, Worker, Reply, Entry, Queueing, Layout, is_at, is_by, number_started, run, queueings, opening, has_number, queueing_at, queue_of, run_queue, IsLegal, opening_number, find-append}
+use Rattle.cmwq_theory_steps.specs.Common.{arith, ◌≡◌, ◌==◌, ℕ, Bool, true, false, cond, List, ◌∷◌, length, find, Option, Some, None, option_to_list, refl, sym, ap, ◌∙◌, option_map, option_and_then, if◌then◌else◌, option_or, eq-eqb, WorkerId, Worker, Reply, Entry, Queueing, Layout, is_at, is_by, number_started, run, queueings, opening, has_number, queueing_at, queue_of, run_queue, IsLegal, find-append}
+use Rattle.cmwq_theory_steps.proofs.Rising.{opening_number}
 use Rattle.cmwq_model.specs.declared.reply.Reply.TheVariants as reply
 use Rattle.cmwq_theory_steps.specs.RunSteps.{run_after}
 use Rattle.cmwq_theory_steps.specs.Queued.{opening_at, run_queue_after}

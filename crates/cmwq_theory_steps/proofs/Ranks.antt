@@ -1,5 +1,6 @@
 -- The places of queueings in a rising list: as many stand before one as are below it.
-use Rattle.cmwq_theory_steps.specs.Common.{◌≡◌, ◌<◌, ◌+◌, ◌==◌, ℕ, zero, suc, Bool, false, List, [], ◌∷◌, filter, count_by, option_to_list, nat_lt, refl, arith, slice_get, nat_tests, AllByRecursion, Queueing, IsRising, All_map, All_both, count_by-cons, count_by-none}
+use Rattle.cmwq_theory_steps.specs.Common.{◌≡◌, ◌<◌, ◌+◌, ◌==◌, ℕ, zero, suc, Bool, false, List, [], ◌∷◌, filter, count_by, option_to_list, nat_lt, refl, arith, slice_get, nat_tests, AllByRecursion, Queueing, All_map, All_both, count_by-cons, count_by-none}
+use Rattle.cmwq_theory_steps.specs.Rising.{IsRising}
 
 abbrev pub is_below : Queueing → Queueing → Bool
 is_below x y = nat_lt y.number x.number

@@ -1,5 +1,9 @@
 -- Entries that are refused change nothing.
-use Rattle.cmwq_theory_steps.specs.Common.{◌≡◌, ◌<◌, ◌+◌, ℕ, Bool, true, false, not, ◌&&◌, ◌||◌, List, [], ◌∷◌, ◌++◌, length, filter, find, count_by, Option, Some, None, option_to_list, append-nil, nat_lt, refl, sym, ap, ap₂, ◌∙◌, subst, arith, option_map, option_and_then, is_some, if◌then◌else◌, option_map_or, nat_tests, PoolId, Who, Caller, Worker, Call, Reply, Entry, Queueing, Start, Ticket, Layout, is_at, is_by, is_of_item, item_of, ticks_told, now, settles, due_in, booking, booked_by, number_started, number_finished, number_cancelled, replaces, is_started, run, item_run, is_asleep, asleep_after, start_in, queueings, is_of, opens, opening, is_live, still_open, is_unstarted, unstarted_queueing, queued_at, place_wanted, run_queue, is_frozen, is_ahead, is_below_max_active, is_active, newly_active, worklist, next, is_startable, is_enlisted, index_enlisted, is_in_pool, is_retired, unended_tickets, gives_ticket, ticket_for, ticket_in, is_end_of, is_done, is_gone, ends_destroy, IsLegal, bits, owed, answer, keeps_widths, All_map, All_each, active_go_on, active_live, frozen_same, max_same, width_same, open_below}
+use Rattle.cmwq_theory_steps.specs.Common.{◌≡◌, ◌<◌, ◌+◌, ℕ, Bool, true, false, not, ◌&&◌, ◌||◌, List, [], ◌∷◌, ◌++◌, length, filter, find, count_by, Option, Some, None, option_to_list, append-nil, nat_lt, refl, sym, ap, ap₂, ◌∙◌, subst, arith, option_map, option_and_then, is_some, if◌then◌else◌, option_map_or, nat_tests, PoolId, Who, Caller, Worker, Call, Reply, Entry, Queueing, Start, Ticket, Layout, is_at, is_by, is_of_item, item_of, ticks_told, now, settles, due_in, booking, booked_by, number_started, number_finished, number_cancelled, replaces, is_started, run, item_run, is_asleep, asleep_after, start_in, queueings, is_of, opens, opening, is_live, still_open, is_unstarted, unstarted_queueing, queued_at, place_wanted, run_queue, is_frozen, is_ahead, is_below_max_active, is_active, newly_active, worklist, next, is_startable, is_enlisted, index_enlisted, is_in_pool, is_retired, unended_tickets, gives_ticket, ticket_for, ticket_in, is_end_of, is_done, is_gone, ends_destroy, IsLegal, bits, owed, answer, All_map, All_each}
+use Rattle.cmwq_theory_steps.specs.Looks.{keeps_widths}
+use Rattle.cmwq_theory_steps.proofs.Joined.{active_go_on, active_live}
+use Rattle.cmwq_theory_steps.proofs.Widths.{frozen_same, max_same, width_same}
+use Rattle.cmwq_theory_steps.proofs.Rising.{open_below}
 use Rattle.cmwq_model.specs.declared.call.Call.TheVariants as call
 use Rattle.cmwq_model.specs.declared.reply.Reply.TheVariants as reply
 use Rattle.cmwq_theory_steps.specs.Histories.{one}

@@ -1,5 +1,6 @@
 -- What workers and items run after one more entry.
-use Rattle.cmwq_theory_steps.specs.Common.{arith, option_or, ◌≡◌, ◌<◌, ℕ, Bool, true, false, not, ◌&&◌, ◌||◌, List, [], ◌∷◌, length, Option, Some, None, refl, sym, ap, ap₂, ◌∙◌, subst, option_and_then, is_some, if◌then◌else◌, option_map_or, eq-eqb, WorkerId, Who, Worker, Reply, Entry, Layout, is_at, is_by, same_who, item_at, is_of_item, number_started, number_finished, number_cancelled, starts, finishes, takes_back, replaces, is_started, is_open, is_number_open, last_start, run, IsLegal, listed_live}
+use Rattle.cmwq_theory_steps.specs.Common.{arith, option_or, ◌≡◌, ◌<◌, ℕ, Bool, true, false, not, ◌&&◌, ◌||◌, List, [], ◌∷◌, length, Option, Some, None, refl, sym, ap, ap₂, ◌∙◌, subst, option_and_then, is_some, if◌then◌else◌, option_map_or, eq-eqb, WorkerId, Who, Worker, Reply, Entry, Layout, is_at, is_by, same_who, item_at, is_of_item, number_started, number_finished, number_cancelled, starts, finishes, takes_back, replaces, is_started, is_open, is_number_open, last_start, run, IsLegal}
+use Rattle.cmwq_theory_steps.proofs.Joined.{listed_live}
 use Rattle.cmwq_model.specs.declared.reply.Reply.TheVariants as reply
 use Rattle.std.proofs.lemmas.Bool.{both_ways, false_from_ne_true, or_right}
 use Rattle.std.proofs.lemmas.Option.{same_Some}

@@ -1,5 +1,7 @@
 -- The run of a worker is an active queueing of its pool, so no more workers have runs of a queue on a CPU than it is wide.
-use Rattle.cmwq_theory_steps.specs.Common.{◌≡◌, ◌<◌, ℕ, true, false, List, [], ◌∷◌, length, Option, Some, None, refl, sym, ap, ◌∙◌, subst, arith, option_map_or, eqb-true, eq-eqb, PoolId, WorkerId, Who, Worker, Entry, Queueing, Layout, pool_at, is_at, is_by, same_pool, same_who, item_at, starts, number_started, is_open, run, is_number_open, last_start, queueings, queueing_at, has_number, is_live, is_active, is_listed, IsLegal, open_before, stays_active}
+use Rattle.cmwq_theory_steps.specs.Common.{◌≡◌, ◌<◌, ℕ, true, false, List, [], ◌∷◌, length, Option, Some, None, refl, sym, ap, ◌∙◌, subst, arith, option_map_or, eqb-true, eq-eqb, PoolId, WorkerId, Who, Worker, Entry, Queueing, Layout, pool_at, is_at, is_by, same_pool, same_who, item_at, starts, number_started, is_open, run, is_number_open, last_start, queueings, queueing_at, has_number, is_live, is_active, is_listed, IsLegal}
+use Rattle.cmwq_theory_steps.proofs.Opens.{open_before}
+use Rattle.cmwq_theory_steps.proofs.Joined.{stays_active}
 use Rattle.cmwq_theory_steps.proofs.Entries.{IsKnown, queueings_known, item_at-older}
 use Rattle.cmwq_theory_steps.proofs.Activated.{find_holds}
 use Rattle.cmwq_theory_steps.proofs.ItemRuns.{same_worker-true, last_start_cases, now, before, run_is, is_run, open_of_item, started_older}

@@ -1,5 +1,7 @@
 -- What a legal entry starts stands in its pool's worklist: a queueing, active and not started before.
-use Rattle.cmwq_theory_steps.specs.Common.{◌≡◌, ◌<◌, ℕ, true, false, cond, List, [], ◌∷◌, find, Some, option_to_list, refl, ap, ◌∙◌, subst, arith, option_or, AllByRecursion, nat_tests, eq-eqb, find-append, WorkerId, Worker, Entry, Queueing, Layout, starts, number_started, is_started, queueings, queueing_at, opening, has_number, is_listed, IsLegal, IsRising, All_both, queueings_rise}
+use Rattle.cmwq_theory_steps.specs.Common.{◌≡◌, ◌<◌, ℕ, true, false, cond, List, [], ◌∷◌, find, Some, option_to_list, refl, ap, ◌∙◌, subst, arith, option_or, AllByRecursion, nat_tests, eq-eqb, find-append, WorkerId, Worker, Entry, Queueing, Layout, starts, number_started, is_started, queueings, queueing_at, opening, has_number, is_listed, IsLegal, All_both}
+use Rattle.cmwq_theory_steps.specs.Rising.{IsRising}
+use Rattle.cmwq_theory_steps.proofs.Rising.{queueings_rise}
 use Rattle.cmwq_theory_steps.proofs.Activated.{next_holds}
 use Rattle.cmwq_theory_steps.proofs.Starts.{starts_next}
 use Rattle.cmwq_theory_steps.proofs.Entries.{is_at-true}

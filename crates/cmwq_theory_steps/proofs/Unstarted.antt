@@ -1,5 +1,6 @@
 -- An item's unstarted queueing after one more entry, and that what a pool starts next is one.
-use Rattle.cmwq_theory_steps.specs.Common.{◌≡◌, ℕ, Bool, true, false, not, ◌&&◌, ◌==◌, List, [], ◌∷◌, ◌++◌, filter, Option, Some, None, option_to_list, cond, arith, refl, sym, ap, ap₂, ◌∙◌, AllByRecursion, filter-append, Entry, Queueing, PoolId, Layout, queueings, still_open, is_live, opening, is_unstarted, unstarted_queueing, starts, is_started, IsLegal, has_number, next, option_or, All_each, eq-eqb, All_unfilter, listed_live}
+use Rattle.cmwq_theory_steps.specs.Common.{◌≡◌, ℕ, Bool, true, false, not, ◌&&◌, ◌==◌, List, [], ◌∷◌, ◌++◌, filter, Option, Some, None, option_to_list, cond, arith, refl, sym, ap, ap₂, ◌∙◌, AllByRecursion, filter-append, Entry, Queueing, PoolId, Layout, queueings, still_open, is_live, opening, is_unstarted, unstarted_queueing, starts, is_started, IsLegal, has_number, next, option_or, All_each, eq-eqb, All_unfilter}
+use Rattle.cmwq_theory_steps.proofs.Joined.{listed_live}
 use Rattle.cmwq_theory_steps.specs.Endings.{survives}
 use Rattle.cmwq_lemmas.proofs.Filters.{filter_twice, filter_same}
 use Rattle.cmwq_theory_steps.proofs.Endings.{open_go_on}

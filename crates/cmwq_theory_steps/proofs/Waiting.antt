@@ -1,5 +1,7 @@
 -- What waits, and what becomes active, after one more entry.
-use Rattle.cmwq_theory_steps.specs.Common.{active_go_on, ◌≡◌, true, not, ◌&&◌, List, [], ◌∷◌, ◌++◌, filter, Option, Some, None, option_to_list, cond, arith, refl, sym, ap, ap₂, ◌∙◌, AllByRecursion, filter-append, Entry, Queueing, Layout, queueings, still_open, is_live, opening, is_below_max_active, is_newly_active, newly_active, IsLegal, All_each, All_filter, All_map, opening_number}
+use Rattle.cmwq_theory_steps.specs.Common.{◌≡◌, true, not, ◌&&◌, List, [], ◌∷◌, ◌++◌, filter, Option, Some, None, option_to_list, cond, arith, refl, sym, ap, ap₂, ◌∙◌, AllByRecursion, filter-append, Entry, Queueing, Layout, queueings, still_open, is_live, opening, is_below_max_active, is_newly_active, newly_active, IsLegal, All_each, All_filter, All_map}
+use Rattle.cmwq_theory_steps.proofs.Joined.{active_go_on}
+use Rattle.cmwq_theory_steps.proofs.Rising.{opening_number}
 use Rattle.cmwq_theory_steps.specs.Endings.{survives}
 use Rattle.cmwq_theory_steps.specs.Activations.{waits}
 use Rattle.cmwq_lemmas.proofs.Filters.{filter_twice, filter_same}

@@ -1,5 +1,7 @@
 -- What is below max_active, told by what became active so far: so one pass over what waits finds what becomes active.
-use Rattle.cmwq_theory_steps.specs.Common.{◌≡◌, ℕ, zero, suc, ◌+◌, ◌-◌, ◌<◌, Bool, List, [], ◌∷◌, ◌++◌, length, filter, take, count_by, cond, nat_lt, refl, sym, ap, ◌∙◌, subst, arith, AllByRecursion, filter-append, eq-eqb, nat_tests, Entry, Queueing, Layout, still_open, width, is_below_max_active, IsRising, rising_filter, open_rise}
+use Rattle.cmwq_theory_steps.specs.Common.{◌≡◌, ℕ, zero, suc, ◌+◌, ◌-◌, ◌<◌, Bool, List, [], ◌∷◌, ◌++◌, length, filter, take, count_by, cond, nat_lt, refl, sym, ap, ◌∙◌, subst, arith, AllByRecursion, filter-append, eq-eqb, nat_tests, Entry, Queueing, Layout, still_open, width, is_below_max_active}
+use Rattle.cmwq_theory_steps.specs.Rising.{IsRising}
+use Rattle.cmwq_theory_steps.proofs.Rising.{rising_filter, open_rise}
 use Rattle.std.proofs.lemmas.Bool.{and_from}
 use Rattle.cmwq_lemmas.proofs.Passing.{all_kept}
 use Rattle.cmwq_theory_steps.specs.Places.{is_on, open_on}

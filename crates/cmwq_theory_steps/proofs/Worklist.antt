@@ -1,5 +1,7 @@
 -- A pool's worklist has all that belongs there, and nothing else.
-use Rattle.cmwq_theory_steps.specs.Common.{◌≡◌, true, List, [], ◌∷◌, option_to_list, arith, Contains, AllByRecursion, Contains-append_left, Contains-append_right, PoolId, Entry, Layout, queueings, opening, is_active, is_newly_active, newly_active, became_active, is_listed, worklist, All_map, All_both, All_append, All_filter, opening_number, active_older}
+use Rattle.cmwq_theory_steps.specs.Common.{◌≡◌, true, List, [], ◌∷◌, option_to_list, arith, Contains, AllByRecursion, Contains-append_left, Contains-append_right, PoolId, Entry, Layout, queueings, opening, is_active, is_newly_active, newly_active, became_active, is_listed, worklist, All_map, All_both, All_append, All_filter}
+use Rattle.cmwq_theory_steps.proofs.Rising.{opening_number}
+use Rattle.cmwq_theory_steps.proofs.Joined.{active_older}
 use Rattle.cmwq_theory_steps.specs.Order.{IsWorklist}
 use Rattle.std.proofs.Common.{⊎_elim}
 use Rattle.std.proofs.lemmas.Bool.{cases_Bool}

@@ -1,5 +1,8 @@
 -- A pool's worklist after one more entry.
-use Rattle.cmwq_theory_steps.specs.Common.{◌≡◌, ◌<◌, ℕ, true, false, not, ◌&&◌, ◌||◌, List, [], ◌∷◌, ◌++◌, length, filter, Option, Some, None, option_to_list, refl, sym, ap, ap₂, ◌∙◌, subst, arith, AllByRecursion, filter-append, PoolId, Entry, Queueing, Layout, number_started, starts, is_started, queueings, queueing_at, opening, is_live, is_active, is_newly_active, newly_active, became_active, is_listed, worklist, IsLegal, All_map, All_both, All_append, All_each, All_filter, IsBelow, queueings_below, opening_number, open_before, stays_active, active_live}
+use Rattle.cmwq_theory_steps.specs.Common.{◌≡◌, ◌<◌, ℕ, true, false, not, ◌&&◌, ◌||◌, List, [], ◌∷◌, ◌++◌, length, filter, Option, Some, None, option_to_list, refl, sym, ap, ap₂, ◌∙◌, subst, arith, AllByRecursion, filter-append, PoolId, Entry, Queueing, Layout, number_started, starts, is_started, queueings, queueing_at, opening, is_live, is_active, is_newly_active, newly_active, became_active, is_listed, worklist, IsLegal, All_map, All_both, All_append, All_each, All_filter}
+use Rattle.cmwq_theory_steps.proofs.Rising.{IsBelow, queueings_below, opening_number}
+use Rattle.cmwq_theory_steps.proofs.Opens.{open_before}
+use Rattle.cmwq_theory_steps.proofs.Joined.{stays_active, active_live}
 use Rattle.cmwq_theory_steps.specs.Endings.{survives}
 use Rattle.cmwq_theory_steps.specs.Activations.{is_left, is_in}
 use Rattle.cmwq_lemmas.proofs.Filters.{filter_twice, filter_same}

@@ -1,6 +1,7 @@
 -- What one more entry makes active, and what it does to the worklists.
 use Rattle.std.specs.Prelude.{◌≡◌, ◌-◌, ◌&&◌, ◌||◌, if◌then◌else◌, ◌∷◌, ◌++◌}
-use Rattle.cmwq_theory_steps.specs.Common.{ℕ, take, Bool, true, false, not, List, filter, slice_get, count_by, Option, Some, None, option_to_list, nat_lt, AllByRecursion, PoolId, Entry, Queueing, Layout, pool_at, width, same_pool, starts, is_started, queueings, is_live, still_open, opening, same_place, is_below_max_active, is_active, newly_active, worklist, IsLegal, keeps_widths}
+use Rattle.cmwq_theory_steps.specs.Common.{ℕ, take, Bool, true, false, not, List, filter, slice_get, count_by, Option, Some, None, option_to_list, nat_lt, AllByRecursion, PoolId, Entry, Queueing, Layout, pool_at, width, same_pool, starts, is_started, queueings, is_live, still_open, opening, same_place, is_below_max_active, is_active, newly_active, worklist, IsLegal}
+use Rattle.cmwq_theory_steps.specs.Looks.{keeps_widths}
 use Rattle.cmwq_theory_steps.specs.Places.{is_on, open_on}
 use Rattle.cmwq_theory_steps.specs.Endings.{survives, ending}
 

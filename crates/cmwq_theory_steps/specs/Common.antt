@@ -12,8 +12,8 @@ pub use Rattle.std.specs.Option.{option_map_or, option_or}
 pub use Rattle.std.specs.Prelude.{Contains, IsTrue, flat_map, is_some, option_and_then, option_map, reverse, slice_get, ◌*◌}
 pub use mathlib.Core.Bool.{beq}
 pub use Rattle.cmwq_lemmas.proofs.Lists.{All_append, All_both, All_each, All_filter, All_map, All_unfilter, count_by-cons, count_by-filter, count_by-none, find_none}
-pub use Rattle.cmwq_model.specs.Prelude.{Layout, asleep_after, bits, booked_by, booking_of, cpu_for, cpu_workers, due_in, end_of_ticket, ends, ends_destroy, enlisted_by, enlists, entry_at, finished_answer, finishes, fired_answer, fits, frozen_after, gives_ticket, has_not_started, has_number, has_numbers, has_run, index_enlisted, indices, is_ahead, is_at, is_being_destroyed, is_below_max_active, is_booked, is_booked_on, is_by, is_cancelling, is_crowded, is_done, is_end_of, is_finished, is_flush_of, is_held_back, is_held_by, is_in_pool, is_item_open, is_listed, is_live, is_newly_active, is_number_open, is_of, is_of_item, is_older_flush, is_open, is_pending, is_retired, is_served_after, is_shut, is_soonest, is_startable, is_started, is_ticket, is_unended, is_unstarted, is_workers, item_at, item_called, item_fired, item_of, item_run, item_runs, max_active, may_call, may_fire, may_make, may_retire, newly_active, none, number_booked, number_cancelled, number_finished, number_started, opening, opens, past_of, place_called, place_wanted, pool_at, pool_workers, queue_at, queue_of, queued_at, queueing_at, replaces, room_needed, run, run_queue, runnable, runs_asleep, runs_awake, runs_elsewhere, same_place, same_pool, same_who, same_worker, serial_of, settles, standing_bookings, stands, start_in, start_of, started_answer, starts, starts_item, still_open, taken_back_answer, taken_back_for, takes_back, ticket_for, ticket_in, ticket_of, ticks_told, unended_tickets, unstarted_queueing, waiting_for, waits_for, width, worker_at, worker_of, workers}
-unfoldable pub use Rattle.cmwq_model.specs.Prelude.{IsLegal, answer, became_active, booking, bookings, cancel_answer, cancel_sync_answer, destroy_answer, finish_answer, first_due, flush_delayed_answer, flush_item_answer, is_active, is_asleep, is_cancelled, is_enlisted, is_frozen, is_gone, item_start, last_start, modify_answer, next, now, owed, queue_answer, queueings, retire_answer, serving_from, set_max_answer, take_answer, tickets, wait_answer, worklist}
+pub use Rattle.cmwq_model.specs.Prelude.{Layout, asleep_after, bits, booked_by, booking_of, cpu_for, cpu_workers, due_in, end_of_ticket, ends, ends_destroy, enlisted_by, enlists, entry_at, finished_answer, finishes, fired_answer, fits, frozen_after, gives_ticket, has_not_started, has_number, has_numbers, has_run, index_enlisted, indices, is_ahead, is_at, is_being_destroyed, is_below_max_active, is_booked, is_booked_on, is_by, is_cancelling, is_crowded, is_done, is_end_of, is_finished, is_flush_of, is_freezable, is_held_back, is_held_by, is_in_pool, is_item_open, is_listed, is_live, is_newly_active, is_number_open, is_of, is_of_item, is_older_flush, is_open, is_pending, is_retired, is_served_after, is_shut, is_soonest, is_startable, is_started, is_ticket, is_unended, is_unstarted, is_workers, item_at, item_called, item_fired, item_of, item_run, item_runs, may_call, may_fire, may_make, may_retire, newly_active, none, number_booked, number_cancelled, number_finished, number_started, opening, opens, past_of, place_called, place_wanted, pool_at, pool_workers, queue_at, queue_of, queued_at, queueing_at, replaces, room_needed, run, run_queue, runnable, runs_asleep, runs_awake, runs_elsewhere, same_place, same_pool, same_who, same_worker, serial_of, sets_max, settles, standing_bookings, stands, start_in, start_of, started_answer, starts, starts_item, still_open, taken_back_answer, taken_back_for, takes_back, ticket_for, ticket_in, ticket_of, ticks_told, unended_tickets, unstarted_queueing, waiting_for, waits_for, width_told, worker_at, worker_of, workers}
+unfoldable pub use Rattle.cmwq_model.specs.Prelude.{IsLegal, answer, became_active, booking, bookings, cancel_answer, cancel_sync_answer, destroy_answer, finish_answer, first_due, flush_delayed_answer, flush_item_answer, is_active, is_asleep, is_cancelled, is_enlisted, is_frozen, is_gone, item_start, last_start, max_active, modify_answer, next, now, owed, queue_answer, queueings, retire_answer, serving_from, set_max_answer, take_answer, tickets, wait_answer, width, worklist}
 pub use Rattle.cmwq_model.specs.declared.call.Call.{Call}
 pub use Rattle.cmwq_model.specs.declared.entry.Entry.{Entry}
 pub use Rattle.cmwq_model.specs.declared.id.CallerId.{CallerId}
@@ -30,9 +30,3 @@ pub use Rattle.cmwq_model.specs.declared.record.Queueing.{Queueing}
 pub use Rattle.cmwq_model.specs.declared.record.Start.{Start}
 pub use Rattle.cmwq_model.specs.declared.record.Ticket.{Ticket}
 pub use Rattle.cmwq_model.specs.declared.reply.Reply.{Reply}
-pub use Rattle.cmwq_theory_active.proofs.Joined.{active_go_on, active_live, active_older, listed_live, not_live, stays_active}
-pub use Rattle.cmwq_theory_active.proofs.Opens.{open_before}
-pub use Rattle.cmwq_theory_active.proofs.Rising.{IsBelow, open_below, open_rise, opening_number, queueings_below, queueings_rise, rising_filter}
-pub use Rattle.cmwq_theory_active.proofs.Widths.{frozen_same, max_same, width_same}
-pub use Rattle.cmwq_theory_active.specs.Looks.{keeps_widths}
-pub use Rattle.cmwq_theory_active.specs.Rising.{IsRising}

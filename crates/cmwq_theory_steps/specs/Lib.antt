@@ -18,3 +18,5 @@ pub mod RunSteps
 pub mod StateSteps
 pub mod TicketSteps
 pub mod Waiting
+pub mod Looks
+pub mod Rising

@@ -1,7 +1,9 @@
-//! What one more entry does to each thing that a book of the runtime would keep: theorems over the definitions alone.
+//! What one more entry does to each thing that a book of the runtime would keep, and what is active, told by few looks at a history:
+//! theorems over the definitions alone.
 #![tactic(auto)]
 
 mod activation_steps;
+mod active_looks;
 mod histories;
 mod item_pools;
 mod item_queueings;
@@ -16,6 +18,7 @@ mod ticket_steps;
 mod waiting_steps;
 
 pub use activation_steps::activations_go_on;
+pub use active_looks::active_by_looks;
 pub use histories::histories_grow;
 pub use item_pools::items_keep_their_pools;
 pub use item_queueings::items_keep_their_queueings;

@@ -6,7 +6,7 @@ use std::alloc::Global;
 use std::marker::Model;
 
 /// How many unended tickets are cancel_syncs of each item, destroys of each queue, and drains or destroys of each queue.
-#[derive(Debug, Drop)]
+#[derive(Drop)]
 pub(crate) struct Counts {
     cancels: Vec<u16>,
     destroys: Vec<u16>,

@@ -11,7 +11,7 @@ use std::marker::Model;
 pub(crate) const TICKETS_OF_CALLER: usize = 64;
 
 /// An unended ticket, without its caller.
-#[derive(Clone, Copy, Debug)]
+#[derive(Clone, Copy)]
 struct Wait {
     number: Number,
     call: Call,
@@ -31,7 +31,7 @@ impl Wait {
 }
 
 /// The unended tickets of one caller. There is room for 64.
-#[derive(Debug, Drop)]
+#[derive(Drop)]
 pub(crate) struct Row {
     /// Whose tickets they are, if there is one.
     caller: CallerId,

@@ -9,7 +9,7 @@ use std::marker::Model;
 
 /// The unended tickets of all callers, a row for each, in the order of their numbers. A caller has 64 at most.
 /// Only `new` takes memory.
-#[derive(Debug, Drop)]
+#[derive(Drop)]
 pub struct Tickets {
     items: u16,
     queues: usize,

@@ -12,7 +12,7 @@ use cmwq_model::ItemId;
 pub(crate) const FAN: usize = 16;
 
 /// An item that is booked, and its timer.
-#[derive(Clone, Copy, Debug)]
+#[derive(Clone, Copy)]
 pub(crate) struct Candidate {
     pub item: ItemId,
     pub timer: Timer,

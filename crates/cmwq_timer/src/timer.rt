@@ -4,7 +4,7 @@ ghost use Rattle.cmwq_timer.specs.Due.{is_held, timer_may_fire, is_sooner};
 use cmwq_model::{Number, Place};
 
 /// A timer that is set for an item (the kernel's `timer_list` in a `delayed_work`).
-#[derive(Clone, Copy, Debug)]
+#[derive(Clone, Copy)]
 pub struct Timer {
     /// The queue and the CPU on which the item is to be queued.
     pub place: Place,

@@ -11,7 +11,7 @@ use std::marker::Model;
 pub(crate) const QUEUES: usize = 256;
 
 /// The timers of all items of a runtime. An item has one at most.
-#[derive(Debug, Drop)]
+#[derive(Drop)]
 pub struct Timers {
     timers: Tournament,
     /// Of each queue, how many items are booked on it.

@@ -18,7 +18,7 @@ use std::marker::Model;
 const LAST: u8 = 4;
 
 /// The timers of all items, a row for each, and the levels above the rows.
-#[derive(Debug, Drop)]
+#[derive(Drop)]
 pub(crate) struct Tournament {
     rows: Vec<Option<Timer>>,
     low: Vec<Option<Candidate>>,

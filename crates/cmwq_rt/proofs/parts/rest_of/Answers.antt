@@ -1,5 +1,5 @@
 use Rattle.cmwq_rt.specs.Common.{◌∙◌, ap, rules, Entry}
-use Rattle.cmwq_tail.specs.Tails.{Tailed}
+use Rattle.cmwq_state.specs.Tails.{Tailed}
 use Rattle.cmwq_rt.proofs.parts.rest_of.Goals as goal
 
 pub returns-clause-shapes : goal.returns-clause-shapes

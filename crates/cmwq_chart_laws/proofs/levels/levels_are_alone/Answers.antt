@@ -1,5 +1,0 @@
-use Rattle.cmwq_chart_laws.proofs.OneLevel.{levels_are_alone}
-use Rattle.cmwq_chart_laws.proofs.levels.levels_are_alone.Goals as goal
-
-pub returns : goal.returns
-returns c = levels_are_alone

@@ -1,5 +1,0 @@
-use Rattle.cmwq_chart_laws.proofs.LevelsStand.{levels_are_true}
-use Rattle.cmwq_chart_laws.proofs.levels.levels_are_true.Goals as goal
-
-pub returns : goal.returns
-returns c = levels_are_true

@@ -1,5 +1,0 @@
-use Rattle.cmwq_chart_laws.proofs.Asleep.{sleepers_are_asleep}
-use Rattle.cmwq_chart_laws.proofs.sleeps.sleepers_are_asleep.Goals as goal
-
-pub returns : goal.returns
-returns c = sleepers_are_asleep

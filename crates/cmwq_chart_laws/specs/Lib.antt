@@ -1,3 +1,0 @@
-pub mod BarLaws
-pub mod SleepLaws
-pub mod LevelLaws

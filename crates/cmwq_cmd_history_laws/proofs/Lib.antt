@@ -1,4 +1,0 @@
-pub mod Stepped
-pub mod Timely
-pub mod Shapes
-pub mod Checked

@@ -1,5 +1,0 @@
-use Rattle.cmwq_cmd_history_laws.proofs.Checked.{legal_histories_are_checked}
-use Rattle.cmwq_cmd_history_laws.proofs.checks.legal_histories_are_checked.Goals as goal
-
-pub returns : goal.returns
-returns c = legal_histories_are_checked

@@ -1,5 +1,0 @@
-use Rattle.cmwq_cmd_history_laws.proofs.Checked.{steps_pass_check}
-use Rattle.cmwq_cmd_history_laws.proofs.checks.steps_pass_check.Goals as goal
-
-pub returns : goal.returns
-returns c = steps_pass_check

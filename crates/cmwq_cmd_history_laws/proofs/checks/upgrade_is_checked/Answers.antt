@@ -1,5 +1,0 @@
-use Rattle.cmwq_cmd_history_laws.proofs.Checked.{upgrade_is_checked}
-use Rattle.cmwq_cmd_history_laws.proofs.checks.upgrade_is_checked.Goals as goal
-
-pub returns : goal.returns
-returns c = upgrade_is_checked

@@ -1,9 +1,0 @@
-use Rattle.std.proofs.Common.{◌++◌, ◌∙◌, ap, append_assoc}
-use Rattle.std.specs.Prelude.{codes}
-use Rattle.cmwq_cmd_summary.specs.Page.{named_number}
-use Rattle.cmwq_cmd_summary.proofs.rows.push_bounds.Goals as goal
-
-pub returns-clause-exact : goal.returns-clause-exact
-returns-clause-exact c =
-    let width = named_number (codes ", width ") c.args.wide in
-    c.push_figure-2.ensures.exact ∙ ap (λ l. l ++ width) c.push_figure.ensures.exact ∙ append_assoc c.args.row.now (named_number (codes ", cancelled ") c.args.cancels) width

@@ -1,4 +1,0 @@
-pub mod Names
-pub mod Page
-pub mod Summing
-pub mod Summary

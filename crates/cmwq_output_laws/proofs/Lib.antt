@@ -1,0 +1,10 @@
+pub mod Finishes
+pub mod OneBar
+pub mod Asleep
+pub mod LevelsStand
+pub mod OneLevel
+pub mod UsedPlaces
+pub mod Stepped
+pub mod Timely
+pub mod Shapes
+pub mod Checked

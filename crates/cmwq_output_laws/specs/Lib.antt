@@ -1,0 +1,5 @@
+pub mod BarLaws
+pub mod SleepLaws
+pub mod LevelLaws
+pub mod Common
+pub mod Checks

@@ -1,0 +1,4 @@
+pub mod Common
+pub mod Readings
+pub mod Scenarios
+pub mod Replay

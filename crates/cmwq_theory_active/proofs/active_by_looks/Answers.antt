@@ -1,5 +1,0 @@
-use Rattle.cmwq_theory_active.proofs.Looks.{active_by_looks}
-use Rattle.cmwq_theory_active.proofs.active_by_looks.Goals as goal
-
-pub returns : goal.returns
-returns c = active_by_looks

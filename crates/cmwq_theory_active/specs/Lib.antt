@@ -1,3 +1,0 @@
-pub mod Common
-pub mod Looks
-pub mod Rising

@@ -1,0 +1,324 @@
+//! How the rows of each table are spelled.
+ghost use Rattle.std.specs.Prelude.{◌≡◌, ◌+◌, ◌*◌, ◌/◌, ◌<◌, ◌≤◌, ◌++◌, length};
+ghost use Rattle.cmwq_model.specs.Prelude.{width, most_cpus, most_workers};
+ghost use Rattle.cmwq_summary.specs.Kinds.{call_kinds, reply_kinds};
+ghost use Rattle.cmwq_core.specs.History.{past_in};
+ghost use Rattle.cmwq_views.specs.Page.{call_row, reply_row, item_row, caller_row, longest_text, mean_text, starts_text, opened_text, bounds_text, peaks_text, place_figures, place_waits, span_text, worker_of_row, worker_name, worker_row, place_name, row_text, row_count};
+ghost use Rattle.cmwq_views.specs.declared.table.Table.TheVariants as TheTable;
+
+use crate::name::{call_name, reply_name};
+use crate::progress::Progress;
+use crate::row::Row;
+use crate::table::Table;
+use cmwq_base::{CallerId, CpuId, ItemId, PoolId, QueueId, WorkerId};
+use cmwq_model::{MOST_CPUS, MOST_WORKERS};
+use cmwq_summary::{CALL_KINDS, REPLY_KINDS, Span, Total};
+
+/// How many CPUs a shape may have.
+const CPUS: usize = MOST_CPUS as usize;
+
+/// How many workers a pool may have.
+const OF_POOL: usize = MOST_WORKERS as usize;
+
+/// How many rows a table has.
+pub(crate) fn rows_in(progress: &Progress, table: Table) -> usize
+    ensures { result ≡ row_count progress.now.layout table }
+{
+    let shape = progress.summary().shape();
+    let counts = shape.counts();
+    match table {
+        Table::Calls => CALL_KINDS,
+        Table::Replies => REPLY_KINDS,
+        Table::Places => CPUS * shape.queues().len(),
+        Table::Workers => 2 * OF_POOL * usize::from(counts.cpus),
+        Table::Items => counts.items.into(),
+        Table::Callers => counts.callers.into(),
+    }
+}
+
+/// The row of a table with this number, from 0.
+pub(crate) fn row(progress: &Progress, table: Table, at: usize) -> Row
+    requires { at < row_count progress.now.layout table }
+    ensures { result ≡ row_text progress.now.layout (past_in progress.now) table at }
+{
+    let summary = progress.summary();
+    match table {
+        Table::Calls => call_row(at, summary.calls(at)),
+        Table::Replies => reply_row(at, summary.replies(at)),
+        Table::Places => place_row(progress, at),
+        Table::Workers => worker_row(progress, worker_at(progress, at), summary.starts_by(at)),
+        Table::Items => {
+            let item = item_at(progress, at);
+            item_row(item, summary.runs(item), summary.cancels(item))
+        }
+        Table::Callers => caller_row(progress, caller_at(progress, at)),
+    }
+}
+
+/// The item with this number.
+fn item_at(progress: &Progress, number: usize) -> ItemId
+    requires { number < progress.now.layout.items }
+    ensures { result.0 ≡ number }
+{
+    // it shows that the number is small
+    let _items = progress.summary().shape().counts().items;
+    ItemId(number as u16)
+}
+
+/// The caller with this number.
+fn caller_at(progress: &Progress, number: usize) -> CallerId
+    requires { number < progress.now.layout.callers }
+    ensures { result.0 ≡ number }
+{
+    // it shows that the number is small
+    let _callers = progress.summary().shape().counts().callers;
+    CallerId(number as u8)
+}
+
+fn call_row(kind: usize, calls: u64) -> Row
+    requires { kind < call_kinds }
+    ensures { result ≡ call_row kind calls }
+{
+    let mut row = Row::new();
+    if calls > 0 {
+        row.push("call ");
+        row.push(call_name(kind));
+        row.push_figure(": ", calls);
+        row.push("\n");
+    }
+    row
+}
+
+fn reply_row(kind: usize, replies: u64) -> Row
+    requires { kind < reply_kinds }
+    ensures { result ≡ reply_row kind replies }
+{
+    let mut row = Row::new();
+    if replies > 0 {
+        row.push("reply ");
+        row.push(reply_name(kind));
+        row.push_figure(": ", replies);
+        row.push("\n");
+    }
+    row
+}
+
+fn item_row(item: ItemId, runs: u64, cancels: u64) -> Row
+    ensures { result ≡ item_row item.0 runs cancels }
+{
+    let mut row = Row::new();
+    if runs > 0 || cancels > 0 {
+        row.push_figure("item ", item.0.into());
+        row.push_figure(": runs ", runs);
+        row.push_figure(", cancels ", cancels);
+        row.push("\n");
+    }
+    row
+}
+
+fn caller_row(progress: &Progress, caller: CallerId) -> Row
+    requires { caller.0 < progress.now.layout.callers }
+    ensures { result ≡ caller_row (past_in progress.now) caller.0 }
+{
+    let summary = progress.summary();
+    let calls = summary.calls_by(caller);
+    let mut row = Row::new();
+    if calls > 0 {
+        let tickets = summary.tickets(caller);
+        row.push_figure("caller c", caller.0.into());
+        row.push_figure(": calls ", calls);
+        row.push_figure(", tickets ", tickets);
+        push_longest(&mut row, tickets, summary.longest_wait(caller));
+        row.push("\n");
+    }
+    row
+}
+
+/// The worker with this number.
+fn worker_at(progress: &Progress, number: usize) -> WorkerId
+    requires { number < 2 * most_workers * progress.now.layout.cpus }
+    ensures is { result ≡ worker_of_row number }
+    ensures here { result.pool.cpu.0 < progress.now.layout.cpus }
+{
+    // it shows that the number is small
+    let _cpus = progress.summary().shape().counts().cpus;
+    WorkerId {
+        pool: PoolId {
+            cpu: CpuId((number / (2 * OF_POOL)) as u8),
+            high: number / OF_POOL % 2 == 1,
+        },
+        index: (number % OF_POOL) as u8,
+    }
+}
+
+/// Spells the name of a worker.
+fn push_worker(row: &mut Row, worker: WorkerId)
+    requires { length row.old + 42 ≤ 512 }
+    ensures exact { row.new ≡ row.old ++ worker_name worker }
+    ensures short { length row.new ≤ length row.old + 42 }
+{
+    row.push_figure("w", worker.pool.cpu.0.into());
+    let letter = if worker.pool.high { "h" } else { "n" };
+    row.push_figure(letter, worker.index.into());
+}
+
+/// Spells how long something went on.
+fn push_span(row: &mut Row, name: &str, span: Span)
+    requires { length row.old + (length name.now + 60) ≤ 512 }
+    ensures exact { row.new ≡ row.old ++ span_text name.now span.entries span.ticks }
+    ensures short { length row.new ≤ length row.old + (length name.now + 60) }
+{
+    row.push_figure(name, span.entries);
+    row.push_figure(" entries and ", span.ticks);
+    row.push(" ticks");
+}
+
+fn worker_row(progress: &Progress, worker: WorkerId, runs: u64) -> Row
+    requires here { worker.pool.cpu.0 < progress.now.layout.cpus }
+    requires index { worker.index < most_workers }
+    ensures { result ≡ worker_row (past_in progress.now) worker runs }
+{
+    let summary = progress.summary();
+    let mut row = Row::new();
+    if runs > 0 {
+        row.push("worker ");
+        push_worker(&mut row, worker);
+        row.push_figure(": runs ", runs);
+        push_span(&mut row, ", awake ", summary.awake(worker));
+        push_span(&mut row, ", asleep ", summary.asleep(worker));
+        row.push("\n");
+    }
+    row
+}
+
+/// Spells the queue and the CPU of the place with this number.
+fn push_place(row: &mut Row, place: usize)
+    requires { length row.old + 54 ≤ 512 }
+    ensures exact { row.new ≡ row.old ++ place_name place }
+    ensures short { length row.new ≤ length row.old + 54 }
+{
+    row.push_figure("queue ", place as u64 / CPUS as u64);
+    row.push_figure(" on CPU ", place as u64 % CPUS as u64);
+}
+
+/// How wide the queue of the place with this number is.
+fn width_at(progress: &Progress, place: usize) -> u32
+    requires { place < most_cpus * length progress.now.layout.queues }
+    ensures { result ≡ width progress.now.layout (past_in progress.now) (place / most_cpus) }
+{
+    // it shows that the number is small
+    let _queues = progress.summary().shape().counts();
+    progress.width(QueueId((place / CPUS) as u8))
+}
+
+/// Spells the longest wait of so many.
+fn push_longest(row: &mut Row, many: u64, longest: Span)
+    requires { length row.old + 75 ≤ 512 }
+    ensures exact { row.new ≡ row.old ++ longest_text many longest.entries longest.ticks }
+    ensures short { length row.new ≤ length row.old + 75 }
+{
+    if many == 0 {
+        row.push(", longest wait ");
+        row.push("-");
+    } else {
+        push_span(row, ", longest wait ", longest);
+    }
+}
+
+/// Spells the mean wait of so many, which waited so long together.
+fn push_mean(row: &mut Row, many: u64, all: Total)
+    requires { length row.old + 111 ≤ 512 }
+    ensures exact { row.new ≡ row.old ++ mean_text many all.entries all.ticks }
+    ensures short { length row.new ≤ length row.old + 111 }
+{
+    if many == 0 {
+        row.push(", mean wait ");
+        row.push("-");
+    } else {
+        row.push_sum(", mean wait ", all.entries / u128::from(many));
+        row.push_sum(" entries and ", all.ticks / u128::from(many));
+        row.push(" ticks");
+    }
+}
+
+/// Spells how long so many starts waited.
+fn push_starts(row: &mut Row, many: u64, longest: Span, all: Total)
+    requires { length row.old + 186 ≤ 512 }
+    ensures exact { row.new ≡ row.old ++ starts_text many longest.entries longest.ticks all.entries all.ticks }
+    ensures short { length row.new ≤ length row.old + 186 }
+{
+    push_longest(row, many, longest);
+    push_mean(row, many, all);
+}
+
+/// Spells how many queueings and starts there are.
+fn push_opened(row: &mut Row, queueings: u64, starts: u64)
+    requires { length row.old + 70 ≤ 512 }
+    ensures exact { row.new ≡ row.old ++ opened_text queueings starts }
+    ensures short { length row.new ≤ length row.old + 70 }
+{
+    row.push_figure(": queueings ", queueings);
+    row.push_figure(", starts ", starts);
+}
+
+/// Spells how many cancelled ones there are, and the width.
+fn push_bounds(row: &mut Row, cancels: u64, wide: u64)
+    requires { length row.old + 70 ≤ 512 }
+    ensures exact { row.new ≡ row.old ++ bounds_text cancels wide }
+    ensures short { length row.new ≤ length row.old + 70 }
+{
+    row.push_figure(", cancelled ", cancels);
+    row.push_figure(", width ", wide);
+}
+
+/// Spells how many were open and active at once, at most.
+fn push_peaks(row: &mut Row, most_open: u64, most_active: u64)
+    requires { length row.old + 70 ≤ 512 }
+    ensures exact { row.new ≡ row.old ++ peaks_text most_open most_active }
+    ensures short { length row.new ≤ length row.old + 70 }
+{
+    row.push_figure(", most open ", most_open);
+    row.push_figure(", most active ", most_active);
+}
+
+/// Spells all that of a queue and CPU.
+fn push_figures(row: &mut Row, progress: &Progress, place: usize)
+    requires place { place < most_cpus * length progress.now.layout.queues }
+    requires room { length row.old + 210 ≤ 512 }
+    ensures exact { row.new ≡ row.old ++ place_figures progress.now.layout (past_in progress.now) place }
+    ensures short { length row.new ≤ length row.old + 210 }
+{
+    let summary = progress.summary();
+    let wide = width_at(progress, place);
+    push_opened(row, summary.queueings_at(place), summary.starts_at(place));
+    push_bounds(row, summary.cancels_at(place), wide.into());
+    push_peaks(row, summary.most_open(place), summary.most_active(place));
+}
+
+/// Spells how long the starts there waited.
+fn push_waits(row: &mut Row, progress: &Progress, place: usize)
+    requires place { place < most_cpus * length progress.now.layout.queues }
+    requires room { length row.old + 186 ≤ 512 }
+    ensures exact { row.new ≡ row.old ++ place_waits (past_in progress.now) place }
+    ensures short { length row.new ≤ length row.old + 186 }
+{
+    let summary = progress.summary();
+    let longest = summary.longest_start(place);
+    let all = summary.all_starts(place);
+    push_starts(row, summary.starts_at(place), longest, all);
+}
+
+fn place_row(progress: &Progress, place: usize) -> Row
+    requires { place < most_cpus * length progress.now.layout.queues }
+    ensures { result ≡ row_text progress.now.layout (past_in progress.now) TheTable.Places place }
+{
+    let queueings = progress.summary().queueings_at(place);
+    let mut row = Row::new();
+    if queueings > 0 {
+        push_place(&mut row, place);
+        push_figures(&mut row, progress, place);
+        push_waits(&mut row, progress, place);
+        row.push("\n");
+    }
+    row
+}
