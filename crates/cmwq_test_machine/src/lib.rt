@@ -1,5 +1,5 @@
-//! Tests of the machine below the texts: the Book, the TailBook, the judge and the plain program side by side, and each public function of the
-//! model, the plain program, the core and the summary on its way.
+//! Tests of the machine below the texts: the Book, the TailBook, the judge and the plain program side by side, and each
+//! public function of the model, the plain program, the core and the summary on its way.
 #![tactic(auto)]
 
 #[cfg(test)]

@@ -1,4 +1,5 @@
-//! The Book, the TailBook and the judge beside the plain program: whatever calls come, and in whatever room, all say the same.
+//! The Book, the TailBook and the judge beside the plain program: whatever calls come, and in whatever room, all say
+//! the same.
 
 ghost use Rattle.std.specs.Prelude.{◌≡◌};
 
@@ -136,7 +137,8 @@ impl Machines {
         }
     }
 
-    /// The entry that the TailBook makes of the call, if there is room for it. Where no more can be kept, what is kept is taken first.
+    /// The entry that the TailBook makes of the call, if there is room for it. Where no more can be kept, what is kept
+    /// is taken first.
     fn tail_entry(
         &mut self,
         rt: &(impl Abort + AllocGlobal),
@@ -191,7 +193,8 @@ impl Machines {
         assert_eq!(rt; self.tail.ready(ticket), is_over, "{entry:?}");
     }
 
-    /// After an entry its item has the bits of its mark; and one item, another after each entry, those that the plain program reads.
+    /// After an entry its item has the bits of its mark; and one item, another after each entry, those that the plain
+    /// program reads.
     fn compare_bits(&self, rt: &impl Abort, mark: &Mark) {
         if let Some(item) = mark.item {
             assert!(rt; item.0 < self.shape.counts().items);
@@ -205,8 +208,8 @@ impl Machines {
         }
     }
 
-    /// Makes the call on all machines. Returns its entry, or none where all refuse it for want of room. Where it isn't compared, the plain
-    /// program, which looks back over all calls, is not asked.
+    /// Makes the call on all machines. Returns its entry, or none where all refuse it for want of room. Where it isn't
+    /// compared, the plain program, which looks back over all calls, is not asked.
     pub(crate) fn step(
         &mut self,
         rt: &(impl Abort + AllocGlobal),

@@ -8,7 +8,7 @@ use cmwq_model::Counts;
 /// How many histories are generated, and how many calls each has.
 const HISTORIES: u64 = 200;
 
-const CALLS: u32 = 60;
+const CALLS: u32 = 50;
 
 /// Two CPUs with four workers in each pool, two callers and six items.
 const COUNTS: Counts = Counts {
@@ -30,7 +30,7 @@ fn all_machines_answer_alike(rt: HostRuntime) {
         let mut generator = Generator::new(rt.alloc(), seed, COUNTS, 3);
         machines.step_generated(&rt, &mut generator, CALLS, 1);
         if seed % 3 == 0 {
-            machines.alter(&rt, generator.below(60) as usize);
+            machines.alter(&rt, generator.below(50) as usize);
         }
         machines.end();
     }

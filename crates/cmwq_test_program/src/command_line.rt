@@ -1,4 +1,5 @@
-//! The command line: the subcommands and their flags, what is no use of them, and what help, the version and faults say.
+//! The command line: the subcommands and their flags, what is no use of them, and what help, the version and faults
+//! say.
 
 use crate::same::same;
 use cmwq_cli::{Word, word_of};
@@ -61,11 +62,14 @@ fn said(rt: &(impl Abort + AllocGlobal), words: &[&str]) -> (String, bool) {
 const WRONG_USES: [(&[&str], &str); 8] = [
     (
         &["cmwq"],
-        "error: 'cmwq' requires a subcommand but one was not provided\n  [subcommands: step, check, upgrade, summary, chart, trace, replay, run, help]\n\nUsage: cmwq <COMMAND>\n",
+        "error: 'cmwq' requires a subcommand but one was not provided\n  \
+        [subcommands: step, check, upgrade, summary, chart, trace, replay, run, help]\n\n\
+        Usage: cmwq <COMMAND>\n",
     ),
     (
         &["cmwq", "steps"],
-        "error: unrecognized subcommand 'steps'\n\n  tip: a similar subcommand exists: 'step'\n\nUsage: cmwq <COMMAND>\n",
+        "error: unrecognized subcommand 'steps'\n\n  tip: a similar subcommand exists: 'step'\n\n\
+        Usage: cmwq <COMMAND>\n",
     ),
     (
         &["cmwq", "step", "--front"],
@@ -118,7 +122,8 @@ const HELP: [(&str, &str, &str); 8] = [
     ),
     (
         "upgrade",
-        "Reads a history from standard input and writes it, if it is legal: one of format 1 in format 2, and others as they are",
+        "Reads a history from standard input and writes it, if it is legal: one of format 1 in format 2, \
+        and others as they are",
         "\n  c0 0 queue 0 0 0 = yes 0\n",
     ),
     (

@@ -1,6 +1,6 @@
 //! Inputs that are cut after each of their bytes.
 
-use crate::inputs::{CALLS, FORMAT_LINE, HISTORY};
+use crate::inputs::{CALLS, FORMAT_LINE, HISTORY, SCENARIO};
 use crate::same::same;
 use crate::subcommand::{Subcommand, run};
 use std::alloc::{AllocError, Global};
@@ -19,8 +19,8 @@ fn told_of(alloc: Global, front: &[u8], head: usize) -> Result<Option<String>, A
     Ok(Some(told))
 }
 
-/// What ends inside a line or its head is refused, and nothing is written but the answers that `step --live` gave before. Every other front is
-/// a file of its own.
+/// What ends inside a line or its head is refused, and nothing is written but the answers that `step --live` gave
+/// before. Every other front is a file of its own.
 #[test]
 fn lines_may_be_cut_anywhere(rt: HostRuntime) {
     for (subcommand, text, head) in [
@@ -66,7 +66,8 @@ fn lines_may_be_cut_anywhere(rt: HostRuntime) {
 /// A history of format 3 ends with a line that says so.
 const LONG_HISTORY: &[u8] = b"history 3\nshape 1 2 1 3 100\nwq 1 -\nc0 0 fire = nothing\nend 1\n";
 
-/// What `check` tells of so many bytes of it, from the first number to the last. Where it tells nothing, the history is legal.
+/// What `check` tells of so many bytes of it, from the first number to the last. Where it tells nothing, the history is
+/// legal.
 const CUTS: [(Subcommand, usize, usize, &str); 13] = [
     (Subcommand::Check, 0, 0, "cmwq: line 1: bad shape\n"),
     (
@@ -127,5 +128,22 @@ fn a_history_of_format_3_may_be_cut_anywhere(rt: HostRuntime) {
                 },
             );
         }
+    }
+}
+
+/// A scenario ends with its last bracket and a line feed. Only what has that bracket is JSON.
+#[test]
+fn a_scenario_may_be_cut_anywhere(rt: HostRuntime) {
+    let json = SCENARIO.len().saturating_sub(1);
+    for bytes in 0..=SCENARIO.len() {
+        let ended = run(&rt, Subcommand::Replay, &SCENARIO[..bytes]);
+        let is_told = ended.told.as_slice() == b"cmwq: not JSON\n".as_slice();
+        let is_refused = bytes < json;
+        same(
+            &rt,
+            (ended.status, is_told),
+            (u8::from(is_refused), is_refused),
+        );
+        same(&rt, ended.output.as_slice().is_empty(), is_refused);
     }
 }

@@ -39,10 +39,12 @@ fn told(
 }
 
 const FULL: &str =
-    "cmwq: line 3, column 1: \"c0 fire\" is the first call without room; room 0 counts the entries too that end what has begun\n";
+    "cmwq: line 3, column 1: \"c0 fire\" is the first call without room; room 0 counts the entries too \
+    that end what has begun\n";
 
-/// Inputs with a status, and what is told: what `step --live` read ahead, what a front lacks, and what is no fault of the input.
-const TOLD: [(Input, u8, &str, &str); 13] = [
+/// Inputs with a status, and what is told: what `step --live` read ahead, what a front lacks, and what is no fault of
+/// the input.
+const TOLD: [(Input, u8, &str, &str); 12] = [
     (
         Input::Calls,
         4,
@@ -59,12 +61,6 @@ const TOLD: [(Input, u8, &str, &str); 13] = [
         "",
     ),
     (Input::History, 5, "shape 1 1 1", ""),
-    (
-        Input::History,
-        1,
-        "history 2",
-        "cmwq: line 1, column 10: the last line has no line feed\n",
-    ),
     (
         Input::Front,
         0,
@@ -101,18 +97,9 @@ fn inputs_are_explained(rt: HostRuntime) {
     }
 }
 
-/// A million calls and one more, and a mebibyte of spaces and one more.
+/// A mebibyte of spaces and one more.
 #[test]
 fn inputs_that_are_too_long_are_explained(rt: HostRuntime) {
-    let mut calls = Vec::new(rt.alloc());
-    let head = b"shape 1 2 1 3 100\nwq 1 -\n";
-    calls.extend_from_slice(head).expect(&rt, "memory");
-    for _ in 0..1_000_001 {
-        calls.extend_from_slice(b"c0 fire\n").expect(&rt, "memory");
-    }
-    let told_of_calls = told(&rt, Input::Calls, 1, &calls);
-    let wanted = b"cmwq: there are more lines behind the queues than the format has\n";
-    same(&rt, told_of_calls.as_slice(), wanted.as_slice());
     let spaces = vec![in rt.alloc(); b' '; 1_048_577].expect(&rt, "memory");
     for input in [Input::Scenario, Input::Script] {
         let told = told(&rt, input, 1, &spaces);

@@ -1,4 +1,5 @@
-//! Runs of which each call of the source or of a sink fails in turn. The source gives one byte a call, and the sinks take one.
+//! Runs of which each call of the source or of a sink fails in turn. The source gives one byte a call, and the sinks
+//! take one.
 ghost use Rattle.std.specs.Prelude.{◌<◌};
 
 use crate::drip::Drip;
@@ -27,7 +28,8 @@ fn bytes_of(sink: &Failing) -> &[u8] {
     sink.inner.inner().as_slice()
 }
 
-/// Runs a subcommand, of whose source one call fails, and of whose output one. Returns the status, and sees to what was told.
+/// Runs a subcommand, of whose source one call fails, and of whose output one. Returns the status, and sees to what was
+/// told.
 fn run_faulty(
     rt: &(impl Abort + AllocGlobal),
     subcommand: Subcommand,
@@ -73,16 +75,17 @@ fn each_call_of_the_source_may_fail(rt: HostRuntime) {
     }
 }
 
-/// Each byte is written by a call of its own, and then the flush is one; `step --live` flushes after each entry too. What was written before the
-/// call that fails has gone out. Of a long output only some calls fail.
+/// Each byte is written by a call of its own, and then the flush is one; `step --live` flushes after each entry too.
+/// What was written before the call that fails has gone out.
 #[test]
 fn each_call_of_the_output_may_fail(rt: HostRuntime) {
     for (subcommand, text) in INPUTS {
         let ended = run(&rt, subcommand, text);
         let whole = ended.output.as_slice();
-        let stride = (whole.len() as u64 / 60 + 1).min(1_000);
+        // of a long output every so many-th call
+        let stride = if whole.len() > 300 { 251 } else { 1 };
         let mut is_done = false;
-        for step in 0..100 {
+        for step in 0..400 {
             let call = step * stride + 1;
             let mut output = failing_at(&rt, call);
             let status = run_faulty(&rt, subcommand, text, NEVER, &mut output);

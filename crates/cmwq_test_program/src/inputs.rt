@@ -19,9 +19,10 @@ w0n0 1 finish = finished 0
 pub(crate) const FORMAT_LINE: usize = 10;
 
 /// Two items of a queue that lets one be active, and one of another queue.
-pub(crate) const SCENARIO: &[u8] =
-    br#"{"queues":[{"name":"q0","max_active":1,"intensive":false},{"name":"q1","max_active":0,"intensive":true}],
-"items":[{"name":"w0","queue":"q0","ms":[5,10,5]},{"name":"w1","queue":"q0","ms":[5,10]},{"name":"w2","queue":"q1","ms":[3]}]}
+pub(crate) const SCENARIO: &[u8] = br#"{"queues":[{"name":"q0","max_active":1,"intensive":false},
+{"name":"q1","max_active":0,"intensive":true}],
+"items":[{"name":"w0","queue":"q0","ms":[5,10,5]},
+{"name":"w1","queue":"q0","ms":[5,10]},{"name":"w2","queue":"q1","ms":[3]}]}
 "#;
 
 /// An input for each subcommand that reads it to its end.

@@ -174,6 +174,7 @@ fn a_table_has_every_kind_of_line(rt: HostRuntime) {
     same(
         &rt,
         text.as_str(),
-        "TIME IN MSECS\tEVENT\n0\tw0 starts and burns CPU\n5\tw0 sleeps\n5\tw1 and last start and burn CPU\n15\tw0 wakes up and burns CPU\n20\tw1 wakes up and finishes\n64000\tlast finishes\n",
+        "TIME IN MSECS\tEVENT\n0\tw0 starts and burns CPU\n5\tw0 sleeps\n5\tw1 and last start and burn CPU\n\
+        15\tw0 wakes up and burns CPU\n20\tw1 wakes up and finishes\n64000\tlast finishes\n",
     );
 }

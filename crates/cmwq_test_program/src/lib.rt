@@ -1,5 +1,5 @@
-//! Tests of the program's subcommands that need no threads, with sources and sinks that fail, of the texts that no contract speaks of, and of each
-//! public function of the crates that they are made of.
+//! Tests of the program's subcommands that need no threads, with sources and sinks that fail, of the texts that no
+//! contract speaks of, and of each public function of the crates that they are made of.
 #![tactic(auto)]
 
 #[cfg(test)]

@@ -74,31 +74,51 @@ pub(crate) fn run(rt: &(impl Abort + AllocGlobal), subcommand: Subcommand, text:
     }
 }
 
-/// `step --live` ends at the first call without room, and reads no line after it.
+/// An item that is queued, as no.
+const ILLEGAL: &str = "shape 1 2 1 3 100\nwq 1 -\nc0 0 queue 0 0 0 = no\n";
+
+const VERDICT: &str = "illegal at 0: reply yes 0\n";
+
+/// Inputs that have no room, or are illegal or refused: the status, what is written, and what is told. `step --live`
+/// ends at the first call without room, and reads no line after it.
+const ENDINGS: [(Subcommand, &str, u8, &str, &str); 8] = [
+    (
+        Subcommand::Live,
+        "shape 1 1 1 1 0\nwq 1 -\nc0 fire\n",
+        4,
+        "",
+        "cmwq: line 3: no room\n",
+    ),
+    (
+        Subcommand::Live,
+        "shape 1 1 1 1 1\nwq 1 -\nc0 fire\nc0 fire\nno call\n",
+        4,
+        "history 2\nshape 1 1 1 1 1\nwq 1 -\nc0 0 fire = nothing\n",
+        "cmwq: line 4: no room\n",
+    ),
+    (
+        Subcommand::Step,
+        "shape 1 1 1 1 0\nwq 1 -\nc0 fire\n",
+        4,
+        "history 2\nshape 1 1 1 1 0\nwq 1 -\n",
+        "cmwq: full 1\n",
+    ),
+    (Subcommand::Upgrade, ILLEGAL, 3, "", VERDICT),
+    (Subcommand::Summary, ILLEGAL, 3, "", VERDICT),
+    (Subcommand::Chart, ILLEGAL, 3, "", VERDICT),
+    (Subcommand::Trace, ILLEGAL, 3, "", VERDICT),
+    (Subcommand::Replay, "{", 1, "", "cmwq: not JSON\n"),
+];
+
 #[test]
-fn step_live_ends_at_the_first_call_without_room(rt: HostRuntime) {
-    let ended = run(&rt, Subcommand::Live, b"shape 1 1 1 1 0\nwq 1 -\nc0 fire\n");
-    same(
-        &rt,
-        (ended.status, ended.output.as_slice()),
-        (4, b"".as_slice()),
-    );
-    same(
-        &rt,
-        ended.told.as_slice(),
-        b"cmwq: line 3: no room\n".as_slice(),
-    );
-    let calls = b"shape 1 1 1 1 1\nwq 1 -\nc0 fire\nc0 fire\nno call\n";
-    let history = b"history 2\nshape 1 1 1 1 1\nwq 1 -\nc0 0 fire = nothing\n";
-    let ended = run(&rt, Subcommand::Live, calls);
-    same(
-        &rt,
-        (ended.status, ended.output.as_slice()),
-        (4, history.as_slice()),
-    );
-    same(
-        &rt,
-        ended.told.as_slice(),
-        b"cmwq: line 4: no room\n".as_slice(),
-    );
+fn what_went_wrong_is_told(rt: HostRuntime) {
+    for (subcommand, text, status, output, told) in ENDINGS {
+        let ended = run(&rt, subcommand, text.as_bytes());
+        same(
+            &rt,
+            (ended.status, ended.output.as_slice()),
+            (status, output.as_bytes()),
+        );
+        assert_eq!(rt; ended.told.as_slice(), told.as_bytes(), "{subcommand:?}");
+    }
 }
