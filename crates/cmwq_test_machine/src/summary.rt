@@ -63,16 +63,13 @@ fn count_calls(rt: &impl Abort, summary: &Summary) {
     assert_eq!(rt; (summary.calls(0), summary.replies(0)), (2, 2));
     let caller = CallerId(0);
     assert_eq!(rt; (summary.calls_by(caller), summary.tickets(caller)), (6, 1));
-    assert_eq!(rt; summary.longest_wait(caller), entries(4));
+    assert!(rt; summary.longest_wait(caller) == entries(4));
     assert_eq!(rt;
         (summary.runs(ItemId(0)), summary.cancels(ItemId(1))),
         (1, 1)
     );
     assert_eq!(rt; summary.starts_by(0), 1);
-    assert_eq!(rt;
-        (summary.awake(FIRST), summary.asleep(FIRST)),
-        (entries(3), entries(1))
-    );
+    assert!(rt; summary.awake(FIRST) == entries(3) && summary.asleep(FIRST) == entries(1));
 }
 
 /// What became of the queueings on the one queue.
@@ -92,12 +89,12 @@ fn count_queueings(rt: &impl Abort, summary: &Summary) {
         entries: 2,
         ticks: 3,
     };
-    assert_eq!(rt; summary.longest_start(0), longest);
+    assert!(rt; summary.longest_start(0) == longest);
     let all = Total {
         entries: 2,
         ticks: 3,
     };
-    assert_eq!(rt; summary.all_starts(0), all);
+    assert!(rt; summary.all_starts(0) == all);
 }
 
 /// An item is queued, runs, sleeps and finishes while a caller flushes, and another is queued and taken back.
