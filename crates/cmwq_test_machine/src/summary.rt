@@ -19,9 +19,11 @@ struct Summing {
 impl Summing {
     fn take(&mut self, rt: &impl Abort, who: Who, call: Call) {
         assert!(rt; self.summary.shape().fits(who, call));
+        let would = self.execution.would(who, call);
         let Ok(plan) = self.execution.plan(who, call) else {
             panic!(rt; "there is room");
         };
+        assert!(rt; would.is_ok_and(|mark| mark.bits == plan.mark.bits));
         let told = Told {
             entry: plan.mark.entry,
             started: self.execution.started_by(&plan),
@@ -37,7 +39,6 @@ impl Summing {
 
     /// What is read of the execution.
     fn show(&self, rt: &impl Abort) {
-        assert!(rt; self.summary.shape().fits(CALLER, queue(0)));
         let _counts = self.summary.shape().counts();
         assert_eq!(rt; self.execution.width(QueueId(0)), 2);
         assert_eq!(rt;
@@ -45,8 +46,6 @@ impl Summing {
             (10, 0)
         );
         assert!(rt; !self.execution.ready(3) && self.execution.bits(ItemId(0)) == 0);
-        let would = self.execution.would(CALLER, queue(0));
-        assert!(rt; would.is_ok_and(|mark| mark.bits == 1));
     }
 }
 

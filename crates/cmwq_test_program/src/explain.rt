@@ -44,7 +44,7 @@ const FULL: &str =
 
 /// Inputs with a status, and what is told: what `step --live` read ahead, what a front lacks, and what is no fault of
 /// the input.
-const TOLD: [(Input, u8, &str, &str); 12] = [
+const EXPLAINED: [(Input, u8, &str, &str); 12] = [
     (
         Input::Calls,
         4,
@@ -91,7 +91,7 @@ const TOLD: [(Input, u8, &str, &str); 12] = [
 
 #[test]
 fn inputs_are_explained(rt: HostRuntime) {
-    for (input, status, text, wanted) in TOLD {
+    for (input, status, text, wanted) in EXPLAINED {
         let told = told(&rt, input, status, text.as_bytes());
         assert_eq!(rt; told.as_slice(), wanted.as_bytes(), "{input:?}: {text}");
     }

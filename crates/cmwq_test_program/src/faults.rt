@@ -82,11 +82,13 @@ fn each_call_of_the_output_may_fail(rt: HostRuntime) {
     for (subcommand, text) in INPUTS {
         let ended = run(&rt, subcommand, text);
         let whole = ended.output.as_slice();
-        // of a long output every so many-th call
-        let stride = if whole.len() > 300 { 251 } else { 1 };
+        let is_long = whole.len() > 300;
         let mut is_done = false;
-        for step in 0..400 {
-            let call = step * stride + 1;
+        for call in 1..=20_000 {
+            // of a long output every 251st call
+            if is_long && call % 251 != 0 {
+                continue;
+            }
             let mut output = failing_at(&rt, call);
             let status = run_faulty(&rt, subcommand, text, NEVER, &mut output);
             let written = bytes_of(&output);
