@@ -91,8 +91,9 @@ fn what_is_planned_is_made(rt: HostRuntime) {
     let shape = shape(&rt, SMALL, 1);
     let mut book = Book::new(rt.alloc(), &shape, 100).expect(&rt, "memory");
     let mut tail = TailBook::new(rt.alloc(), &shape, 1).expect(&rt, "memory");
-    assert!(rt; shape.fits(CALLER, queue(0)) && shape.counts().callers > 0);
-    let (Ok(plan), Ok(same)) = (book.plan(CALLER, queue(0)), tail.plan(CALLER, queue(0))) else {
+    let call = queue(0);
+    assert!(rt; shape.fits(CALLER, call) && shape.counts().callers > 0);
+    let (Ok(plan), Ok(same)) = (book.plan(CALLER, call), tail.plan(CALLER, call)) else {
         panic!(rt; "there is room");
     };
     assert!(rt; book.commit(&plan).is_same(Reply::Yes(0)));

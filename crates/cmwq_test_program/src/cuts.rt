@@ -3,7 +3,8 @@
 use crate::inputs::{CALLS, FORMAT_LINE, HISTORY, SCENARIO};
 use crate::same::same;
 use crate::subcommand::{Subcommand, run};
-use std::alloc::{AllocError, Global};
+use std::alloc::{AllocError, AllocGlobal, Global};
+use std::process::Abort;
 
 /// What is told of a front of lines, if it is refused, where the head of the file has so many lines.
 fn told_of(alloc: Global, front: &[u8], head: usize) -> Result<Option<String>, AllocError> {
@@ -17,6 +18,36 @@ fn told_of(alloc: Global, front: &[u8], head: usize) -> Result<Option<String>, A
         return Ok(None);
     };
     Ok(Some(told))
+}
+
+/// Runs a subcommand on each front of a text.
+fn cut_anywhere(rt: &(impl Abort + AllocGlobal), subcommand: Subcommand, text: &[u8], head: usize) {
+    for bytes in 0..=text.len() {
+        let front = &text[..bytes];
+        let ended = run(rt, subcommand, front);
+        match told_of(rt.alloc(), front, head).expect(rt, "memory") {
+            Some(told) => {
+                same(
+                    rt,
+                    (ended.status, ended.told.as_slice()),
+                    (1, told.as_bytes()),
+                );
+                let is_empty = ended.output.as_slice().is_empty();
+                assert!(rt; is_empty || subcommand == Subcommand::Live);
+            }
+            None => {
+                same(
+                    rt,
+                    (ended.status, ended.told.as_slice()),
+                    (0, b"".as_slice()),
+                );
+                assert!(rt; !ended.output.as_slice().is_empty());
+            }
+        }
+        if matches!(subcommand, Subcommand::Step | Subcommand::Live) {
+            assert!(rt; HISTORY.starts_with(ended.output.as_slice()), "{bytes}");
+        }
+    }
 }
 
 /// What ends inside a line or its head is refused, and nothing is written but the answers that `step --live` gave
@@ -34,32 +65,7 @@ fn lines_may_be_cut_anywhere(rt: HostRuntime) {
         (Subcommand::Chart, HISTORY, 3),
         (Subcommand::Trace, HISTORY, 3),
     ] {
-        for bytes in 0..=text.len() {
-            let front = &text[..bytes];
-            let ended = run(&rt, subcommand, front);
-            match told_of(rt.alloc(), front, head).expect(&rt, "memory") {
-                Some(told) => {
-                    same(
-                        &rt,
-                        (ended.status, ended.told.as_slice()),
-                        (1, told.as_bytes()),
-                    );
-                    let is_empty = ended.output.as_slice().is_empty();
-                    assert!(rt; is_empty || subcommand == Subcommand::Live);
-                }
-                None => {
-                    same(
-                        &rt,
-                        (ended.status, ended.told.as_slice()),
-                        (0, b"".as_slice()),
-                    );
-                    assert!(rt; !ended.output.as_slice().is_empty());
-                }
-            }
-            if matches!(subcommand, Subcommand::Step | Subcommand::Live) {
-                assert!(rt; HISTORY.starts_with(ended.output.as_slice()), "{bytes}");
-            }
-        }
+        cut_anywhere(&rt, subcommand, text, head);
     }
 }
 

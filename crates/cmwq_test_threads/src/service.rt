@@ -262,10 +262,9 @@ fn a_fault_stops_all(rt: HostRuntime) {
     ] {
         let shape = shape(&rt, 2, 50);
         let acts = [act];
-        let (callers, items): ([&[Act]; 2], [&[Act]; 1]) = (
-            [&WAITS, &acts],
-            [&[Act::Make(CANCEL_OUTSIDE)]],
-        );
+        let callers: [&[Act]; 2] = [&WAITS, &acts];
+        let in_run = [Act::Make(CANCEL_OUTSIDE)];
+        let items: [&[Act]; 1] = [&in_run];
         let table = Table::new(&callers, &items);
         let Err(stopped) = run(&rt, rt.alloc(), &shape, &table) else {
             panic!(rt; "a fault was not told")

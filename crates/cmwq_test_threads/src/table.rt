@@ -147,18 +147,23 @@ impl<'a> Table<'a> {
     }
 }
 
-impl<'a> Service for Table<'a> {
-    fn run<R: Wait + Clock, C: Context>(
+impl<'a> Table<'a> {
+    /// A caller's acts, one after another.
+    fn act_all<R: Wait + Clock, C: Client>(
         &self,
-        _rt: &R,
-        item: ItemId,
-        context: &mut C,
+        rt: &R,
+        client: &mut C,
+        acts: &[Act],
     ) -> Result<(), Fault> {
-        self.runs.fetch_add(1, Ordering::SeqCst);
-        let Some(acts) = self.items.get(usize::from(item.0)) else {
-            return Ok(());
-        };
-        for act in *acts {
+        for act in acts {
+            self.act(rt, client, *act)?;
+        }
+        Ok(())
+    }
+
+    /// The acts of an item's run, one after another.
+    fn act_in_run<C: Context>(&self, context: &mut C, acts: &[Act]) -> Result<(), Fault> {
+        for act in acts {
             match *act {
                 Act::Make(call) => {
                     make_in_run(context, call)?;
@@ -171,6 +176,21 @@ impl<'a> Service for Table<'a> {
         }
         Ok(())
     }
+}
+
+impl<'a> Service for Table<'a> {
+    fn run<R: Wait + Clock, C: Context>(
+        &self,
+        _rt: &R,
+        item: ItemId,
+        context: &mut C,
+    ) -> Result<(), Fault> {
+        self.runs.fetch_add(1, Ordering::SeqCst);
+        let Some(acts) = self.items.get(usize::from(item.0)) else {
+            return Ok(());
+        };
+        self.act_in_run(context, acts)
+    }
 
     fn call<R: Wait + Clock, C: Client>(
         &self,
@@ -181,10 +201,7 @@ impl<'a> Service for Table<'a> {
         let Some(acts) = self.callers.get(usize::from(place)) else {
             return Ok(());
         };
-        for act in *acts {
-            self.act(rt, client, *act)?;
-        }
-        Ok(())
+        self.act_all(rt, client, acts)
     }
 
     fn end<R: Wait + Clock, C: Client>(&self, _rt: &R, client: &mut C) -> Result<(), Fault> {
