@@ -10,7 +10,7 @@ use std::thread::Threads;
 
 const QUEUE: QueueId = QueueId(0);
 
-/// A call of each kind of several entries, and one of a single entry.
+/// Calls of one entry, and of several, of which one waits.
 const CALLS: [Call; 4] = [
     Call::Queue {
         item: ItemId(0),
@@ -28,11 +28,7 @@ const CALLS: [Call; 4] = [
 ];
 
 /// Two callers follow the same script with room for so many entries.
-fn report<R: Threads + Wait + Abort + AllocGlobal + Sync>(
-    rt: &R,
-    room: u64,
-    script: &[Call],
-) -> Report {
+fn report<R: Threads + Wait + Abort + AllocGlobal + Sync>(rt: &R, room: u64) -> Report {
     let counts = Counts {
         cpus: 1,
         workers: 2,
@@ -44,7 +40,7 @@ fn report<R: Threads + Wait + Abort + AllocGlobal + Sync>(
     let shape = Shape::new(counts, queues).expect(rt, "inside the limits");
     let mut scripts = Vec::new(rt.alloc());
     for _ in 0..2 {
-        let own = script.to_vec(rt.alloc()).expect(rt, "memory");
+        let own = CALLS.to_vec(rt.alloc()).expect(rt, "memory");
         scripts.push(own).expect(rt, "memory");
     }
     assert!(rt; are_scripts(&shape, &scripts));
@@ -58,19 +54,8 @@ fn report<R: Threads + Wait + Abort + AllocGlobal + Sync>(
 
 #[test]
 fn scripts_are_followed_as_far_as_there_is_room(rt: HostRuntime) {
-    let whole = report(&rt, 100, &CALLS);
+    let whole = report(&rt, 100);
     assert_eq!(rt; whole.full, 0);
-    let none = report(&rt, 0, &CALLS);
+    let none = report(&rt, 0);
     assert_eq!(rt; (none.answered, none.full), (0, 8));
-}
-
-/// Calls that wait for nothing are one entry each.
-#[test]
-fn eight_calls_of_a_script_stand_together(rt: HostRuntime) {
-    let calls = [Call::Cancel { item: ItemId(0) }; 64];
-    let history = report(&rt, 1_000, &calls).history;
-    assert_eq!(rt; history.len(), 128);
-    for (entry, next) in history.iter().zip(history.iter().skip(1)) {
-        assert!(rt; next.serial % 8 == 0 || next.who == entry.who);
-    }
 }
