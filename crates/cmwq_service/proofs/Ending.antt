@@ -63,7 +63,9 @@ pub is_served : (s : Layout) (behavior : Behavior) (does : Conduct) (full : ℕ)
 is_served s behavior does full h left = record {
   reliable = reliable s (past_of h) left.legal;
   finished = left.finished;
-  called = (λ k own. called_from s does 0 s.callers full h left.called k (omega (arith, own)) own);
+  called = (λ k own.
+      let same : 0 + k ≡ k = omega arith in
+      subst (λ (n : ℕ). ∥ CalledIn s does n h ∥₁) same (called_from s does 0 s.callers full h left.called k (omega (arith, own)) (omega (arith, own))));
 }
 
 pub rest_of_served : (s : Layout) (behavior : Behavior) (does : Conduct) (entries full first : ℕ) (es : List Entry) → IsRestOfLeft s behavior (calls_of does) s.callers entries full first es → IsRestOfServed s does first es
