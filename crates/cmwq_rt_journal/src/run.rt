@@ -3,13 +3,12 @@ ghost use Rattle.std.specs.Prelude.{◌≡◌, ◌≤◌, ℕ, List, Option, [],
 ghost use Rattle.std.specs.Io.KnownBytes.{Appends};
 ghost use Rattle.cmwq_io.specs.Counts.{Rises};
 ghost use Rattle.cmwq_io.specs.Moves.{AppendsFront};
-ghost use Rattle.cmwq_model.specs.Prelude.{Layout, past_of, IsLegal};
+ghost use Rattle.cmwq_model.specs.Prelude.{past_of, IsLegal};
 ghost use Rattle.cmwq_text.specs.HistoryText.{body_text, text_of_format};
 ghost use Rattle.cmwq_rt.specs.Places.{shares};
-ghost use Rattle.cmwq_engine.specs.Conduct.{Conduct};
 ghost use Rattle.cmwq_engine.specs.Ended.{EndsAll};
 ghost use Rattle.cmwq_rt_journal.specs.Faults.{is_of_sink};
-ghost use Rattle.cmwq_rt_journal.specs.Journaled.{TellsOf, WritesLeft};
+ghost use Rattle.cmwq_rt_journal.specs.Journaled.{TellsOf, WritesLeft, is_quiet};
 ghost use Rattle.cmwq_rt_journal.specs.Kept.{HasKept, WritesFront};
 ghost use Rattle.cmwq_rt_journal.specs.declared.fault.Unwritten.TheVariants as unwritten;
 
@@ -32,7 +31,7 @@ use std::time::Clock;
 /// What is told where a journal broke off. It is the only one of its hub and as large as what the hub keeps.
 fn told(fault: JournalFault) -> Unwritten
     ensures sink { result ≡ unwritten.Sink → is_of_sink fault ≡ true }
-    ensures tells { (s : Layout) (calls : Conduct) (many : ℕ) → TellsOf s calls many result }
+    ensures tells { is_quiet result ≡ true }
 {
     match fault {
         JournalFault::Write { .. } => Unwritten::Sink,
@@ -56,7 +55,7 @@ fn write_end<N: HubName, O: Sink>(
     ensures whole { OnOk result ((start : Option (List ℕ)) → Appends start (O.written output.old) (body_text 3 N.layout journal.now.seen) → Appends start (O.written output.new) (text_of_format 3 N.layout journal.now.seen)) }
     ensures flushed { OnOk result (O.held output.new ≡ 0) }
     ensures front { OnErr result ((start : Option (List ℕ)) → Appends start (O.written output.old) (body_text 3 N.layout journal.now.seen) → AppendsFront start (O.written output.new) (text_of_format 3 N.layout journal.now.seen)) }
-    ensures tells { IfErr result (λ f. (s : Layout) (calls : Conduct) (many : ℕ) → TellsOf s calls many f) }
+    ensures tells { IfErr result (λ f. is_quiet f ≡ true) }
     ensures sink { IsErrOf result unwritten.Sink → Rises (O.troubles output.old) (O.troubles output.new) }
 {
     match end_journal(journal, &counted.rest, output) {

@@ -1,13 +1,10 @@
 //! Scripts, each followed by a thread of its own, beside a thread for each worker.
 ghost use Rattle.std.specs.Prelude.{◌≡◌, ◌<◌, ◌≤◌, ◌^◌, length, map, None, All, IfOk, IfErr, OnOk, OnErr, IsErrOf};
 ghost use Rattle.cmwq_io.specs.Counts.{Rises};
-ghost use Rattle.cmwq_model.specs.Prelude.{Layout, past_of, IsLegal, IsScripted, most_callers};
+ghost use Rattle.cmwq_model.specs.Prelude.{past_of, IsLegal, IsScripted, most_callers};
 ghost use Rattle.cmwq_monitor.specs.Held.{active_in};
 ghost use Rattle.cmwq_monitor.specs.declared.fault.RunFault.TheVariants as faults;
-ghost use Rattle.cmwq_rt.specs.Running.{Behavior};
-ghost use Rattle.cmwq_engine.specs.Conduct.{Conduct};
-ghost use Rattle.cmwq_engine.specs.Ended.{AllWorked, AreSilent, IsRestOfLeft};
-ghost use Rattle.cmwq_engine.specs.Ended.{FailsAs as CrewFails, IsLeft as CrewLeaves};
+ghost use Rattle.cmwq_engine.specs.Ended.{AllWorked, AreSilent};
 ghost use Rattle.cmwq_rt_journal.specs.Kept.{WritesFront};
 ghost use Rattle.cmwq_rt_journal.specs.declared.fault.Unwritten.TheVariants as unwritten;
 ghost use Rattle.cmwq_rt_scripts.specs.Ended.{AllFollow, FailsAs, IsLeft};
@@ -46,30 +43,6 @@ fn unread_parts<R: Wait>(rt: &R, alloc: Global, shape: &Shape) -> Result<HubPart
     }
 }
 
-/// The report of a run whose hub kept its whole history.
-fn make_report(rest: Rest, outcome: Result<Tally, RunFault>) -> Result<Report, RunFault>
-    ensures left { (s : Layout) (does : Behavior) (calls : Conduct) (many : _) → IfOk outcome (λ t. IsRestOfLeft s does calls many t.answered t.full rest.first rest.entries.items) → IfOk result (λ r. CrewLeaves s does calls many r.full r.history.items × (r.answered ≡ length r.history.items)) }
-    ensures fails { (s : Layout) (calls : Conduct) (many : _) → IfErr outcome (CrewFails s calls many) → IfErr result (CrewFails s calls many) }
-{
-    let Rest { first, entries } = rest;
-    let tally = match outcome {
-        Ok(tally) => tally,
-        Err(fault) => return Err(fault),
-    };
-    // no journal took any
-    if first != 0 {
-        return Err(RunFault::Stranger {
-            own: 0,
-            book: first,
-        });
-    }
-    Ok(Report {
-        history: entries,
-        answered: tally.answered,
-        full: tally.full,
-    })
-}
-
 /// Runs scripts on a hub of these parts, whose shape is this one.
 fn run_parts<'x, W: Work + Sync, R: Threads + Wait + Sync>(
     rt: &'x R,
@@ -88,7 +61,23 @@ fn run_parts<'x, W: Work + Sync, R: Threads + Wait + Sync>(
     let _shape = shape;
     let crew = Scripts { scripts };
     let (rest, outcome) = run(rt, alloc, parts, &crew, work);
-    make_report(rest, outcome)
+    let Rest { first, entries } = rest;
+    let tally = match outcome {
+        Ok(tally) => tally,
+        Err(fault) => return Err(fault),
+    };
+    // no journal took any
+    if first != 0 {
+        return Err(RunFault::Stranger {
+            own: 0,
+            book: first,
+        });
+    }
+    Ok(Report {
+        history: entries,
+        answered: tally.answered,
+        full: tally.full,
+    })
 }
 
 /// Runs scripts on a new hub: a thread for each script, whose caller follows it, and one for each worker. Once all

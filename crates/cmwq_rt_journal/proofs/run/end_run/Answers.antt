@@ -1,9 +1,9 @@
 use Rattle.cmwq_rt_journal.proofs.Kept.{has_kept}
-use Rattle.cmwq_rt_journal.proofs.Journaling.{tells_so}
+use Rattle.cmwq_rt_journal.proofs.Journaling.{tells_quietly, tells_so}
 use Rattle.cmwq_rt_journal.proofs.run.end_run.Goals as goal
 
 pub returns-in-Err-clause-tells : goal.returns-in-Err-clause-tells
-returns-in-Err-clause-tells g c = c.told.ensures.tells g.N.HubName.layout _ _
+returns-in-Err-clause-tells g c = tells_quietly g.N.HubName.layout _ _ c.told.result c.told.ensures.tells
 
 pub returns-in-Err-ends-clause-front : goal.returns-in-Err-ends-clause-front
 returns-in-Err-ends-clause-front g c start kept =
