@@ -28,4 +28,4 @@ pub use laws::{
 pub use reading::{TOO_MANY_LINES, read_file};
 pub use refusal::Refusal;
 pub use stage::{Contents, FileLine, Stage};
-pub use writing::{write_end, write_entry, write_shape};
+pub use writing::{write_end, write_entries, write_entry, write_shape};

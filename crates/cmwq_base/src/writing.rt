@@ -5,7 +5,7 @@ ghost use Rattle.std.specs.Io.KnownBytes.{Appends};
 ghost use Rattle.cmwq_io.specs.Counts.{Rises};
 ghost use Rattle.cmwq_io.specs.Moves.{AppendsFront};
 ghost use Rattle.cmwq_text.specs.EntryText.{entry_text};
-ghost use Rattle.cmwq_text.specs.HistoryText.{head_text, last_text};
+ghost use Rattle.cmwq_text.specs.HistoryText.{entries_text, head_text, last_text};
 ghost use Rattle.cmwq_text.specs.ShapeText.{queue_text};
 
 use crate::refusal::Refusal;
@@ -28,6 +28,23 @@ pub fn write_entry<W: Sink>(sink: &mut W, entry: &Entry) -> Result<(), Refusal>
     let mut line = Line::new();
     spell_entry(&mut line, entry);
     write_all(sink, line.as_bytes())?;
+    Ok(())
+}
+
+/// Writes the lines of entries. Takes no memory.
+///
+/// # Errors
+/// `WriteFault` where the sink fails; a front of the lines has been written then.
+pub fn write_entries<W: Sink>(sink: &mut W, entries: &[Entry]) -> Result<(), Refusal>
+    ensures ok { OnOk result (Appends (W.written sink.old) (W.written sink.new) (entries_text entries.now)) }
+    ensures err { OnErr result (AppendsFront (W.written sink.old) (W.written sink.new) (entries_text entries.now)) }
+    ensures only { IfErr result (λ e. e ≡ Refusal.WriteFault) }
+    ensures grown { W.troubles sink.old ≤ W.troubles sink.new }
+    ensures fault { OnErr result (Rises (W.troubles sink.old) (W.troubles sink.new)) }
+{
+    for entry in entries {
+        write_entry(sink, entry)?;
+    }
     Ok(())
 }
 

@@ -4,26 +4,14 @@ ghost use Rattle.std.specs.Prelude.{◌≡◌, ◌≤◌, OnOk, OnErr, IfErr};
 ghost use Rattle.std.specs.Io.KnownBytes.{Appends};
 ghost use Rattle.cmwq_io.specs.Counts.{Rises};
 ghost use Rattle.cmwq_io.specs.Moves.{AppendsFront};
-ghost use Rattle.cmwq_text.specs.HistoryText.{entries_text, text_of_format};
+ghost use Rattle.cmwq_text.specs.HistoryText.{text_of_format};
 ghost use Rattle.cmwq_cmd_history.specs.Check.{verdict_line_text};
 
 use cmwq_base::{
-    Entry, Illegal, Refusal, Shape, Sink, flush_all, write_all, write_end, write_entry, write_shape,
+    Entry, Illegal, Refusal, Shape, Sink, flush_all, write_all, write_end, write_entries,
+    write_shape,
 };
 use cmwq_text::{Line, illegal_line, legal_line};
-
-fn write_entries<W: Sink>(sink: &mut W, entries: &[Entry]) -> Result<(), Refusal>
-    ensures ok { OnOk result (Appends (W.written sink.old) (W.written sink.new) (entries_text entries.now)) }
-    ensures err { OnErr result (AppendsFront (W.written sink.old) (W.written sink.new) (entries_text entries.now)) }
-    ensures only { IfErr result (λ e. e ≡ Refusal.WriteFault) }
-    ensures grown { W.troubles sink.old ≤ W.troubles sink.new }
-    ensures fault { OnErr result (Rises (W.troubles sink.old) (W.troubles sink.new)) }
-{
-    for entry in entries {
-        write_entry(sink, entry)?;
-    }
-    Ok(())
-}
 
 /// Writes a history with its shape in format 2 or 3, and flushes. Takes no memory.
 ///

@@ -1,5 +1,5 @@
 //! What workers run.
-ghost use Rattle.std.specs.Prelude.{◌≡◌, ◌⊎◌, ◌<◌, true, false, IfOk, IfErr, None};
+ghost use Rattle.std.specs.Prelude.{◌≡◌, ◌⊎◌, ◌<◌, true, false, IfOk, IfErr, None, Some};
 ghost use Rattle.cmwq_model.specs.Prelude.{has_numbers, is_workers};
 ghost use Rattle.cmwq_model.specs.declared.call.Call.TheVariants as calls;
 ghost use Rattle.cmwq_monitor.specs.Participants.{is_caller};
@@ -74,9 +74,20 @@ impl<'a, N: HubName, R: Wait> RunCtx<'a, N, R> {
         self.hub.shape()
     }
 
-    /// Makes a worker's call: one entry, or none at a fault.
+    /// The run breaks off: its worker answers this fault, as if a call of the run had answered it.
+    pub fn break_off(&mut self, fault: RunFault)
+        requires { breaks_off fault ≡ true }
+        ensures { self.new ≡ record self.old { fault = Some fault } }
+    {
+        self.fault = Some(fault);
+    }
+
+    /// A call of the worker, as the method of its name makes it: one entry.
+    ///
+    /// # Errors
+    /// As of `queue`.
     #[tactic(auto, using(crate::proofs::Running::refused_breaks_off))]
-    fn make(&mut self, call: Call) -> Result<Reply, RunFault>
+    pub fn make(&mut self, call: Call) -> Result<Reply, RunFault>
         requires workers { is_workers call ≡ true }
         requires numbers { has_numbers N.layout call ≡ true }
         ensures later { Later self.old.participant self.new.participant }
@@ -87,6 +98,8 @@ impl<'a, N: HubName, R: Wait> RunCtx<'a, N, R> {
         let _who = self.participant.who();
         let answer = self.hub.call(self.rt, &mut self.participant, call);
         match answer {
+            Ok(Reply::Slept) => self.is_asleep = true,
+            Ok(Reply::Woke) => self.is_asleep = false,
             Ok(_) | Err(RunFault::Full) => {}
             Err(fault) => self.fault = Some(fault),
         }
@@ -181,9 +194,7 @@ impl<'a, N: HubName, R: Wait> RunCtx<'a, N, R> {
         ensures refused { IfErr result (λ f. Refused N.layout self.old.participant calls.Sleep f self.new.participant) }
         ensures fault { self.new.fault ≡ fault_after result self.old.fault }
     {
-        let answer = self.make(Call::Sleep);
-        self.is_asleep |= matches!(answer, Ok(Reply::Slept));
-        answer
+        self.make(Call::Sleep)
     }
 
     /// The run goes on (`wq_worker_running`): one entry of the worker.
@@ -196,9 +207,7 @@ impl<'a, N: HubName, R: Wait> RunCtx<'a, N, R> {
         ensures refused { IfErr result (λ f. Refused N.layout self.old.participant calls.Wake f self.new.participant) }
         ensures fault { self.new.fault ≡ fault_after result self.old.fault }
     {
-        let answer = self.make(Call::Wake);
-        self.is_asleep &= !matches!(answer, Ok(Reply::Woke));
-        answer
+        self.make(Call::Wake)
     }
 }
 

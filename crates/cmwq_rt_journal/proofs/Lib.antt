@@ -1,2 +1,3 @@
+pub mod Journaling
 pub mod Kept
 pub mod Texts

@@ -17,14 +17,14 @@ use cmwq_rt::Hub;
 use std::sync::Wait;
 use std::time::{Clock, Duration};
 
-/// Writes the history of a hub as text of format 3 while it is made, but for its last line, until the hub has failed: so who has joined
-/// all callers and workers ends it by `Hub::fail`. It flushes behind each batch, and waits for the next no longer than `time`. It takes
-/// no memory, and writes without the hub's lock.
+/// Writes the history of a hub as text of format 3 while it is made, but for its last line, until the hub has failed:
+/// so who has joined all callers and workers ends it by `Hub::fail`. It flushes behind each batch, and waits for the
+/// next no longer than `time`. It takes no memory, and writes without the hub's lock.
 ///
 /// # Errors
-/// `Late` where the journal has entries already: the hub is as it was. Otherwise the hub has failed, so that everybody answers:
-/// `Write` where the sink fails; the entries that were not written whole are those of the journal's batch, and what is left in the hub.
-/// `Hub` where `Hub::hand_over_within` answers a fault.
+/// `Late` where the journal has entries already: the hub is as it was. Otherwise the hub has failed, so that everybody
+/// answers: `Write` where the sink fails; the entries that were not written whole are those of the journal's batch, and
+/// what is left in the hub. `Hub` where `Hub::hand_over_within` answers a fault.
 pub fn keep_journal<N: HubName, R: Wait + Clock, O: Sink>(
     rt: &R,
     hub: &Hub<N>,
@@ -89,12 +89,12 @@ fn keep_from_start<N: HubName, R: Wait + Clock, O: Sink>(
     unreachable!()
 }
 
-/// Ends the text that `keep_journal` wrote of a hub that is no more: the entries that were not handed over to the journal, and the line
-/// that says how many all are. It flushes, and takes no memory.
+/// Ends the text that `keep_journal` wrote of a hub that is no more: the entries that were not handed over to the
+/// journal, and the line that says how many all are. It flushes, and takes no memory.
 ///
 /// # Errors
-/// `Write` where the sink fails; a front of the lines has been written then. `Hub` with a `Stranger` where the rest doesn't begin where the
-/// journal ends: nothing was written.
+/// `Write` where the sink fails; a front of the lines has been written then. `Hub` with a `Stranger` where the rest
+/// doesn't begin where the journal ends: nothing was written.
 pub fn end_journal<N: HubName, O: Sink>(
     journal: &Journal<N>,
     rest: &Rest,

@@ -6,21 +6,9 @@ ghost use Rattle.cmwq_io.specs.Counts.{Rises};
 ghost use Rattle.cmwq_io.specs.Moves.{AppendsFront};
 ghost use Rattle.cmwq_text.specs.HistoryText.{entries_text, head_text, last_text};
 
-use cmwq_base::{Refusal, flush_all, write_end, write_entry, write_shape};
+use cmwq_base::{Refusal, flush_all, write_end, write_entries, write_shape};
 use cmwq_io::Sink;
 use cmwq_model::{Entry, Shape};
-
-fn write_entries<O: Sink>(output: &mut O, entries: &[Entry]) -> Result<(), Refusal>
-    ensures ok { OnOk result (Appends (O.written output.old) (O.written output.new) (entries_text entries.now)) }
-    ensures err { OnErr result (AppendsFront (O.written output.old) (O.written output.new) (entries_text entries.now)) }
-    ensures grown { O.troubles output.old ≤ O.troubles output.new }
-    ensures fault { OnErr result (Rises (O.troubles output.old) (O.troubles output.new)) }
-{
-    for entry in entries {
-        write_entry(output, entry)?;
-    }
-    Ok(())
-}
 
 /// What stands before the entries, in format 3.
 pub(crate) fn write_head<O: Sink>(output: &mut O, shape: &Shape) -> Result<(), Refusal>

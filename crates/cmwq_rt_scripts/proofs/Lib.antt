@@ -1,3 +1,1 @@
-pub mod Gathering
-pub mod Journaling
-pub mod Starting
+pub mod Leaving

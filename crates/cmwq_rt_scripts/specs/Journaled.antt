@@ -2,8 +2,8 @@
 use Rattle.std.specs.Prelude.{◌≡◌}
 use Rattle.cmwq_rt_scripts.specs.Common.{ℕ, List, length, Option, Appends, Call, Entry, Layout, text_of_format, Behavior}
 use Rattle.cmwq_rt_scripts.specs.Ended.{FailsAs, IsLeft}
-use Rattle.cmwq_rt_scripts.specs.declared.journal.Unwritten.{Unwritten}
-use Rattle.cmwq_rt_scripts.specs.declared.journal.Unwritten.TheVariants as unwritten
+use Rattle.cmwq_rt_journal.specs.declared.fault.Unwritten.{Unwritten}
+use Rattle.cmwq_rt_journal.specs.declared.fault.Unwritten.TheVariants as unwritten
 
 -- the whole text of a history that the scripts leave, of so many entries
 abbrev pub WritesAll : Layout → Behavior → List (List Call) → ℕ → ℕ → Option (List ℕ) → Option (List ℕ) → Type 0

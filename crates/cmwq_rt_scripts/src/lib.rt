@@ -1,16 +1,12 @@
-//! Runs scripts on threads: a thread for each caller, which follows its script, and one for each worker. The history is handed out at
-//! the end, or written while it is made.
+//! Runs scripts on threads: a thread for each caller, which follows its script, and one for each worker. The history is
+//! handed out at the end, or written while it is made.
 #![tactic(auto)]
 
-mod beside;
-mod ends;
-mod gather;
-mod journal;
+mod crew;
 mod run;
-mod start;
 mod tested;
 
-pub use ends::{CallerEnd, FollowsScript, WorkerEnd};
-pub use journal::{Unwritten, Written, run_scripts_with_journal};
-pub use run::{Report, run_scripts};
+pub use cmwq_rt_journal::{Tally as Written, Unwritten};
+pub use crew::Scripts;
+pub use run::{Report, run_scripts, run_scripts_with_journal};
 pub use tested::are_scripts;

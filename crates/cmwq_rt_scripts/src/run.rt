@@ -1,25 +1,30 @@
 //! Scripts, each followed by a thread of its own, beside a thread for each worker.
-ghost use Rattle.std.specs.Prelude.{◌≡◌, ◌+◌, ◌<◌, ◌≤◌, ◌^◌, length, map, None, All, IfOk, IfErr};
+ghost use Rattle.std.specs.Prelude.{◌≡◌, ◌<◌, ◌≤◌, ◌^◌, length, map, None, All, IfOk, IfErr, OnOk, OnErr, IsErrOf};
+ghost use Rattle.cmwq_io.specs.Counts.{Rises};
 ghost use Rattle.cmwq_model.specs.Prelude.{past_of, IsLegal, IsScripted, most_callers};
 ghost use Rattle.cmwq_monitor.specs.Held.{active_in};
 ghost use Rattle.cmwq_monitor.specs.declared.fault.RunFault.TheVariants as faults;
-ghost use Rattle.cmwq_rt.specs.Places.{all_free, shares};
-ghost use Rattle.cmwq_rt_scripts.specs.Ended.{AllFollow, AllWorked, AreNewcomers, AreSilent, FailsAs, HaveEnded, HaveWorked};
+ghost use Rattle.cmwq_engine.specs.Ended.{AllWorked, AreSilent};
+ghost use Rattle.cmwq_rt_journal.specs.Kept.{WritesFront};
+ghost use Rattle.cmwq_rt_journal.specs.declared.fault.Unwritten.TheVariants as unwritten;
+ghost use Rattle.cmwq_rt_scripts.specs.Ended.{AllFollow, FailsAs, IsLeft};
+ghost use Rattle.cmwq_rt_scripts.specs.Followed.{AreFit};
+ghost use Rattle.cmwq_rt_scripts.specs.Journaled.{TellsOf, WritesAll};
 
-use crate::gather::{Ends, gather};
-use crate::start::{idle_callers, start_callers, start_workers};
+use crate::crew::Scripts;
+use cmwq_engine::{Tally, run};
+use cmwq_io::Sink;
 use cmwq_model::{Call, Entry, Shape};
 use cmwq_monitor::Rest;
-use cmwq_rt::ending::into_monitor;
-use cmwq_rt::{Hub, HubName, HubParts, Participants, RunFault, Work};
+use cmwq_rt::{HubParts, RunFault, Work};
+use cmwq_rt_journal::{Unwritten, run_with_journal};
 use std::alloc::Global;
-use std::marker::Brand;
 use std::sync::Wait;
-use std::thread;
-use std::thread::{Scope, Threads, join_promised};
+use std::thread::Threads;
+use std::time::Clock;
 
-/// The history of a run on threads, how many entries its callers and workers count as theirs, and how many calls were left out for
-/// want of room.
+/// The history of a run on threads, how many entries its callers and workers count as theirs, and how many calls were
+/// left out for want of room.
 #[derive(Drop)]
 pub struct Report {
     pub history: Vec<Entry>,
@@ -27,7 +32,7 @@ pub struct Report {
     pub full: u64,
 }
 
-// The parts of a hub that keeps all its entries. Scripts never look, so it has no readers.
+/// The parts of a hub that keeps all its entries. Scripts never look, so it has no readers.
 fn unread_parts<R: Wait>(rt: &R, alloc: Global, shape: &Shape) -> Result<HubParts, RunFault>
     ensures shape { IfOk result (λ p. p.shape ≡ shape.now) }
     ensures fault { IfErr result (λ f. f ≡ faults.NoMemory None) }
@@ -38,82 +43,29 @@ fn unread_parts<R: Wait>(rt: &R, alloc: Global, shape: &Shape) -> Result<HubPart
     }
 }
 
-// Runs all threads to their end.
-fn run_all<'s, E, N: HubName + Send + Sync + 's, W: Work + Sync, R: Threads + Wait + Sync>(
-    scope: &Scope<'s, E>,
-    rt: &'s R,
-    hub: &'s Hub<N>,
+/// Runs scripts on a hub of these parts, whose shape is this one.
+fn run_parts<'x, W: Work + Sync, R: Threads + Wait + Sync>(
+    rt: &'x R,
     alloc: Global,
-    participants: Participants<N>,
-    scripts: &'s [Vec<Call>],
-    work: &'s W,
-) -> Result<Ends<N>, RunFault>
-    requires fresh { participants ≡ all_free }
-    requires few { length scripts.now ≤ most_callers }
-    requires calls { All (λ s. All (IsScripted N.layout) s.items × (length s.items < 2 ^ 32)) scripts.now }
-    ensures each { IfOk result (λ r. HaveEnded N.layout scripts.now r.callers.items) }
-    ensures worked { IfOk result (λ r. HaveWorked N.layout (W.does work.now N.layout) r.workers.items) }
-    ensures idle { IfOk result (λ r. AreNewcomers N.layout (length scripts.now) r.idle.items) }
-    ensures rest { IfOk result (λ r. (r.rest.parts + (length r.callers.items + length r.workers.items + length r.idle.items) ≡ shares) × (r.rest.amount ≡ 0)) }
-    ensures fails { IfErr result (λ f. FailsAs N.layout (map (λ s. s.items) scripts.now) f) }
-{
-    let mut participants = participants;
-    let handles = match start_callers(scope, rt, hub, alloc, &mut participants, scripts) {
-        Ok(handles) => handles,
-        Err(fault) => {
-            hub.fail(rt);
-            return Err(fault);
-        }
-    };
-    let working = match start_workers(scope, rt, hub, alloc, &mut participants, work) {
-        Ok(working) => working,
-        Err(fault) => {
-            hub.fail(rt);
-            return Err(fault);
-        }
-    };
-    let joined = join_promised(rt, handles);
-    hub.close(rt);
-    let ended = join_promised(rt, working);
-    let Ok(callers) = joined else {
-        return Err(RunFault::NoMemory { ticket: None });
-    };
-    let Ok(workers) = ended else {
-        return Err(RunFault::NoMemory { ticket: None });
-    };
-    let idle = idle_callers(alloc, hub.shape(), &mut participants)?;
-    Ok(Ends {
-        callers,
-        workers,
-        idle,
-        rest: participants.into_rest(),
-    })
-}
-
-// The report of a hub whose threads have ended.
-fn make_report<N: HubName, W: Work, R: Wait>(
-    rt: &R,
-    hub: Hub<N>,
-    ends: Ends<N>,
-    scripts: &[Vec<Call>],
-    work: &W,
+    shape: &Shape,
+    parts: HubParts,
+    scripts: &'x [Vec<Call>],
+    work: &'x W,
 ) -> Result<Report, RunFault>
-    requires parts { N.parts ≡ shares }
-    requires each { HaveEnded N.layout scripts.now ends.callers.items }
-    requires worked { HaveWorked N.layout (W.does work.now N.layout) ends.workers.items }
-    requires idle { AreNewcomers N.layout (length scripts.now) ends.idle.items }
-    requires rest { (ends.rest.parts + (length ends.callers.items + length ends.workers.items + length ends.idle.items) ≡ shares) × (ends.rest.amount ≡ 0) }
-    ensures legal { IfOk result (λ r. IsLegal N.layout (past_of r.history.items)) }
+    requires shape { parts.shape ≡ shape.now }
+    requires fits { AreFit shape.now scripts.now }
+    ensures left { IfOk result (λ r. IsLeft shape.now (W.does work.now shape.now) (map (λ s. s.items) scripts.now) r.full r.history.items) }
     ensures counted { IfOk result (λ r. r.answered ≡ length r.history.items) }
-    ensures follow { IfOk result (λ r. AllFollow N.layout 0 (map (λ s. s.items) scripts.now) r.full r.history.items) }
-    ensures worked { IfOk result (λ r. AllWorked N.layout (W.does work.now N.layout) r.history.items) }
-    ensures silent { IfOk result (λ r. AreSilent N.layout (length scripts.now) r.history.items) }
-    ensures finished { IfOk result (λ r. active_in N.layout r.history.items ≡ 0) }
-    ensures fails { IfErr result (λ f. FailsAs N.layout (map (λ s. s.items) scripts.now) f) }
+    ensures fails { IfErr result (FailsAs shape.now (map (λ s. s.items) scripts.now)) }
 {
-    let mut monitor = into_monitor(hub);
-    let gathered = gather(&mut monitor, ends, scripts, work);
-    let Rest { first, entries } = monitor.end(rt);
+    let _shape = shape;
+    let crew = Scripts { scripts };
+    let (rest, outcome) = run(rt, alloc, parts, &crew, work);
+    let Rest { first, entries } = rest;
+    let tally = match outcome {
+        Ok(tally) => tally,
+        Err(fault) => return Err(fault),
+    };
     // no journal took any
     if first != 0 {
         return Err(RunFault::Stranger {
@@ -121,84 +73,20 @@ fn make_report<N: HubName, W: Work, R: Wait>(
             book: first,
         });
     }
-    match gathered {
-        Ok((answered, full)) => Ok(Report {
-            history: entries,
-            answered,
-            full,
-        }),
-        Err(fault) => Err(fault),
-    }
+    Ok(Report {
+        history: entries,
+        answered: tally.answered,
+        full: tally.full,
+    })
 }
 
-// Runs all threads in a scope of their own.
-pub(crate) fn run_threads<'x, N: HubName + Send + Sync, W: Work + Sync, R: Threads + Wait + Sync>(
-    rt: &'x R,
-    hub: &'x Hub<N>,
-    alloc: Global,
-    participants: Participants<N>,
-    scripts: &'x [Vec<Call>],
-    work: &'x W,
-) -> Result<Ends<N>, RunFault>
-    requires fresh { participants ≡ all_free }
-    requires few { length scripts.now ≤ most_callers }
-    requires calls { All (λ s. All (IsScripted N.layout) s.items × (length s.items < 2 ^ 32)) scripts.now }
-    ensures each { IfOk result (λ r. HaveEnded N.layout scripts.now r.callers.items) }
-    ensures worked { IfOk result (λ r. HaveWorked N.layout (W.does work.now N.layout) r.workers.items) }
-    ensures idle { IfOk result (λ r. AreNewcomers N.layout (length scripts.now) r.idle.items) }
-    ensures rest { IfOk result (λ r. (r.rest.parts + (length r.callers.items + length r.workers.items + length r.idle.items) ≡ shares) × (r.rest.amount ≡ 0)) }
-    ensures fails { IfErr result (λ f. FailsAs N.layout (map (λ s. s.items) scripts.now) f) }
-{
-    thread::scope(
-        thread::scope_env(),
-        rt,
-        |scope| -> Result<Ends<N>, RunFault>
-            requires { (participants ≡ all_free) × (length scripts.now ≤ most_callers) × All (λ s. All (IsScripted N.layout) s.items × (length s.items < 2 ^ 32)) scripts.now }
-            ensures { IfOk result (λ r. HaveEnded N.layout scripts.entry.now r.callers.items × HaveWorked N.layout (W.does work.entry.now N.layout) r.workers.items
-                × AreNewcomers N.layout (length scripts.entry.now) r.idle.items
-                × (r.rest.parts + (length r.callers.items + length r.workers.items + length r.idle.items) ≡ shares) × (r.rest.amount ≡ 0)) × IfErr result (λ f. FailsAs N.layout (map (λ s. s.items) scripts.entry.now) f) }
-        { run_all(scope, rt, hub, alloc, participants, scripts, work) },
-    )
-}
-
-// Runs the scripts on a hub of these parts.
-fn run_parts<'x, N: HubName + Send + Sync + 'static, W: Work + Sync, R: Threads + Wait + Sync>(
-    rt: &'x R,
-    alloc: Global,
-    parts: HubParts,
-    scripts: &'x [Vec<Call>],
-    work: &'x W,
-) -> Result<Report, RunFault>
-    requires layout { parts.shape ≡ N.layout }
-    requires book { parts.opening.book ≡ N.book }
-    requires ledger { (parts.blank.name ≡ N.name) × (parts.blank.parts ≡ N.parts) }
-    requires few { length scripts.now ≤ most_callers }
-    requires calls { All (λ s. All (IsScripted N.layout) s.items × (length s.items < 2 ^ 32)) scripts.now }
-    ensures legal { IfOk result (λ r. IsLegal N.layout (past_of r.history.items)) }
-    ensures counted { IfOk result (λ r. r.answered ≡ length r.history.items) }
-    ensures follow { IfOk result (λ r. AllFollow N.layout 0 (map (λ s. s.items) scripts.now) r.full r.history.items) }
-    ensures worked { IfOk result (λ r. AllWorked N.layout (W.does work.now N.layout) r.history.items) }
-    ensures silent { IfOk result (λ r. AreSilent N.layout (length scripts.now) r.history.items) }
-    ensures finished { IfOk result (λ r. active_in N.layout r.history.items ≡ 0) }
-    ensures fails { IfErr result (λ f. FailsAs N.layout (map (λ s. s.items) scripts.now) f) }
-{
-    let (hub, participants) = Hub::<N>::open(parts);
-    let ends = run_threads(rt, &hub, alloc, participants, scripts, work);
-    match ends {
-        Ok(ends) => make_report(rt, hub, ends, scripts, work),
-        Err(fault) => {
-            into_monitor(hub).end(rt);
-            Err(fault)
-        }
-    }
-}
-
-/// Runs scripts on a new hub: a thread for each script, whose caller follows it, and one for each worker. Once all callers have ended the
-/// hub is closed, and the workers go on until no active queueing is open.
+/// Runs scripts on a new hub: a thread for each script, whose caller follows it, and one for each worker. Once all
+/// callers have ended the hub is closed, and the workers go on until no active queueing is open.
 ///
 /// # Errors
-/// The first fault of a thread; `NoThread` where one can't be made; `NoPlace` only where there are more scripts than callers; `Unfinished`
-/// only where all callers have followed their scripts and an active queueing is open at the end; `NoMemory`. All threads have ended then.
+/// The first fault of a thread; `NoThread` where one can't be made; `NoPlace` only where there are more scripts than
+/// callers; `Unfinished` only where all callers have followed their scripts and an active queueing is open at the end;
+/// `NoMemory`. All threads have ended then.
 pub fn run_scripts<'x, W: Work + Sync, R: Threads + Wait + Sync>(
     rt: &'x R,
     alloc: Global,
@@ -216,6 +104,41 @@ pub fn run_scripts<'x, W: Work + Sync, R: Threads + Wait + Sync>(
     ensures finished { IfOk result (λ r. active_in shape.now r.history.items ≡ 0) }
     ensures fails { IfErr result (λ f. FailsAs shape.now (map (λ s. s.items) scripts.now) f) }
 {
-    let parts = unread_parts(rt, alloc, shape)?;
-    run_parts::<Brand, W, R>(rt, alloc, parts, scripts, work)
+    match unread_parts(rt, alloc, shape) {
+        Ok(parts) => run_parts(rt, alloc, shape, parts, scripts, work),
+        Err(fault) => Err(fault),
+    }
+}
+
+/// Runs scripts on a new hub, as `run_scripts` does, and writes the history with its shape in format 3 while it is
+/// made, flushed behind each batch: so many entries are kept at a time, or as many as a hold of the lock may make where
+/// that is more, and what is made is written after a tenth of a second at the latest. The journal is kept in this
+/// thread, beside one that runs those of callers and workers.
+///
+/// # Errors
+/// `Sink` where the sink failed. `Run` with what `run_scripts` answers, all threads having ended, or with `NoMemory` or
+/// `NoThread` for the journal. A front of the text of a legal history is written then, and no last line but where the
+/// sink failed behind it.
+pub fn run_scripts_with_journal<'x, W: Work + Sync, R: Threads + Wait + Clock + Sync, O: Sink>(
+    rt: &'x R,
+    alloc: Global,
+    shape: &Shape,
+    scripts: &'x Vec<Vec<Call>>,
+    work: &'x W,
+    kept: u32,
+    output: &mut O,
+) -> Result<Tally, Unwritten>
+    requires few { length scripts.now.items ≤ most_callers }
+    requires calls { All (λ s. All (IsScripted shape.now) s.items × (length s.items < 2 ^ 32)) scripts.now.items }
+    ensures whole { IfOk result (λ w. WritesAll shape.now (W.does work.now shape.now) (map (λ s. s.items) scripts.now.items) w.answered w.full (O.written output.old) (O.written output.new)) }
+    ensures flushed { OnOk result (O.held output.new ≡ 0) }
+    ensures front { OnErr result (WritesFront shape.now (O.written output.old) (O.written output.new)) }
+    ensures tells { IfErr result (TellsOf shape.now (map (λ s. s.items) scripts.now.items)) }
+    ensures sink { IsErrOf result unwritten.Sink → Rises (O.troubles output.old) (O.troubles output.new) }
+{
+    let crew = Scripts {
+        scripts: scripts.as_slice(),
+    };
+    // scripts never look
+    run_with_journal(rt, alloc, shape, 0, kept, &crew, work, output)
 }

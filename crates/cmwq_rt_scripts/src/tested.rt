@@ -30,8 +30,9 @@ fn are_all_scripts(shape: &Shape, scripts: &[Vec<Call>]) -> bool
     scripts.iter().all(|script| is_script(shape, script))
 }
 
-/// Whether these may be the scripts of a hub with this shape, as `run_scripts` wants them: there are at most `MOST_CALLERS`, each of fewer than
-/// 4,294,967,296 calls, and each call is one that a script may hold, with numbers inside the shape.
+/// Whether these may be the scripts of a hub with this shape, as `run_scripts` wants them: there are at most
+/// `MOST_CALLERS`, each of fewer than 4,294,967,296 calls, and each call is one that a script may hold, with numbers
+/// inside the shape.
 pub fn are_scripts(shape: &Shape, scripts: &[Vec<Call>]) -> bool
     ensures exact { result ≡ are_scripts shape.now scripts.now }
     ensures few { IsTrue result → length scripts.now ≤ most_callers }

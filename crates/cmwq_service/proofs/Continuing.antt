@@ -17,33 +17,30 @@ use Rattle.cmwq_monitor.specs.declared.fault.RunFault.{RunFault}
 use Rattle.cmwq_monitor.proofs.Beginnings.{prefix_self, prefix_trans}
 use Rattle.cmwq_monitor.proofs.Entries.{gains_none, gains_more}
 use Rattle.cmwq_rt.specs.Later.{Later}
-use Rattle.cmwq_service.specs.Calls.{Continues, IsAfter}
+use Rattle.cmwq_service.specs.Calls.{Continues, GoesOn, IsAfter}
 
-pub continues_self : (a v : View) → v ≡ a → ∥ Continues a v ∥₁
-continues_self a v same = ∣ subst (Continues a) (sym same) (record { entries = []; gains = gains_none a }) ∣₁
+pub goes_self : (a v : View) → v ≡ a → GoesOn a v
+goes_self a v same = subst (GoesOn a) (sym same) (refl, ∣ record { entries = []; gains = gains_none a } ∣₁)
 
 more : (a v w : View) (es : List Entry) → Gains v es w → Continues a v → Continues a w
 more a v w es gains so = record { entries = so.entries ++ es; gains = gains_more a v w so.entries es so.gains gains }
 
-pub continues_gains : (a v w : View) (es : List Entry) → ∥ Continues a v ∥₁ → Gains v es w → ∥ Continues a w ∥₁
-continues_gains a v w es so gains = ∥∥₁_map so (more a v w es gains)
+pub goes_gains : (a v w : View) (es : List Entry) → GoesOn a v → Gains v es w → GoesOn a w
+goes_gains a v w es so gains = (gains.same ∙ so.0, ∥∥₁_map so.1 (more a v w es gains))
 
-pub continues_extends : (s : Layout) (a v w : View) (c : Call) (r : Reply) → ∥ Continues a v ∥₁ → Extends s v c r w → ∥ Continues a w ∥₁
-continues_extends s a v w c r so x = continues_gains a v w _ so x.gains
+pub goes_extends : (s : Layout) (a v w : View) (c : Call) (r : Reply) → GoesOn a v → Extends s v c r w → GoesOn a w
+goes_extends s a v w c r so x = goes_gains a v w _ so x.gains
 
-pub continues_refused : (s : Layout) (a v w : View) (c : Call) (f : RunFault) → ∥ Continues a v ∥₁ → Refused s v c f w → ∥ Continues a w ∥₁
-continues_refused s a v w c f so x = continues_gains a v w [] so x.0
+pub goes_refused : (s : Layout) (a v w : View) (c : Call) (f : RunFault) → GoesOn a v → Refused s v c f w → GoesOn a w
+goes_refused s a v w c f so x = goes_gains a v w [] so x.0
 
-pub continues_completes : (s : Layout) (a v w : View) (c : Call) (r : Reply) → ∥ Continues a v ∥₁ → Completes s v c r w → ∥ Continues a w ∥₁
-continues_completes s a v w c r so x = continues_gains a v w x.entries so x.gains
+goes_broke : (s : Layout) (a v w : View) (c : Call) (f : RunFault) → GoesOn a v → BrokeOff s v c f w → GoesOn a w
+goes_broke s a v w c f so (inl refused) = goes_refused s a v w c f so refused
+goes_broke s a v w c f so (inr (e, es, gains, part, stops)) = goes_gains a v w (e ∷ es) so gains
 
-pub continues_broke : (s : Layout) (a v w : View) (c : Call) (f : RunFault) → ∥ Continues a v ∥₁ → BrokeOff s v c f w → ∥ Continues a w ∥₁
-continues_broke s a v w c f so (inl refused) = continues_refused s a v w c f so refused
-continues_broke s a v w c f so (inr (e, es, gains, part, stops)) = continues_gains a v w (e ∷ es) so gains
-
-pub continues_whole : (s : Layout) (a v w : View) (c : Call) (o : Result Reply RunFault) → ∥ Continues a v ∥₁ → IfOk o (λ r. Completes s v c r w) → IfErr o (λ f. BrokeOff s v c f w) → ∥ Continues a w ∥₁
-continues_whole s a v w c (Ok r) so done broke = continues_completes s a v w c r so done
-continues_whole s a v w c (Err f) so done broke = continues_broke s a v w c f so broke
+pub goes_whole : (s : Layout) (a v w : View) (c : Call) (o : Result Reply RunFault) → GoesOn a v → IfOk o (λ r. Completes s v c r w) → IfErr o (λ f. BrokeOff s v c f w) → GoesOn a w
+goes_whole s a v w c (Ok r) so done broke = goes_gains a v w done.entries so done.gains
+goes_whole s a v w c (Err f) so done broke = goes_broke s a v w c f so broke
 
 -- the seen is a beginning
 begins_after : (a w : View) → IsPrefix a.seen w.seen → take (length a.seen) w.seen ≡ a.seen

@@ -1,44 +1,91 @@
--- What the end of a hub says of those whose threads have ended.
-use Rattle.std.proofs.Common.{◌≡◌, ◌∙◌, ℕ, List, [], Result, Ok, Err, arith, ap, sym, subst, drop, length}
-use Rattle.std.specs.Prelude.{OnOk, ◌<◌, ◌-◌}
+-- What the end of a hub says of a service whose threads have ended.
+use Rattle.std.proofs.Common.{◌≡◌, ◌∙◌, ℕ, zero, suc, List, [], Result, Ok, Err, arith, ap, sym, subst, drop, length}
+use Rattle.std.specs.Prelude.{OnOk, IfOk, ◌+◌, ◌-◌, ◌<◌, ◌≤◌}
 use Rattle.std.proofs.Math.Logic.{∥∥₁_map}
 use Rattle.cmwq_core.specs.Relied.{IsReliable}
 use Rattle.cmwq_core.proofs.Relied.{reliable}
 use Rattle.cmwq_model.specs.Prelude.{Layout, past_of, serial_of}
 unfoldable use Rattle.cmwq_model.specs.Prelude.{IsLegal}
 use Rattle.cmwq_model.specs.declared.entry.Entry.{Entry}
+use Rattle.cmwq_model.proofs.Growing.{nothing_is_legal}
 use Rattle.cmwq_monitor.proofs.Entries.{made_length, made_same}
 use Rattle.cmwq_monitor.specs.Participants.{View, newcomer, made_by}
-use Rattle.cmwq_monitor.specs.Settled.{Settles}
+use Rattle.cmwq_rt.specs.Running.{Behavior}
+use Rattle.cmwq_engine.specs.Conduct.{caller_numbered}
+use Rattle.cmwq_engine.specs.Conduct.{Conduct as CrewConduct}
+use Rattle.cmwq_engine.specs.Ended.{AllCalled, IsLeft, IsRest, IsRestOfLeft}
+use Rattle.cmwq_engine.specs.Ended.{CalledIn as HasDone}
+use Rattle.cmwq_engine.specs.declared.gather.Tally.{Tally}
+use Rattle.cmwq_monitor.specs.declared.fault.RunFault.{RunFault}
 use Rattle.cmwq_service.specs.declared.fault.Fault.{Fault}
-use Rattle.cmwq_service.specs.Serving.{Conduct, HasCalled, CalledIn, IsRest, IsRestOfServed, IsServed, own_callers}
-use Rattle.cmwq_text.specs.IdText.{caller_numbered}
-use Rattle.cmwq_service.specs.Calls.{Continues}
-use Rattle.cmwq_monitor.specs.Held.{active_in}
-use Rattle.cmwq_model.proofs.Growing.{nothing_is_legal}
+use Rattle.cmwq_service.specs.Calls.{GoesOn}
+use Rattle.cmwq_service.specs.Serving.{Conduct, HasCalled, CalledIn, IsRestOfServed, IsServed, own_callers}
 
-one : (s : Layout) (does : Conduct) (k n : ℕ) (v w : View) (h : List Entry) (o : Result (Unit {0}) Fault) → o ≡ Ok tt → k ≡ n → Settles h v w → HasCalled s does k v o → CalledIn s does n h
-one s does k n v w h o ok same settled called =
+-- what the callers of a service do, as a crew
+abbrev pub calls_of : Conduct → CrewConduct
+calls_of does s k full v = k + own_callers < s.callers → ∥ HasCalled s does k v ∥₁
+
+pub has_called : (s : Layout) (does : Conduct) (k : ℕ) (a v : View) (o : Result (Unit {0}) Fault) → a ≡ newcomer (caller_numbered k) → GoesOn a v → OnOk o (does k s a v) → OnOk o (∥ HasCalled s does k v ∥₁)
+has_called s does k a v (Ok u) fresh so did =
+    ∥∥₁_map (subst (λ b. GoesOn b v) fresh so).1 (λ x. record { continues = x; did = subst (λ b. does k s b v) fresh did })
+has_called s does k a v (Err f) fresh so did = tt
+
+-- a caller's entries in the whole history are those that it has made
+served : (s : Layout) (does : Conduct) (k full : ℕ) (h : List Entry) (x : HasDone s (calls_of does) k full h) → HasCalled s does k x.last → CalledIn s does k h
+served s does k full h x called =
     let who = caller_numbered k in
     let gains = called.continues.gains in
-    let counted : serial_of (past_of h) who ≡ v.serial = subst (λ x. serial_of (past_of h) x ≡ v.serial) gains.same settled.2 in
-    let whole : made_by who h ≡ made_by who v.seen =
-    made_same who v.seen h settled.1 (let a = made_length who h in let b = gains.serial in let c = ap length gains.made in omega (arith, a, b, c, counted)) in
-    subst (λ (m : ℕ). CalledIn s does m h) same (record {
-      last = v;
-      did = subst (λ x. OnOk x (does k s (newcomer who) v)) ok called.did;
+    let whole : made_by who h ≡ made_by who x.last.seen =
+    made_same who x.last.seen h x.older (let a = made_length who h in let b = gains.serial in let c = ap length gains.made in let d = x.own in omega (arith, a, b, c, d)) in
+    record {
+      last = x.last;
+      did = called.did;
       entries = called.continues.entries;
       gains = gains;
-      older = settled.1;
+      older = x.older;
       own = whole ∙ gains.made;
-    })
+    }
 
-pub called_in : (s : Layout) (does : Conduct) (k n : ℕ) (v w : View) (h : List Entry) (o : Result (Unit {0}) Fault) → ∥ HasCalled s does k v o ∥₁ → o ≡ Ok tt → k ≡ n → Settles h v w → ∥ CalledIn s does n h ∥₁
-called_in s does k n v w h o called ok same settled = ∥∥₁_map called (one s does k n v w h o ok same settled)
+called_in : (s : Layout) (does : Conduct) (k full : ℕ) (h : List Entry) → HasDone s (calls_of does) k full h → k + own_callers < s.callers → ∥ CalledIn s does k h ∥₁
+called_in s does k full h x own = ∥∥₁_map (x.did own) (served s does k full h x)
 
-pub has_called : (s : Layout) (does : Conduct) (k : ℕ) (a v : View) (o : Result (Unit {0}) Fault) → a ≡ newcomer (caller_numbered k) → ∥ Continues a v ∥₁ → OnOk o (does k s a v) → ∥ HasCalled s does k v o ∥₁
-has_called s does k a v o fresh so did =
-    ∥∥₁_map so (λ x. record { continues = subst (λ b. Continues b v) fresh x; did = subst (λ b. OnOk o (does k s b v)) fresh did })
+-- each of so many callers, from this one on
+called_from : (s : Layout) (does : Conduct) (first many full : ℕ) (h : List Entry) → AllCalled s (calls_of does) first many full h → (j : ℕ) → j < many → first + j + own_callers < s.callers → ∥ CalledIn s does (first + j) h ∥₁
+called_from s does first zero full h all j few own = absurd (omega (arith, few))
+called_from s does first (suc many) full h (a, b, here, rest, sum) zero few own =
+    let same : first ≡ first + 0 = omega arith in
+    subst (λ (k : ℕ). ∥ CalledIn s does k h ∥₁) same (called_in s does first a h here (omega (arith, own)))
+called_from s does first (suc many) full h (a, b, here, rest, sum) (suc j) few own =
+    let same : suc first + j ≡ first + suc j = omega arith in
+    subst (λ (k : ℕ). ∥ CalledIn s does k h ∥₁) same (called_from s does (suc first) many b h rest j (omega (arith, few)) (omega (arith, own)))
+
+pub is_served : (s : Layout) (behavior : Behavior) (does : Conduct) (full : ℕ) (h : List Entry) → IsLeft s behavior (calls_of does) s.callers full h → IsServed s does h
+is_served s behavior does full h left = record {
+  reliable = reliable s (past_of h) left.legal;
+  finished = left.finished;
+  called = (λ k own.
+      let same : 0 + k ≡ k = omega arith in
+      subst (λ (n : ℕ). ∥ CalledIn s does n h ∥₁) same (called_from s does 0 s.callers full h left.called k (omega (arith, own)) (omega (arith, own))));
+}
+
+pub rest_of_served : (s : Layout) (behavior : Behavior) (does : Conduct) (entries full first : ℕ) (es : List Entry) → IsRestOfLeft s behavior (calls_of does) s.callers entries full first es → IsRestOfServed s does first es
+rest_of_served s behavior does entries full first es rest = record { history = rest.history; served = is_served s behavior does full rest.history rest.left; rest_is = rest.rest_is }
+
+-- how a service ended whose hub's threads ended so
+pub served_outcome : (s : Layout) (behavior : Behavior) (does : Conduct) (first : ℕ) (es : List Entry) (ended : Result Tally RunFault) (o : Result Tally Fault) → IfOk o (λ t. ended ≡ Ok t)
+    → IfOk ended (λ t. IsRestOfLeft s behavior (calls_of does) s.callers t.answered t.full first es) → OnOk o (IsRestOfServed s does first es)
+served_outcome s behavior does first es ended (Ok t) same left =
+    rest_of_served s behavior does t.answered t.full first es (subst (λ r. IfOk r (λ t. IsRestOfLeft s behavior (calls_of does) s.callers t.answered t.full first es)) same left)
+served_outcome s behavior does first es ended (Err f) same left = tt
+
+-- what is told to the hub's other threads
+pub told_called : (s : Layout) (does : Conduct) (k : ℕ) (v : View) (o : Result (Unit {0}) Fault) (told : Result ℕ RunFault) → OnOk told (o ≡ Ok tt) → OnOk o (∥ HasCalled s does k v ∥₁) → IfOk told (λ full. calls_of does s k full v)
+told_called s does k v o (Ok n) ok called = λ own. subst (λ r. OnOk r (∥ HasCalled s does k v ∥₁)) ok called
+told_called s does k v o (Err f) ok called = tt
+
+pub told_of_helper : (s : Layout) (does : Conduct) (k all : ℕ) (v : View) (told : Result ℕ RunFault) → all ≡ s.callers - own_callers → all ≤ k → IfOk told (λ full. calls_of does s k full v)
+told_of_helper s does k all v (Ok n) is more = λ own. absurd (omega (arith, is, more, own))
+told_of_helper s does k all v (Err f) is more = tt
 
 pub nothing_made : (s : Layout) (es : List Entry) → es ≡ [] → IsReliable s (past_of es)
 nothing_made s es none = subst (λ xs. IsReliable s (past_of xs)) (sym none) (reliable s (past_of []) (nothing_is_legal s))
@@ -52,16 +99,3 @@ whole_rest s first es none rest = subst (λ xs. IsReliable s (past_of xs)) (all_
 
 pub whole_served : (s : Layout) (does : Conduct) (first : ℕ) (es : List Entry) → first ≡ 0 → IsRestOfServed s does first es → IsServed s does es
 whole_served s does first es none rest = subst (λ xs. IsServed s does xs) (all_is_rest rest.history es first rest.rest_is none) rest.served
-
-pub served_so : (s : Layout) (does : Conduct) (h seen : List Entry) (all : ℕ) → IsLegal s (past_of h) → all ≡ s.callers - own_callers → ((k : ℕ) → k < all → ∥ CalledIn s does k h ∥₁) → active_in s h ≡ 0 → seen ≡ h → IsServed s does seen
-served_so s does h seen all legal many called finished same =
-    subst (IsServed s does) (sym same) (record { reliable = reliable s (past_of h) legal; finished = finished; called = (λ k lt. called k (omega (arith, lt, many))) })
-
-pub rest_of_served : (s : Layout) (does : Conduct) (h es : List Entry) (first all : ℕ) (o : Result (Unit {0}) Fault) → IsLegal s (past_of h) → es ≡ drop first h → all ≡ s.callers - own_callers
-    → OnOk o ((k : ℕ) → k < all → ∥ CalledIn s does k h ∥₁) → OnOk o (active_in s h ≡ 0) → OnOk o (IsRestOfServed s does first es)
-rest_of_served s does h es first all (Ok u) legal is many called finished = record {
-  history = h;
-  served = record { reliable = reliable s (past_of h) legal; finished = finished; called = (λ k lt. called k (omega (arith, lt, many))) };
-  rest_is = is;
-}
-rest_of_served s does h es first all (Err f) legal is many called finished = tt

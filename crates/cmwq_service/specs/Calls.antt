@@ -27,6 +27,10 @@ pub record Continues (v w : View) : Type 0 where
   pub entries : List Entry
   pub gains : Gains v entries w
 
+-- so does a caller, whose entries are not told
+abbrev pub GoesOn : View → View → Type 0
+GoesOn v w = (w.who ≡ v.who) × ∥ Continues v w ∥₁
+
 -- the same worker, which has made no fewer entries, and sees all that it had seen
 abbrev pub IsAfter : View → View → Type 0
 IsAfter v w = (w.who ≡ v.who) × (v.serial ≤ w.serial) × (take (length v.seen) w.seen ≡ v.seen)

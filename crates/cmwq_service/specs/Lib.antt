@@ -1,5 +1,4 @@
 pub mod Calls
 pub mod Serving
-pub mod Writing
 pub mod Misfits
 pub mod Prelude

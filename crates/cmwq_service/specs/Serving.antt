@@ -1,13 +1,12 @@
 -- What the run of a service leaves.
-use Rattle.std.specs.Prelude.{◌≡◌, ◌+◌, ◌<◌, ℕ, List, drop, Result, OnOk}
+use Rattle.std.specs.Prelude.{◌≡◌, ◌+◌, ◌<◌, ℕ, List, drop}
 use mathlib.Core.List.{IsPrefix}
-use Rattle.cmwq_model.specs.Prelude.{IsLegal, Layout, past_of}
+use Rattle.cmwq_model.specs.Prelude.{Layout, past_of}
 use Rattle.cmwq_model.specs.declared.entry.Entry.{Entry}
-use Rattle.cmwq_text.specs.IdText.{caller_numbered}
+use Rattle.cmwq_engine.specs.Conduct.{caller_numbered}
 use Rattle.cmwq_core.specs.Relied.{IsReliable}
 use Rattle.cmwq_monitor.specs.Held.{active_in}
 use Rattle.cmwq_monitor.specs.Participants.{View, Gains, newcomer, made_by}
-use Rattle.cmwq_service.specs.declared.fault.Fault.{Fault}
 use Rattle.cmwq_service.specs.Calls.{Continues}
 
 -- what a caller of this place does in a hub of this shape, as a relation of what it saw at first and at last
@@ -18,10 +17,10 @@ Conduct = ℕ → Layout → View → View → Type 0
 abbrev pub own_callers : ℕ
 own_callers = 2
 
--- what came of a caller of this place
-pub record HasCalled (s : Layout) (does : Conduct) (k : ℕ) (v : View) (outcome : Result (Unit {0}) Fault) : Type 0 where
+-- what a caller of this place has done
+pub record HasCalled (s : Layout) (does : Conduct) (k : ℕ) (v : View) : Type 0 where
   pub continues : Continues (newcomer (caller_numbered k)) v
-  pub did : OnOk outcome (does k s (newcomer (caller_numbered k)) v)
+  pub did : does k s (newcomer (caller_numbered k)) v
 
 -- The caller's entries in a history are those that its client has made, and it did what the service says.
 pub record CalledIn (s : Layout) (does : Conduct) (k : ℕ) (history : List Entry) : Type 0 where
@@ -39,12 +38,7 @@ pub record IsServed (s : Layout) (does : Conduct) (history : List Entry) : Type 
   pub finished : active_in s history ≡ 0
   pub called : (k : ℕ) → k + own_callers < s.callers → ∥ CalledIn s does k history ∥₁
 
--- what a hub kept of a legal history, behind its first so many entries, and the same of one that a service leaves
-pub record IsRest (s : Layout) (first : ℕ) (rest : List Entry) : Type 0 where
-  pub history : List Entry
-  pub legal : IsLegal s (past_of history)
-  pub rest_is : rest ≡ drop first history
-
+-- what a hub kept of a history that a service leaves, behind its first so many entries
 pub record IsRestOfServed (s : Layout) (does : Conduct) (first : ℕ) (rest : List Entry) : Type 0 where
   pub history : List Entry
   pub served : IsServed s does history

@@ -15,8 +15,8 @@ use thiserror::Error;
 /// The library's own callers: the one that comes at the end, and that of the clock.
 pub(crate) const OWN_CALLERS: u8 = 2;
 
-/// A queue of normal priority that lets one item at a time be active on a CPU, and is neither CPU intensive nor freezable. Others are written
-/// from it: `QueueShape { max_active: 4, ..PLAIN }`.
+/// A queue of normal priority that lets one item at a time be active on a CPU, and is neither CPU intensive nor
+/// freezable. Others are written from it: `QueueShape { max_active: 4, ..PLAIN }`.
 pub const PLAIN: QueueShape = QueueShape {
     max_active: 1,
     high: false,
@@ -65,7 +65,8 @@ impl Model for ShapeBuilder {
 }
 
 impl ShapeBuilder {
-    /// One CPU, one worker in each of its two pools, no callers, one item, no queues, and room for a history of 10,000 entries.
+    /// One CPU, one worker in each of its two pools, no callers, one item, no queues, and room for a history of 10,000
+    /// entries.
     pub fn new(alloc: Global) -> ShapeBuilder
         ensures { result ≡ record { cpus = 1; workers = 1; callers = own_callers; items = 1; room = 10000; queues = [] } }
     {

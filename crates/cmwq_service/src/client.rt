@@ -1,8 +1,6 @@
 //! A caller with its hub.
-ghost use Rattle.std.specs.Prelude.{◌≡◌, true, IfOk, IfErr};
-ghost use Rattle.cmwq_model.specs.Prelude.{is_callers};
-ghost use Rattle.cmwq_monitor.specs.Whole.{Completes};
-ghost use Rattle.cmwq_service.specs.Calls.{Continues, Interrupted};
+ghost use Rattle.std.specs.Prelude.{◌≡◌};
+ghost use Rattle.cmwq_service.specs.Calls.{GoesOn};
 
 use crate::fault::Fault;
 use crate::start::Start;
@@ -11,18 +9,18 @@ use cmwq_rt::{Caller, Hub, HubName};
 use std::marker::PhantomData;
 use std::sync::Wait;
 
-/// A caller on a thread of its own. Contracts see the shape of its hub, and of itself who it is, its serial and the history that it has
-/// seen.
+/// A caller on a thread of its own. Contracts see the shape of its hub, and of itself who it is, its serial and the
+/// history that it has seen.
 ///
 /// # Errors
-/// Every call that names an item, a queue or a CPU answers `Fault::Outside` where one isn't inside the shape, and has made no entry then; a
-/// `set_max` to 0 too. Otherwise a call answers what the hub does, as `Fault::Run`: `Closed`, `NoMemory` where the hub has failed, `Full`. It has
-/// made no entry then; but a call of several entries may break off behind some of them, with `NoMemory`, which tells a ticket that stands
-/// unended.
+/// Every call that names an item, a queue or a CPU answers `Fault::Outside` where one isn't inside the shape, and has
+/// made no entry then; a `set_max` to 0 too. Otherwise a call answers what the hub does, as `Fault::Run`: `Closed`,
+/// `NoMemory` where the hub has failed, `Full`. It has made no entry then; but a call of several entries may break off
+/// behind some of them, with `NoMemory`, which tells a ticket that stands unended.
 pub trait Client {
-    ghost use Rattle.std.specs.Prelude.{◌≡◌, [], false, IfOk, IfErr, OnOk, MatchOption};
+    ghost use Rattle.std.specs.Prelude.{◌≡◌, [], false, true, IfOk, IfErr, OnOk, MatchOption};
     ghost use Rattle.cmwq_model.specs.declared.call.Call.TheVariants as calls;
-    ghost use Rattle.cmwq_model.specs.Prelude.{IsLegal, Layout, past_of, bits, has_numbers};
+    ghost use Rattle.cmwq_model.specs.Prelude.{IsLegal, Layout, past_of, bits, has_numbers, is_callers};
     ghost use Rattle.cmwq_monitor.specs.Calls.{Extends};
     ghost use Rattle.cmwq_monitor.specs.Participants.{View, Gains};
     ghost use Rattle.cmwq_monitor.specs.Whole.{Completes};
@@ -43,23 +41,39 @@ pub trait Client {
     fn serial(&self) -> u64
         ensures { result ≡ (view self.now).serial };
 
-    /// The bits of an item (`work_busy`): 1 if it is pending, plus 2 if it runs, after a history that begins with all that the caller has
-    /// seen. It takes no lock, and waits for nobody. None where the reader gives no guard.
+    /// The bits of an item (`work_busy`): 1 if it is pending, plus 2 if it runs, after a history that begins with all
+    /// that the caller has seen. It takes no lock, and waits for nobody. None where the reader gives no guard.
     fn busy(&mut self, item: ItemId) -> Result<Option<u8>, Fault>
         ensures bits { IfOk result (λ o. MatchOption o (view self.new ≡ view self.old) (λ b. b ≡ bits (past_of (view self.new).seen) item.0)) }
         ensures legal { OnOk result (IsLegal layout (past_of (view self.new).seen)) }
         ensures outside { IfErr result (λ f. (f ≡ Outside) × (has_numbers layout (calls.Cancel item) ≡ false) × (view self.new ≡ view self.old)) }
         ensures own { Gains (view self.old) [] (view self.new) };
 
+    /// A call of one entry: it waits for nothing. Each method below of a call of one entry makes its call by this one.
+    fn make(&mut self, call: Call) -> Result<Reply, Fault>
+        requires { is_callers call ≡ true }
+        ensures made { IfOk result (λ reply. Extends layout (view self.old) call reply (view self.new)) }
+        ensures denied { IfErr result (λ f. Denied layout (view self.old) call f (view self.new)) };
+
+    /// A whole call: it makes its entry and those that belong to it, and waits where it gives a ticket. Each method
+    /// below of a call of several entries makes its call by this one.
+    fn whole(&mut self, call: Call) -> Result<Reply, Fault>
+        requires { is_callers call ≡ true }
+        ensures done { IfOk result (λ reply. Completes layout (view self.old) call reply (view self.new)) }
+        ensures broke { IfErr result (λ f. Interrupted layout (view self.old) call f (view self.new)) };
+
     // Calls of one entry. Their promises are `Extends` and `Denied`.
 
     /// Queues an item (`queue_work_on`).
-    fn queue(&mut self, item: ItemId, queue: QueueId, cpu: CpuId) -> Result<Reply, Fault>
+    final fn queue(&mut self, item: ItemId, queue: QueueId, cpu: CpuId) -> Result<Reply, Fault>
         ensures made { IfOk result (λ reply. Extends layout (view self.old) (calls.Queue item queue cpu) reply (view self.new)) }
-        ensures denied { IfErr result (λ f. Denied layout (view self.old) (calls.Queue item queue cpu) f (view self.new)) };
+        ensures denied { IfErr result (λ f. Denied layout (view self.old) (calls.Queue item queue cpu) f (view self.new)) }
+    {
+        self.make(Call::Queue { item, queue, cpu })
+    }
 
     /// Queues an item after so many ticks (`queue_delayed_work_on`).
-    fn delay(
+    final fn delay(
         &mut self,
         item: ItemId,
         queue: QueueId,
@@ -67,10 +81,18 @@ pub trait Client {
         ticks: u32,
     ) -> Result<Reply, Fault>
         ensures made { IfOk result (λ reply. Extends layout (view self.old) (calls.Delay item queue cpu ticks) reply (view self.new)) }
-        ensures denied { IfErr result (λ f. Denied layout (view self.old) (calls.Delay item queue cpu ticks) f (view self.new)) };
+        ensures denied { IfErr result (λ f. Denied layout (view self.old) (calls.Delay item queue cpu ticks) f (view self.new)) }
+    {
+        self.make(Call::Delay {
+            item,
+            queue,
+            cpu,
+            ticks,
+        })
+    }
 
     /// Queues or delays an item anew (`mod_delayed_work_on`).
-    fn modify(
+    final fn modify(
         &mut self,
         item: ItemId,
         queue: QueueId,
@@ -78,74 +100,122 @@ pub trait Client {
         ticks: u32,
     ) -> Result<Reply, Fault>
         ensures made { IfOk result (λ reply. Extends layout (view self.old) (calls.Modify item queue cpu ticks) reply (view self.new)) }
-        ensures denied { IfErr result (λ f. Denied layout (view self.old) (calls.Modify item queue cpu ticks) f (view self.new)) };
+        ensures denied { IfErr result (λ f. Denied layout (view self.old) (calls.Modify item queue cpu ticks) f (view self.new)) }
+    {
+        self.make(Call::Modify {
+            item,
+            queue,
+            cpu,
+            ticks,
+        })
+    }
 
     /// Takes a pending item back (`cancel_work`, `cancel_delayed_work`).
-    fn cancel(&mut self, item: ItemId) -> Result<Reply, Fault>
+    final fn cancel(&mut self, item: ItemId) -> Result<Reply, Fault>
         ensures made { IfOk result (λ reply. Extends layout (view self.old) (calls.Cancel item) reply (view self.new)) }
-        ensures denied { IfErr result (λ f. Denied layout (view self.old) (calls.Cancel item) f (view self.new)) };
+        ensures denied { IfErr result (λ f. Denied layout (view self.old) (calls.Cancel item) f (view self.new)) }
+    {
+        self.make(Call::Cancel { item })
+    }
 
     /// Begins to wait for all that is queued on a queue, and doesn't wait: the reply gives the ticket.
-    fn flush_begin(&mut self, queue: QueueId) -> Result<Reply, Fault>
+    final fn flush_begin(&mut self, queue: QueueId) -> Result<Reply, Fault>
         ensures made { IfOk result (λ reply. Extends layout (view self.old) (calls.Flush queue) reply (view self.new)) }
-        ensures denied { IfErr result (λ f. Denied layout (view self.old) (calls.Flush queue) f (view self.new)) };
+        ensures denied { IfErr result (λ f. Denied layout (view self.old) (calls.Flush queue) f (view self.new)) }
+    {
+        self.make(Call::Flush { queue })
+    }
 
     /// Ends a ticket if it may end (`done`), and else says what it waits for.
-    fn flush_try(&mut self, ticket: Number) -> Result<Reply, Fault>
+    final fn flush_try(&mut self, ticket: Number) -> Result<Reply, Fault>
         ensures made { IfOk result (λ reply. Extends layout (view self.old) (calls.End ticket) reply (view self.new)) }
-        ensures denied { IfErr result (λ f. Denied layout (view self.old) (calls.End ticket) f (view self.new)) };
+        ensures denied { IfErr result (λ f. Denied layout (view self.old) (calls.End ticket) f (view self.new)) }
+    {
+        self.make(Call::End { ticket })
+    }
 
     /// Sets how many queueings of a queue may be active on one CPU (`workqueue_set_max_active`).
-    fn set_max(&mut self, queue: QueueId, max_active: u32) -> Result<Reply, Fault>
+    final fn set_max(&mut self, queue: QueueId, max_active: u32) -> Result<Reply, Fault>
         ensures made { IfOk result (λ reply. Extends layout (view self.old) (calls.SetMax queue max_active) reply (view self.new)) }
-        ensures denied { IfErr result (λ f. Denied layout (view self.old) (calls.SetMax queue max_active) f (view self.new)) };
+        ensures denied { IfErr result (λ f. Denied layout (view self.old) (calls.SetMax queue max_active) f (view self.new)) }
+    {
+        self.make(Call::SetMax { queue, max_active })
+    }
 
     /// Lets nothing more become active on freezable queues (`freeze_workqueues_begin`).
-    fn freeze(&mut self) -> Result<Reply, Fault>
+    final fn freeze(&mut self) -> Result<Reply, Fault>
         ensures made { IfOk result (λ reply. Extends layout (view self.old) calls.Freeze reply (view self.new)) }
-        ensures denied { IfErr result (λ f. Denied layout (view self.old) calls.Freeze f (view self.new)) };
+        ensures denied { IfErr result (λ f. Denied layout (view self.old) calls.Freeze f (view self.new)) }
+    {
+        self.make(Call::Freeze)
+    }
 
     /// Ends that (`thaw_workqueues`).
-    fn thaw(&mut self) -> Result<Reply, Fault>
+    final fn thaw(&mut self) -> Result<Reply, Fault>
         ensures made { IfOk result (λ reply. Extends layout (view self.old) calls.Thaw reply (view self.new)) }
-        ensures denied { IfErr result (λ f. Denied layout (view self.old) calls.Thaw f (view self.new)) };
+        ensures denied { IfErr result (λ f. Denied layout (view self.old) calls.Thaw f (view self.new)) }
+    {
+        self.make(Call::Thaw)
+    }
 
     // Calls of several entries. Their promises are `Completes` and `Interrupted`.
 
-    /// Lets so many ticks go by, and then fires what is due. Time is the sum of the ticks that all callers and the clock hand in.
-    fn tick(&mut self, ticks: u32) -> Result<Reply, Fault>
+    /// Lets so many ticks go by, and then fires what is due. Time is the sum of the ticks that all callers and the
+    /// clock hand in.
+    final fn tick(&mut self, ticks: u32) -> Result<Reply, Fault>
         ensures done { IfOk result (λ reply. Completes layout (view self.old) (calls.Tick ticks) reply (view self.new)) }
-        ensures broke { IfErr result (λ f. Interrupted layout (view self.old) (calls.Tick ticks) f (view self.new)) };
+        ensures broke { IfErr result (λ f. Interrupted layout (view self.old) (calls.Tick ticks) f (view self.new)) }
+    {
+        self.whole(Call::Tick { ticks })
+    }
 
     /// Waits until all that was queued on a queue before has ended (`flush_workqueue`).
-    fn flush(&mut self, queue: QueueId) -> Result<Reply, Fault>
+    final fn flush(&mut self, queue: QueueId) -> Result<Reply, Fault>
         ensures done { IfOk result (λ reply. Completes layout (view self.old) (calls.Flush queue) reply (view self.new)) }
-        ensures broke { IfErr result (λ f. Interrupted layout (view self.old) (calls.Flush queue) f (view self.new)) };
+        ensures broke { IfErr result (λ f. Interrupted layout (view self.old) (calls.Flush queue) f (view self.new)) }
+    {
+        self.whole(Call::Flush { queue })
+    }
 
     /// Waits until the queueings of an item that are open have ended (`flush_work`).
-    fn flush_item(&mut self, item: ItemId) -> Result<Reply, Fault>
+    final fn flush_item(&mut self, item: ItemId) -> Result<Reply, Fault>
         ensures done { IfOk result (λ reply. Completes layout (view self.old) (calls.FlushItem item) reply (view self.new)) }
-        ensures broke { IfErr result (λ f. Interrupted layout (view self.old) (calls.FlushItem item) f (view self.new)) };
+        ensures broke { IfErr result (λ f. Interrupted layout (view self.old) (calls.FlushItem item) f (view self.new)) }
+    {
+        self.whole(Call::FlushItem { item })
+    }
 
     /// The same, after queueing the item at once if it is delayed (`flush_delayed_work`).
-    fn flush_delayed(&mut self, item: ItemId) -> Result<Reply, Fault>
+    final fn flush_delayed(&mut self, item: ItemId) -> Result<Reply, Fault>
         ensures done { IfOk result (λ reply. Completes layout (view self.old) (calls.FlushDelayed item) reply (view self.new)) }
-        ensures broke { IfErr result (λ f. Interrupted layout (view self.old) (calls.FlushDelayed item) f (view self.new)) };
+        ensures broke { IfErr result (λ f. Interrupted layout (view self.old) (calls.FlushDelayed item) f (view self.new)) }
+    {
+        self.whole(Call::FlushDelayed { item })
+    }
 
     /// Takes an item back and waits until it doesn't run (`cancel_work_sync`, `cancel_delayed_work_sync`).
-    fn cancel_sync(&mut self, item: ItemId) -> Result<Reply, Fault>
+    final fn cancel_sync(&mut self, item: ItemId) -> Result<Reply, Fault>
         ensures done { IfOk result (λ reply. Completes layout (view self.old) (calls.CancelSync item) reply (view self.new)) }
-        ensures broke { IfErr result (λ f. Interrupted layout (view self.old) (calls.CancelSync item) f (view self.new)) };
+        ensures broke { IfErr result (λ f. Interrupted layout (view self.old) (calls.CancelSync item) f (view self.new)) }
+    {
+        self.whole(Call::CancelSync { item })
+    }
 
     /// Waits until a queue is empty (`drain_workqueue`), and then fires what is due.
-    fn drain(&mut self, queue: QueueId) -> Result<Reply, Fault>
+    final fn drain(&mut self, queue: QueueId) -> Result<Reply, Fault>
         ensures done { IfOk result (λ reply. Completes layout (view self.old) (calls.Drain queue) reply (view self.new)) }
-        ensures broke { IfErr result (λ f. Interrupted layout (view self.old) (calls.Drain queue) f (view self.new)) };
+        ensures broke { IfErr result (λ f. Interrupted layout (view self.old) (calls.Drain queue) f (view self.new)) }
+    {
+        self.whole(Call::Drain { queue })
+    }
 
     /// Waits until a queue is empty, which is then gone (`destroy_workqueue`).
-    fn destroy(&mut self, queue: QueueId) -> Result<Reply, Fault>
+    final fn destroy(&mut self, queue: QueueId) -> Result<Reply, Fault>
         ensures done { IfOk result (λ reply. Completes layout (view self.old) (calls.Destroy queue) reply (view self.new)) }
-        ensures broke { IfErr result (λ f. Interrupted layout (view self.old) (calls.Destroy queue) f (view self.new)) };
+        ensures broke { IfErr result (λ f. Interrupted layout (view self.old) (calls.Destroy queue) f (view self.new)) }
+    {
+        self.whole(Call::Destroy { queue })
+    }
 }
 
 /// The caller that `run` gives to a service: it is the one of its start, and all that it has made since are its calls.
@@ -155,11 +225,11 @@ pub(crate) struct HubClient<'a, N: HubName, B: Start, R> {
     hub: &'a Hub<N>,
     caller: Caller<N>,
     of: PhantomData<B>,
-    ghost continues: { ∥ Continues B.start caller ∥₁ },
+    ghost goes: { GoesOn B.start caller },
 }
 
 impl<'a, N: HubName, B: Start, R: Wait> HubClient<'a, N, B, R> {
-    #[tactic(auto, using(crate::proofs::Continuing::continues_self))]
+    #[tactic(auto, using(crate::proofs::Continuing::goes_self))]
     pub(crate) fn new(rt: &'a R, hub: &'a Hub<N>, caller: Caller<N>) -> HubClient<'a, N, B, R>
         requires { caller ≡ B.start }
         ensures { result.caller ≡ caller }
@@ -174,7 +244,7 @@ impl<'a, N: HubName, B: Start, R: Wait> HubClient<'a, N, B, R> {
 
     pub(crate) fn into_caller(self) -> Caller<N>
         ensures same { result ≡ self.entry.caller }
-        ensures continues { ∥ Continues B.start result ∥₁ }
+        ensures goes { GoesOn B.start result }
     {
         let HubClient {
             rt: _,
@@ -183,21 +253,6 @@ impl<'a, N: HubName, B: Start, R: Wait> HubClient<'a, N, B, R> {
             of: _,
         } = self;
         caller
-    }
-
-    /// A call of several entries.
-    fn whole(&mut self, call: Call) -> Result<Reply, Fault>
-        requires { is_callers call ≡ true }
-        ensures done { IfOk result (λ reply. Completes N.layout self.old.caller call reply self.new.caller) }
-        ensures broke { IfErr result (λ f. Interrupted N.layout self.old.caller call f self.new.caller) }
-    {
-        if !self.hub.shape().has_numbers(call) {
-            return Err(Fault::Outside);
-        }
-        match self.caller.make_whole(self.rt, self.hub, call) {
-            Ok(reply) => Ok(reply),
-            Err(fault) => Err(Fault::Run { fault }),
-        }
     }
 }
 
@@ -222,157 +277,24 @@ impl<'a, N: HubName, B: Start, R: Wait> Client for HubClient<'a, N, B, R> {
         Ok(self.caller.busy(item))
     }
 
-    #[tactic(auto, using(crate::proofs::Continuing::continues_extends, crate::proofs::Continuing::continues_refused))]
-    fn queue(&mut self, item: ItemId, queue: QueueId, cpu: CpuId) -> Result<Reply, Fault> {
-        if !self
-            .hub
-            .shape()
-            .has_numbers(Call::Queue { item, queue, cpu })
-        {
+    #[tactic(auto, using(crate::proofs::Continuing::goes_extends, crate::proofs::Continuing::goes_refused))]
+    fn make(&mut self, call: Call) -> Result<Reply, Fault> {
+        if !self.hub.shape().has_numbers(call) {
             return Err(Fault::Outside);
         }
-        match self.caller.queue(self.rt, self.hub, item, queue, cpu) {
+        match self.caller.make(self.rt, self.hub, call) {
             Ok(reply) => Ok(reply),
             Err(fault) => Err(Fault::Run { fault }),
         }
     }
 
-    #[tactic(auto, using(crate::proofs::Continuing::continues_extends, crate::proofs::Continuing::continues_refused))]
-    fn delay(
-        &mut self,
-        item: ItemId,
-        queue: QueueId,
-        cpu: CpuId,
-        ticks: u32,
-    ) -> Result<Reply, Fault> {
-        if !self.hub.shape().has_numbers(Call::Delay {
-            item,
-            queue,
-            cpu,
-            ticks,
-        }) {
+    fn whole(&mut self, call: Call) -> Result<Reply, Fault> {
+        if !self.hub.shape().has_numbers(call) {
             return Err(Fault::Outside);
         }
-        match self
-            .caller
-            .delay(self.rt, self.hub, item, queue, cpu, ticks)
-        {
+        match self.caller.make_whole(self.rt, self.hub, call) {
             Ok(reply) => Ok(reply),
             Err(fault) => Err(Fault::Run { fault }),
         }
-    }
-
-    #[tactic(auto, using(crate::proofs::Continuing::continues_extends, crate::proofs::Continuing::continues_refused))]
-    fn modify(
-        &mut self,
-        item: ItemId,
-        queue: QueueId,
-        cpu: CpuId,
-        ticks: u32,
-    ) -> Result<Reply, Fault> {
-        if !self.hub.shape().has_numbers(Call::Modify {
-            item,
-            queue,
-            cpu,
-            ticks,
-        }) {
-            return Err(Fault::Outside);
-        }
-        match self
-            .caller
-            .modify(self.rt, self.hub, item, queue, cpu, ticks)
-        {
-            Ok(reply) => Ok(reply),
-            Err(fault) => Err(Fault::Run { fault }),
-        }
-    }
-
-    #[tactic(auto, using(crate::proofs::Continuing::continues_extends, crate::proofs::Continuing::continues_refused))]
-    fn cancel(&mut self, item: ItemId) -> Result<Reply, Fault> {
-        if !self.hub.shape().has_numbers(Call::Cancel { item }) {
-            return Err(Fault::Outside);
-        }
-        match self.caller.cancel(self.rt, self.hub, item) {
-            Ok(reply) => Ok(reply),
-            Err(fault) => Err(Fault::Run { fault }),
-        }
-    }
-
-    #[tactic(auto, using(crate::proofs::Continuing::continues_extends, crate::proofs::Continuing::continues_refused))]
-    fn flush_begin(&mut self, queue: QueueId) -> Result<Reply, Fault> {
-        if !self.hub.shape().has_numbers(Call::Flush { queue }) {
-            return Err(Fault::Outside);
-        }
-        match self.caller.flush_begin(self.rt, self.hub, queue) {
-            Ok(reply) => Ok(reply),
-            Err(fault) => Err(Fault::Run { fault }),
-        }
-    }
-
-    #[tactic(auto, using(crate::proofs::Continuing::continues_extends, crate::proofs::Continuing::continues_refused))]
-    fn flush_try(&mut self, ticket: Number) -> Result<Reply, Fault> {
-        match self.caller.flush_try(self.rt, self.hub, ticket) {
-            Ok(reply) => Ok(reply),
-            Err(fault) => Err(Fault::Run { fault }),
-        }
-    }
-
-    #[tactic(auto, using(crate::proofs::Continuing::continues_extends, crate::proofs::Continuing::continues_refused))]
-    fn set_max(&mut self, queue: QueueId, max_active: u32) -> Result<Reply, Fault> {
-        if !self
-            .hub
-            .shape()
-            .has_numbers(Call::SetMax { queue, max_active })
-        {
-            return Err(Fault::Outside);
-        }
-        match self.caller.set_max(self.rt, self.hub, queue, max_active) {
-            Ok(reply) => Ok(reply),
-            Err(fault) => Err(Fault::Run { fault }),
-        }
-    }
-
-    #[tactic(auto, using(crate::proofs::Continuing::continues_extends, crate::proofs::Continuing::continues_refused))]
-    fn freeze(&mut self) -> Result<Reply, Fault> {
-        match self.caller.freeze(self.rt, self.hub) {
-            Ok(reply) => Ok(reply),
-            Err(fault) => Err(Fault::Run { fault }),
-        }
-    }
-
-    #[tactic(auto, using(crate::proofs::Continuing::continues_extends, crate::proofs::Continuing::continues_refused))]
-    fn thaw(&mut self) -> Result<Reply, Fault> {
-        match self.caller.thaw(self.rt, self.hub) {
-            Ok(reply) => Ok(reply),
-            Err(fault) => Err(Fault::Run { fault }),
-        }
-    }
-
-    fn tick(&mut self, ticks: u32) -> Result<Reply, Fault> {
-        self.whole(Call::Tick { ticks })
-    }
-
-    fn flush(&mut self, queue: QueueId) -> Result<Reply, Fault> {
-        self.whole(Call::Flush { queue })
-    }
-
-    fn flush_item(&mut self, item: ItemId) -> Result<Reply, Fault> {
-        self.whole(Call::FlushItem { item })
-    }
-
-    fn flush_delayed(&mut self, item: ItemId) -> Result<Reply, Fault> {
-        self.whole(Call::FlushDelayed { item })
-    }
-
-    fn cancel_sync(&mut self, item: ItemId) -> Result<Reply, Fault> {
-        self.whole(Call::CancelSync { item })
-    }
-
-    fn drain(&mut self, queue: QueueId) -> Result<Reply, Fault> {
-        self.whole(Call::Drain { queue })
-    }
-
-    fn destroy(&mut self, queue: QueueId) -> Result<Reply, Fault> {
-        self.whole(Call::Destroy { queue })
     }
 }

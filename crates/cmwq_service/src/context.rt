@@ -10,16 +10,17 @@ use cmwq_rt::{HubName, RunCtx};
 use std::marker::PhantomData;
 use std::sync::Wait;
 
-/// The worker that runs an item. Its calls are entries of the worker. Contracts see the shape of its hub, and of itself who it is, its serial
-/// and the history that it has seen.
+/// The worker that runs an item. Its calls are entries of the worker. Contracts see the shape of its hub, and of itself
+/// who it is, its serial and the history that it has seen.
 ///
 /// # Errors
-/// Every call that names an item, a queue or a CPU answers `Fault::Outside` where one isn't inside the shape. Otherwise a call answers what the
-/// hub does, as `Fault::Run`: `Full` where there is no room for it, `NoMemory` where the hub has failed. It has made no entry then.
+/// Every call that names an item, a queue or a CPU answers `Fault::Outside` where one isn't inside the shape. Otherwise
+/// a call answers what the hub does, as `Fault::Run`: `Full` where there is no room for it, `NoMemory` where the hub
+/// has failed. It has made no entry then.
 pub trait Context {
-    ghost use Rattle.std.specs.Prelude.{◌≡◌, IfOk, IfErr};
+    ghost use Rattle.std.specs.Prelude.{◌≡◌, true, IfOk, IfErr};
     ghost use Rattle.cmwq_model.specs.declared.call.Call.TheVariants as calls;
-    ghost use Rattle.cmwq_model.specs.Prelude.{Layout};
+    ghost use Rattle.cmwq_model.specs.Prelude.{Layout, is_workers};
     ghost use Rattle.cmwq_monitor.specs.Calls.{Extends};
     ghost use Rattle.cmwq_monitor.specs.Participants.{View};
     ghost use Rattle.cmwq_service.specs.Calls.{Denied};
@@ -34,13 +35,22 @@ pub trait Context {
     fn shape(&self) -> &Shape
         ensures { result.now ≡ layout };
 
+    /// A call of the worker: one entry. Each method below makes its call by this one.
+    fn make(&mut self, call: Call) -> Result<Reply, Fault>
+        requires { is_workers call ≡ true }
+        ensures made { IfOk result (λ reply. Extends layout (view self.old) call reply (view self.new)) }
+        ensures denied { IfErr result (λ f. Denied layout (view self.old) call f (view self.new)) };
+
     /// Queues an item (`queue_work_on`).
-    fn queue(&mut self, item: ItemId, queue: QueueId, cpu: CpuId) -> Result<Reply, Fault>
+    final fn queue(&mut self, item: ItemId, queue: QueueId, cpu: CpuId) -> Result<Reply, Fault>
         ensures made { IfOk result (λ reply. Extends layout (view self.old) (calls.Queue item queue cpu) reply (view self.new)) }
-        ensures denied { IfErr result (λ f. Denied layout (view self.old) (calls.Queue item queue cpu) f (view self.new)) };
+        ensures denied { IfErr result (λ f. Denied layout (view self.old) (calls.Queue item queue cpu) f (view self.new)) }
+    {
+        self.make(Call::Queue { item, queue, cpu })
+    }
 
     /// Queues an item after so many ticks (`queue_delayed_work_on`).
-    fn delay(
+    final fn delay(
         &mut self,
         item: ItemId,
         queue: QueueId,
@@ -48,10 +58,18 @@ pub trait Context {
         ticks: u32,
     ) -> Result<Reply, Fault>
         ensures made { IfOk result (λ reply. Extends layout (view self.old) (calls.Delay item queue cpu ticks) reply (view self.new)) }
-        ensures denied { IfErr result (λ f. Denied layout (view self.old) (calls.Delay item queue cpu ticks) f (view self.new)) };
+        ensures denied { IfErr result (λ f. Denied layout (view self.old) (calls.Delay item queue cpu ticks) f (view self.new)) }
+    {
+        self.make(Call::Delay {
+            item,
+            queue,
+            cpu,
+            ticks,
+        })
+    }
 
     /// Queues or delays an item anew (`mod_delayed_work_on`).
-    fn modify(
+    final fn modify(
         &mut self,
         item: ItemId,
         queue: QueueId,
@@ -59,22 +77,39 @@ pub trait Context {
         ticks: u32,
     ) -> Result<Reply, Fault>
         ensures made { IfOk result (λ reply. Extends layout (view self.old) (calls.Modify item queue cpu ticks) reply (view self.new)) }
-        ensures denied { IfErr result (λ f. Denied layout (view self.old) (calls.Modify item queue cpu ticks) f (view self.new)) };
+        ensures denied { IfErr result (λ f. Denied layout (view self.old) (calls.Modify item queue cpu ticks) f (view self.new)) }
+    {
+        self.make(Call::Modify {
+            item,
+            queue,
+            cpu,
+            ticks,
+        })
+    }
 
     /// Takes a pending item back (`cancel_work`, `cancel_delayed_work`).
-    fn cancel(&mut self, item: ItemId) -> Result<Reply, Fault>
+    final fn cancel(&mut self, item: ItemId) -> Result<Reply, Fault>
         ensures made { IfOk result (λ reply. Extends layout (view self.old) (calls.Cancel item) reply (view self.new)) }
-        ensures denied { IfErr result (λ f. Denied layout (view self.old) (calls.Cancel item) f (view self.new)) };
+        ensures denied { IfErr result (λ f. Denied layout (view self.old) (calls.Cancel item) f (view self.new)) }
+    {
+        self.make(Call::Cancel { item })
+    }
 
     /// The run sleeps from now on, so that others of its pool may start (`wq_worker_sleeping`).
-    fn sleep(&mut self) -> Result<Reply, Fault>
+    final fn sleep(&mut self) -> Result<Reply, Fault>
         ensures made { IfOk result (λ reply. Extends layout (view self.old) calls.Sleep reply (view self.new)) }
-        ensures denied { IfErr result (λ f. Denied layout (view self.old) calls.Sleep f (view self.new)) };
+        ensures denied { IfErr result (λ f. Denied layout (view self.old) calls.Sleep f (view self.new)) }
+    {
+        self.make(Call::Sleep)
+    }
 
     /// The run goes on (`wq_worker_running`).
-    fn wake(&mut self) -> Result<Reply, Fault>
+    final fn wake(&mut self) -> Result<Reply, Fault>
         ensures made { IfOk result (λ reply. Extends layout (view self.old) calls.Wake reply (view self.new)) }
-        ensures denied { IfErr result (λ f. Denied layout (view self.old) calls.Wake f (view self.new)) };
+        ensures denied { IfErr result (λ f. Denied layout (view self.old) calls.Wake f (view self.new)) }
+    {
+        self.make(Call::Wake)
+    }
 }
 
 /// The context that `run` gives to a service: its worker is the one of its start, and sees all that it had seen.
@@ -114,86 +149,11 @@ impl<'a, N: HubName, B: Start, R: Wait> Context for HubContext<'a, N, B, R> {
     }
 
     #[tactic(auto, using(crate::proofs::Continuing::after_later))]
-    fn queue(&mut self, item: ItemId, queue: QueueId, cpu: CpuId) -> Result<Reply, Fault> {
-        if !self
-            .run
-            .shape()
-            .has_numbers(Call::Queue { item, queue, cpu })
-        {
+    fn make(&mut self, call: Call) -> Result<Reply, Fault> {
+        if !self.run.shape().has_numbers(call) {
             return Err(Fault::Outside);
         }
-        match self.run.queue(item, queue, cpu) {
-            Ok(reply) => Ok(reply),
-            Err(fault) => Err(Fault::Run { fault }),
-        }
-    }
-
-    #[tactic(auto, using(crate::proofs::Continuing::after_later))]
-    fn delay(
-        &mut self,
-        item: ItemId,
-        queue: QueueId,
-        cpu: CpuId,
-        ticks: u32,
-    ) -> Result<Reply, Fault> {
-        if !self.run.shape().has_numbers(Call::Delay {
-            item,
-            queue,
-            cpu,
-            ticks,
-        }) {
-            return Err(Fault::Outside);
-        }
-        match self.run.delay(item, queue, cpu, ticks) {
-            Ok(reply) => Ok(reply),
-            Err(fault) => Err(Fault::Run { fault }),
-        }
-    }
-
-    #[tactic(auto, using(crate::proofs::Continuing::after_later))]
-    fn modify(
-        &mut self,
-        item: ItemId,
-        queue: QueueId,
-        cpu: CpuId,
-        ticks: u32,
-    ) -> Result<Reply, Fault> {
-        if !self.run.shape().has_numbers(Call::Modify {
-            item,
-            queue,
-            cpu,
-            ticks,
-        }) {
-            return Err(Fault::Outside);
-        }
-        match self.run.modify(item, queue, cpu, ticks) {
-            Ok(reply) => Ok(reply),
-            Err(fault) => Err(Fault::Run { fault }),
-        }
-    }
-
-    #[tactic(auto, using(crate::proofs::Continuing::after_later))]
-    fn cancel(&mut self, item: ItemId) -> Result<Reply, Fault> {
-        if !self.run.shape().has_numbers(Call::Cancel { item }) {
-            return Err(Fault::Outside);
-        }
-        match self.run.cancel(item) {
-            Ok(reply) => Ok(reply),
-            Err(fault) => Err(Fault::Run { fault }),
-        }
-    }
-
-    #[tactic(auto, using(crate::proofs::Continuing::after_later))]
-    fn sleep(&mut self) -> Result<Reply, Fault> {
-        match self.run.sleep() {
-            Ok(reply) => Ok(reply),
-            Err(fault) => Err(Fault::Run { fault }),
-        }
-    }
-
-    #[tactic(auto, using(crate::proofs::Continuing::after_later))]
-    fn wake(&mut self) -> Result<Reply, Fault> {
-        match self.run.wake() {
+        match self.run.make(call) {
             Ok(reply) => Ok(reply),
             Err(fault) => Err(Fault::Run { fault }),
         }

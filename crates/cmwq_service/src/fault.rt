@@ -8,7 +8,8 @@ use cmwq_rt::RunFault;
 use std::alloc::{AllocError, AllocFailed};
 use thiserror::Error;
 
-/// Why a call isn't answered, or why a function of the service gives up: `?` makes one of a call's fault, and of want of memory.
+/// Why a call isn't answered, or why a function of the service gives up: `?` makes one of a call's fault, and of want
+/// of memory.
 #[derive(Clone, Copy, Debug, PartialEq, Eq, Error)]
 pub enum Fault {
     /// A number of the call isn't inside the shape. It has made no entry.
@@ -41,17 +42,6 @@ impl<T: Drop> From<AllocFailed<T>> for Fault {
 pub(crate) const NO_MEMORY: Fault = Fault::Run {
     fault: RunFault::NoMemory { ticket: None },
 };
-
-/// Why the history of a service was not written to its end.
-#[derive(Clone, Copy, Debug, PartialEq, Eq, Error)]
-pub enum Unwritten {
-    /// A write or a flush of the sink failed.
-    #[error("write fault")]
-    Sink,
-    /// The service stopped, by the first fault of a thread, or of the hub.
-    #[error("{fault}")]
-    Stopped { fault: Fault },
-}
 
 /// Why a service stopped, and its history so far.
 #[derive(Debug, Drop, Error)]

@@ -1,34 +1,29 @@
 //! Services over a hub, for who writes no proofs.
 //!
-//! A service says what its items do, what each of its callers does, and what comes at the end (`Service`). `run` starts the hub and all threads,
-//! joins them, and answers the history. A call whose numbers aren't inside the shape answers a fault and makes no entry, so its
-//! caller proves nothing of them.
+//! A service says what its items do, what each of its callers does, and what comes at the end (`Service`). `run` starts
+//! the hub and all threads, joins them, and answers the history. A call whose numbers aren't inside the shape answers a
+//! fault and makes no entry, so its caller proves nothing of them.
 #![tactic(auto)]
 
-mod beside;
 mod builder;
 mod client;
-mod clock;
 mod context;
+pub mod crew;
 mod fault;
-mod gather;
 mod running;
 mod service;
 mod signal;
 mod start;
-mod threads;
-mod writing;
 
 pub use builder::{Misfit, PLAIN, ShapeBuilder};
 pub use client::Client;
 pub use cmwq_core::check;
-pub use cmwq_io::{BufferedSink, FromStd, Memory, Sink, Trouble};
 pub use cmwq_model::{
-    Counts, CpuId, Entry, ItemId, NoMemory, Number, QueueId, QueueShape, Reply, Shape, all_fit,
+    Call, Counts, CpuId, Entry, ItemId, NoMemory, Number, QueueId, QueueShape, Reply, Shape,
+    all_fit,
 };
 pub use cmwq_rt::RunFault;
 pub use context::Context;
-pub use fault::{Fault, Stopped, Unwritten};
+pub use fault::{Fault, Stopped};
 pub use running::{run, run_dropping};
 pub use service::Service;
-pub use writing::run_writing;

@@ -9,14 +9,14 @@ use std::time::{Clock, Duration};
 
 /// A service: what its items do, what each of its callers does, and what comes at the end. All threads share it.
 ///
-/// A function that answers a fault stops the service: all calls that are made or wait from then on answer a fault too, so that all threads
-/// come to their end, and `run` answers the first one.
+/// A function that answers a fault stops the service: all calls that are made or wait from then on answer a fault too,
+/// so that all threads come to their end, and `run` answers the first one.
 pub trait Service {
     ghost use Rattle.std.specs.Prelude.{OnOk};
     ghost use Rattle.cmwq_service.specs.Serving.{Conduct};
 
-    /// What a caller does, by its place, as a relation of what it saw at first and at last: `run` carries it into the history. Nothing is
-    /// said where it is left out.
+    /// What a caller does, by its place, as a relation of what it saw at first and at last: `run` carries it into the
+    /// history. Nothing is said where it is left out.
     ghost calls: { Conduct } = { λ _ _ _ _. Unit {0} };
 
     /// Runs an item, in a worker's thread, once for each start of one of its queueings (the kernel's `work_func_t`).
@@ -27,8 +27,8 @@ pub trait Service {
         context: &mut C,
     ) -> Result<(), Fault>;
 
-    /// What the caller of this place does, on a thread of its own. Places are numbered from 0; there are as many as the shape has callers,
-    /// but for the library's own two.
+    /// What the caller of this place does, on a thread of its own. Places are numbered from 0; there are as many as the
+    /// shape has callers, but for the library's own two.
     fn call<R: Wait + Clock, C: Client>(
         &self,
         rt: &R,
@@ -37,15 +37,16 @@ pub trait Service {
     ) -> Result<(), Fault>
         ensures { OnOk result (calls place C.layout (C.view client.old) (C.view client.new)) };
 
-    /// What comes when all callers have ended, by a caller of its own, before the hub is closed. Nothing, where it is left out.
+    /// What comes when all callers have ended, by a caller of its own, before the hub is closed. Nothing, where it is
+    /// left out.
     fn end<R: Wait + Clock, C: Client>(&self, rt: &R, client: &mut C) -> Result<(), Fault> {
         let (_, _) = (rt, client);
         Ok(())
     }
 
-    /// How long after a tick of the system's clock comes the next one, which the library hands in until `end` has come to its end. A late
-    /// one isn't made up for. There are none where it is left out: time is then what callers hand in by `tick`. Where both do, the ticks
-    /// add up.
+    /// How long after a tick of the system's clock comes the next one, which the library hands in until `end` has come
+    /// to its end. A late one isn't made up for. There are none where it is left out: time is then what callers hand in
+    /// by `tick`. Where both do, the ticks add up.
     fn tick_every(&self) -> Option<Duration> {
         None
     }

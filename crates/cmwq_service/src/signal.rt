@@ -6,11 +6,12 @@ use std::time::{Clock, Duration};
 
 #[derive(Clone, Copy, Drop)]
 struct State {
+    callers: u8,
     is_over: bool,
     fault: Option<Fault>,
 }
 
-/// Whether a service is over, and the first fault that was told.
+/// How many of a service's callers have not ended, whether it is over, and the first fault that was told.
 #[derive(Drop)]
 pub(crate) struct Signal {
     state: Mutex<State>,
@@ -18,9 +19,11 @@ pub(crate) struct Signal {
 }
 
 impl Signal {
-    pub(crate) fn new() -> Signal {
+    /// That of a service with so many callers.
+    pub(crate) fn new(callers: u8) -> Signal {
         Signal {
             state: Mutex::new(State {
+                callers,
                 is_over: false,
                 fault: None,
             }),
@@ -39,8 +42,21 @@ impl Signal {
         self.changed.notify_all();
     }
 
-    pub(crate) fn is_over<R: Wait>(&self, rt: &R) -> bool {
-        self.state.lock(rt).is_over
+    /// One of the service's callers has ended.
+    pub(crate) fn leave<R: Wait>(&self, rt: &R) {
+        let mut state = self.state.lock(rt);
+        state.callers = state.callers.saturating_sub(1);
+        drop(state);
+        self.changed.notify_all();
+    }
+
+    /// Sleeps until all callers of the service have ended, or it is over, and answers whether it isn't over.
+    pub(crate) fn have_left<R: Wait>(&self, rt: &R) -> bool {
+        let state = self.state.lock(rt);
+        let state = self
+            .changed
+            .wait_while(rt, state, |state| state.callers > 0 && !state.is_over);
+        !state.is_over
     }
 
     /// Sleeps for so long, or until the service is over, and answers whether it is.

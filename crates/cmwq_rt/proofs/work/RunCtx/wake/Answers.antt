@@ -1,8 +1,7 @@
-use Rattle.std.proofs.Common.{rules}
 use Rattle.cmwq_rt.proofs.work.RunCtx.wake.Goals as goal
 
 pub returns-clause-made : goal.returns-clause-made
-returns-clause-made g c = search (rules, c.make-answer.ensures.made)
+returns-clause-made g c = c.make.ensures.made
 
 pub returns-clause-refused : goal.returns-clause-refused
-returns-clause-refused g c = search (rules, c.make-answer.ensures.refused)
+returns-clause-refused g c = c.make.ensures.refused

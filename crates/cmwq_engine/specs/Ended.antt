@@ -1,0 +1,117 @@
+-- What the threads of callers and workers gave back, and what they leave in one history.
+use Rattle.cmwq_rt.specs.Places.{shares}
+use Rattle.std.specs.Prelude.{◌≡◌, ◌+◌, ◌<◌, ◌≤◌}
+use Rattle.cmwq_engine.specs.Common.{ℕ, zero, suc, List, [], length, drop, slice_get, Some, None, Bool, true, false, Result, Ok, Err, IfOk, IfErr, Worker, WorkerId, Entry, Layout, serial_of, past_of, IsLegal, View, newcomer, made_by, worker_by_number, Behavior, HasWorked, RunsInTurn, breaks_off, IsPrefix, Conduct, caller_numbered}
+use Rattle.cmwq_monitor.specs.Held.{active_in}
+use Rattle.cmwq_monitor.specs.declared.fault.RunFault.{RunFault}
+use Rattle.cmwq_monitor.specs.declared.fault.RunFault.TheVariants.{Full, Unfinished, NoPlace}
+use Rattle.cmwq_engine.specs.declared.ends.CallerEnd.{CallerEnd}
+use Rattle.cmwq_engine.specs.declared.ends.WorkerEnd.{WorkerEnd}
+use Rattle.cmwq_engine.specs.declared.gather.Ends.{Ends}
+
+-- what a caller's thread has done
+abbrev pub CalledAt : Layout → Conduct → ℕ → ℕ → View → Type 0
+CalledAt s calls k full v = (v.who ≡ caller_numbered k) × calls s k full v
+
+-- one end for each of the first so many callers, in order: who gave no fault has done what it should
+pub record HaveCalled {N : Type 0} (s : Layout) (calls : Conduct) (many : ℕ) (ends : List (CallerEnd N)) : Type 0 where
+  pub all : length ends ≡ many
+  pub faults : (k : ℕ) (e : CallerEnd N) → slice_get ends k ≡ Some e → IfErr e.outcome (λ f. breaks_off f ≡ true)
+  pub called : (k : ℕ) (e : CallerEnd N) → slice_get ends k ≡ Some e → IfOk e.outcome (λ full. CalledAt s calls k full e.caller)
+
+-- a caller has done in a history what it should, has left out so many calls, and has no other entries there
+pub record CalledIn (s : Layout) (calls : Conduct) (k full : ℕ) (history : List Entry) : Type 0 where
+  pub last : View
+  pub did : calls s k full last
+  pub who : last.who ≡ caller_numbered k
+  pub older : IsPrefix last.seen history
+  pub own : serial_of (past_of history) (caller_numbered k) ≡ last.serial
+
+-- so have this many callers, from this one on, and so many calls were left out in all
+abbrev pub AllCalled : Layout → Conduct → ℕ → ℕ → ℕ → List Entry → Type 0
+AllCalled s calls k zero full history = full ≡ 0
+AllCalled s calls k (suc many) full history = (n m : ℕ) × CalledIn s calls k n history × AllCalled s calls (suc k) many m history × (full ≡ n + m)
+
+-- the callers from this one on, up to the last of the shape, who have done nothing
+pub record AreNewcomers (s : Layout) (first : ℕ) (callers : List View) : Type 0 where
+  pub all : first + length callers ≡ s.callers
+  pub each : (k : ℕ) (c : View) → slice_get callers k ≡ Some c → c ≡ newcomer (caller_numbered (first + k))
+
+-- callers from this one on have no entry in a history
+pub record AreSilent (s : Layout) (first : ℕ) (history : List Entry) : Type 0 where
+  pub none : (k : ℕ) → first ≤ k → k < s.callers → made_by (caller_numbered k) history ≡ []
+
+-- what a worker's thread has done to its worker
+abbrev pub WorkedFrom : Layout → Behavior → View → View → Type 0
+WorkedFrom s does v w = (w.who ≡ v.who) × HasWorked s does v w
+
+-- one end for each worker of the shape, in order: who gave no fault has worked
+pub record HaveWorked {N : Type 0} (s : Layout) (does : Behavior) (ends : List (WorkerEnd N)) : Type 0 where
+  pub all : worker_by_number s (length ends) ≡ None
+  pub faults : (k : ℕ) (e : WorkerEnd N) → slice_get ends k ≡ Some e → IfErr e.outcome (λ f. breaks_off f ≡ true)
+  pub worked : (k : ℕ) (e : WorkerEnd N) → slice_get ends k ≡ Some e → (x : WorkerId) → worker_by_number s k ≡ Some x
+      → IfOk e.outcome (λ _. WorkedFrom s does (newcomer (Worker x)) e.worker)
+
+-- a worker's runs in a history are so many, each does what its item does, and it has no other entries there
+pub record WorkedIn (s : Layout) (does : Behavior) (x : WorkerId) (history : List Entry) : Type 0 where
+  pub runs : ℕ
+  pub last : View
+  pub in_turn : RunsInTurn s does runs (newcomer (Worker x)) last
+  pub older : IsPrefix last.seen history
+  pub own : serial_of (past_of history) (Worker x) ≡ last.serial
+
+-- so have all workers
+pub record AllWorked (s : Layout) (does : Behavior) (history : List Entry) : Type 0 where
+  pub each : (k : ℕ) (x : WorkerId) → worker_by_number s k ≡ Some x → WorkedIn s does x history
+
+-- all callers did what they should, and yet an active queueing is open in the history
+abbrev pub IsUnfinished : Layout → Conduct → ℕ → List Entry → Type 0
+IsUnfinished s calls many history = (full : ℕ) × AllCalled s calls 0 many full history × (0 < active_in s history)
+
+-- what a fault tells of a run: a legal history that is unfinished, or that more callers should have a thread than there are; calls without room
+-- are left out
+abbrev pub FailsAs : Layout → Conduct → ℕ → RunFault → Type 0
+FailsAs s calls many Unfinished = (history : List Entry) × IsLegal s (past_of history) × IsUnfinished s calls many history
+FailsAs s calls many NoPlace = s.callers < many
+FailsAs s calls many Full = ⊥
+FailsAs s calls many f = Unit {0}
+
+-- a fault that says nothing of what callers and workers did
+abbrev pub is_silent : RunFault → Bool
+is_silent Unfinished = false
+is_silent NoPlace = false
+is_silent Full = false
+is_silent f = true
+
+-- all threads have ended, and none with a fault, or by one that tells so much
+pub record HaveRun {N : Type 0} (s : Layout) (does : Behavior) (calls : Conduct) (many : ℕ) (ends : Ends N) : Type 0 where
+  pub callers : HaveCalled s calls many ends.callers.items
+  pub workers : HaveWorked s does ends.workers.items
+  pub idle : AreNewcomers s many ends.idle.items
+  pub parts : ends.rest.parts + (length ends.callers.items + length ends.workers.items + length ends.idle.items) ≡ shares
+  pub amount : ends.rest.amount ≡ 0
+
+abbrev pub EndsAll : {N : Type 0} → Layout → Behavior → Conduct → ℕ → Result (Ends N) RunFault → Type 0
+EndsAll s does calls many (Ok ends) = HaveRun s does calls many ends
+EndsAll s does calls many (Err f) = FailsAs s calls many f
+
+-- A history that a run leaves: it is legal, each of the first so many callers did what it should, but for so many calls in all that had no room,
+-- each worker's entries are runs of items, nobody else has any, and nothing active is left behind.
+pub record IsLeft (s : Layout) (does : Behavior) (calls : Conduct) (many full : ℕ) (history : List Entry) : Type 0 where
+  pub legal : IsLegal s (past_of history)
+  pub called : AllCalled s calls 0 many full history
+  pub worked : AllWorked s does history
+  pub silent : AreSilent s many history
+  pub finished : active_in s history ≡ 0
+
+-- what a hub kept of a legal history, behind its first so many entries, and the same of one that a run leaves, of so many entries
+pub record IsRest (s : Layout) (first : ℕ) (rest : List Entry) : Type 0 where
+  pub history : List Entry
+  pub legal : IsLegal s (past_of history)
+  pub rest_is : rest ≡ drop first history
+
+pub record IsRestOfLeft (s : Layout) (does : Behavior) (calls : Conduct) (many entries full first : ℕ) (rest : List Entry) : Type 0 where
+  pub history : List Entry
+  pub left : IsLeft s does calls many full history
+  pub counted : entries ≡ length history
+  pub rest_is : rest ≡ drop first history

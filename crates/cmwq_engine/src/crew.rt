@@ -1,0 +1,53 @@
+//! What callers do.
+
+use cmwq_model::Shape;
+use cmwq_rt::{Caller, Hub, HubName, RunFault};
+use std::sync::Wait;
+
+/// What the callers of a hub do. All threads share it.
+pub trait Crew {
+    ghost use Rattle.std.specs.Prelude.{◌≡◌, ◌<◌, ℕ, true, IfOk, IfErr};
+    ghost use Rattle.cmwq_model.specs.Prelude.{Layout};
+    ghost use Rattle.cmwq_monitor.specs.Participants.{newcomer};
+    ghost use Rattle.cmwq_rt.specs.Running.{breaks_off};
+    ghost use Rattle.cmwq_engine.specs.Conduct.{Conduct, caller_numbered};
+
+    /// Hubs of which shapes it can run on: all, where it is left out.
+    ghost fits: { Self → Layout → Type 0 } = { λ _ _. Unit {0} };
+
+    /// How many callers have a thread, in a hub of this shape.
+    ghost many: { Self → Layout → ℕ };
+
+    /// What a caller leaves: `run` carries it into the history. Nothing is said where it is left out.
+    ghost calls: { Self → Conduct } = { λ _ _ _ _ _. Unit {0} };
+
+    /// How many callers have a thread: the first so many.
+    fn callers(&self, shape: &Shape) -> u8
+        requires { fits self.now shape.now }
+        ensures { result ≡ many self.now shape.now };
+
+    /// What the caller with this number does, on a thread of its own. It answers how many of its calls were left out
+    /// for want of room.
+    ///
+    /// # Errors
+    /// Those of the caller's calls but `Full`. The hub fails then.
+    fn call<N: HubName, R: Wait>(
+        &self,
+        rt: &R,
+        hub: &Hub<N>,
+        caller: Caller<N>,
+        number: u8,
+    ) -> (Caller<N>, Result<u32, RunFault>)
+        requires fits { fits self.now N.layout }
+        requires number { number < many self.now N.layout }
+        requires fresh { caller ≡ newcomer (caller_numbered number) }
+        ensures same { result.0.who ≡ caller_numbered number }
+        ensures called { IfOk result.1 (λ full. calls self.now N.layout number full result.0) }
+        ensures fault { IfErr result.1 (λ f. breaks_off f ≡ true) };
+
+    /// Is called when a thread has ended by a fault, or can't be made, before the hub fails: so who waits for something
+    /// else than a call can be woken. Nothing, where it is left out.
+    fn stop<R: Wait>(&self, rt: &R, fault: RunFault) {
+        let (_, _) = (rt, fault);
+    }
+}

@@ -1,0 +1,205 @@
+//! Puts together what the threads gave back.
+ghost use Rattle.std.specs.Prelude.{◌≡◌, ◌⊎◌, ℕ, ◌+◌, length, true, IfOk, IfErr};
+ghost use Rattle.cmwq_model.specs.declared.id.WorkerId as ids;
+ghost use Rattle.cmwq_model.specs.declared.id.Who.TheVariants as whos;
+ghost use Rattle.cmwq_monitor.specs.Held.{active_in};
+ghost use Rattle.cmwq_monitor.specs.Participants.{newcomer};
+ghost use Rattle.cmwq_monitor.specs.declared.fault.RunFault.TheVariants.{Unfinished};
+ghost use Rattle.cmwq_rt.specs.Places.{shares};
+ghost use Rattle.cmwq_rt.specs.Running.{breaks_off};
+ghost use Rattle.cmwq_engine.specs.Ended.{AllCalled, AllWorked, AreNewcomers, AreSilent, CalledAt, CalledIn, HaveCalled, HaveRun, HaveWorked, IsUnfinished, WorkedFrom, WorkedIn, is_silent};
+
+use crate::crew::Crew;
+use crate::ends::{CallerEnd, WorkerEnd};
+use cmwq_monitor::Monitor;
+use cmwq_rt::ending::{settle_caller, settle_worker, share_of_caller, share_of_worker};
+use cmwq_rt::{Caller, HubName, RunFault, Work};
+use std::sync::ledger::Share;
+
+/// All threads, after they have ended, the callers that had none, and what no participant got of the ledger.
+#[derive(Drop)]
+pub struct Ends<N: HubName> {
+    pub callers: Vec<CallerEnd<N>>,
+    pub workers: Vec<WorkerEnd<N>>,
+    pub idle: Vec<Caller<N>>,
+    pub rest: Share<N>,
+}
+
+/// How many entries the callers and workers of a run count as theirs, and how many calls were left out for want of
+/// room.
+#[derive(Clone, Copy, Debug, PartialEq, Eq)]
+pub struct Tally {
+    pub answered: u64,
+    pub full: u64,
+}
+
+/// The sum, which is below 2^64 as far as counts go.
+fn added(a: u64, b: u64) -> Result<u64, RunFault>
+    ensures sum { IfOk result (λ n. n ≡ a + b) }
+    ensures fault { IfErr result (λ f. is_silent f ≡ true) }
+{
+    match a.checked_add(b) {
+        Some(sum) => Ok(sum),
+        None => Err(RunFault::NoMemory { ticket: None }),
+    }
+}
+
+/// One caller more: how many entries it made, and how many of its calls were left out.
+fn gather_caller<N: HubName, C: Crew>(
+    monitor: &Monitor<N>,
+    end: CallerEnd<N>,
+    crew: &C,
+    all: &mut Share<N>,
+) -> Result<(u64, u64), RunFault>
+    ensures share { IfOk result (λ t. (all.new.parts ≡ all.old.parts + 1) × (all.new.amount ≡ all.old.amount + t.0)) }
+    ensures fault { IfErr end.outcome (λ f. breaks_off f ≡ true) → IfErr result (λ f. is_silent f ≡ true) }
+    ensures called { IfOk result (λ t. (k : ℕ) → IfOk end.outcome (λ full. CalledAt N.layout (C.calls crew.now) k full end.caller) → CalledIn N.layout (C.calls crew.now) k t.1 monitor.now.history) }
+{
+    let _crew = crew;
+    let CallerEnd { caller, outcome } = end;
+    let mut caller = caller;
+    match outcome {
+        Ok(full) => {
+            settle_caller(&mut caller, monitor)?;
+            let made = caller.serial();
+            all.merge(share_of_caller(caller));
+            Ok((made, u64::from(full)))
+        }
+        Err(fault) => Err(fault),
+    }
+}
+
+/// All callers that had a thread, the last one first.
+fn gather_callers<N: HubName, C: Crew>(
+    monitor: &Monitor<N>,
+    callers: Vec<CallerEnd<N>>,
+    crew: &C,
+    all: &mut Share<N>,
+) -> Result<(u64, u64), RunFault>
+    requires { HaveCalled N.layout (C.calls crew.now) (C.many crew.now N.layout) callers.items }
+    ensures share { IfOk result (λ t. (all.new.parts ≡ all.old.parts + length callers.items) × (all.new.amount ≡ all.old.amount + t.0)) }
+    ensures fault { IfErr result (λ f. is_silent f ≡ true) }
+    ensures called { IfOk result (λ t. AllCalled N.layout (C.calls crew.now) 0 (C.many crew.now N.layout) t.1 monitor.now.history) }
+{
+    let mut callers = callers;
+    let mut answered = 0u64;
+    let mut full = 0u64;
+    for _ in 0..callers.len() {
+        let Some(end) = callers.pop() else {
+            unreachable!()
+        };
+        let (made, left_out) = gather_caller(monitor, end, crew, all)?;
+        answered = added(answered, made)?;
+        full = added(left_out, full)?;
+    }
+    Ok((answered, full))
+}
+
+/// One worker more: how many entries it made.
+fn gather_worker<N: HubName, W: Work>(
+    monitor: &Monitor<N>,
+    end: WorkerEnd<N>,
+    work: &W,
+    all: &mut Share<N>,
+) -> Result<u64, RunFault>
+    ensures share { IfOk result (λ n. (all.new.parts ≡ all.old.parts + 1) × (all.new.amount ≡ all.old.amount + n)) }
+    ensures fault { IfErr end.outcome (λ f. breaks_off f ≡ true) → IfErr result (λ f. is_silent f ≡ true) }
+    ensures worked { IfOk result (λ _. (x : ids.WorkerId) → IfOk end.outcome (λ _. WorkedFrom N.layout (W.does work.now N.layout) (newcomer (whos.Worker x)) end.worker) → WorkedIn N.layout (W.does work.now N.layout) x monitor.now.history) }
+{
+    let _work = work;
+    let WorkerEnd { worker, outcome } = end;
+    let mut worker = worker;
+    match outcome {
+        Ok(_) => {
+            settle_worker(&mut worker, monitor)?;
+            let made = worker.serial();
+            all.merge(share_of_worker(worker));
+            Ok(made)
+        }
+        Err(fault) => Err(fault),
+    }
+}
+
+/// All workers, the last one first.
+fn gather_workers<N: HubName, W: Work>(
+    monitor: &Monitor<N>,
+    workers: Vec<WorkerEnd<N>>,
+    work: &W,
+    all: &mut Share<N>,
+) -> Result<u64, RunFault>
+    requires { HaveWorked N.layout (W.does work.now N.layout) workers.items }
+    ensures share { IfOk result (λ n. (all.new.parts ≡ all.old.parts + length workers.items) × (all.new.amount ≡ all.old.amount + n)) }
+    ensures fault { IfErr result (λ f. is_silent f ≡ true) }
+    ensures worked { IfOk result (λ _. AllWorked N.layout (W.does work.now N.layout) monitor.now.history) }
+{
+    let mut workers = workers;
+    let mut answered = 0u64;
+    for _ in 0..workers.len() {
+        let Some(end) = workers.pop() else {
+            unreachable!()
+        };
+        let made = gather_worker(monitor, end, work, all)?;
+        answered = added(answered, made)?;
+    }
+    Ok(answered)
+}
+
+/// The callers that had no thread, the last one first: they made no entry.
+fn gather_idle<N: HubName, C: Crew>(
+    monitor: &Monitor<N>,
+    idle: Vec<Caller<N>>,
+    crew: &C,
+    all: &mut Share<N>,
+) -> Result<(), RunFault>
+    requires { AreNewcomers N.layout (C.many crew.now N.layout) idle.items }
+    ensures share { IfOk result (λ _. (all.new.parts ≡ all.old.parts + length idle.items) × (all.new.amount ≡ all.old.amount)) }
+    ensures fault { IfErr result (λ f. is_silent f ≡ true) }
+    ensures silent { IfOk result (λ _. AreSilent N.layout (C.many crew.now N.layout) monitor.now.history) }
+{
+    let _crew = crew;
+    let mut idle = idle;
+    for _ in 0..idle.len() {
+        let Some(caller) = idle.pop() else {
+            unreachable!()
+        };
+        let mut caller = caller;
+        settle_caller(&mut caller, monitor)?;
+        all.merge(share_of_caller(caller));
+    }
+    Ok(())
+}
+
+/// What all count, which the ledger says is the history, and the calls that were left out.
+pub(crate) fn gather<N: HubName, C: Crew, W: Work>(
+    monitor: &mut Monitor<N>,
+    ends: Ends<N>,
+    crew: &C,
+    work: &W,
+) -> Result<Tally, RunFault>
+    requires parts { N.parts ≡ shares }
+    requires ends { HaveRun N.layout (W.does work.now N.layout) (C.calls crew.now) (C.many crew.now N.layout) ends }
+    ensures same { monitor.new ≡ monitor.old }
+    ensures counted { IfOk result (λ t. t.answered ≡ length monitor.old.history) }
+    ensures called { IfOk result (λ t. AllCalled N.layout (C.calls crew.now) 0 (C.many crew.now N.layout) t.full monitor.old.history) }
+    ensures worked { IfOk result (λ _. AllWorked N.layout (W.does work.now N.layout) monitor.old.history) }
+    ensures silent { IfOk result (λ _. AreSilent N.layout (C.many crew.now N.layout) monitor.old.history) }
+    ensures finished { IfOk result (λ _. active_in N.layout monitor.old.history ≡ 0) }
+    ensures fails { IfErr result (λ f. ((f ≡ Unfinished) × IsUnfinished N.layout (C.calls crew.now) (C.many crew.now N.layout) monitor.old.history) ⊎ (is_silent f ≡ true)) }
+{
+    let Ends {
+        callers,
+        workers,
+        idle,
+        rest,
+    } = ends;
+    let mut all = rest;
+    let (made, full) = gather_callers(monitor, callers, crew, &mut all)?;
+    let worked = gather_workers(monitor, workers, work, &mut all)?;
+    gather_idle(monitor, idle, crew, &mut all)?;
+    if monitor.active_count() != 0 {
+        return Err(RunFault::Unfinished);
+    }
+    monitor.audit(&mut all);
+    let answered = added(made, worked)?;
+    Ok(Tally { answered, full })
+}

@@ -1,0 +1,18 @@
+//! Runs callers and workers of a hub on threads, and ends the hub when they have ended.
+//!
+//! A `Crew` says how many callers have a thread and what each does, a `Work` what items do. `run` starts all threads,
+//! joins them, and gives what the hub kept of its history, and how many entries all count as theirs. The module
+//! `beside` is for a layer above that takes the history while it is made.
+#![tactic(auto)]
+
+pub mod beside;
+mod crew;
+mod ends;
+mod gather;
+mod running;
+mod start;
+
+pub use crew::Crew;
+pub use ends::{CallerEnd, Calls, RunsWork, WorkerEnd};
+pub use gather::{Ends, Tally};
+pub use running::run;

@@ -1,0 +1,204 @@
+//! Runs all threads, and ends the hub.
+ghost use Rattle.std.specs.Prelude.{◌≡◌, IfOk, IfErr};
+ghost use Rattle.cmwq_rt.specs.Places.{all_free, shares};
+ghost use Rattle.cmwq_engine.specs.Ended.{EndsAll, FailsAs, HaveRun, IsRest, IsRestOfLeft};
+
+use crate::crew::Crew;
+use crate::ends::stop_at;
+use crate::gather::{Ends, Tally, gather};
+use crate::start::{idle_callers, start_callers, start_workers};
+use cmwq_monitor::Rest;
+use cmwq_rt::ending::into_monitor;
+use cmwq_rt::{Hub, HubName, HubParts, Participants, RunFault, Work};
+use std::alloc::Global;
+use std::marker::Brand;
+use std::sync::Wait;
+use std::thread::{self, Scope, Threads, join_promised};
+
+/// How many callers have a thread.
+fn many_callers<N: HubName, C: Crew>(hub: &Hub<N>, crew: &C) -> u8
+    requires { C.fits crew.now N.layout }
+    ensures { result ≡ C.many crew.now N.layout }
+{
+    crew.callers(hub.shape())
+}
+
+/// Starts all threads, and joins them: first the callers, and then the workers, who go on until no active queueing is
+/// open.
+fn run_all<
+    's,
+    E,
+    N: HubName + Send + Sync + 's,
+    C: Crew + Sync,
+    W: Work + Sync,
+    R: Threads + Wait + Sync,
+>(
+    scope: &Scope<'s, E>,
+    rt: &'s R,
+    alloc: Global,
+    hub: &'s Hub<N>,
+    participants: Participants<N>,
+    crew: &'s C,
+    work: &'s W,
+) -> Result<Ends<N>, RunFault>
+    requires fresh { participants ≡ all_free }
+    requires fits { C.fits crew.now N.layout }
+    ensures run { IfOk result (λ ends. HaveRun N.layout (W.does work.now N.layout) (C.calls crew.now) (C.many crew.now N.layout) ends) }
+    ensures fails { IfErr result (λ f. FailsAs N.layout (C.calls crew.now) (C.many crew.now N.layout) f) }
+{
+    let many = many_callers(hub, crew);
+    let mut participants = participants;
+    let handles = match start_callers(scope, rt, alloc, hub, crew, many, &mut participants) {
+        Ok(handles) => handles,
+        Err(fault) => return Err(fault),
+    };
+    let working = match start_workers(scope, rt, alloc, hub, crew, work, &mut participants) {
+        Ok(working) => working,
+        Err(fault) => return Err(fault),
+    };
+    let joined = join_promised(rt, handles);
+    let Ok(callers) = joined else {
+        return Err(RunFault::NoMemory { ticket: None });
+    };
+    hub.close(rt);
+    let ended = join_promised(rt, working);
+    let Ok(workers) = ended else {
+        return Err(RunFault::NoMemory { ticket: None });
+    };
+    let idle = idle_callers(alloc, hub.shape(), &mut participants)?;
+    Ok(Ends {
+        callers,
+        workers,
+        idle,
+        rest: participants.into_rest(),
+    })
+}
+
+/// The same. At a fault all threads come to their end.
+fn run_or_stop<
+    's,
+    E,
+    N: HubName + Send + Sync + 's,
+    C: Crew + Sync,
+    W: Work + Sync,
+    R: Threads + Wait + Sync,
+>(
+    scope: &Scope<'s, E>,
+    rt: &'s R,
+    alloc: Global,
+    hub: &'s Hub<N>,
+    participants: Participants<N>,
+    crew: &'s C,
+    work: &'s W,
+) -> Result<Ends<N>, RunFault>
+    requires fresh { participants ≡ all_free }
+    requires fits { C.fits crew.now N.layout }
+    ensures { EndsAll N.layout (W.does work.now N.layout) (C.calls crew.now) (C.many crew.now N.layout) result }
+{
+    let ends = run_all(scope, rt, alloc, hub, participants, crew, work);
+    stop_at(rt, hub, crew, &ends);
+    ends
+}
+
+/// Runs all threads to their end, in a scope of their own.
+pub(crate) fn run_threads<
+    'x,
+    N: HubName + Send + Sync,
+    C: Crew + Sync,
+    W: Work + Sync,
+    R: Threads + Wait + Sync,
+>(
+    rt: &'x R,
+    alloc: Global,
+    hub: &'x Hub<N>,
+    participants: Participants<N>,
+    crew: &'x C,
+    work: &'x W,
+) -> Result<Ends<N>, RunFault>
+    requires fresh { participants ≡ all_free }
+    requires fits { C.fits crew.now N.layout }
+    ensures { EndsAll N.layout (W.does work.now N.layout) (C.calls crew.now) (C.many crew.now N.layout) result }
+{
+    thread::scope(
+        thread::scope_env(),
+        rt,
+        |scope| -> Result<Ends<N>, RunFault>
+            requires { (participants ≡ all_free) × C.fits crew.now N.layout }
+            ensures { EndsAll N.layout (W.does work.entry.now N.layout) (C.calls crew.entry.now) (C.many crew.entry.now N.layout) result }
+        { run_or_stop(scope, rt, alloc, hub, participants, crew, work) },
+    )
+}
+
+/// Ends a hub whose threads have ended: what it kept of its history, and what all count.
+fn end_hub<N: HubName, C: Crew, W: Work, R: Wait>(
+    rt: &R,
+    hub: Hub<N>,
+    ends: Result<Ends<N>, RunFault>,
+    crew: &C,
+    work: &W,
+) -> (Rest, Result<Tally, RunFault>)
+    requires parts { N.parts ≡ shares }
+    requires ends { EndsAll N.layout (W.does work.now N.layout) (C.calls crew.now) (C.many crew.now N.layout) ends }
+    ensures rest { IsRest N.layout result.0.first result.0.entries.items }
+    ensures left { IfOk result.1 (λ t. IsRestOfLeft N.layout (W.does work.now N.layout) (C.calls crew.now) (C.many crew.now N.layout) t.answered t.full result.0.first result.0.entries.items) }
+    ensures fails { IfErr result.1 (FailsAs N.layout (C.calls crew.now) (C.many crew.now N.layout)) }
+{
+    let mut monitor = into_monitor(hub);
+    match ends {
+        Ok(ends) => {
+            let gathered = gather(&mut monitor, ends, crew, work);
+            (monitor.end(rt), gathered)
+        }
+        Err(fault) => (monitor.end(rt), Err(fault)),
+    }
+}
+
+/// Runs all threads on a hub of these parts, and ends it.
+fn run_parts<
+    'x,
+    N: HubName + Send + Sync + 'static,
+    C: Crew + Sync,
+    W: Work + Sync,
+    R: Threads + Wait + Sync,
+>(
+    rt: &'x R,
+    alloc: Global,
+    parts: HubParts,
+    crew: &'x C,
+    work: &'x W,
+) -> (Rest, Result<Tally, RunFault>)
+    requires layout { parts.shape ≡ N.layout }
+    requires book { parts.opening.book ≡ N.book }
+    requires ledger { (parts.blank.name ≡ N.name) × (parts.blank.parts ≡ N.parts) }
+    requires fits { C.fits crew.now N.layout }
+    ensures rest { IsRest N.layout result.0.first result.0.entries.items }
+    ensures left { IfOk result.1 (λ t. IsRestOfLeft N.layout (W.does work.now N.layout) (C.calls crew.now) (C.many crew.now N.layout) t.answered t.full result.0.first result.0.entries.items) }
+    ensures fails { IfErr result.1 (FailsAs N.layout (C.calls crew.now) (C.many crew.now N.layout)) }
+{
+    let (hub, participants) = Hub::<N>::open(parts);
+    let ends = run_threads(rt, alloc, &hub, participants, crew, work);
+    end_hub(rt, hub, ends, crew, work)
+}
+
+/// Runs a crew and its work on a new hub of these parts: a thread for each of the crew's callers, and one for each
+/// worker. Once all callers have ended the hub is closed, and the workers go on until no active queueing is open. It
+/// gives what the hub kept of the history, which is all of it where its parts keep all.
+///
+/// # Errors
+/// The fault of a thread; `NoThread` where one can't be made; `NoPlace` only where the crew has more callers than the
+/// shape; `Unfinished` only where all callers have done what they should and an active queueing is open at the end;
+/// `NoMemory`. All threads have ended then.
+pub fn run<'x, C: Crew + Sync, W: Work + Sync, R: Threads + Wait + Sync>(
+    rt: &'x R,
+    alloc: Global,
+    parts: HubParts,
+    crew: &'x C,
+    work: &'x W,
+) -> (Rest, Result<Tally, RunFault>)
+    requires { C.fits crew.now parts.shape }
+    ensures rest { IsRest parts.shape result.0.first result.0.entries.items }
+    ensures left { IfOk result.1 (λ t. IsRestOfLeft parts.shape (W.does work.now parts.shape) (C.calls crew.now) (C.many crew.now parts.shape) t.answered t.full result.0.first result.0.entries.items) }
+    ensures fails { IfErr result.1 (FailsAs parts.shape (C.calls crew.now) (C.many crew.now parts.shape)) }
+{
+    run_parts::<Brand, C, W, R>(rt, alloc, parts, crew, work)
+}

@@ -1,0 +1,142 @@
+//! Runs all threads beside the journal that writes their history.
+ghost use Rattle.std.specs.Prelude.{◌≡◌, ◌≤◌, true, IfOk, IfErr, OnOk};
+ghost use Rattle.cmwq_io.specs.Counts.{Rises};
+ghost use Rattle.cmwq_model.specs.Prelude.{past_of, IsLegal};
+ghost use Rattle.cmwq_rt.specs.Places.{all_free};
+ghost use Rattle.cmwq_engine.specs.Ended.{EndsAll, is_silent};
+ghost use Rattle.cmwq_rt_journal.specs.Faults.{is_of_sink};
+ghost use Rattle.cmwq_rt_journal.specs.Kept.{HasKept};
+
+use crate::fault::JournalFault;
+use crate::keep::keep_journal;
+use cmwq_engine::beside::{start_all, stop};
+use cmwq_engine::{Crew, Ends};
+use cmwq_io::Sink;
+use cmwq_monitor::{Journal, RunFault};
+use cmwq_rt::{Hub, HubName, Participants, Work};
+use std::alloc::Global;
+use std::sync::Wait;
+use std::thread::{self, Scope, Threads};
+use std::time::{Clock, Duration};
+
+/// No longer than so do the last entries of a quiet hub stay unwritten.
+const MILLISECONDS: u64 = 100;
+
+/// What a run leaves, and its journal.
+#[derive(Drop)]
+pub(crate) struct Beside<N: HubName> {
+    pub ends: Result<Ends<N>, RunFault>,
+    pub journal: Journal<N>,
+    pub kept: Result<(), JournalFault>,
+}
+
+/// Keeps the journal in this thread while another runs all others.
+fn keep<
+    's,
+    E,
+    N: HubName + Send + Sync + 's,
+    C: Crew + Sync,
+    W: Work + Sync,
+    R: Threads + Wait + Clock + Sync,
+    O: Sink,
+>(
+    scope: &Scope<'s, E>,
+    rt: &'s R,
+    alloc: Global,
+    hub: &'s Hub<N>,
+    participants: Participants<N>,
+    crew: &'s C,
+    work: &'s W,
+    journal: Journal<N>,
+    output: &mut O,
+) -> Result<Beside<N>, RunFault>
+    requires fresh { participants ≡ all_free }
+    requires fits { C.fits crew.now N.layout }
+    ensures ends { IfOk result (λ b. EndsAll N.layout (W.does work.now N.layout) (C.calls crew.now) (C.many crew.now N.layout) b.ends) }
+    ensures legal { IfOk result (λ b. IsLegal N.layout (past_of b.journal.seen)) }
+    ensures kept { IfOk result (λ b. HasKept N.layout b.journal.seen (O.written output.old) (O.written output.new) b.kept) }
+    ensures grown { OnOk result (O.troubles output.old ≤ O.troubles output.new) }
+    ensures sink { IfOk result (λ b. IfErr b.kept (λ f. is_of_sink f ≡ true → Rises (O.troubles output.old) (O.troubles output.new))) }
+    ensures none { IfErr result (λ f. (is_silent f ≡ true) × (output.new ≡ output.old)) }
+{
+    let conductor = match start_all(scope, rt, alloc, hub, participants, crew, work) {
+        Ok(conductor) => conductor,
+        Err(fault) => return Err(fault),
+    };
+    let mut journal = journal;
+    let time = Duration::from_millis(MILLISECONDS);
+    let kept = keep_journal(rt, hub, &mut journal, time, output);
+    if kept.is_err() {
+        stop(rt, hub, crew);
+    }
+    Ok(Beside {
+        ends: conductor.join(rt),
+        journal,
+        kept,
+    })
+}
+
+/// What a reference that came back from a closure refers to is as it is.
+fn take_back<O>(output: &mut O)
+    ensures { output.new ≡ output.old }
+{
+    let _ = output;
+}
+
+/// Runs all threads in a scope of their own, and keeps the journal meanwhile.
+pub(crate) fn run_beside<
+    'x,
+    N: HubName + Send + Sync,
+    C: Crew + Sync,
+    W: Work + Sync,
+    R: Threads + Wait + Clock + Sync,
+    O: Sink,
+>(
+    rt: &'x R,
+    alloc: Global,
+    hub: &'x Hub<N>,
+    participants: Participants<N>,
+    crew: &'x C,
+    work: &'x W,
+    journal: Journal<N>,
+    output: &mut O,
+) -> Result<Beside<N>, RunFault>
+    requires fresh { participants ≡ all_free }
+    requires fits { C.fits crew.now N.layout }
+    ensures ends { IfOk result (λ b. EndsAll N.layout (W.does work.now N.layout) (C.calls crew.now) (C.many crew.now N.layout) b.ends) }
+    ensures legal { IfOk result (λ b. IsLegal N.layout (past_of b.journal.seen)) }
+    ensures kept { IfOk result (λ b. HasKept N.layout b.journal.seen (O.written output.old) (O.written output.new) b.kept) }
+    ensures grown { OnOk result (O.troubles output.old ≤ O.troubles output.new) }
+    ensures sink { IfOk result (λ b. IfErr b.kept (λ f. is_of_sink f ≡ true → Rises (O.troubles output.old) (O.troubles output.new))) }
+    ensures none { IfErr result (λ f. (is_silent f ≡ true) × (output.new ≡ output.old)) }
+{
+    let (beside, output) = thread::scope(
+        thread::scope_env(),
+        rt,
+        move |scope| -> (Result<Beside<N>, RunFault>, &mut O)
+            requires { (participants ≡ all_free) × C.fits crew.now N.layout }
+            ensures { (result.1.ghost_name ≡ output.entry.ghost_name)
+                × IfOk result.0 (λ b. EndsAll N.layout (W.does work.entry.now N.layout) (C.calls crew.entry.now) (C.many crew.entry.now N.layout) b.ends
+                × IsLegal N.layout (past_of b.journal.seen)
+                × HasKept N.layout b.journal.seen (O.written output.entry.now) (O.written result.1.now) b.kept
+                × IfErr b.kept (λ f. is_of_sink f ≡ true → Rises (O.troubles output.entry.now) (O.troubles result.1.now)))
+                × OnOk result.0 (O.troubles output.entry.now ≤ O.troubles result.1.now)
+                × IfErr result.0 (λ f. (is_silent f ≡ true) × (result.1.now ≡ output.entry.now)) }
+        {
+            let beside = keep(
+                scope,
+                rt,
+                alloc,
+                hub,
+                participants,
+                crew,
+                work,
+                journal,
+                output,
+            );
+            (beside, output)
+        },
+    );
+    take_back(output);
+    beside
+}

@@ -1,0 +1,11 @@
+use Rattle.cmwq_rt_scripts.specs.Common.{subst, ◌∙◌, Vec, Call, Global, HasFollowed, get_or_from_slice_get}
+use Rattle.cmwq_rt_scripts.proofs.crew.ScriptsCrew.call.Goals as goal
+
+pub returns-in-Ok-clause-called : goal.returns-in-Ok-clause-called
+returns-in-Ok-clause-called g c x at =
+    let s = g.N.HubName.layout in
+    let all = c.args.self.now.scripts.now in
+    let full = c.in-Ok.full in
+    let w = c.follow.new.self in
+    let there = c.index-scripts-place.is ∙ get_or_from_slice_get all c.args.number x _ at in
+    subst (λ v. HasFollowed s x.items full v w) c.requires.fresh (subst (λ (y : Vec Call Global). HasFollowed s y.items full c.args.caller w) there c.in-Ok.ensures.followed)

@@ -1,0 +1,16 @@
+-- What a crew that follows scripts does.
+use Rattle.std.specs.Prelude.{◌≡◌, ◌<◌, ◌≤◌, ◌^◌}
+use Rattle.cmwq_model.specs.Prelude.{most_callers}
+use Rattle.cmwq_rt_scripts.specs.Common.{ℕ, List, length, All, slice_get, Some, Vec, Global, Call, Layout, View, newcomer, IsScripted, HasFollowed, Conduct, caller_numbered}
+
+-- the caller of this place has followed the script from its first call on and done nothing else
+abbrev pub FollowedAt : Layout → ℕ → List Call → ℕ → View → Type 0
+FollowedAt s k script full v = HasFollowed s script full (newcomer (caller_numbered k)) v
+
+-- each caller has followed the script of its place
+abbrev pub follows : List (Vec Call Global) → Conduct
+follows scripts s k full v = (x : Vec Call Global) → slice_get scripts k ≡ Some x → FollowedAt s k x.items full v
+
+-- a hub of this shape can run these scripts
+abbrev pub AreFit : Layout → List (Vec Call Global) → Type 0
+AreFit s scripts = (length scripts ≤ most_callers) × All (λ x. All (IsScripted s) x.items × (length x.items < 2 ^ 32)) scripts

@@ -1,5 +1,0 @@
-use Rattle.cmwq_service.proofs.threads.end_all.Given as goal
-
--- it begins where the caller stands
-abbrev pub ghosts-end_from : goal.ghosts-end_from
-ghosts-end_from g a = record { start = a.caller }

@@ -1,9 +1,0 @@
-use Rattle.std.proofs.Common.{ap}
-use Rattle.cmwq_rt_journal.proofs.Kept.{nothing_written}
-use Rattle.cmwq_service.proofs.writing.run_parts.Goals as goal
-
-pub returns-in-Ok-clause-sink : goal.returns-in-Ok-clause-sink
-returns-in-Ok-clause-sink g c failed = c.end_run.ensures.sink failed (g.O.Sink.troubles c.args.output.now) c.in-Ok.ensures.grown c.in-Ok.ensures.sink
-
-pub returns-clause-front : goal.returns-clause-front
-returns-clause-front g c = nothing_written g.N.HubName.layout (g.O.Sink.written c.args.output.now) _ (ap g.O.Sink.written c.in-Err.ensures.none)

@@ -1,0 +1,267 @@
+//! A service as a crew: what its threads run. For a layer above that takes the history while it is made.
+ghost use Rattle.std.specs.Prelude.{◌≡◌, ◌-◌, true, Ok, IfErr, IfOk, OnOk};
+ghost use Rattle.cmwq_monitor.specs.Participants.{newcomer};
+ghost use Rattle.cmwq_rt.specs.Later.{Later};
+ghost use Rattle.cmwq_rt.specs.Running.{breaks_off};
+ghost use Rattle.cmwq_engine.specs.Conduct.{caller_numbered};
+ghost use Rattle.cmwq_service.specs.Calls.{GoesOn};
+ghost use Rattle.cmwq_service.specs.Serving.{HasCalled, own_callers};
+
+use crate::builder::OWN_CALLERS;
+use crate::client::{Client, HubClient};
+use crate::context::HubContext;
+use crate::fault::Fault;
+use crate::service::Service;
+use crate::signal::Signal;
+use crate::start::Start;
+use cmwq_engine::{Crew, Tally};
+use cmwq_model::{ItemId, Shape};
+use cmwq_rt::{Caller, Hub, HubName, RunCtx, RunFault, Work};
+use core::mem::replace_with;
+use std::marker::Brand;
+use std::sync::Wait;
+use std::time::{Clock, Duration};
+
+/// How many callers of a shape are the service's.
+fn service_callers(shape: &Shape) -> u8
+    ensures { result ≡ shape.now.callers - own_callers }
+{
+    shape.counts().callers.saturating_sub(OWN_CALLERS)
+}
+
+/// A service, with all that its threads share. Its callers have a thread each, and so have the library's own two: the
+/// clock, and the one that comes at the end.
+#[derive(Drop)]
+pub struct Serving<'s, S, R> {
+    rt: &'s R,
+    service: &'s S,
+    signal: Signal,
+}
+
+/// Calls the service by a client that begins where the caller stands.
+fn call_from<B: Start, N: HubName, S: Service, R: Wait + Clock>(
+    rt: &R,
+    hub: &Hub<N>,
+    service: &S,
+    caller: Caller<N>,
+    number: u8,
+) -> (Caller<N>, Result<(), Fault>)
+    requires { caller ≡ B.start }
+    ensures goes { GoesOn B.start result.0 }
+    ensures did { OnOk result.1 (S.calls number N.layout B.start result.0) }
+{
+    let mut client: HubClient<N, B, R> = HubClient::new(rt, hub, caller);
+    let outcome = service.call(rt, number, &mut client);
+    (client.into_caller(), outcome)
+}
+
+/// What a caller of the service does.
+fn call_once<N: HubName, S: Service, R: Wait + Clock>(
+    rt: &R,
+    hub: &Hub<N>,
+    service: &S,
+    caller: Caller<N>,
+    number: u8,
+) -> (Caller<N>, Result<(), Fault>)
+    requires { caller ≡ newcomer (caller_numbered number) }
+    ensures same { result.0.who ≡ caller_numbered number }
+    ensures called { OnOk result.1 (∥ HasCalled N.layout S.calls number result.0 ∥₁) }
+{
+    call_from::<Brand, N, S, R>(rt, hub, service, caller, number)
+}
+
+/// Runs an item by a context that begins where the worker stands.
+fn run_from<'a, B: Start, N: HubName, S: Service, R: Wait + Clock, Q: Wait>(
+    rt: &R,
+    service: &S,
+    item: ItemId,
+    run: RunCtx<'a, N, Q>,
+) -> (RunCtx<'a, N, Q>, Result<(), Fault>)
+    requires { run.participant ≡ B.start }
+    ensures { Later B.start result.0.participant }
+{
+    let mut context: HubContext<'a, N, B, Q> = HubContext::new(run);
+    let outcome = service.run(rt, item, &mut context);
+    (context.into_run(), outcome)
+}
+
+fn run_once<'a, N: HubName, S: Service, R: Wait + Clock, Q: Wait>(
+    rt: &R,
+    service: &S,
+    item: ItemId,
+    run: RunCtx<'a, N, Q>,
+) -> (RunCtx<'a, N, Q>, Result<(), Fault>)
+    ensures { Later run.entry.participant result.0.participant }
+{
+    run_from::<Brand, N, S, R, Q>(rt, service, item, run)
+}
+
+fn run_in<'a, N: HubName, S: Service, R: Wait + Clock, Q: Wait>(
+    rt: &R,
+    service: &S,
+    item: ItemId,
+    run: &mut RunCtx<'a, N, Q>,
+) -> Result<(), Fault>
+    ensures { Later run.old.participant run.new.participant }
+{
+    replace_with(
+        run,
+        (),
+        |run, _nothing| -> (RunCtx<N, Q>, Result<(), Fault>)
+            ensures { Later run.entry.participant result.0.participant }
+        { run_once(rt, service, item, run) },
+    )
+}
+
+impl<'s, S: Service, R: Wait + Clock> Serving<'s, S, R> {
+    /// The service, before it runs on a hub of this shape.
+    ///
+    /// # Errors
+    /// `NoPlace` where the shape has fewer callers than the library's own.
+    pub fn new(rt: &'s R, service: &'s S, shape: &Shape) -> Result<Serving<'s, S, R>, Fault> {
+        if shape.counts().callers < OWN_CALLERS {
+            return Err(Fault::Run {
+                fault: RunFault::NoPlace,
+            });
+        }
+        Ok(Serving {
+            rt,
+            service,
+            signal: Signal::new(service_callers(shape)),
+        })
+    }
+
+    /// Why it stopped, where its hub's threads ended by this fault: the first one that was told, if any was.
+    pub fn fault(&self, fault: RunFault) -> Fault {
+        match self.signal.fault(self.rt) {
+            Some(first) => first,
+            None => Fault::Run { fault },
+        }
+    }
+
+    /// How it ended, where its hub's threads ended so.
+    pub(crate) fn outcome(&self, ended: Result<Tally, RunFault>) -> Result<Tally, Fault>
+        ensures { IfOk result (λ tally. ended ≡ Ok tally) }
+    {
+        match ended {
+            Ok(tally) => Ok(tally),
+            Err(fault) => Err(self.fault(fault)),
+        }
+    }
+
+    /// What is told to the hub's other threads, and of a fault to the service's.
+    fn told(&self, outcome: Result<(), Fault>) -> Result<u32, RunFault>
+        ensures fault { IfErr result (λ f. breaks_off f ≡ true) }
+        ensures ok { OnOk result (outcome ≡ Ok tt) }
+    {
+        match outcome {
+            Ok(()) => Ok(0),
+            Err(fault) => {
+                self.signal.end(self.rt, Some(fault));
+                Err(RunFault::Closed)
+            }
+        }
+    }
+
+    /// Hands in a tick each time so long has gone by, until the service is over.
+    fn tick_on<C: Client>(&self, client: &mut C, time: Duration) -> Result<(), Fault> {
+        for _ in self.rt.forever() {
+            if self.signal.is_over_within(self.rt, time) {
+                return Ok(());
+            }
+            client.tick(1)?;
+        }
+        unreachable!()
+    }
+
+    /// The thread of the clock, which ends at once where the service wants no ticks.
+    fn tick_all<C: Client>(&self, client: &mut C) -> Result<(), Fault> {
+        match self.service.tick_every() {
+            Some(time) => self.tick_on(client, time),
+            None => Ok(()),
+        }
+    }
+
+    /// What comes when the service's callers have ended, if none of them gave up. Then the service is over.
+    fn end_all<C: Client>(&self, client: &mut C) -> Result<(), Fault> {
+        if self.signal.have_left(self.rt) {
+            self.service.end(self.rt, client)?;
+        }
+        self.signal.end(self.rt, None);
+        Ok(())
+    }
+}
+
+/// What the library's own caller does, by a client that begins where it stands.
+fn help_from<'s, B: Start, N: HubName, S: Service, R: Wait + Clock>(
+    serving: &Serving<'s, S, R>,
+    hub: &Hub<N>,
+    caller: Caller<N>,
+    is_clock: bool,
+) -> (Caller<N>, Result<(), Fault>)
+    requires { caller ≡ B.start }
+    ensures { GoesOn B.start result.0 }
+{
+    let mut client: HubClient<N, B, R> = HubClient::new(serving.rt, hub, caller);
+    let outcome = if is_clock {
+        serving.tick_all(&mut client)
+    } else {
+        serving.end_all(&mut client)
+    };
+    (client.into_caller(), outcome)
+}
+
+fn help_once<'s, N: HubName, S: Service, R: Wait + Clock>(
+    serving: &Serving<'s, S, R>,
+    hub: &Hub<N>,
+    caller: Caller<N>,
+    is_clock: bool,
+) -> (Caller<N>, Result<(), Fault>)
+    ensures { result.0.who ≡ caller.who }
+{
+    help_from::<Brand, N, S, R>(serving, hub, caller, is_clock)
+}
+
+impl<'s, S: Service, R: Wait + Clock> Crew for Serving<'s, S, R> {
+    ghost use Rattle.std.specs.Prelude.{◌+◌, ◌<◌};
+    ghost use Rattle.cmwq_service.specs.Serving.{HasCalled, own_callers};
+
+    ghost many = { λ _ s. s.callers };
+
+    ghost calls = { λ _ s k _ v. k + own_callers < s.callers → ∥ HasCalled s S.calls k v ∥₁ };
+
+    fn callers(&self, shape: &Shape) -> u8 {
+        shape.counts().callers
+    }
+
+    fn call<N: HubName, Q: Wait>(
+        &self,
+        _rt: &Q,
+        hub: &Hub<N>,
+        caller: Caller<N>,
+        number: u8,
+    ) -> (Caller<N>, Result<u32, RunFault>) {
+        let all = service_callers(hub.shape());
+        if number < all {
+            let (caller, outcome) = call_once(self.rt, hub, self.service, caller, number);
+            let told = self.told(outcome);
+            self.signal.leave(self.rt);
+            return (caller, told);
+        }
+        let (caller, outcome) = help_once(self, hub, caller, number == all);
+        (caller, self.told(outcome))
+    }
+
+    fn stop<Q: Wait>(&self, _rt: &Q, fault: RunFault) {
+        self.signal.end(self.rt, Some(Fault::Run { fault }));
+    }
+}
+
+impl<'s, S: Service, R: Wait + Clock> Work for Serving<'s, S, R> {
+    fn run<N: HubName, Q: Wait>(&self, item: ItemId, context: &mut RunCtx<N, Q>) {
+        let outcome = run_in(self.rt, self.service, item, context);
+        if let Err(fault) = self.told(outcome) {
+            context.break_off(fault);
+        }
+    }
+}
