@@ -122,10 +122,10 @@ impl<N: HubName> Caller<N> {
         Some(found.bits)
     }
 
-    /// A call of one entry: it makes that entry, and waits for nothing.
+    /// Makes a call of one entry, as the method of its name does. It waits for nothing.
     ///
     /// # Errors
-    /// As of all calls of one entry: `Closed`, `NoMemory` where the hub has failed, `Stranger`, `Full`; it has made no entry then.
+    /// `Closed`, `NoMemory` if the hub has failed, `Stranger`, `Full`. It has made no entry then.
     pub fn make<R: Wait>(&mut self, rt: &R, hub: &Hub<N>, call: Call) -> Result<Reply, RunFault>
         requires callers { is_callers call ≡ true }
         requires numbers { has_numbers N.layout call ≡ true }

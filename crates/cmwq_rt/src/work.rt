@@ -74,7 +74,7 @@ impl<'a, N: HubName, R: Wait> RunCtx<'a, N, R> {
         self.hub.shape()
     }
 
-    /// The run breaks off: its worker answers this fault, as if a call of the run had answered it.
+    /// Breaks the run off: its worker returns this fault, as if a call of the run had returned it.
     pub fn break_off(&mut self, fault: RunFault)
         requires { breaks_off fault ≡ true }
         ensures { self.new ≡ record self.old { fault = Some fault } }
@@ -82,10 +82,10 @@ impl<'a, N: HubName, R: Wait> RunCtx<'a, N, R> {
         self.fault = Some(fault);
     }
 
-    /// A call of the worker, as the method of its name makes it: one entry.
+    /// Makes a call of the worker, as the method of its name does: one entry.
     ///
     /// # Errors
-    /// As of `queue`.
+    /// Those of `queue`.
     #[tactic(auto, using(crate::proofs::Running::refused_breaks_off))]
     pub fn make(&mut self, call: Call) -> Result<Reply, RunFault>
         requires workers { is_workers call ≡ true }

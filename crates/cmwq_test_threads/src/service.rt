@@ -6,9 +6,10 @@ use crate::table::{Act, Table};
 use cmwq_base::{Memory, read_history};
 use cmwq_model::Call;
 use cmwq_service::{
-    CpuId, Fault, ItemId, Misfit, PLAIN, QueueId, QueueShape, RunFault, Shape, ShapeBuilder,
-    Unwritten, run, run_dropping, run_writing,
+    CpuId, Fault, ItemId, Misfit, PLAIN, QueueId, QueueShape, RunFault, Shape, ShapeBuilder, run,
+    run_dropping,
 };
+use cmwq_service_journal::{Unwritten, run_writing};
 use std::alloc::AllocError;
 use std::process::Abort;
 use std::sync::Wait;
