@@ -59,24 +59,25 @@ called_from s does first (suc many) full h (a, b, here, rest, sum) (suc j) few o
     let same : suc first + j ≡ first + suc j = omega arith in
     subst (λ (k : ℕ). ∥ CalledIn s does k h ∥₁) same (called_from s does (suc first) many b h rest j (omega (arith, few)) (omega (arith, own)))
 
-pub is_served : (s : Layout) (behavior : Behavior) (does : Conduct) (full : ℕ) (h : List Entry) → IsLeft s behavior (calls_of does) s.callers full h → IsServed s does h
-is_served s behavior does full h left = record {
+pub is_served : (s : Layout) (does : Layout → Behavior) (calls : Conduct) (full : ℕ) (h : List Entry) → IsLeft s (does s) (calls_of calls) s.callers full h → IsServed s calls does h
+is_served s does calls full h left = record {
   reliable = reliable s (past_of h) left.legal;
   finished = left.finished;
   called = (λ k own.
       let same : 0 + k ≡ k = omega arith in
-      subst (λ (n : ℕ). ∥ CalledIn s does n h ∥₁) same (called_from s does 0 s.callers full h left.called k (omega (arith, own)) (omega (arith, own))));
+      subst (λ (n : ℕ). ∥ CalledIn s calls n h ∥₁) same (called_from s calls 0 s.callers full h left.called k (omega (arith, own)) (omega (arith, own))));
+  worked = left.worked;
 }
 
-pub rest_of_served : (s : Layout) (behavior : Behavior) (does : Conduct) (entries full first : ℕ) (es : List Entry) → IsRestOfLeft s behavior (calls_of does) s.callers entries full first es → IsRestOfServed s does first es
-rest_of_served s behavior does entries full first es rest = record { history = rest.history; served = is_served s behavior does full rest.history rest.left; rest_is = rest.rest_is }
+pub rest_of_served : (s : Layout) (does : Layout → Behavior) (calls : Conduct) (entries full first : ℕ) (es : List Entry) → IsRestOfLeft s (does s) (calls_of calls) s.callers entries full first es → IsRestOfServed s calls does first es
+rest_of_served s does calls entries full first es rest = record { history = rest.history; served = is_served s does calls full rest.history rest.left; rest_is = rest.rest_is }
 
 -- how a service ended whose hub's threads ended so
-pub served_outcome : (s : Layout) (behavior : Behavior) (does : Conduct) (first : ℕ) (es : List Entry) (ended : Result Tally RunFault) (o : Result Tally Fault) → IfOk o (λ t. ended ≡ Ok t)
-    → IfOk ended (λ t. IsRestOfLeft s behavior (calls_of does) s.callers t.answered t.full first es) → OnOk o (IsRestOfServed s does first es)
-served_outcome s behavior does first es ended (Ok t) same left =
-    rest_of_served s behavior does t.answered t.full first es (subst (λ r. IfOk r (λ t. IsRestOfLeft s behavior (calls_of does) s.callers t.answered t.full first es)) same left)
-served_outcome s behavior does first es ended (Err f) same left = tt
+pub served_outcome : (s : Layout) (does : Layout → Behavior) (calls : Conduct) (first : ℕ) (es : List Entry) (ended : Result Tally RunFault) (o : Result Tally Fault) → IfOk o (λ t. ended ≡ Ok t)
+    → IfOk ended (λ t. IsRestOfLeft s (does s) (calls_of calls) s.callers t.answered t.full first es) → OnOk o (IsRestOfServed s calls does first es)
+served_outcome s does calls first es ended (Ok t) same left =
+    rest_of_served s does calls t.answered t.full first es (subst (λ r. IfOk r (λ t. IsRestOfLeft s (does s) (calls_of calls) s.callers t.answered t.full first es)) same left)
+served_outcome s does calls first es ended (Err f) same left = tt
 
 -- what is told to the hub's other threads
 pub told_called : (s : Layout) (does : Conduct) (k : ℕ) (v : View) (o : Result (Unit {0}) Fault) (told : Result ℕ RunFault) → OnOk told (o ≡ Ok tt) → OnOk o (∥ HasCalled s does k v ∥₁) → IfOk told (λ full. calls_of does s k full v)
@@ -97,5 +98,5 @@ all_is_rest h es first is none = sym (subst (λ (n : ℕ). es ≡ drop n h) none
 pub whole_rest : (s : Layout) (first : ℕ) (es : List Entry) → first ≡ 0 → IsRest s first es → IsReliable s (past_of es)
 whole_rest s first es none rest = subst (λ xs. IsReliable s (past_of xs)) (all_is_rest rest.history es first rest.rest_is none) (reliable s (past_of rest.history) rest.legal)
 
-pub whole_served : (s : Layout) (does : Conduct) (first : ℕ) (es : List Entry) → first ≡ 0 → IsRestOfServed s does first es → IsServed s does es
-whole_served s does first es none rest = subst (λ xs. IsServed s does xs) (all_is_rest rest.history es first rest.rest_is none) rest.served
+pub whole_served : (s : Layout) (calls : Conduct) (does : Layout → Behavior) (first : ℕ) (es : List Entry) → first ≡ 0 → IsRestOfServed s calls does first es → IsServed s calls does es
+whole_served s calls does first es none rest = subst (λ xs. IsServed s calls does xs) (all_is_rest rest.history es first rest.rest_is none) rest.served

@@ -3,7 +3,9 @@ use Rattle.std.specs.Prelude.{◌≡◌, ◌+◌, ◌<◌, ℕ, List, drop}
 use mathlib.Core.List.{IsPrefix}
 use Rattle.cmwq_model.specs.Prelude.{Layout, past_of}
 use Rattle.cmwq_model.specs.declared.entry.Entry.{Entry}
+use Rattle.cmwq_rt.specs.Running.{Behavior}
 use Rattle.cmwq_engine.specs.Conduct.{caller_numbered}
+use Rattle.cmwq_engine.specs.Ended.{AllWorked}
 use Rattle.cmwq_core.specs.Relied.{IsReliable}
 use Rattle.cmwq_monitor.specs.Held.{active_in}
 use Rattle.cmwq_monitor.specs.Participants.{View, Gains, newcomer, made_by}
@@ -18,28 +20,29 @@ abbrev pub own_callers : ℕ
 own_callers = 2
 
 -- what a caller of this place has done
-pub record HasCalled (s : Layout) (does : Conduct) (k : ℕ) (v : View) : Type 0 where
+pub record HasCalled (s : Layout) (calls : Conduct) (k : ℕ) (v : View) : Type 0 where
   pub continues : Continues (newcomer (caller_numbered k)) v
-  pub did : does k s (newcomer (caller_numbered k)) v
+  pub did : calls k s (newcomer (caller_numbered k)) v
 
 -- The caller's entries in a history are those that its client has made, and it did what the service says.
-pub record CalledIn (s : Layout) (does : Conduct) (k : ℕ) (history : List Entry) : Type 0 where
+pub record CalledIn (s : Layout) (calls : Conduct) (k : ℕ) (history : List Entry) : Type 0 where
   pub last : View
-  pub did : does k s (newcomer (caller_numbered k)) last
+  pub did : calls k s (newcomer (caller_numbered k)) last
   pub entries : List Entry
   pub gains : Gains (newcomer (caller_numbered k)) entries last
   pub older : IsPrefix last.seen history
   pub own : made_by (caller_numbered k) history ≡ entries
 
--- A history that a service leaves: all that a user relies on holds of it, no active queueing is open at its end, and each of its callers did
--- what the service says and made no other entries.
-pub record IsServed (s : Layout) (does : Conduct) (history : List Entry) : Type 0 where
+-- A history that a service leaves: all that a user relies on holds of it, no active queueing is open at its end, each of its callers did what
+-- the service says and made no other entries, and each worker's entries are runs, in each of which its item did what the service says.
+pub record IsServed (s : Layout) (calls : Conduct) (does : Layout → Behavior) (history : List Entry) : Type 0 where
   pub reliable : IsReliable s (past_of history)
   pub finished : active_in s history ≡ 0
-  pub called : (k : ℕ) → k + own_callers < s.callers → ∥ CalledIn s does k history ∥₁
+  pub called : (k : ℕ) → k + own_callers < s.callers → ∥ CalledIn s calls k history ∥₁
+  pub worked : AllWorked s (does s) history
 
--- what a hub kept of a history that a service leaves, behind its first so many entries
-pub record IsRestOfServed (s : Layout) (does : Conduct) (first : ℕ) (rest : List Entry) : Type 0 where
+-- what a hub kept of a history that a service leaves, after its first so many entries
+pub record IsRestOfServed (s : Layout) (calls : Conduct) (does : Layout → Behavior) (first : ℕ) (rest : List Entry) : Type 0 where
   pub history : List Entry
-  pub served : IsServed s does history
+  pub served : IsServed s calls does history
   pub rest_is : rest ≡ drop first history

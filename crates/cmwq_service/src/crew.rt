@@ -78,7 +78,8 @@ fn run_from<'a, B: Start, N: HubName, S: Service, R: Wait + Clock, Q: Wait>(
     run: RunCtx<'a, N, Q>,
 ) -> (RunCtx<'a, N, Q>, Result<(), Fault>)
     requires { run.participant ≡ B.start }
-    ensures { Later B.start result.0.participant }
+    ensures later { Later B.start result.0.participant }
+    ensures did { OnOk result.1 (S.does N.layout item B.start result.0.participant) }
 {
     let mut context: HubContext<'a, N, B, Q> = HubContext::new(run);
     let outcome = service.run(rt, item, &mut context);
@@ -91,7 +92,8 @@ fn run_once<'a, N: HubName, S: Service, R: Wait + Clock, Q: Wait>(
     item: ItemId,
     run: RunCtx<'a, N, Q>,
 ) -> (RunCtx<'a, N, Q>, Result<(), Fault>)
-    ensures { Later run.entry.participant result.0.participant }
+    ensures later { Later run.participant result.0.participant }
+    ensures did { OnOk result.1 (S.does N.layout item run.participant result.0.participant) }
 {
     run_from::<Brand, N, S, R, Q>(rt, service, item, run)
 }
@@ -102,13 +104,15 @@ fn run_in<'a, N: HubName, S: Service, R: Wait + Clock, Q: Wait>(
     item: ItemId,
     run: &mut RunCtx<'a, N, Q>,
 ) -> Result<(), Fault>
-    ensures { Later run.old.participant run.new.participant }
+    ensures later { Later run.old.participant run.new.participant }
+    ensures did { OnOk result (S.does N.layout item run.old.participant run.new.participant) }
 {
     replace_with(
         run,
         (),
         |run, _nothing| -> (RunCtx<N, Q>, Result<(), Fault>)
-            ensures { Later run.entry.participant result.0.participant }
+            ensures { Later run.entry.participant result.0.participant
+                × OnOk result.1 (S.does N.layout item run.entry.participant result.0.participant) }
         { run_once(rt, service, item, run) },
     )
 }
@@ -258,6 +262,8 @@ impl<'s, S: Service, R: Wait + Clock> Crew for Serving<'s, S, R> {
 }
 
 impl<'s, S: Service, R: Wait + Clock> Work for Serving<'s, S, R> {
+    ghost does = { λ _. S.does };
+
     fn run<N: HubName, Q: Wait>(&self, item: ItemId, context: &mut RunCtx<N, Q>) {
         let outcome = run_in(self.rt, self.service, item, context);
         if let Err(fault) = self.told(outcome) {

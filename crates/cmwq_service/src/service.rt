@@ -13,11 +13,17 @@ use std::time::{Clock, Duration};
 /// so that all threads come to their end, and `run` answers the first one.
 pub trait Service {
     ghost use Rattle.std.specs.Prelude.{OnOk};
+    ghost use Rattle.cmwq_model.specs.Prelude.{Layout};
+    ghost use Rattle.cmwq_rt.specs.Running.{Behavior};
     ghost use Rattle.cmwq_service.specs.Serving.{Conduct};
 
-    /// What a caller does, by its place, as a relation of what it saw at first and at last: `run` carries it into the
-    /// history. Nothing is said where it is left out.
+    /// What a caller does, by its place, as a relation of its first and its last view. The history that `run` returns
+    /// has it. A service that leaves it out states nothing.
     ghost calls: { Conduct } = { λ _ _ _ _. Unit {0} };
+
+    /// What one run of an item does, as a relation of its worker's first and last view. The history that `run` returns
+    /// has it of each run. A service that leaves it out states nothing.
+    ghost does: { Layout → Behavior } = { λ _ _ _ _. Unit {0} };
 
     /// Runs an item, in a worker's thread, once for each start of one of its queueings (the kernel's `work_func_t`).
     fn run<R: Wait + Clock, C: Context>(
@@ -25,7 +31,8 @@ pub trait Service {
         rt: &R,
         item: ItemId,
         context: &mut C,
-    ) -> Result<(), Fault>;
+    ) -> Result<(), Fault>
+        ensures { OnOk result (does C.layout item (C.view context.old) (C.view context.new)) };
 
     /// What the caller of this place does, on a thread of its own. Places are numbered from 0; there are as many as the
     /// shape has callers, but for the library's own two.

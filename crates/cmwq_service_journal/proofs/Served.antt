@@ -7,5 +7,5 @@ use Rattle.cmwq_service.specs.Serving.{Conduct}
 use Rattle.cmwq_service.proofs.Ending.{calls_of, is_served}
 use Rattle.cmwq_service_journal.specs.Writing.{WritesServed}
 
-pub writes_served : (s : Layout) (behavior : Behavior) (does : Conduct) (entries full : ℕ) (a b : Option (List ℕ)) → WritesLeft s behavior (calls_of does) s.callers entries full a b → WritesServed s does entries a b
-writes_served s behavior does entries full a b (h, left, many, text) = (h, is_served s behavior does full h left, many, text)
+pub writes_served : (s : Layout) (does : Layout → Behavior) (calls : Conduct) (entries full : ℕ) (a b : Option (List ℕ)) → WritesLeft s (does s) (calls_of calls) s.callers entries full a b → WritesServed s calls does entries a b
+writes_served s does calls entries full a b (h, left, many, text) = (h, is_served s does calls full h left, many, text)
