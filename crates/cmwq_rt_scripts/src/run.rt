@@ -80,13 +80,13 @@ fn run_parts<'x, W: Work + Sync, R: Threads + Wait + Sync>(
     })
 }
 
-/// Runs scripts on a new hub: a thread for each script, whose caller follows it, and one for each worker. Once all
-/// callers have ended the hub is closed, and the workers go on until no active queueing is open.
+/// Runs scripts on a new hub: a thread for each script, whose caller follows it, and one for each worker. When all
+/// callers have ended, it closes the hub, and the workers go on until no active queueing is open.
 ///
 /// # Errors
-/// The first fault of a thread; `NoThread` where one can't be made; `NoPlace` only where there are more scripts than
-/// callers; `Unfinished` only where all callers have followed their scripts and an active queueing is open at the end;
-/// `NoMemory`. All threads have ended then.
+/// The fault of a thread; `NoThread` if one cannot be made; `NoPlace` only if there are more scripts than callers;
+/// `Unfinished` only if all callers have followed their scripts and an active queueing is open at the end; `NoMemory`.
+/// All threads have ended then.
 pub fn run_scripts<'x, W: Work + Sync, R: Threads + Wait + Sync>(
     rt: &'x R,
     alloc: Global,
