@@ -42,7 +42,8 @@ follow_from s all (x ∷ xs) k full h there (n, m, one, rest, sum) =
     )
 
 pub all_follow : (s : Layout) (all : List (Vec Call Global)) (full : ℕ) (h : List Entry) → AllCalled s (follows all) 0 (length all) full h → AllFollow s 0 (lists all) full h
-all_follow s all full h so = follow_from s all all 0 full h (λ j x is. is) so
+all_follow s all full h so =
+    follow_from s all all 0 full h (λ j x is. (let same : j ≡ 0 + j = omega arith in subst (λ (i : ℕ). slice_get all i ≡ Some x) same is)) so
 
 pub leaves : (s : Layout) (does : Behavior) (all : List (Vec Call Global)) (full : ℕ) (h : List Entry) → CrewLeaves s does (follows all) (length all) full h → IsLeft s does (lists all) full h
 leaves s does all full h left = record {
@@ -54,7 +55,7 @@ leaves s does all full h left = record {
 }
 
 pub fails : (s : Layout) (all : List (Vec Call Global)) (f : RunFault) → CrewFails s (follows all) (length all) f → FailsAs s (lists all) f
-fails s all Unfinished (h, legal, full, called, active) = (h, legal, full, all_follow s all full h called, active)
+fails s all Unfinished (h, legal, (full, called, active)) = (h, legal, (full, all_follow s all full h called, active))
 fails s all NoPlace few = subst (λ (n : ℕ). s.callers < n) (sym (length-map all (λ x. x.items))) few
 fails s all Full none = none
 fails s all f so = record {}

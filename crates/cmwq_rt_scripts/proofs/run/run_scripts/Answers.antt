@@ -1,5 +1,11 @@
+use Rattle.cmwq_rt_scripts.specs.Common.{subst, sym, Layout}
+use Rattle.cmwq_rt_scripts.specs.Followed.{AreFit}
 use Rattle.cmwq_rt_scripts.proofs.Leaving.{if_ok, silent_of}
 use Rattle.cmwq_rt_scripts.proofs.run.run_scripts.Goals as goal
+
+pub run_parts-requires-clause-fits : goal.run_parts-requires-clause-fits
+run_parts-requires-clause-fits g c κs within =
+    subst (λ (s : Layout). AreFit s c.args.scripts.now) (sym c.in-Ok.ensures.shape) (c.requires.few, c.requires.calls)
 
 pub returns-in-Ok-clause-legal : goal.returns-in-Ok-clause-legal
 returns-in-Ok-clause-legal g c = if_ok _ _ c.run_parts.result (λ r x. x.legal) c.run_parts.ensures.left
