@@ -18,6 +18,7 @@ use crate::fault::{RunFault, Shortage};
 use crate::journal::{Journal, Rest};
 use crate::participant::Participant;
 use crate::sleepers::{Sleepers, Wakes};
+use crate::waits::Stuck;
 use cmwq_core::{Execution, Full, Plan};
 use cmwq_model::{Call, Entry, ItemId, NoMemory, Number, Queueing, Reply, Shape, Ticket, Who};
 use cmwq_publish::{HubName, Publisher};
@@ -208,6 +209,20 @@ impl<N: HubName> Monitor<N> {
         self.compare(participant)
     }
 
+    /// The same of a call that a closed hub takes.
+    #[inline(always)]
+    fn admits_closed(&self, participant: &Participant<N>) -> Result<(), RunFault>
+        ensures open { IfOk result (λ _. self.now.failed ≡ false) }
+        ensures step { IfOk result (λ _. InStep self.now.history participant.now) }
+        ensures says { IfErr result (λ f. (call : Call) → SaysFault N.layout participant.now call f) }
+        ensures leaves { IfErr result (λ f. LeavesHeld self.now f self.now) }
+    {
+        if self.failed {
+            return Err(RunFault::NoMemory { ticket: None });
+        }
+        self.compare(participant)
+    }
+
     /// A call of one entry. A closed hub refuses those of callers.
     pub fn call<R: Wait>(
         &mut self,
@@ -230,6 +245,90 @@ impl<N: HubName> Monitor<N> {
             Ok(reply) => Ok(reply),
             Err(Shortage::Room) => Err(RunFault::Full),
             Err(Shortage::Memory) => Err(RunFault::NoMemory { ticket: None }),
+        }
+    }
+
+    /// The same by a caller that a run waits by: a closed hub takes that too.
+    pub fn call_in_run<R: Wait>(
+        &mut self,
+        rt: &R,
+        participant: &mut Participant<N>,
+        call: Call,
+    ) -> Result<Reply, RunFault>
+        requires { IsTrue (fits N.layout participant.old.who call) }
+        ensures made { IfOk result (λ reply. Extends N.layout participant.old call reply participant.new × InStep self.new.history participant.new) }
+        ensures goes_on { IfOk result (λ _. (self.old.failed ≡ false) × GoesOn self.old self.new) }
+        ensures refused { IfErr result (λ f. Refused N.layout participant.old call f participant.new) }
+        ensures leaves { IfErr result (λ f. LeavesHeld self.old f self.new) }
+    {
+        match self.admits_closed(participant) {
+            Ok(()) => {}
+            Err(fault) => return Err(fault),
+        }
+        match self.enter(rt, participant, call) {
+            Ok(reply) => Ok(reply),
+            Err(Shortage::Room) => Err(RunFault::Full),
+            Err(Shortage::Memory) => Err(RunFault::NoMemory { ticket: None }),
+        }
+    }
+
+    /// What the worker runs, unless its run sleeps.
+    fn run_of(&self, participant: &Participant<N>) -> Option<Queueing>
+        requires { is_caller participant.now.who ≡ false }
+    {
+        let who = participant.who();
+        let planned = self.execution.plan(who, Call::Finish);
+        match &planned {
+            Ok(plan) => self.execution.ended_by(plan),
+            Err(Full) => None,
+        }
+    }
+
+    /// What the worker runs, if it may wait by such a call: nothing is known of a run that sleeps.
+    ///
+    /// # Errors
+    /// Why the wait could never end, if that is seen: it would wait for the run itself, or for one that waits for it.
+    pub fn may_wait(
+        &mut self,
+        participant: &Participant<N>,
+        call: Call,
+    ) -> Result<Option<Queueing>, Stuck>
+        requires { is_caller participant.now.who ≡ false }
+        ensures { self.new ≡ self.old }
+    {
+        let Some(run) = self.run_of(participant) else {
+            return Ok(None);
+        };
+        match self
+            .sleepers
+            .refuses(&self.execution, &self.shape, &run, call)
+        {
+            Some(stuck) => Err(stuck),
+            None => Ok(Some(run)),
+        }
+    }
+
+    /// This run waits from now on, for the ticket that this caller's call gave.
+    pub fn run_waits(&mut self, run: Option<Queueing>, caller: Who, call: Call, ticket: Number)
+        ensures { self.new ≡ self.old }
+    {
+        let (Some(run), Who::Caller(caller)) = (run, caller) else {
+            return;
+        };
+        let ticket = Ticket {
+            caller,
+            call,
+            number: ticket,
+        };
+        self.sleepers.run_waits(run, ticket);
+    }
+
+    /// The run that waited by this caller goes on.
+    pub fn run_goes_on(&mut self, caller: Who)
+        ensures { self.new ≡ self.old }
+    {
+        if let Who::Caller(caller) = caller {
+            self.sleepers.run_goes_on(caller);
         }
     }
 

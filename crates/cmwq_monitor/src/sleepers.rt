@@ -2,6 +2,7 @@
 
 ghost use Rattle.std.specs.Prelude.{◌≡◌};
 
+use crate::waits::{RunWaits, Stuck};
 use cmwq_core::Execution;
 use cmwq_model::{
     Call, CallerId, CpuId, Entry, NoMemory, PoolId, QueueId, Queueing, Reply, Shape, Ticket, Who,
@@ -94,6 +95,7 @@ pub struct Sleepers {
     /// By pool.
     idle: Vec<IdleWorkers>,
     wakes: Wakes,
+    runs: RunWaits,
 }
 
 /// The bit of a worker in the word of its pool.
@@ -236,6 +238,7 @@ impl Sleepers {
             flushes: Vec::with_capacity(alloc, usize::from(counts.callers))?,
             idle: Vec::from_elem(alloc, NONE_IDLE, 2 * usize::from(counts.cpus))?,
             wakes: NOBODY,
+            runs: RunWaits::new(alloc, shape)?,
         })
     }
 
@@ -392,6 +395,29 @@ impl Sleepers {
                 }
             }
         }
+    }
+
+    /// A run begins to wait for this ticket.
+    pub fn run_waits(&mut self, run: Queueing, ticket: Ticket) {
+        self.runs.begins(run, ticket);
+    }
+
+    /// The run that waits by this caller goes on.
+    pub fn run_goes_on(&mut self, caller: CallerId) {
+        self.runs.ends(caller);
+    }
+
+    /// Why a wait by such a call of this run could never end, if that is seen.
+    pub fn refuses(
+        &mut self,
+        book: &Execution,
+        shape: &Shape,
+        run: &Queueing,
+        call: Call,
+    ) -> Option<Stuck>
+        requires { book.now.layout ≡ shape.now }
+    {
+        self.runs.refuses(book, shape, run, call)
     }
 
     /// All workers are to be woken.
