@@ -14,7 +14,7 @@ use crate::fault::Fault;
 use crate::service::Service;
 use crate::signal::Signal;
 use crate::start::Start;
-use cmwq_engine::{Crew, Tally};
+use cmwq_engine::{Crew, Roster, Tally};
 use cmwq_model::{ItemId, Shape};
 use cmwq_rt::{Caller, Hub, HubName, RunCtx, RunFault, Work};
 use core::mem::replace_with;
@@ -22,11 +22,18 @@ use std::marker::Brand;
 use std::sync::Wait;
 use std::time::{Clock, Duration};
 
-/// How many callers of a shape are the service's.
-fn service_callers(shape: &Shape) -> u8
-    ensures { result ≡ shape.now.callers - own_callers }
+/// How many callers of a shape have a thread: those of the service, and the library's own two.
+fn thread_callers<S: Service>(shape: &Shape) -> u8
+    ensures { result ≡ shape.now.callers - S.WAITS }
 {
-    shape.counts().callers.saturating_sub(OWN_CALLERS)
+    shape.counts().callers.saturating_sub(S::WAITS)
+}
+
+/// How many callers of a shape are the service's.
+fn service_callers<S: Service>(shape: &Shape) -> u8
+    ensures { result ≡ shape.now.callers - S.WAITS - own_callers }
+{
+    thread_callers::<S>(shape).saturating_sub(OWN_CALLERS)
 }
 
 /// A service, with all that its threads share. Its callers have a thread each, and so have the library's own two: the
@@ -121,9 +128,9 @@ impl<'s, S: Service, R: Wait + Clock> Serving<'s, S, R> {
     /// The service, before it runs on a hub of this shape.
     ///
     /// # Errors
-    /// `NoPlace` where the shape has fewer callers than the library's own.
+    /// `NoPlace` if the shape has fewer callers than the library needs: its own two, and those that are lent.
     pub fn new(rt: &'s R, service: &'s S, shape: &Shape) -> Result<Serving<'s, S, R>, Fault> {
-        if shape.counts().callers < OWN_CALLERS {
+        if thread_callers::<S>(shape) < OWN_CALLERS {
             return Err(Fault::Run {
                 fault: RunFault::NoPlace,
             });
@@ -131,7 +138,7 @@ impl<'s, S: Service, R: Wait + Clock> Serving<'s, S, R> {
         Ok(Serving {
             rt,
             service,
-            signal: Signal::new(service_callers(shape)),
+            signal: Signal::new(service_callers::<S>(shape)),
         })
     }
 
@@ -227,15 +234,18 @@ fn help_once<'s, N: HubName, S: Service, R: Wait + Clock>(
 }
 
 impl<'s, S: Service, R: Wait + Clock> Crew for Serving<'s, S, R> {
-    ghost use Rattle.std.specs.Prelude.{◌+◌, ◌<◌};
+    ghost use Rattle.std.specs.Prelude.{◌+◌, ◌-◌, ◌<◌};
     ghost use Rattle.cmwq_service.specs.Serving.{HasCalled, own_callers};
 
-    ghost many = { λ _ s. s.callers };
+    ghost roles = { λ _ s. record { threads = s.callers - S.WAITS; lent = S.WAITS } };
 
-    ghost calls = { λ _ s k _ v. k + own_callers < s.callers → ∥ HasCalled s S.calls k v ∥₁ };
+    ghost calls = { λ _ s k _ v. k + own_callers + S.WAITS < s.callers → ∥ HasCalled s S.calls k v ∥₁ };
 
-    fn callers(&self, shape: &Shape) -> u8 {
-        shape.counts().callers
+    fn roster(&self, shape: &Shape) -> Roster {
+        Roster {
+            threads: thread_callers::<S>(shape),
+            lent: S::WAITS,
+        }
     }
 
     fn call<N: HubName, Q: Wait>(
@@ -245,7 +255,7 @@ impl<'s, S: Service, R: Wait + Clock> Crew for Serving<'s, S, R> {
         caller: Caller<N>,
         number: u8,
     ) -> (Caller<N>, Result<u32, RunFault>) {
-        let all = service_callers(hub.shape());
+        let all = service_callers::<S>(hub.shape());
         if number < all {
             let (caller, outcome) = call_once(self.rt, hub, self.service, caller, number);
             let told = self.told(outcome);

@@ -24,6 +24,6 @@ pub use cmwq_model::{
 };
 pub use cmwq_rt::RunFault;
 pub use context::Context;
-pub use fault::{Fault, Stopped};
+pub use fault::{Awaited, Fault, Stopped};
 pub use running::{run, run_dropping};
 pub use service::Service;

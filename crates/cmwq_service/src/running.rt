@@ -34,7 +34,7 @@ fn give_all<S: Service>(
     rest: Rest,
     outcome: Result<Tally, Fault>,
 ) -> Result<Vec<Entry>, Stopped>
-    ensures served { (s : Layout) → OnOk outcome (IsRestOfServed s S.calls S.does rest.first rest.entries.items) → IfOk result (λ history. IsServed s S.calls S.does history.items) }
+    ensures served { (s : Layout) → OnOk outcome (IsRestOfServed s S.WAITS S.calls S.does rest.first rest.entries.items) → IfOk result (λ history. IsServed s S.WAITS S.calls S.does history.items) }
     ensures stopped { (s : Layout) → IsRest s rest.first rest.entries.items → IfErr result (λ stopped. IsReliable s (past_of stopped.history.items)) }
 {
     let Rest { first, entries } = rest;
@@ -59,7 +59,7 @@ fn run_parts<'s, S: Service + Send + Sync, R: Threads + Wait + Clock + Sync>(
     serving: &Serving<'s, S, R>,
 ) -> (Rest, Result<Tally, Fault>)
     ensures rest { IsRest parts.shape result.0.first result.0.entries.items }
-    ensures served { OnOk result.1 (IsRestOfServed parts.shape S.calls S.does result.0.first result.0.entries.items) }
+    ensures served { OnOk result.1 (IsRestOfServed parts.shape S.WAITS S.calls S.does result.0.first result.0.entries.items) }
 {
     let (rest, ended) = cmwq_engine::run(&*rt, alloc, parts, &*serving, &*serving);
     (rest, serving.outcome(ended))
@@ -80,7 +80,7 @@ pub fn run<S: Service + Send + Sync, R: Threads + Wait + Clock + Sync>(
     shape: &Shape,
     service: &S,
 ) -> Result<Vec<Entry>, Stopped>
-    ensures served { IfOk result (λ history. IsServed shape.now S.calls S.does history.items) }
+    ensures served { IfOk result (λ history. IsServed shape.now S.WAITS S.calls S.does history.items) }
     ensures stopped { IfErr result (λ stopped. IsReliable shape.now (past_of stopped.history.items)) }
 {
     let serving = match Serving::new(rt, service, shape) {
@@ -107,7 +107,7 @@ pub fn run_dropping<S: Service + Send + Sync, R: Threads + Wait + Clock + Sync>(
     shape: &Shape,
     service: &S,
 ) -> Result<(), Fault>
-    ensures { OnOk result ((history : List entries.Entry) × IsServed shape.now S.calls S.does history) }
+    ensures { OnOk result ((history : List entries.Entry) × IsServed shape.now S.WAITS S.calls S.does history) }
 {
     let serving = Serving::new(rt, service, shape)?;
     match HubParts::dropping(rt, alloc, shape) {

@@ -25,6 +25,10 @@ pub trait Service {
     /// has it of each run. A service that leaves it out states nothing.
     ghost does: { Layout → Behavior } = { λ _ _ _ _. Unit {0} };
 
+    /// How many runs may wait at the same time (`Context::wait`). The shape has as many callers more, which the library
+    /// lends to them (`ShapeBuilder::callers_and_waits`).
+    const WAITS: u8 = 0;
+
     /// Runs an item, in a worker's thread, once for each start of one of its queueings (the kernel's `work_func_t`).
     fn run<R: Wait + Clock, C: Context>(
         &self,
@@ -35,7 +39,7 @@ pub trait Service {
         ensures { OnOk result (does C.layout item (C.view context.old) (C.view context.new)) };
 
     /// What the caller of this place does, on a thread of its own. Places are numbered from 0; there are as many as the
-    /// shape has callers, but for the library's own two.
+    /// shape has callers, without the library's own two and those that are lent to runs that wait.
     fn call<R: Wait + Clock, C: Client>(
         &self,
         rt: &R,

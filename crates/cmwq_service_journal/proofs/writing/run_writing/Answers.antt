@@ -7,4 +7,4 @@ pub returns-in-Err-clause-front : goal.returns-in-Err-clause-front
 returns-in-Err-clause-front g c = nothing_written c.args.shape.now (g.O.Sink.written c.args.output.now) _ refl
 
 pub returns-in-Ok-run_with_journal-clause-whole : goal.returns-in-Ok-run_with_journal-clause-whole
-returns-in-Ok-run_with_journal-clause-whole g c = writes_served c.args.shape.now g.S.Service.does g.S.Service.calls _ _ _ _ c.in-Ok-run_with_journal.ensures.whole
+returns-in-Ok-run_with_journal-clause-whole g c = writes_served c.args.shape.now g.S.Service.WAITS g.S.Service.does g.S.Service.calls _ _ _ _ c.in-Ok-run_with_journal.ensures.whole
