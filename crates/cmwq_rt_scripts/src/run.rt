@@ -85,7 +85,7 @@ fn run_parts<'x, W: Work + Sync, R: Threads + Wait + Sync>(
 /// callers have ended, it closes the hub, and the workers go on until no active queueing is open. No run waits.
 ///
 /// # Errors
-/// The first fault of a thread; `NoThread` if one cannot be made; `NoPlace` only if there are more scripts than
+/// The fault of a thread; `NoThread` if one cannot be made; `NoPlace` only if there are more scripts than
 /// callers; `Unfinished` only if all callers have followed their scripts and an active queueing is open at the end;
 /// `NoMemory`. All threads have ended then.
 pub fn run_scripts<'x, W: Work + Sync, R: Threads + Wait + Sync>(
