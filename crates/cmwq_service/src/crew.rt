@@ -99,8 +99,8 @@ fn run_once<'a, N: HubName, S: Service, R: Wait + Clock, Q: Wait>(
     item: ItemId,
     run: RunCtx<'a, N, Q>,
 ) -> (RunCtx<'a, N, Q>, Result<(), Fault>)
-    ensures later { Later run.participant result.0.participant }
-    ensures did { OnOk result.1 (S.does N.layout item run.participant result.0.participant) }
+    ensures later { Later run.entry.participant result.0.participant }
+    ensures did { OnOk result.1 (S.does N.layout item run.entry.participant result.0.participant) }
 {
     run_from::<Brand, N, S, R, Q>(rt, service, item, run)
 }
