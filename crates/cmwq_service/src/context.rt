@@ -175,6 +175,7 @@ impl<'a, N: HubName, B: Start, R: Wait> HubContext<'a, N, B, R> {
     #[tactic(auto, using(crate::proofs::Continuing::after_self))]
     pub(crate) fn new(run: RunCtx<'a, N, R>) -> HubContext<'a, N, B, R>
         requires { run.participant ≡ B.start }
+        ensures { result.run.participant ≡ run.entry.participant }
     {
         HubContext {
             run,
@@ -184,7 +185,8 @@ impl<'a, N: HubName, B: Start, R: Wait> HubContext<'a, N, B, R> {
 
     #[tactic(auto, using(crate::proofs::Continuing::later_after))]
     pub(crate) fn into_run(self) -> RunCtx<'a, N, R>
-        ensures { Later B.start result.participant }
+        ensures same { result.participant ≡ self.entry.run.participant }
+        ensures later { Later B.start result.participant }
     {
         let HubContext { run, of: _ } = self;
         run
