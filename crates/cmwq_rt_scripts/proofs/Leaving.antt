@@ -47,7 +47,8 @@ follow_from s all (x ∷ xs) k full h there (n, m, one, rest, sum) =
     )
 
 pub all_follow : (s : Layout) (all : List (Vec Call Global)) (full : ℕ) (h : List Entry) → AllCalled s (follows all) 0 (length all) full h → AllFollow s 0 (lists all) full h
-all_follow s all full h so = follow_from s all all 0 full h (λ j x is. is) so
+all_follow s all full h so =
+    follow_from s all all 0 full h (λ j x is. (let same : j ≡ 0 + j = omega arith in subst (λ (i : ℕ). slice_get all i ≡ Some x) same is)) so
 
 -- as many scripts as lists of calls
 same_number : (all : List (Vec Call Global)) (lent : ℕ) → length all + lent ≡ length (lists all) + lent
@@ -63,7 +64,7 @@ leaves s does all lent full h left = record {
 }
 
 pub fails : (s : Layout) (all : List (Vec Call Global)) (lent : ℕ) (f : RunFault) → CrewFails s (follows all) (roles all lent) f → FailsAs s (lists all) lent f
-fails s all lent Unfinished (h, legal, full, called, active) = (h, legal, full, all_follow s all full h called, active)
+fails s all lent Unfinished (h, legal, (full, called, active)) = (h, legal, (full, all_follow s all full h called, active))
 fails s all lent NoPlace few = subst (λ (n : ℕ). s.callers < n) (same_number all lent) few
 fails s all lent Full none = none
 fails s all lent f so = record {}

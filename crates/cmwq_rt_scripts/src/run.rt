@@ -54,7 +54,7 @@ fn run_parts<'x, W: Work + Sync, R: Threads + Wait + Sync>(
     work: &'x W,
 ) -> Result<Report, RunFault>
     requires shape { parts.shape ≡ shape.now }
-    requires fits { AreFit shape.now scripts.now }
+    requires fits { AreFit parts.shape scripts.now }
     ensures left { IfOk result (λ r. IsLeft shape.now (W.does work.now shape.now) (map (λ s. s.items) scripts.now) lent r.full r.history.items) }
     ensures counted { IfOk result (λ r. r.answered ≡ length r.history.items) }
     ensures fails { IfErr result (FailsAs shape.now (map (λ s. s.items) scripts.now) lent) }
@@ -146,24 +146,21 @@ pub fn run_scripts_with_journal<'x, W: Work + Sync, R: Threads + Wait + Clock + 
     rt: &'x R,
     alloc: Global,
     shape: &Shape,
-    scripts: &'x Vec<Vec<Call>>,
+    scripts: &'x [Vec<Call>],
     lent: u8,
     work: &'x W,
     kept: u32,
     output: &mut O,
 ) -> Result<Tally, Unwritten>
-    requires few { length scripts.now.items ≤ most_callers }
-    requires calls { All (λ s. All (IsScripted shape.now) s.items × (length s.items < 2 ^ 32)) scripts.now.items }
-    ensures whole { IfOk result (λ w. WritesAll shape.now (W.does work.now shape.now) (map (λ s. s.items) scripts.now.items) lent w.answered w.full (O.written output.old) (O.written output.new)) }
+    requires few { length scripts.now ≤ most_callers }
+    requires calls { All (λ s. All (IsScripted shape.now) s.items × (length s.items < 2 ^ 32)) scripts.now }
+    ensures whole { IfOk result (λ w. WritesAll shape.now (W.does work.now shape.now) (map (λ s. s.items) scripts.now) lent w.answered w.full (O.written output.old) (O.written output.new)) }
     ensures flushed { OnOk result (O.held output.new ≡ 0) }
     ensures front { OnErr result (WritesFront shape.now (O.written output.old) (O.written output.new)) }
-    ensures tells { IfErr result (TellsOf shape.now (map (λ s. s.items) scripts.now.items) lent) }
+    ensures tells { IfErr result (TellsOf shape.now (map (λ s. s.items) scripts.now) lent) }
     ensures sink { IsErrOf result unwritten.Sink → Rises (O.troubles output.old) (O.troubles output.new) }
 {
-    let crew = Scripts {
-        scripts: scripts.as_slice(),
-        lent,
-    };
+    let crew = Scripts { scripts, lent };
     // scripts never look
     run_with_journal(rt, alloc, shape, 0, kept, &crew, work, output)
 }

@@ -265,6 +265,52 @@ fn seven_runs_sleep_until_the_eighth_starts(rt: HostRuntime) {
     );
 }
 
+const THREE: [Deed; 3] = [SLEEPS, SLEEPS, Deed::OpenGate];
+
+const QUEUES_THREE_AT_A_TIME: Role = Role {
+    last: &[
+        Step::Queue(0),
+        Step::Queue(1),
+        Step::Queue(2),
+        FLUSH,
+        Step::Rest,
+        Step::Queue(3),
+        Step::Queue(4),
+        Step::Queue(5),
+        FLUSH,
+        Step::Rest,
+        Step::Queue(6),
+        Step::Queue(7),
+        Step::Queue(8),
+        FLUSH,
+        Step::Rest,
+        Step::Queue(9),
+        Step::Queue(10),
+        Step::Queue(11),
+        FLUSH,
+    ],
+    ..IDLE
+};
+
+/// Of three workers the one that ends its run last retires. The next three runs need it again.
+#[test]
+fn a_worker_that_retired_is_enlisted_again(rt: HostRuntime) {
+    let roles = [QUEUES_THREE_AT_A_TIME];
+    let scene = Scene::new(&roles, &THREE, Fate::Kept);
+    let counts = Counts {
+        workers: 3,
+        callers: 1,
+        items: 12,
+        ..COUNTS
+    };
+    let queue = QueueShape {
+        max_active: 3,
+        ..PLAIN
+    };
+    play_well(&rt, counts, &[queue], &scene);
+    assert_eq!(rt; scene.passed.load(Ordering::SeqCst), 8);
+}
+
 const WAITS: Role = Role {
     last: &[Step::Queue(0), FLUSH],
     ..IDLE

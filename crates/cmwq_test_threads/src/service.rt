@@ -83,6 +83,9 @@ const MODIFY: Call = Call::Modify {
 
 const CANCEL: Call = Call::Cancel { item: ItemId(1) };
 
+/// Nobody queues the item.
+const CANCEL_LAST: Call = Call::Cancel { item: ItemId(3) };
+
 /// There are no such items, queues and CPUs.
 const QUEUE_OUTSIDE: Call = Call::Queue {
     item: ItemId(4),
@@ -247,6 +250,9 @@ const WAITS: [Act; 3] = [
     Act::Make(Call::Flush { queue: FREEZABLE }),
 ];
 
+/// Makes calls until the service has stopped. If it goes on, lets who waits go on too, so that the test ends.
+const TRIES: [Act; 2] = [Act::UntilFault(CANCEL_LAST), Act::Make(Call::Thaw)];
+
 /// The fault of a caller's call, of its own, of its item, or want of room ends the caller that waits, and is told.
 #[test]
 fn a_fault_stops_all(rt: HostRuntime) {
@@ -254,16 +260,16 @@ fn a_fault_stops_all(rt: HostRuntime) {
     let full = Fault::Run {
         fault: RunFault::Full,
     };
-    for (act, fault) in [
-        (Act::Make(CANCEL_OUTSIDE), Fault::Outside),
-        (Act::GiveUp(Fault::Own(7)), Fault::Own(7)),
-        (Act::GiveUp(no_memory), no_memory),
-        (Act::Make(QUEUE_FIRST), Fault::Outside),
-        (Act::Forever(CANCEL), full),
+    for (act, room, fault) in [
+        (Act::Make(CANCEL_OUTSIDE), 20_000, Fault::Outside),
+        (Act::GiveUp(Fault::Own(7)), 20_000, Fault::Own(7)),
+        (Act::GiveUp(no_memory), 20_000, no_memory),
+        (Act::Make(QUEUE_FIRST), 20_000, Fault::Outside),
+        (Act::UntilFault(CANCEL_LAST), 50, full),
     ] {
-        let shape = shape(&rt, 2, 50);
+        let shape = shape(&rt, 3, room);
         let acts = [act];
-        let callers: [&[Act]; 2] = [&WAITS, &acts];
+        let callers: [&[Act]; 3] = [&WAITS, &acts, &TRIES];
         let in_run = [Act::Make(CANCEL_OUTSIDE)];
         let items: [&[Act]; 1] = [&in_run];
         let table = Table::new(&callers, &items);
@@ -271,6 +277,7 @@ fn a_fault_stops_all(rt: HostRuntime) {
             panic!(rt; "a fault was not told")
         };
         assert_eq!(rt; stopped.fault, fault);
+        assert_eq!(rt; table.wrong.load(Ordering::SeqCst), 0, "{fault}");
         assert!(rt; is_legal(&rt, &shape, &stopped.history));
         let table = Table::new(&callers, &items);
         let (output, outcome) = write(&rt, &shape, &table, NEVER);
@@ -282,7 +289,7 @@ fn a_fault_stops_all(rt: HostRuntime) {
 #[test]
 fn a_sink_that_fails_stops_all(rt: HostRuntime) {
     let shape = shape(&rt, 2, 2_000_000);
-    let acts = [Act::Forever(CANCEL)];
+    let acts = [Act::UntilFault(CANCEL_LAST)];
     let callers: [&[Act]; 2] = [&WAITS, &acts];
     for failing in 1..20 {
         let table = Table::new(&callers, &[]);

@@ -19,8 +19,8 @@ pub(crate) enum Act {
     Look(ItemId, Option<u8>),
     /// Waits until there were so many runs.
     UntilRuns(u64),
-    /// Makes a call over and over.
-    Forever(Call),
+    /// Makes a call again and again, a millisecond apart, until it answers a fault.
+    UntilFault(Call),
     GiveUp(Fault),
 }
 
@@ -36,7 +36,7 @@ pub(crate) struct Table<'a> {
     pub(crate) wrong: AtomicU64,
 }
 
-/// How often a caller looks how many runs there were, a millisecond apart.
+/// How often a caller looks how many runs there were, or makes a call until it answers a fault.
 const LOOKS: u32 = 10_000;
 
 fn make_in_run<C: Context>(context: &mut C, call: Call) -> Result<Reply, Fault> {
@@ -116,6 +116,20 @@ impl<'a> Table<'a> {
         self.expect(false);
     }
 
+    fn until_fault<C: Client>(
+        &self,
+        clock: &impl Clock,
+        client: &mut C,
+        call: Call,
+    ) -> Result<(), Fault> {
+        for _ in 0..LOOKS {
+            make(client, call)?;
+            thread::sleep(clock, Duration::from_millis(1));
+        }
+        self.expect(false);
+        Ok(())
+    }
+
     fn act<R: Wait + Clock, C: Client>(
         &self,
         rt: &R,
@@ -136,11 +150,7 @@ impl<'a> Table<'a> {
             }
             Act::Look(item, bits) => self.expect(client.busy(item)? == bits),
             Act::UntilRuns(runs) => self.until_runs(rt, runs),
-            Act::Forever(call) => {
-                for _ in rt.forever() {
-                    make(client, call)?;
-                }
-            }
+            Act::UntilFault(call) => self.until_fault(rt, client, call)?,
             Act::GiveUp(fault) => return Err(fault),
         }
         Ok(())

@@ -2,12 +2,9 @@ use Rattle.cmwq_rt_scripts.specs.Common.{ap, length, map, subst, sym, IfErr, IfO
 use Rattle.cmwq_engine.specs.Ended.{IsRestOfLeft}
 use Rattle.cmwq_engine.specs.Ended.{FailsAs as CrewFails, IsLeft as CrewLeaves}
 use Rattle.cmwq_rt_scripts.specs.Ended.{FailsAs, IsLeft}
-use Rattle.cmwq_rt_scripts.specs.Followed.{AreFit, follows}
+use Rattle.cmwq_rt_scripts.specs.Followed.{follows}
 use Rattle.cmwq_rt_scripts.proofs.Leaving.{all_is_rest, fails, leaves, roles}
 use Rattle.cmwq_rt_scripts.proofs.run.run_parts.Goals as goal
-
-pub run-rest-requires : goal.run-rest-requires
-run-rest-requires g c κs within = subst (λ (s : Layout). AreFit s c.args.scripts.now) (sym c.requires.shape) c.requires.fits
 
 pub returns-in-Err-clause-fails : goal.returns-in-Err-clause-fails
 returns-in-Err-clause-fails g c =
