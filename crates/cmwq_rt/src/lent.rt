@@ -4,13 +4,13 @@ use crate::caller::Caller;
 use cmwq_publish::HubName;
 use std::sync::{Mutex, Wait};
 
-/// Callers of a hub by which runs wait: as many may wait at the same time. Workers share it.
+/// Callers of a hub by which runs wait: as many runs may wait at the same time. Workers share them.
 pub struct Lent<N: HubName> {
     callers: Mutex<Vec<Caller<N>>>,
 }
 
 impl<N: HubName> Lent<N> {
-    /// These callers. No wait takes memory.
+    /// Lends these callers. No wait takes memory.
     pub fn new(callers: Vec<Caller<N>>) -> Lent<N> {
         Lent {
             callers: Mutex::new(callers),
@@ -30,7 +30,7 @@ impl<N: HubName> Lent<N> {
 
     pub(crate) fn give<R: Wait>(&self, rt: &R, caller: Caller<N>) {
         let mut callers = self.callers.lock(rt);
-        // it came from there, so there is space
+        // it was taken from there, so there is space
         if callers.len() < callers.capacity() {
             callers.push_reserved(caller);
         }
