@@ -193,7 +193,8 @@ impl<N: HubName> Caller<N> {
         (monitor, Ok(reply))
     }
 
-    /// The same for a run that waits. A closed hub takes it too, and the monitor knows meanwhile what the run waits for.
+    /// The same for a run that waits. A closed hub takes it too, and the monitor knows meanwhile what the run waits
+    /// for.
     pub(crate) fn wait_in_run<'a, R: Wait>(
         &mut self,
         rt: &R,

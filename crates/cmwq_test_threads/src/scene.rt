@@ -179,9 +179,14 @@ impl<'a> Scene<'a> {
     {
         let _slept = context.sleep();
         self.gates.open(context.rt(), 1 + (item.0 % 15) as u8);
-        for gate in 0..=met {
-            self.pass(context.rt(), gate);
+        self.pass_all(context.rt(), met);
+    }
+
+    fn pass_all<R: Wait>(&self, rt: &R, met: u8) {
+        for gate in 0..met {
+            self.pass(rt, gate);
         }
+        self.pass(rt, met);
     }
 
     fn wait_for_all<N: HubName, R: Wait>(&self, calls: &[Call], context: &mut RunCtx<N, R>)
@@ -192,7 +197,7 @@ impl<'a> Scene<'a> {
         }
     }
 
-    /// Makes up to three calls, and lets other threads go first now and then.
+    /// Makes three calls, and lets other threads go first.
     fn wait_at_random<N: HubName, R: Wait>(
         &self,
         waits: Waits,
@@ -202,13 +207,24 @@ impl<'a> Scene<'a> {
         ensures { Later context.old.participant context.new.participant }
     {
         let mut words = Pcg32::new(waits.seed, run);
-        for _ in 0..words.next_word() % 4 {
-            let call = wait_of(waits, context.shape(), words.next_word());
-            match call {
-                Call::Queue { item, queue, cpu } => queue_on(item, queue, cpu, context),
-                _ => self.wait(call, context),
-            }
-            thread::yield_now();
+        self.call_at_random(waits, words.next_word(), context);
+        self.call_at_random(waits, words.next_word(), context);
+        self.call_at_random(waits, words.next_word(), context);
+    }
+
+    fn call_at_random<N: HubName, R: Wait>(
+        &self,
+        waits: Waits,
+        word: u32,
+        context: &mut RunCtx<N, R>,
+    )
+        ensures { Later context.old.participant context.new.participant }
+    {
+        thread::yield_now();
+        let call = call_of(waits, context.shape(), word);
+        match call {
+            Call::Queue { item, queue, cpu } => queue_on(item, queue, cpu, context),
+            _ => self.wait(call, context),
         }
     }
 }
@@ -219,10 +235,11 @@ pub(crate) fn below(word: u32, many: u32) -> u8 {
 }
 
 /// A call of an item or a queue of the hub.
-fn wait_of(waits: Waits, shape: &Shape, word: u32) -> Call {
+fn call_of(waits: Waits, shape: &Shape, word: u32) -> Call {
     let counts = shape.counts();
     let item = ItemId(u16::from(below(word % 256, u32::from(counts.items))));
-    let queue = QueueId(below(word / 256 % 16, shape.queues().len() as u32));
+    let queues = u32::try_from(shape.queues().len()).unwrap_or(1);
+    let queue = QueueId(below(word / 256 % 16, queues));
     let cpu = CpuId(below(word / 4_096 % 16, u32::from(counts.cpus)));
     match word / 65_536 % 8 {
         0..2 => Call::FlushItem { item },

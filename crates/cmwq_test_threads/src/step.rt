@@ -126,11 +126,12 @@ fn scatter<N: HubName, R: Wait + Abort>(
     words: &mut Pcg32,
 ) -> Result<(), RunFault> {
     let counts = hub.shape().counts();
+    let queues = u32::try_from(hub.shape().queues().len()).unwrap_or(1);
     for item in 0..counts.items {
         let word = words.next_word();
         let call = Call::Delay {
             item: ItemId(item),
-            queue: QueueId(below(word % 256, hub.shape().queues().len() as u32)),
+            queue: QueueId(below(word % 256, queues)),
             cpu: CpuId(below(word / 256 % 256, u32::from(counts.cpus))),
             ticks: (word / 65_536 % 4).saturating_sub(2),
         };

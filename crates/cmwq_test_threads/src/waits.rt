@@ -369,10 +369,10 @@ fn play_at_random<R: Threads + Wait + Clock + Abort + AllocGlobal + Sync>(
     seed: u64,
 ) -> (u64, u64) {
     let mut words = Pcg32::new(seed, 3);
-    let lent = 1 + below(words.next_word(), 8);
+    let lent = below(words.next_word(), 8).saturating_add(1);
     let counts = Counts {
-        cpus: 1 + below(words.next_word(), 4),
-        workers: 1 + below(words.next_word(), 8),
+        cpus: below(words.next_word(), 4).saturating_add(1),
+        workers: below(words.next_word(), 8).saturating_add(1),
         callers: lent.saturating_add(1),
         items: 2 + u16::from(below(words.next_word(), 8)),
         room: 5_000,
