@@ -186,11 +186,7 @@ impl RunWaits {
         self.begins(*run, ticket);
         let is_stuck = self.is_newest_stuck(book, shape);
         self.ends(caller);
-        if is_stuck {
-            Some(Stuck::Circle)
-        } else {
-            None
-        }
+        if is_stuck { Some(Stuck::Circle) } else { None }
     }
 
     /// Whether the newest wait is in the greatest set of waits of which each is held up by the set. All are in it at

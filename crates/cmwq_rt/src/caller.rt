@@ -219,7 +219,13 @@ impl<N: HubName> Caller<N> {
             return (monitor, Ok(reply));
         };
         monitor.run_waits(run, who, call, ticket);
-        let (mut monitor, ended) = hub.until_ended(rt, monitor, &mut self.participant, call, ticket);
+        let (mut monitor, ended) = hub.until_ended(
+            rt,
+            monitor,
+            &mut self.participant,
+            call,
+            ticket,
+        );
         monitor.run_goes_on(who);
         match ended {
             Ok(()) => {}

@@ -419,9 +419,12 @@ impl<'a, N: HubName, R: Wait> RunCtx<'a, N, R> {
             .hub
             .sleep_through(self.rt, &mut self.participant, caller, call);
         match answer {
-            Ok(_) | Err(WaitFault::Run {
-                fault: RunFault::Full,
-            }) => {}
+            Ok(_)
+            | Err(
+                WaitFault::Run {
+                    fault: RunFault::Full,
+                },
+            ) => {}
             Err(WaitFault::Run { fault }) => self.fault = Some(fault),
             Err(_) => {}
         }

@@ -4,10 +4,10 @@ ghost use Rattle.std.specs.Prelude.{◌<◌};
 ghost use Rattle.cmwq_rt.specs.Later.{Later};
 
 use crate::step::Step;
-use rand_core::utils::NextWord;
-use rand_pcg::Pcg32;
 use cmwq_model::{Call, CpuId, ItemId, QueueId, QueueShape, Shape};
 use cmwq_rt::{Gate, Gates, HubName, Reply, RunCtx, WaitFault, Work};
+use rand_core::utils::NextWord;
+use rand_pcg::Pcg32;
 use std::sync::Wait;
 use std::sync::atomic::{AtomicBool, AtomicU64, Ordering};
 use std::thread;
@@ -52,7 +52,10 @@ pub(crate) enum Deed {
     /// Queues its own item, unless so many runs were before it.
     QueueAgain(u64),
     /// Meets the runs of so many items at gates, asleep, or none, and then makes these calls, which wait.
-    Wait { met: Option<u8>, calls: &'static [Call] },
+    Wait {
+        met: Option<u8>,
+        calls: &'static [Call],
+    },
     /// Once the first gate is open, queues its own item, and the next time makes this call, which waits.
     WaitTheSecondTime(Call),
     /// Makes calls at random, most of which wait.

@@ -410,5 +410,8 @@ fn waits_at_random_end_or_are_refused(rt: HostRuntime) {
         waited = waited.wrapping_add(own);
         refused = refused.wrapping_add(deadlocks);
     }
-    assert!(rt; waited > 10 * RANDOM && refused > RANDOM / 10, "{waited} {refused}");
+    assert!(rt;
+        waited > 10 * RANDOM && refused > RANDOM / 10,
+        "{waited} {refused}"
+    );
 }
