@@ -28,9 +28,9 @@ impl<N: HubName> Lent<N> {
         callers.pop()
     }
 
-    pub(crate) fn give<R: Wait>(&self, rt: &R, caller: Caller<N>) {
+    /// Lends this caller too, if the list that `new` was given has space for it.
+    pub fn give<R: Wait>(&self, rt: &R, caller: Caller<N>) {
         let mut callers = self.callers.lock(rt);
-        // it was taken from there, so there is space
         if callers.len() < callers.capacity() {
             callers.push_reserved(caller);
         }

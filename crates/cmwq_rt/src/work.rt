@@ -83,6 +83,13 @@ impl<'a, N: HubName, R: Wait> RunCtx<'a, N, R> {
         self.hub.shape()
     }
 
+    /// The item that runs.
+    pub fn item(&self) -> ItemId
+        ensures { result ≡ self.now.item }
+    {
+        self.item
+    }
+
     /// Breaks the run off: its worker returns this fault, as if a call of the run had returned it.
     pub fn break_off(&mut self, fault: RunFault)
         requires { breaks_off fault ≡ true }
