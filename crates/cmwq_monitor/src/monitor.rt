@@ -209,7 +209,7 @@ impl<N: HubName> Monitor<N> {
         self.compare(participant)
     }
 
-    /// The same of a call that a closed hub takes.
+    /// Whether the hub takes a call that a closed one takes too.
     #[inline(always)]
     fn admits_closed(&self, participant: &Participant<N>) -> Result<(), RunFault>
         ensures open { IfOk result (λ _. self.now.failed ≡ false) }
@@ -248,7 +248,7 @@ impl<N: HubName> Monitor<N> {
         }
     }
 
-    /// The same by a caller that a run waits by: a closed hub takes that too.
+    /// The same by a caller that is lent to a run. A closed hub takes it too.
     pub fn call_in_run<R: Wait>(
         &mut self,
         rt: &R,
@@ -265,7 +265,8 @@ impl<N: HubName> Monitor<N> {
             Ok(()) => {}
             Err(fault) => return Err(fault),
         }
-        match self.enter(rt, participant, call) {
+        let entered = self.enter(rt, participant, call);
+        match entered {
             Ok(reply) => Ok(reply),
             Err(Shortage::Room) => Err(RunFault::Full),
             Err(Shortage::Memory) => Err(RunFault::NoMemory { ticket: None }),
@@ -284,31 +285,33 @@ impl<N: HubName> Monitor<N> {
         }
     }
 
-    /// What the worker runs, if it may wait by such a call: nothing is known of a run that sleeps.
+    /// What the worker runs, if its run may wait by this call of a caller that is lent to it. Of a run that sleeps
+    /// nothing is known.
     ///
     /// # Errors
-    /// Why the wait could never end, if that is seen: it would wait for the run itself, or for one that waits for it.
+    /// Why the wait could never end, if that is seen.
     pub fn may_wait(
         &mut self,
         participant: &Participant<N>,
+        caller: Who,
         call: Call,
     ) -> Result<Option<Queueing>, Stuck>
         requires { is_caller participant.now.who ≡ false }
         ensures { self.new ≡ self.old }
     {
-        let Some(run) = self.run_of(participant) else {
+        let (Some(run), Who::Caller(caller)) = (self.run_of(participant), caller) else {
             return Ok(None);
         };
         match self
             .sleepers
-            .refuses(&self.execution, &self.shape, &run, call)
+            .refuses(&self.execution, &self.shape, &run, caller, call)
         {
             Some(stuck) => Err(stuck),
             None => Ok(Some(run)),
         }
     }
 
-    /// This run waits from now on, for the ticket that this caller's call gave.
+    /// The run waits from now on, for the ticket that the call of this caller gave.
     pub fn run_waits(&mut self, run: Option<Queueing>, caller: Who, call: Call, ticket: Number)
         ensures { self.new ≡ self.old }
     {
@@ -323,7 +326,7 @@ impl<N: HubName> Monitor<N> {
         self.sleepers.run_waits(run, ticket);
     }
 
-    /// The run that waited by this caller goes on.
+    /// The run to which this caller is lent goes on.
     pub fn run_goes_on(&mut self, caller: Who)
         ensures { self.new ≡ self.old }
     {

@@ -95,6 +95,7 @@ pub struct Sleepers {
     /// By pool.
     idle: Vec<IdleWorkers>,
     wakes: Wakes,
+    /// The runs that wait.
     runs: RunWaits,
 }
 
@@ -402,22 +403,23 @@ impl Sleepers {
         self.runs.begins(run, ticket);
     }
 
-    /// The run that waits by this caller goes on.
+    /// The run to which this caller is lent goes on.
     pub fn run_goes_on(&mut self, caller: CallerId) {
         self.runs.ends(caller);
     }
 
-    /// Why a wait by such a call of this run could never end, if that is seen.
+    /// Why a wait of this run, by this call of a caller that is lent to it, could never end, if that is seen.
     pub fn refuses(
         &mut self,
         book: &Execution,
         shape: &Shape,
         run: &Queueing,
+        caller: CallerId,
         call: Call,
     ) -> Option<Stuck>
         requires { book.now.layout ≡ shape.now }
     {
-        self.runs.refuses(book, shape, run, call)
+        self.runs.refuses(book, shape, run, caller, call)
     }
 
     /// All workers are to be woken.

@@ -1,10 +1,19 @@
--- What a run leaves that waits.
+-- Waits of runs, and what they leave.
 use Rattle.std.specs.Prelude.{◌≡◌, ◌⊎◌, ◌≤◌}
 use Rattle.cmwq_rt.specs.Common.{Bool, true, false, Option, Some, None, Result, Ok, Err, IsPrefix, Call, Reply, Layout, View, is_caller, is_full, Completes, RunFault}
 use Rattle.cmwq_model.specs.declared.call.Call.TheVariants as call
 use Rattle.cmwq_rt.specs.Running.{MakesOne, breaks_off, fault_after}
 use Rattle.cmwq_rt.specs.declared.wait_fault.WaitFault.{WaitFault}
 use Rattle.cmwq_rt.specs.declared.wait_fault.WaitFault.TheVariants.{Itself, Deadlock, NoCaller, Run}
+
+-- the calls by which a run waits
+abbrev pub is_wait : Call → Bool
+is_wait (call.FlushItem i) = true
+is_wait (call.FlushDelayed i) = true
+is_wait (call.CancelSync i) = true
+is_wait (call.Flush q) = true
+is_wait (call.Drain q) = true
+is_wait c = false
 
 -- The worker slept, and woke. Between the two, in what it sees, a caller made this call whole.
 pub record SleepsThrough (s : Layout) (v : View) (c : Call) (r : Reply) (w : View) : Type 0 where
@@ -15,10 +24,10 @@ pub record SleepsThrough (s : Layout) (v : View) (c : Call) (r : Reply) (w : Vie
   pub by_caller : is_caller after.who ≡ true
   pub completes : Completes s before c r after
   pub wakes : MakesOne s asleep call.Wake w
-  pub behind : IsPrefix asleep.seen after.seen
+  pub saw_sleep : IsPrefix asleep.seen after.seen
   pub sees : IsPrefix after.seen w.seen
 
--- the same of a run, which woke before where it was asleep
+-- the same of a run, which woke before if it was asleep
 abbrev pub HasWaited : Layout → View → Call → Reply → View → Type 0
 HasWaited s v c r w = (awake : View) × ((awake ≡ v) ⊎ MakesOne s v call.Wake awake) × SleepsThrough s awake c r w
 
@@ -29,12 +38,12 @@ is_refusal Deadlock = true
 is_refusal NoCaller = true
 is_refusal (Run f) = false
 
--- what the hub answered is want of room, or breaks off
+-- a fault of the hub is want of room, or breaks off
 abbrev pub IsOfRun : WaitFault → Type 0
 IsOfRun (Run f) = is_full f ≡ false → breaks_off f ≡ true
 IsOfRun f = Unit {0}
 
--- the fault of a run after a wait has answered
+-- the fault of a run after a wait has returned
 abbrev pub fault_after_wait : Result Reply WaitFault → Option RunFault → Option RunFault
 fault_after_wait (Err (Run f)) old = fault_after (Err f) old
 fault_after_wait r old = old

@@ -193,7 +193,8 @@ impl<N: HubName> Caller<N> {
         (monitor, Ok(reply))
     }
 
-    /// The same by a run that waits: a closed hub takes it too, and knows meanwhile what waits for what.
+    /// The same for a run that waits. A closed hub takes it too, and the monitor knows meanwhile what the run waits
+    /// for.
     pub(crate) fn wait_in_run<'a, R: Wait>(
         &mut self,
         rt: &R,
@@ -218,7 +219,13 @@ impl<N: HubName> Caller<N> {
             return (monitor, Ok(reply));
         };
         monitor.run_waits(run, who, call, ticket);
-        let (mut monitor, ended) = hub.until_ended(rt, monitor, &mut self.participant, call, ticket);
+        let (mut monitor, ended) = hub.until_ended(
+            rt,
+            monitor,
+            &mut self.participant,
+            call,
+            ticket,
+        );
         monitor.run_goes_on(who);
         match ended {
             Ok(()) => {}

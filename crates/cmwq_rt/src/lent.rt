@@ -4,13 +4,13 @@ use crate::caller::Caller;
 use cmwq_publish::HubName;
 use std::sync::{Mutex, Wait};
 
-/// Callers of a hub by which runs wait: as many may wait at the same time. Workers share it.
+/// Callers of a hub by which runs wait: as many runs may wait at the same time. Workers share them.
 pub struct Lent<N: HubName> {
     callers: Mutex<Vec<Caller<N>>>,
 }
 
 impl<N: HubName> Lent<N> {
-    /// These callers. No wait takes memory.
+    /// Lends these callers. No wait takes memory.
     pub fn new(callers: Vec<Caller<N>>) -> Lent<N> {
         Lent {
             callers: Mutex::new(callers),
@@ -28,7 +28,7 @@ impl<N: HubName> Lent<N> {
         callers.pop()
     }
 
-    /// Lends this caller too, as far as there is space for it: the space of the list that `new` was given.
+    /// Lends this caller too, if the list that `new` was given has space for it.
     pub fn give<R: Wait>(&self, rt: &R, caller: Caller<N>) {
         let mut callers = self.callers.lock(rt);
         if callers.len() < callers.capacity() {

@@ -1,4 +1,5 @@
-//! A run that waits: its worker sleeps, and a caller of its own waits.
+//! A run that waits: its worker sleeps, and a caller that is lent to it waits.
+
 ghost use Rattle.std.specs.Prelude.{◌≡◌, true, false, IfOk, IfErr};
 ghost use mathlib.Core.List.{IsPrefix};
 ghost use Rattle.cmwq_model.specs.Prelude.{has_numbers, is_callers};
@@ -12,14 +13,15 @@ ghost use Rattle.cmwq_rt.specs.Waiting.{IsOfRun, SleepsThrough, is_refusal};
 
 use crate::caller::Caller;
 use crate::hub::Hub;
-use crate::wait_fault::{WaitFault, told};
+use crate::wait_fault::{WaitFault, fault_of};
 use crate::work::with_room;
 use cmwq_model::{Call, Queueing, Reply};
 use cmwq_monitor::{Monitor, Participant, RunFault};
 use cmwq_publish::HubName;
 use std::sync::{MutexGuard, Wait};
 
-/// Whether the later one has seen all that the other has. They see one history, so it has if it has seen as many entries.
+/// Whether the later one has seen all that the other has. They see one history, so it has if it has seen as many
+/// entries.
 fn has_seen<N: HubName>(later: &Participant<N>, other: &Participant<N>) -> bool
     ensures { result ≡ true → IsPrefix other.now.seen later.now.seen }
 {
@@ -27,8 +29,8 @@ fn has_seen<N: HubName>(later: &Participant<N>, other: &Participant<N>) -> bool
     other.seen() <= later.seen()
 }
 
-/// The fault of who has seen less than another, which nobody has who has made an entry behind it.
-fn behind<N: HubName>(later: &Participant<N>, other: &Participant<N>) -> RunFault
+/// The fault of one that has made an entry after another, and yet has not seen all that the other has.
+fn stranger<N: HubName>(later: &Participant<N>, other: &Participant<N>) -> RunFault
     ensures { breaks_off result ≡ true }
 {
     RunFault::Stranger {
@@ -38,7 +40,10 @@ fn behind<N: HubName>(later: &Participant<N>, other: &Participant<N>) -> RunFaul
 }
 
 impl<N: HubName> Hub<N> {
-    /// The worker's run sleeps while this caller makes a whole call, and wakes behind it.
+    /// The worker's run sleeps while this caller makes a whole call, and wakes after it.
+    ///
+    /// The lock is held from the look for a deadlock until the first entries, and from the last entry until the run is
+    /// awake. So there is space for both entries before the look.
     pub(crate) fn sleep_through<R: Wait>(
         &self,
         rt: &R,
@@ -58,22 +63,22 @@ impl<N: HubName> Hub<N> {
     {
         let _who = worker.who();
         let mut monitor = self.spacious(rt, self.lock(rt), worker.who(), 2);
-        let run = match monitor.may_wait(worker, call) {
+        let run = match monitor.may_wait(worker, caller.participant().who(), call) {
             Ok(run) => run,
             Err(stuck) => {
                 self.leave(monitor);
-                return Err(told(stuck));
+                return Err(fault_of(stuck));
             }
         };
         if let Err(fault) = monitor.call(rt, worker, Call::Sleep) {
             self.leave(monitor);
             return Err(WaitFault::Run { fault });
         }
-        self.wake_behind(rt, monitor, run, worker, caller, call)
+        self.wake_after(rt, monitor, run, worker, caller, call)
     }
 
-    /// The caller's call, and behind it the worker wakes, in any case.
-    fn wake_behind<'a, R: Wait>(
+    /// The caller makes its call, and in any case the worker wakes after it.
+    fn wake_after<'a, R: Wait>(
         &'a self,
         rt: &R,
         monitor: MutexGuard<'a, Monitor<N>>,
@@ -89,7 +94,7 @@ impl<N: HubName> Hub<N> {
         ensures completes { IfOk result (λ reply. Completes N.layout caller.old call reply caller.new) }
         ensures by_caller { is_caller caller.new.who ≡ true }
         ensures wakes { IfOk result (λ _. MakesOne N.layout worker.old calls.Wake worker.new) }
-        ensures behind { IfOk result (λ _. IsPrefix worker.old.seen caller.new.seen) }
+        ensures saw_sleep { IfOk result (λ _. IsPrefix worker.old.seen caller.new.seen) }
         ensures sees { IfOk result (λ _. IsPrefix caller.new.seen worker.new.seen) }
         ensures refused { IfErr result (λ f. is_refusal f ≡ false) }
         ensures fault { IfErr result IsOfRun }
@@ -97,7 +102,7 @@ impl<N: HubName> Hub<N> {
     {
         let _who = worker.who();
         let (monitor, answer) = caller.wait_in_run(rt, self, monitor, run, call);
-        let is_behind = has_seen(caller.participant(), worker);
+        let saw_sleep = has_seen(caller.participant(), worker);
         let mut monitor = self.spacious(rt, monitor, worker.who(), 1);
         let woke = monitor.call(rt, worker, Call::Wake);
         self.leave(monitor);
@@ -109,8 +114,8 @@ impl<N: HubName> Hub<N> {
             Ok(reply) => reply,
             Err(fault) => return Err(WaitFault::Run { fault }),
         };
-        if !is_behind || !has_seen(worker, caller.participant()) {
-            let fault = behind(worker, caller.participant());
+        if !saw_sleep || !has_seen(worker, caller.participant()) {
+            let fault = stranger(worker, caller.participant());
             return Err(WaitFault::Run { fault });
         }
         Ok(reply)

@@ -1,6 +1,6 @@
 //! What workers run.
 ghost use Rattle.std.specs.Prelude.{◌≡◌, ◌⊎◌, ◌<◌, true, false, IfOk, IfErr, None, Some, Err};
-ghost use Rattle.cmwq_model.specs.Prelude.{has_numbers, is_callers, is_workers};
+ghost use Rattle.cmwq_model.specs.Prelude.{has_numbers, is_callers, is_workers, item_called};
 ghost use Rattle.cmwq_model.specs.declared.call.Call.TheVariants as calls;
 ghost use Rattle.cmwq_monitor.specs.Participants.{is_caller};
 ghost use Rattle.cmwq_monitor.specs.Calls.{Extends};
@@ -8,7 +8,7 @@ ghost use Rattle.cmwq_monitor.specs.Faults.{Refused, is_full};
 ghost use Rattle.cmwq_rt.specs.Later.{Later};
 ghost use Rattle.cmwq_rt.specs.Starting.{HasStarted};
 ghost use Rattle.cmwq_rt.specs.Running.{RunsItem, MakesOne, fault_after, breaks_off};
-ghost use Rattle.cmwq_rt.specs.Waiting.{HasWaited, IsOfRun, SleepsThrough, fault_after_wait, is_refusal};
+ghost use Rattle.cmwq_rt.specs.Waiting.{HasWaited, IsOfRun, SleepsThrough, fault_after_wait, is_refusal, is_wait};
 ghost use Rattle.cmwq_rt.specs.declared.wait_fault.WaitFault.TheVariants as waits;
 ghost use Rattle.cmwq_monitor.specs.Whole.{is_tick};
 
@@ -81,6 +81,13 @@ impl<'a, N: HubName, R: Wait> RunCtx<'a, N, R> {
         ensures { result.now ≡ N.layout }
     {
         self.hub.shape()
+    }
+
+    /// The item that runs.
+    pub fn item(&self) -> ItemId
+        ensures { result ≡ self.now.item }
+    {
+        self.item
     }
 
     /// Breaks the run off: its worker returns this fault, as if a call of the run had returned it.
@@ -228,10 +235,11 @@ impl<'a, N: HubName, R: Wait> RunCtx<'a, N, R> {
 }
 
 impl<'a, N: HubName, R: Wait> RunCtx<'a, N, R> {
-    /// Waits until the queueings of another item that are open have ended (`flush_work`): the run sleeps meanwhile, and wakes behind it.
+    /// Waits until the open queueings of another item have ended (`flush_work`). The run sleeps meanwhile, and wakes
+    /// after that.
     ///
     /// # Errors
-    /// `Itself` of the item that runs; `Deadlock` where a run that it would wait for waits for this one; `NoCaller`: nothing has changed then. `Run` as the hub answers.
+    /// As of `wait`.
     pub fn flush_item(&mut self, item: ItemId) -> Result<Reply, WaitFault>
         requires { has_numbers N.layout (calls.FlushItem item) ≡ true }
         ensures later { Later self.old.participant self.new.participant }
@@ -241,16 +249,14 @@ impl<'a, N: HubName, R: Wait> RunCtx<'a, N, R> {
         ensures fault { self.new.fault ≡ fault_after_wait result self.old.fault }
         ensures item { self.new.item ≡ self.old.item }
     {
-        if item.0 == self.item.0 {
-            return Err(WaitFault::Itself);
-        }
         self.wait(Call::FlushItem { item })
     }
 
-    /// Takes another item back and waits until it doesn't run (`cancel_work_sync`, `cancel_delayed_work_sync`): the run sleeps meanwhile, and wakes behind it.
+    /// Takes another item back and waits until it doesn't run (`cancel_work_sync`, `cancel_delayed_work_sync`). The run
+    /// sleeps meanwhile, and wakes after that.
     ///
     /// # Errors
-    /// `Itself` of the item that runs; `Deadlock` where a run that it would wait for waits for this one; `NoCaller`: nothing has changed then. `Run` as the hub answers.
+    /// As of `wait`.
     pub fn cancel_sync(&mut self, item: ItemId) -> Result<Reply, WaitFault>
         requires { has_numbers N.layout (calls.CancelSync item) ≡ true }
         ensures later { Later self.old.participant self.new.participant }
@@ -260,16 +266,13 @@ impl<'a, N: HubName, R: Wait> RunCtx<'a, N, R> {
         ensures fault { self.new.fault ≡ fault_after_wait result self.old.fault }
         ensures item { self.new.item ≡ self.old.item }
     {
-        if item.0 == self.item.0 {
-            return Err(WaitFault::Itself);
-        }
         self.wait(Call::CancelSync { item })
     }
 
-    /// As `flush_item`, after queueing the item at once if it is delayed (`flush_delayed_work`).
+    /// Queues another item at once if it is delayed, and waits as `flush_item` does (`flush_delayed_work`).
     ///
     /// # Errors
-    /// `Itself` of the item that runs; `Deadlock` where a run that it would wait for waits for this one; `NoCaller`: nothing has changed then. `Run` as the hub answers.
+    /// As of `wait`.
     pub fn flush_delayed(&mut self, item: ItemId) -> Result<Reply, WaitFault>
         requires { has_numbers N.layout (calls.FlushDelayed item) ≡ true }
         ensures later { Later self.old.participant self.new.participant }
@@ -279,16 +282,14 @@ impl<'a, N: HubName, R: Wait> RunCtx<'a, N, R> {
         ensures fault { self.new.fault ≡ fault_after_wait result self.old.fault }
         ensures item { self.new.item ≡ self.old.item }
     {
-        if item.0 == self.item.0 {
-            return Err(WaitFault::Itself);
-        }
         self.wait(Call::FlushDelayed { item })
     }
 
-    /// Waits until all that was queued on another queue before has ended (`flush_workqueue`): the run sleeps meanwhile, and wakes behind it.
+    /// Waits until everything that was queued on another queue before has ended (`flush_workqueue`). The run sleeps
+    /// meanwhile, and wakes after that.
     ///
     /// # Errors
-    /// `Itself` of a queue of which this run is; `Deadlock` where a run that it would wait for waits for this one; `NoCaller`: nothing has changed then. `Run` as the hub answers.
+    /// As of `wait`.
     pub fn flush(&mut self, queue: QueueId) -> Result<Reply, WaitFault>
         requires { has_numbers N.layout (calls.Flush queue) ≡ true }
         ensures later { Later self.old.participant self.new.participant }
@@ -300,10 +301,11 @@ impl<'a, N: HubName, R: Wait> RunCtx<'a, N, R> {
         self.wait(Call::Flush { queue })
     }
 
-    /// Waits until another queue is empty (`drain_workqueue`), and then fires what is due: the run sleeps meanwhile, and wakes behind it.
+    /// Waits until another queue is empty (`drain_workqueue`), and fires what is due. The run sleeps meanwhile, and
+    /// wakes after that.
     ///
     /// # Errors
-    /// `Itself` of a queue of which this run is; `Deadlock` where a run that it would wait for waits for this one; `NoCaller`: nothing has changed then. `Run` as the hub answers.
+    /// As of `wait`.
     pub fn drain(&mut self, queue: QueueId) -> Result<Reply, WaitFault>
         requires { has_numbers N.layout (calls.Drain queue) ≡ true }
         ensures later { Later self.old.participant self.new.participant }
@@ -314,14 +316,47 @@ impl<'a, N: HubName, R: Wait> RunCtx<'a, N, R> {
     {
         self.wait(Call::Drain { queue })
     }
+
+    /// Waits by a caller that is lent to the run meanwhile, as the method of the call's name does. The run sleeps from
+    /// before the call's first entry until after its last. A run that is asleep wakes first.
+    ///
+    /// # Errors
+    /// `Itself` for the item or the queue of the run; `Deadlock` for what cannot end or start before this run, or runs
+    /// that wait for it, have ended; `NoCaller` if no caller is left to be lent. Then nothing was made, but that a run
+    /// that was asleep may have woken. `Run` for a fault of the hub.
+    pub fn wait(&mut self, call: Call) -> Result<Reply, WaitFault>
+        requires waits { is_wait call ≡ true }
+        requires numbers { has_numbers N.layout call ≡ true }
+        ensures later { Later self.old.participant self.new.participant }
+        ensures waited { IfOk result (λ reply. HasWaited N.layout self.old.participant call reply self.new.participant) }
+        ensures itself { item_called call ≡ Some self.old.item.0 → (result ≡ Err waits.Itself) × (self.new ≡ self.old) }
+        ensures refused { IfErr result (λ f. is_refusal f ≡ true → (self.new.participant ≡ self.old.participant) ⊎ MakesOne N.layout self.old.participant calls.Wake self.new.participant) }
+        ensures fault { self.new.fault ≡ fault_after_wait result self.old.fault }
+        ensures item { self.new.item ≡ self.old.item }
+    {
+        if is_of_item(call, self.item) {
+            return Err(WaitFault::Itself);
+        }
+        self.wait_lent(call)
+    }
+}
+
+/// Whether the call names this item.
+fn is_of_item(call: Call, item: ItemId) -> bool
+    ensures { item_called call ≡ Some item.0 → result ≡ true }
+{
+    match call.item() {
+        Some(named) => named.0 == item.0,
+        None => false,
+    }
 }
 
 impl<'a, N: HubName, R: Wait> RunCtx<'a, N, R> {
-    /// Waits by a caller that is lent to it meanwhile. A run that is asleep wakes first.
-    fn wait(&mut self, call: Call) -> Result<Reply, WaitFault>
-        requires callers { is_callers call ≡ true }
+    /// Waits by a caller that is lent to the run.
+    #[tactic(auto, using(crate::proofs::Sleeping::waits_by_caller))]
+    fn wait_lent(&mut self, call: Call) -> Result<Reply, WaitFault>
+        requires waits { is_wait call ≡ true }
         requires numbers { has_numbers N.layout call ≡ true }
-        requires waits { is_tick call ≡ false }
         ensures later { Later self.old.participant self.new.participant }
         ensures waited { IfOk result (λ reply. HasWaited N.layout self.old.participant call reply self.new.participant) }
         ensures refused { IfErr result (λ f. is_refusal f ≡ true → (self.new.participant ≡ self.old.participant) ⊎ MakesOne N.layout self.old.participant calls.Wake self.new.participant) }
@@ -340,6 +375,7 @@ impl<'a, N: HubName, R: Wait> RunCtx<'a, N, R> {
         answer
     }
 
+    /// Waits by this caller, awake.
     fn wait_by(&mut self, caller: &mut Caller<N>, call: Call) -> Result<Reply, WaitFault>
         requires callers { is_callers call ≡ true }
         requires numbers { has_numbers N.layout call ≡ true }
@@ -374,6 +410,7 @@ impl<'a, N: HubName, R: Wait> RunCtx<'a, N, R> {
         }
     }
 
+    /// Waits by this caller. The run is awake.
     fn wait_awake(&mut self, caller: &mut Caller<N>, call: Call) -> Result<Reply, WaitFault>
         requires callers { is_callers call ≡ true }
         requires numbers { has_numbers N.layout call ≡ true }
@@ -389,9 +426,12 @@ impl<'a, N: HubName, R: Wait> RunCtx<'a, N, R> {
             .hub
             .sleep_through(self.rt, &mut self.participant, caller, call);
         match answer {
-            Ok(_) | Err(WaitFault::Run {
-                fault: RunFault::Full,
-            }) => {}
+            Ok(_)
+            | Err(
+                WaitFault::Run {
+                    fault: RunFault::Full,
+                },
+            ) => {}
             Err(WaitFault::Run { fault }) => self.fault = Some(fault),
             Err(_) => {}
         }

@@ -102,10 +102,10 @@ impl<N: HubName> Hub<N> {
         self.loop_on(rt, worker, None, work)
     }
 
-    /// The same, where runs may wait, by callers that are lent to them.
+    /// The same. Runs may wait, by callers that are lent to them meanwhile.
     ///
     /// # Errors
-    /// As of `work`.
+    /// Those of `work`.
     pub fn work_lent<'a, R: Wait, W: Work>(
         &'a self,
         rt: &'a R,
@@ -124,6 +124,7 @@ impl<N: HubName> Hub<N> {
         self.loop_on(rt, worker, Some(lent), work)
     }
 
+    /// Runs one item after another until the hub is over, and counts the entries.
     fn loop_on<'a, R: Wait, W: Work>(
         &'a self,
         rt: &'a R,

@@ -4,5 +4,5 @@ use Rattle.cmwq_monitor.proofs.monitor.Monitor.call_in_run.Goals as goal
 pub returns-in-Err-clause-refused : goal.returns-in-Err-clause-refused
 returns-in-Err-clause-refused g c = (gains_none c.args.participant.now, c.in-Err.ensures.says c.args.call)
 
-pub returns-in-Ok-enter-clause-goes_on : goal.returns-in-Ok-enter-clause-goes_on
-returns-in-Ok-enter-clause-goes_on g c = (c.in-Ok.ensures.open, c.in-Ok-enter.ensures.goes_on)
+pub returns-in-Ok-entered-clause-goes_on : goal.returns-in-Ok-entered-clause-goes_on
+returns-in-Ok-entered-clause-goes_on g c = (c.in-Ok.ensures.open, c.in-Ok-entered.ensures.goes_on)
