@@ -1,6 +1,7 @@
 //! The top of a script: its keys, its numbers and its lists.
 
 ghost use Rattle.std.specs.Prelude.{◌≡◌, ◌<◌, ◌≤◌, IfSome, option_map};
+ghost use Rattle.std.specs.Option.{ForSome};
 ghost use Rattle.serde_json.specs.View.{view};
 ghost use Rattle.cmwq_model.specs.Prelude.{most_cpus, most_room, most_workers};
 ghost use Rattle.cmwq_json_script.specs.Limits.{callers_in};
@@ -27,7 +28,7 @@ pub struct Top<'v> {
     pub items: &'v [Value],
     pub callers: &'v [Value],
     ghost limits: { (1 ≤ cpus) × (cpus ≤ most_cpus) × (1 ≤ workers) × (workers ≤ most_workers) × (room ≤ most_room) },
-    ghost few_waits: { IfSome waits (λ n. n < callers_in version) },
+    ghost few_waits: { ForSome waits (λ n. n < callers_in version) },
     ghost recorded: { AreJournalSettings version journal },
 }
 
@@ -78,7 +79,7 @@ fn read_version(value: &Value, journal: Option<u32>) -> Option<u8>
 
 fn read_waits(value: &Value, version: u8) -> Option<Option<u8>>
     ensures said { result ≡ spec.waits_said version (view value.now) }
-    ensures few { IfSome result (λ waits. IfSome waits (λ n. n < callers_in version)) }
+    ensures few { IfSome result (λ waits. ForSome waits (λ n. n < callers_in version)) }
 {
     match value.get("waits") {
         Some(waits) => Some(Some(read_number(waits, 0, u64::from(most_waits(version)))? as u8)),
