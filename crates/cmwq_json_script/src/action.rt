@@ -46,6 +46,7 @@ fn has_wait(actions: &[Action]) -> bool
 }
 
 /// Whether an item waits.
+#[tactic(auto, using(crate::proofs::Waiting::any_unmapped))]
 pub fn any_waits(does: &[Vec<Action>]) -> bool
     ensures { result ≡ list_any (list_any spec.is_wait) (map (λ actions. actions.items) does.now) }
 {
