@@ -1,12 +1,9 @@
 //! The work functions of a script: what each item does when it runs.
-ghost use Rattle.std.specs.Prelude.{◌≡◌, ◌⊎◌, true, false, map, string_bytes, IfOk, IfErr, IfSome, None, Some, Err};
-ghost use Rattle.cmwq_model.specs.Prelude.{has_numbers, is_workers};
-ghost use Rattle.cmwq_model.specs.declared.call.Call.TheVariants as calls;
+ghost use Rattle.std.specs.Prelude.{◌≡◌, ◌⊎◌, true, map, string_bytes, IfOk, IfErr, IfSome, None, Some, Err};
 ghost use Rattle.cmwq_monitor.specs.Faults.{is_full};
 ghost use Rattle.cmwq_monitor.specs.declared.fault.RunFault.TheVariants.{Full};
 ghost use Rattle.cmwq_rt.specs.Later.{Later};
-ghost use Rattle.cmwq_rt.specs.Running.{MakesOne};
-ghost use Rattle.cmwq_rt.specs.Waiting.{HasWaited, fault_after_wait, is_refusal};
+ghost use Rattle.cmwq_rt.specs.Waiting.{is_refusal};
 ghost use Rattle.cmwq_rt.specs.declared.wait_fault.WaitFault.TheVariants as waits;
 ghost use Rattle.cmwq_json_script.specs.Scripts.{is_own};
 ghost use Rattle.cmwq_json_script.specs.declared.action.Action.TheVariants as actions;
@@ -25,26 +22,6 @@ pub struct Interpreter<'a> {
     does: &'a [Vec<Action>],
     gates: Gates,
     refusals: Refusals,
-}
-
-/// Waits, as the method of the call's name does.
-fn wait<N: HubName, R: Wait>(context: &mut RunCtx<N, R>, call: Call) -> Result<Reply, WaitFault>
-    requires own { is_own call ≡ true }
-    requires waits { is_workers call ≡ false }
-    requires numbers { has_numbers N.layout call ≡ true }
-    ensures later { Later context.old.participant context.new.participant }
-    ensures waited { IfOk result (λ reply. HasWaited N.layout context.old.participant call reply context.new.participant) }
-    ensures refused { IfErr result (λ f. is_refusal f ≡ true → (context.new.participant ≡ context.old.participant) ⊎ MakesOne N.layout context.old.participant calls.Wake context.new.participant) }
-    ensures fault { context.new.fault ≡ fault_after_wait result context.old.fault }
-{
-    match call {
-        Call::FlushItem { item } => context.flush_item(item),
-        Call::FlushDelayed { item } => context.flush_delayed(item),
-        Call::CancelSync { item } => context.cancel_sync(item),
-        Call::Flush { queue } => context.flush(queue),
-        Call::Drain { queue } => context.drain(queue),
-        _ => unreachable!(),
-    }
 }
 
 /// Whether an item may make such a call.
@@ -126,6 +103,7 @@ impl<'a> Interpreter<'a> {
     }
 
     /// Makes a call. One that makes no sense of a run is left out.
+    #[tactic(auto, using(crate::proofs::Interpreting::own_waits))]
     fn call<N: HubName, R: Wait>(
         &self,
         context: &mut RunCtx<N, R>,
@@ -143,7 +121,7 @@ impl<'a> Interpreter<'a> {
         if call.is_workers() {
             return unless_full(context.make(call));
         }
-        let answer = wait(context, call);
+        let answer = context.wait(call);
         self.unless_refused(context.rt(), place, answer)
     }
 
