@@ -1,6 +1,6 @@
 -- Waits of runs, and what they leave.
-use Rattle.std.specs.Prelude.{◌≡◌, ◌⊎◌, ◌≤◌}
-use Rattle.cmwq_rt.specs.Common.{Bool, true, false, Option, Some, None, Result, Ok, Err, IsPrefix, Call, Reply, Layout, View, is_caller, is_full, Completes, RunFault}
+use Rattle.std.specs.Prelude.{◌≡◌, ◌⊎◌}
+use Rattle.cmwq_rt.specs.Common.{Bool, true, false, Option, Result, Err, IsPrefix, Call, Reply, Layout, View, is_caller, is_full, Completes, RunFault}
 use Rattle.cmwq_model.specs.declared.call.Call.TheVariants as call
 use Rattle.cmwq_rt.specs.Running.{MakesOne, breaks_off, fault_after}
 use Rattle.cmwq_rt.specs.declared.wait_fault.WaitFault.{WaitFault}
