@@ -107,7 +107,17 @@ fn run_or_stop<
     ensures run { IfOk result (λ ends. HaveEnded N.layout (W.does work.now N.layout) (C.calls crew.now) (C.roles crew.now N.layout) ends) }
     ensures fails { IfErr result (λ f. FailsAs N.layout (C.calls crew.now) (C.roles crew.now N.layout) f) }
 {
-    let ends = run_all(scope, rt, alloc, hub, lent, roster, participants, crew, work);
+    let ends = run_all(
+        scope,
+        rt,
+        alloc,
+        hub,
+        lent,
+        roster,
+        participants,
+        crew,
+        work,
+    );
     stop_at(rt, hub, crew, &ends);
     ends
 }
@@ -142,7 +152,19 @@ fn run_in_scope<
             requires { (participants ≡ all_free) × C.fits crew.now N.layout × (roster ≡ C.roles crew.now N.layout) }
             ensures { IfOk result (λ ends. HaveEnded N.layout (W.does work.entry.now N.layout) (C.calls crew.entry.now) (C.roles crew.entry.now N.layout) ends)
                 × IfErr result (λ f. FailsAs N.layout (C.calls crew.entry.now) (C.roles crew.entry.now N.layout) f) }
-        { run_or_stop(scope, rt, alloc, hub, lent, roster, participants, crew, work) },
+        {
+            run_or_stop(
+                scope,
+                rt,
+                alloc,
+                hub,
+                lent,
+                roster,
+                participants,
+                crew,
+                work,
+            )
+        },
     )
 }
 
