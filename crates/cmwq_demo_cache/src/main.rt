@@ -9,7 +9,7 @@
 use anyhow::Result;
 use cmwq_service::{
     Client, Context, CpuId, Fault, ItemId, PLAIN, QueueId, QueueShape, Service, ShapeBuilder,
-    run_dropping,
+    run_dropping_with_waits,
 };
 use std::sync::Wait;
 use std::sync::atomic::{AtomicU32, Ordering};
@@ -59,6 +59,9 @@ struct Cache {
     tape: Device,
 }
 
+/// How many runs may wait: one for each device.
+const WAITS: u8 = 2;
+
 /// How many devices there are. Item 0 writes back the disk, and item 1 the tape; items 2 and 3 unmount them.
 const DEVICES: u16 = 2;
 
@@ -88,9 +91,6 @@ impl Cache {
 }
 
 impl Service for Cache {
-    /// Both unmounts may wait at the same time.
-    const WAITS: u8 = 2;
-
     /// The work function: a worker calls it once for each start of an item.
     fn run<R: Wait + Clock, C: Context>(
         &self,
@@ -144,14 +144,14 @@ fn main(rt: HostRuntime) -> Result<()> {
     let alloc = rt.alloc();
     let shape = ShapeBuilder::new(alloc)
         .workers(4)
-        .callers_and_waits(2, Cache::WAITS)
+        .callers_and_waits(2, WAITS)
         .items(4)
         .queue(QUEUE)?
         .queue(QUEUE)?
         .build()?;
     let cache = Cache::default();
     // the history would say which call was answered what, and in which order; here nobody looks at it
-    run_dropping(&rt, alloc, &shape, &cache)?;
+    run_dropping_with_waits(&rt, alloc, &shape, &cache, WAITS)?;
     let disk = cache.disk.stored.load(Ordering::SeqCst);
     let tape = cache.tape.stored.load(Ordering::SeqCst);
     println!(rt; "pages on the disk: {disk}")?;

@@ -104,7 +104,7 @@ impl ShapeBuilder {
         }
     }
 
-    /// So many callers of the service, and so many that are lent to runs that wait: as many as the service's `WAITS`.
+    /// So many callers of the service, and so many that `run_with_waits` lends to runs that wait.
     /// Together they may be 253.
     pub fn callers_and_waits(self, callers: u8, waits: u8) -> ShapeBuilder
         ensures { result ≡ record self { callers = callers + waits + own_callers } }

@@ -22,27 +22,28 @@ use std::marker::Brand;
 use std::sync::Wait;
 use std::time::{Clock, Duration};
 
-/// How many callers of a shape have a thread: those of the service, and the library's own two.
-fn thread_callers<S: Service>(shape: &Shape) -> u8
-    ensures { result ≡ shape.now.callers - S.WAITS }
+/// How many callers of a shape have a thread, if so many are lent: those of the service, and the library's own two.
+fn thread_callers(shape: &Shape, waits: u8) -> u8
+    ensures { result ≡ shape.now.callers - waits }
 {
-    shape.counts().callers.saturating_sub(S::WAITS)
+    shape.counts().callers.saturating_sub(waits)
 }
 
 /// How many callers of a shape are the service's.
-fn service_callers<S: Service>(shape: &Shape) -> u8
-    ensures { result ≡ shape.now.callers - S.WAITS - own_callers }
+fn service_callers(shape: &Shape, waits: u8) -> u8
+    ensures { result ≡ shape.now.callers - waits - own_callers }
 {
-    thread_callers::<S>(shape).saturating_sub(OWN_CALLERS)
+    thread_callers(shape, waits).saturating_sub(OWN_CALLERS)
 }
 
 /// A service, with all that its threads share. Its callers have a thread each, and so have the library's own two: the
-/// clock, and the one that comes at the end.
+/// clock, and the one that comes at the end. So many callers are lent to runs that wait.
 #[derive(Drop)]
 pub struct Serving<'s, S, R> {
     rt: &'s R,
     service: &'s S,
     signal: Signal,
+    waits: u8,
 }
 
 /// Calls the service by a client that begins where the caller stands.
@@ -125,12 +126,19 @@ fn run_in<'a, N: HubName, S: Service, R: Wait + Clock, Q: Wait>(
 }
 
 impl<'s, S: Service, R: Wait + Clock> Serving<'s, S, R> {
-    /// The service, before it runs on a hub of this shape.
+    /// The service, before it runs on a hub of this shape, of which so many callers are lent to runs that wait.
     ///
     /// # Errors
     /// `NoPlace` if the shape has fewer callers than the library needs: its own two, and those that are lent.
-    pub fn new(rt: &'s R, service: &'s S, shape: &Shape) -> Result<Serving<'s, S, R>, Fault> {
-        if thread_callers::<S>(shape) < OWN_CALLERS {
+    pub fn new(
+        rt: &'s R,
+        service: &'s S,
+        shape: &Shape,
+        waits: u8,
+    ) -> Result<Serving<'s, S, R>, Fault>
+        ensures { IfOk result (λ serving. serving.waits ≡ waits) }
+    {
+        if thread_callers(shape, waits) < OWN_CALLERS {
             return Err(Fault::Run {
                 fault: RunFault::NoPlace,
             });
@@ -138,7 +146,8 @@ impl<'s, S: Service, R: Wait + Clock> Serving<'s, S, R> {
         Ok(Serving {
             rt,
             service,
-            signal: Signal::new(service_callers::<S>(shape)),
+            signal: Signal::new(service_callers(shape, waits)),
+            waits,
         })
     }
 
@@ -237,14 +246,14 @@ impl<'s, S: Service, R: Wait + Clock> Crew for Serving<'s, S, R> {
     ghost use Rattle.std.specs.Prelude.{◌+◌, ◌-◌, ◌<◌};
     ghost use Rattle.cmwq_service.specs.Serving.{HasCalled, own_callers};
 
-    ghost roles = { λ _ s. record { threads = s.callers - S.WAITS; lent = S.WAITS } };
+    ghost roles = { λ p s. record { threads = s.callers - p.waits; lent = p.waits } };
 
-    ghost calls = { λ _ s k _ v. k + own_callers + S.WAITS < s.callers → ∥ HasCalled s S.calls k v ∥₁ };
+    ghost calls = { λ p s k _ v. k + own_callers + p.waits < s.callers → ∥ HasCalled s S.calls k v ∥₁ };
 
     fn roster(&self, shape: &Shape) -> Roster {
         Roster {
-            threads: thread_callers::<S>(shape),
-            lent: S::WAITS,
+            threads: thread_callers(shape, self.waits),
+            lent: self.waits,
         }
     }
 
@@ -255,7 +264,7 @@ impl<'s, S: Service, R: Wait + Clock> Crew for Serving<'s, S, R> {
         caller: Caller<N>,
         number: u8,
     ) -> (Caller<N>, Result<u32, RunFault>) {
-        let all = service_callers::<S>(hub.shape());
+        let all = service_callers(hub.shape(), self.waits);
         if number < all {
             let (caller, outcome) = call_once(self.rt, hub, self.service, caller, number);
             let told = self.told(outcome);

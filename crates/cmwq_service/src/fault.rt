@@ -35,7 +35,7 @@ pub enum Fault {
     /// asleep is awake.
     #[error("item {item} would wait for {awaited} for ever")]
     Deadlock { item: u16, awaited: Awaited },
-    /// As many runs wait as the service's `WAITS` allows. No call was made, but a run that was asleep is awake.
+    /// As many runs wait as callers are lent. No call was made, but a run that was asleep is awake.
     #[error("item {item} cannot wait for {awaited}: too many runs wait")]
     NoCaller { item: u16, awaited: Awaited },
     /// What a function of the service returns for a reason of its own, by a number of its own. No call returns it.

@@ -25,10 +25,6 @@ pub trait Service {
     /// has it of each run. A service that leaves it out states nothing.
     ghost does: { Layout → Behavior } = { λ _ _ _ _. Unit {0} };
 
-    /// How many runs may wait at the same time (`Context::wait`). The shape has as many callers more, which the library
-    /// lends to them (`ShapeBuilder::callers_and_waits`).
-    const WAITS: u8 = 0;
-
     /// Runs an item, in a worker's thread, once for each start of one of its queueings (the kernel's `work_func_t`).
     fn run<R: Wait + Clock, C: Context>(
         &self,
