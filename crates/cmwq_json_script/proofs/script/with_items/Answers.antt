@@ -16,7 +16,7 @@ script_of-requires-clause-within c =
     let known = sym c.requires.known in
     let most : c.from-most.result ≡ callers_in t.version - waits_in t w = omega arith in
     let callers = ap (λ (n : ℕ). some_of refused.callers length (in_turn (add_caller n c.args.names.now) 0 [] t.callers)) (sym most)
-        ∙ sym c.in_ok-callers.ensures ∙ ap (map_ok calls_of) c.in-Ok.is in
+    ∙ sym c.in_ok-callers.ensures ∙ ap (map_ok calls_of) c.in-Ok.is in
     is_within t (queues_of c.args.names.now c.args.queues) w (calls_of c.in-Ok.callers) c.requires.queues
     (ap (λ (k : Known). items_said k t) known ∙ c.requires.items)
     (ap (λ (k : Known). callers_said k t w) known ∙ callers)
