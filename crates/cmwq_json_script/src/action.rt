@@ -46,7 +46,6 @@ fn has_wait(actions: &[Action]) -> bool
 }
 
 /// Whether an item waits.
-#[tactic(auto, using(crate::proofs::Waiting::any_unmapped))]
 pub fn any_waits(does: &[Vec<Action>]) -> bool
     ensures { result ≡ list_any (list_any spec.is_wait) (map (λ actions. actions.items) does.now) }
 {

@@ -1,6 +1,5 @@
 use Rattle.cmwq_json_script.specs.Common.{◌≡◌, ◌∙◌, ◌+◌, sym, ap, arith, length, length-map, most_callers, most_items, Layout, layout_of, is_layout}
 use Rattle.cmwq_model.specs.declared.shape.Counts.{Counts}
-use Rattle.cmwq_json_script.specs.Runs.{waits_in}
 use Rattle.cmwq_json_script.specs.Views.{top_of, work_of, calls_of}
 use Rattle.cmwq_json_script.proofs.Readings.{when_read}
 use Rattle.cmwq_json_script.proofs.Within.{at_most_newest, layout_counted, made_may_run}
