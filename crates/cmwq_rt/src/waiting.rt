@@ -5,11 +5,13 @@ ghost use mathlib.Core.List.{IsPrefix};
 ghost use Rattle.cmwq_model.specs.Prelude.{has_numbers, is_callers};
 ghost use Rattle.cmwq_model.specs.declared.call.Call.TheVariants as calls;
 ghost use Rattle.cmwq_monitor.specs.Faults.{is_full};
+ghost use Rattle.cmwq_monitor.specs.declared.fault.RunFault.TheVariants.{Full};
 ghost use Rattle.cmwq_monitor.specs.Participants.{is_caller};
 ghost use Rattle.cmwq_monitor.specs.Whole.{Completes, is_tick};
 ghost use Rattle.cmwq_rt.specs.Later.{Later};
 ghost use Rattle.cmwq_rt.specs.Running.{MakesOne, breaks_off};
-ghost use Rattle.cmwq_rt.specs.Waiting.{IsOfRun, SleepsThrough, is_refusal};
+ghost use Rattle.cmwq_rt.specs.Waiting.{IsOfRun, SleepsInVain, SleepsThrough, is_refusal};
+ghost use Rattle.cmwq_rt.specs.declared.wait_fault.WaitFault.TheVariants as waits;
 
 use crate::caller::Caller;
 use crate::hub::Hub;
@@ -58,6 +60,7 @@ impl<N: HubName> Hub<N> {
         ensures waited { IfOk result (λ reply. SleepsThrough N.layout worker.old call reply worker.new) }
         ensures refused { IfErr result (λ f. is_refusal f ≡ true → worker.new ≡ worker.old) }
         ensures unused { IfErr result (λ f. is_refusal f ≡ true → caller.new ≡ caller.old) }
+        ensures full { IfErr result (λ f. f ≡ waits.Run Full → SleepsInVain N.layout worker.old worker.new) }
         ensures fault { IfErr result IsOfRun }
         ensures later { Later worker.old worker.new }
     {
@@ -97,6 +100,7 @@ impl<N: HubName> Hub<N> {
         ensures saw_sleep { IfOk result (λ _. IsPrefix worker.old.seen caller.new.seen) }
         ensures sees { IfOk result (λ _. IsPrefix caller.new.seen worker.new.seen) }
         ensures refused { IfErr result (λ f. is_refusal f ≡ false) }
+        ensures full { IfErr result (λ f. f ≡ waits.Run Full → MakesOne N.layout worker.old calls.Wake worker.new) }
         ensures fault { IfErr result IsOfRun }
         ensures later { Later worker.old worker.new }
     {

@@ -5,10 +5,11 @@ ghost use Rattle.cmwq_model.specs.declared.call.Call.TheVariants as calls;
 ghost use Rattle.cmwq_monitor.specs.Participants.{is_caller};
 ghost use Rattle.cmwq_monitor.specs.Calls.{Extends};
 ghost use Rattle.cmwq_monitor.specs.Faults.{Refused, is_full};
+ghost use Rattle.cmwq_monitor.specs.declared.fault.RunFault.TheVariants.{Full};
 ghost use Rattle.cmwq_rt.specs.Later.{Later};
 ghost use Rattle.cmwq_rt.specs.Starting.{HasStarted};
 ghost use Rattle.cmwq_rt.specs.Running.{RunsItem, MakesOne, fault_after, breaks_off};
-ghost use Rattle.cmwq_rt.specs.Waiting.{HasWaited, IsOfRun, SleepsThrough, fault_after_wait, is_refusal, is_wait};
+ghost use Rattle.cmwq_rt.specs.Waiting.{HadNoRoom, HasWaited, IsOfRun, SleepsInVain, SleepsThrough, fault_after_wait, is_refusal, is_wait};
 ghost use Rattle.cmwq_rt.specs.declared.wait_fault.WaitFault.TheVariants as waits;
 ghost use Rattle.cmwq_monitor.specs.Whole.{is_tick};
 
@@ -331,6 +332,7 @@ impl<'a, N: HubName, R: Wait> RunCtx<'a, N, R> {
         ensures waited { IfOk result (λ reply. HasWaited N.layout self.old.participant call reply self.new.participant) }
         ensures itself { item_called call ≡ Some self.old.item.0 → (result ≡ Err waits.Itself) × (self.new ≡ self.old) }
         ensures refused { IfErr result (λ f. is_refusal f ≡ true → (self.new.participant ≡ self.old.participant) ⊎ MakesOne N.layout self.old.participant calls.Wake self.new.participant) }
+        ensures full { IfErr result (λ f. f ≡ waits.Run Full → HadNoRoom N.layout self.old.participant self.new.participant) }
         ensures fault { self.new.fault ≡ fault_after_wait result self.old.fault }
         ensures item { self.new.item ≡ self.old.item }
     {
@@ -360,6 +362,7 @@ impl<'a, N: HubName, R: Wait> RunCtx<'a, N, R> {
         ensures later { Later self.old.participant self.new.participant }
         ensures waited { IfOk result (λ reply. HasWaited N.layout self.old.participant call reply self.new.participant) }
         ensures refused { IfErr result (λ f. is_refusal f ≡ true → (self.new.participant ≡ self.old.participant) ⊎ MakesOne N.layout self.old.participant calls.Wake self.new.participant) }
+        ensures full { IfErr result (λ f. f ≡ waits.Run Full → HadNoRoom N.layout self.old.participant self.new.participant) }
         ensures fault { self.new.fault ≡ fault_after_wait result self.old.fault }
         ensures item { self.new.item ≡ self.old.item }
     {
@@ -383,6 +386,7 @@ impl<'a, N: HubName, R: Wait> RunCtx<'a, N, R> {
         ensures later { Later self.old.participant self.new.participant }
         ensures waited { IfOk result (λ reply. HasWaited N.layout self.old.participant call reply self.new.participant) }
         ensures refused { IfErr result (λ f. is_refusal f ≡ true → (self.new.participant ≡ self.old.participant) ⊎ MakesOne N.layout self.old.participant calls.Wake self.new.participant) }
+        ensures full { IfErr result (λ f. f ≡ waits.Run Full → HadNoRoom N.layout self.old.participant self.new.participant) }
         ensures fault { self.new.fault ≡ fault_after_wait result self.old.fault }
         ensures item { self.new.item ≡ self.old.item }
     {
@@ -398,6 +402,7 @@ impl<'a, N: HubName, R: Wait> RunCtx<'a, N, R> {
         ensures later { Later self.old.participant self.new.participant }
         ensures wakes { IfOk result (λ _. (self.new.participant ≡ self.old.participant) ⊎ MakesOne N.layout self.old.participant calls.Wake self.new.participant) }
         ensures kept { IfOk result (λ _. self.new.fault ≡ self.old.fault) }
+        ensures full { IfErr result (λ f. f ≡ Full → Refused N.layout self.old.participant calls.Wake Full self.new.participant) }
         ensures fault { IfErr result (λ f. self.new.fault ≡ fault_after_wait (Err (waits.Run f)) self.old.fault) }
         ensures item { self.new.item ≡ self.old.item }
     {
@@ -418,6 +423,7 @@ impl<'a, N: HubName, R: Wait> RunCtx<'a, N, R> {
         ensures later { Later self.old.participant self.new.participant }
         ensures waited { IfOk result (λ reply. SleepsThrough N.layout self.old.participant call reply self.new.participant) }
         ensures refused { IfErr result (λ f. is_refusal f ≡ true → self.new.participant ≡ self.old.participant) }
+        ensures full { IfErr result (λ f. f ≡ waits.Run Full → SleepsInVain N.layout self.old.participant self.new.participant) }
         ensures fault { self.new.fault ≡ fault_after_wait result self.old.fault }
         ensures item { self.new.item ≡ self.old.item }
     {

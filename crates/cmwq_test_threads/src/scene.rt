@@ -96,6 +96,34 @@ pub(crate) enum Taker {
 /// The call of no run.
 pub(crate) const NEVER: u64 = u64::MAX;
 
+/// How many waits of runs ended, and how many were refused as waits for themselves, as deadlocks, and for want of a
+/// caller.
+#[derive(Drop)]
+pub(crate) struct WaitCounts {
+    pub(crate) ended: AtomicU64,
+    pub(crate) refused: [AtomicU64; 3],
+}
+
+impl WaitCounts {
+    fn new() -> WaitCounts {
+        WaitCounts {
+            ended: AtomicU64::new(0),
+            refused: [AtomicU64::new(0), AtomicU64::new(0), AtomicU64::new(0)],
+        }
+    }
+
+    fn count(&self, waited: &Result<Reply, WaitFault>) {
+        let count = match waited {
+            Ok(_) => &self.ended,
+            Err(WaitFault::Itself) => &self.refused[0],
+            Err(WaitFault::Deadlock) => &self.refused[1],
+            Err(WaitFault::NoCaller) => &self.refused[2],
+            Err(WaitFault::Run { .. }) => return,
+        };
+        count.fetch_add(1, Ordering::SeqCst);
+    }
+}
+
 /// What happens on a hub. Callers for whom there is no role have the last one. Items for which there is no deed begin
 /// anew with the first, at the next gate. Without deeds the hub has no workers.
 #[derive(Drop)]
@@ -111,10 +139,7 @@ pub(crate) struct Scene<'a> {
     pub(crate) passed: AtomicU64,
     /// How many callers, the first ones of the hub, are lent to runs that wait.
     pub(crate) lent: u8,
-    /// How many waits of runs ended, and how many were refused as waits for themselves, as deadlocks, and for want of
-    /// a caller.
-    pub(crate) waited: AtomicU64,
-    pub(crate) refused: [AtomicU64; 3],
+    pub(crate) waits: WaitCounts,
     /// How many lines of the history were flushed.
     pub(crate) lines: AtomicU64,
     /// Whether a journal that is late may begin.
@@ -134,8 +159,7 @@ impl<'a> Scene<'a> {
             runs: AtomicU64::new(0),
             passed: AtomicU64::new(0),
             lent: 0,
-            waited: AtomicU64::new(0),
-            refused: [AtomicU64::new(0), AtomicU64::new(0), AtomicU64::new(0)],
+            waits: WaitCounts::new(),
             lines: AtomicU64::new(0),
             may_begin: AtomicBool::new(false),
             is_over: AtomicBool::new(false),
@@ -145,17 +169,6 @@ impl<'a> Scene<'a> {
     fn pass<R: Wait>(&self, rt: &R, gate: u8) {
         let was_open = self.gates.pass(rt, gate);
         self.passed.fetch_add(u64::from(was_open), Ordering::SeqCst);
-    }
-
-    fn count(&self, waited: &Result<Reply, WaitFault>) {
-        let count = match waited {
-            Ok(_) => &self.waited,
-            Err(WaitFault::Itself) => &self.refused[0],
-            Err(WaitFault::Deadlock) => &self.refused[1],
-            Err(WaitFault::NoCaller) => &self.refused[2],
-            Err(WaitFault::Run { .. }) => return,
-        };
-        count.fetch_add(1, Ordering::SeqCst);
     }
 
     /// Waits by this call, if the hub has its numbers.
@@ -173,7 +186,7 @@ impl<'a> Scene<'a> {
             Call::Drain { queue } => context.drain(queue),
             _ => return,
         };
-        self.count(&waited);
+        self.waits.count(&waited);
     }
 
     /// The gate of an item is the one after its number. The first is that of a caller.

@@ -115,8 +115,8 @@ fn play_case<R: Threads + Wait + Clock + Abort + AllocGlobal + Sync>(rt: &R, cas
     let mut scene = Scene::new(&roles, case.deeds, Fate::Kept);
     scene.lent = case.lent;
     play_well(rt, counts, case.queues, &scene);
-    assert_eq!(rt; scene.waited.load(Ordering::SeqCst), case.waited);
-    for (refused, wanted) in scene.refused.iter().zip(case.refused) {
+    assert_eq!(rt; scene.waits.ended.load(Ordering::SeqCst), case.waited);
+    for (refused, wanted) in scene.waits.refused.iter().zip(case.refused) {
         assert_eq!(rt; refused.load(Ordering::SeqCst), wanted);
     }
 }
@@ -397,8 +397,8 @@ fn play_at_random<R: Threads + Wait + Clock + Abort + AllocGlobal + Sync>(
     scene.lent = lent;
     play_well(rt, counts, queues.get(many..).unwrap_or(&[]), &scene);
     (
-        scene.waited.load(Ordering::SeqCst),
-        scene.refused[1].load(Ordering::SeqCst),
+        scene.waits.ended.load(Ordering::SeqCst),
+        scene.waits.refused[1].load(Ordering::SeqCst),
     )
 }
 
