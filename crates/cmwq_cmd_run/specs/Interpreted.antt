@@ -2,7 +2,7 @@
 use Rattle.std.specs.Prelude.{◌≡◌, ◌⊎◌, ◌&&◌, ◌∷◌}
 use Rattle.cmwq_cmd_run.specs.Common.{List, [], MatchBool, MatchOption, slice_get, Call, Layout, has_numbers, is_workers, View, Refused, Full, Behavior, MakesOne, Action, is_own}
 use Rattle.cmwq_model.specs.declared.reply.Reply.{Reply}
-use Rattle.cmwq_rt.specs.Waiting.{HasWaited}
+use Rattle.cmwq_rt.specs.Waiting.{HadNoRoom, HasWaited, IsAwake}
 use Rattle.cmwq_model.specs.declared.call.Call.TheVariants as call
 use Rattle.cmwq_json_script.specs.declared.action.Action.TheVariants as action
 
@@ -13,18 +13,6 @@ MakesIfRoom s v c w = MakesOne s v c w ⊎ Refused s v c Full w
 -- It slept and woke, with a gate between; where there was no room for the sleep it made neither.
 abbrev pub SleepsOnce : Layout → View → View → Type 0
 SleepsOnce s v w = ((asleep : View) × MakesOne s v call.Sleep asleep × MakesIfRoom s asleep call.Wake w) ⊎ Refused s v call.Sleep Full w
-
--- there was no room for a sleep, or a run slept and woke
-abbrev pub SleepsInVain : Layout → View → View → Type 0
-SleepsInVain s v w = Refused s v call.Sleep Full w ⊎ ((asleep : View) × MakesOne s v call.Sleep asleep × MakesOne s asleep call.Wake w)
-
--- A run that was asleep woke; awake it stayed as it was.
-abbrev pub IsAwake : Layout → View → View → Type 0
-IsAwake s v w = (w ≡ v) ⊎ MakesOne s v call.Wake w
-
--- The run was awake, or woke. Then there was no room for its sleep, or it slept and woke, since there was none for what it would wait for.
-abbrev pub HadNoRoom : Layout → View → View → Type 0
-HadNoRoom s v w = Refused s v call.Wake Full w ⊎ ((awake : View) × IsAwake s v awake × SleepsInVain s awake w)
 
 -- A wait: by a caller that was lent to the run the call was made while it slept; or it was refused; or there was no room for it.
 abbrev pub WaitsIfMay : Layout → View → Call → View → Type 0
