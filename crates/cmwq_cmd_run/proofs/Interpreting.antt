@@ -40,13 +40,13 @@ slept_if s v m w r answer (Err f) before middle after asleep made refused full n
 
 -- a call that items make and workers don't is one by which a run waits
 pub own_waits : (c : Call) → is_own c ≡ true → is_workers c ≡ false → is_wait c ≡ true
-own_waits (call.FlushItem i) own no = refl
-own_waits (call.FlushDelayed i) own no = refl
-own_waits (call.CancelSync i) own no = refl
-own_waits (call.Flush q) own no = refl
-own_waits (call.Drain q) own no = refl
-own_waits (call.Queue i q c) own no = absurd (cc no)
-own_waits (call.Delay i q c t) own no = absurd (cc no)
-own_waits (call.Modify i q c t) own no = absurd (cc no)
-own_waits (call.Cancel i) own no = absurd (cc no)
-own_waits c own no = absurd (cc own)
+own_waits (call.FlushItem i) own other = refl
+own_waits (call.FlushDelayed i) own other = refl
+own_waits (call.CancelSync i) own other = refl
+own_waits (call.Flush q) own other = refl
+own_waits (call.Drain q) own other = refl
+own_waits (call.Queue i q c) own other = absurd (cc other)
+own_waits (call.Delay i q c t) own other = absurd (cc other)
+own_waits (call.Modify i q c t) own other = absurd (cc other)
+own_waits (call.Cancel i) own other = absurd (cc other)
+own_waits c own other = absurd (cc own)

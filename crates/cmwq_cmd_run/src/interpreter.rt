@@ -1,5 +1,5 @@
 //! The work functions of a script: what each item does when it runs.
-ghost use Rattle.std.specs.Prelude.{◌≡◌, ◌⊎◌, true, map, string_bytes, IfOk, IfErr, IfSome, None, Some, Err};
+ghost use Rattle.std.specs.Prelude.{◌≡◌, ◌⊎◌, true, false, map, string_bytes, IfOk, IfErr, IfSome, None, Some, Err};
 ghost use Rattle.cmwq_monitor.specs.Faults.{is_full};
 ghost use Rattle.cmwq_monitor.specs.declared.fault.RunFault.TheVariants.{Full};
 ghost use Rattle.cmwq_rt.specs.Later.{Later};

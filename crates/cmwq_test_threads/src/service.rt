@@ -217,6 +217,8 @@ const WAITS_OF_RUN: [Act; 9] = [
     Act::Make(Call::Drain { queue: FREEZABLE }),
 ];
 
+const FLUSH_FIRST: Act = Act::Make(Call::FlushItem { item: ItemId(0) });
+
 const NO_WAIT_OF_RUN: [Act; 1] = [Act::WaitInVain(
     Call::FlushItem { item: ItemId(1) },
     Fault::NoCaller {
@@ -228,13 +230,10 @@ const NO_WAIT_OF_RUN: [Act; 1] = [Act::WaitInVain(
 #[test]
 fn runs_wait_by_callers_that_are_lent(rt: HostRuntime) {
     let shape = shape_with_waits(&rt, 1, 1, 2_000);
-    let acts = [Act::Make(QUEUE_FIRST)];
+    let acts = [Act::Make(QUEUE_FIRST), FLUSH_FIRST];
     let (callers, items): ([&[Act]; 1], [&[Act]; 1]) = ([&acts], [&WAITS_OF_RUN]);
     let table = Table::new(&callers, &items);
     let history = run_with_waits(&rt, rt.alloc(), &shape, &table, 1).expect(&rt, "a history");
-    for entry in history.iter() {
-        println!(rt; "{entry:?}").expect(&rt, "x");
-    }
     is_as_told(&rt, &table, 2);
     assert!(rt; is_legal(&rt, &shape, &history));
     let table = Table::new(&callers, &items);
