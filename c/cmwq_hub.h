@@ -5,7 +5,8 @@
  * that a sleeper is woken and that the hub ends are only tested (c/tests). One mutex guards all; one condition variable wakes callers, and one workers.
  *
  * Context: every call but cmwq_hub_open() and cmwq_hub_close() may come from any thread, also from a work function, as long as no two threads
- * call as one who at the same time. A work function calls as its run's who, and may not wait for itself.
+ * call as one who at the same time. A work function calls as its run's who. It waits by cmwq_wait_item() and cmwq_wait_for_queue(), for which
+ * cmwq_hub_lend() lends callers to the hub. A wait that could never end is refused.
  */
 #ifndef CMWQ_HUB_H
 #define CMWQ_HUB_H
@@ -17,8 +18,16 @@
 
 struct cmwq_hub;
 
-/* struct cmwq_run - what a work function is given: its hub, its item, and the worker as which it calls */
-struct cmwq_run { struct cmwq_hub *hub; uint16_t item; struct cmwq_who who; };
+/* struct cmwq_run - what a work function is given: its hub, its item, and the worker as which it calls. The rest is the hub's. */
+struct cmwq_run { struct cmwq_hub *hub; uint16_t item; struct cmwq_who who; uint8_t queue, cpu; uint64_t number; };
+
+/* Why a wait of a run is refused, beside the statuses of cmwq.h. No entry was made then. */
+enum cmwq_refusal {
+    CMWQ_ITSELF = 32,    /* it would wait for its own run */
+    CMWQ_DEADLOCK = 33,  /* it could never end, because of runs that wait */
+    CMWQ_NO_CALLER = 34, /* as many runs wait as callers are lent */
+    CMWQ_ASLEEP = 35,    /* the run is asleep: wake it first */
+};
 
 /* struct cmwq_work - the function of an item, as INIT_WORK() binds it, and what is handed to it */
 struct cmwq_work { void (*run)(struct cmwq_run *run, void *data); void *data; };
@@ -28,15 +37,24 @@ typedef void (*cmwq_spill_t)(void *data, const uint8_t *line, size_t len);
 
 struct cmwq_seat { struct cmwq_hub *hub; struct cmwq_who who; pthread_t thread; };
 
+/* The number of an item's last queueing, where it is or is booked, and the CPU of its run. An item that runs is queued where it runs. */
+struct cmwq_place_ { uint64_t number; uint8_t queue, cpu, booked, runs, run_cpu; };
+
+/* A run that waits by a lent caller, and for what. The last two are of a search. */
+struct cmwq_wait_ { struct cmwq_run *run; struct cmwq_call call; uint64_t ticket; bool stuck; };
+
 struct cmwq_hub {
     pthread_mutex_t lock;
     pthread_cond_t callers, workers;
     struct cmwq_book book;
     struct cmwq_shape shape;
     struct cmwq_work *works; /* one for each item */
-    uint64_t *queued;        /* the number of each item's last queueing */
-    struct cmwq_seat *seats; /* one for each worker */
-    unsigned threads, waiting, idle;
+    struct cmwq_place_ *places; /* one for each item */
+    uint32_t *widths;           /* one for each queue */
+    uint8_t *high;              /* one for each queue */
+    struct cmwq_seat *seats;    /* one for each worker */
+    struct cmwq_wait_ *waits;   /* one for each lent caller; no run: it is free */
+    unsigned threads, waiting, idle, first_lent, lent;
     bool closing;
     uint32_t failed; /* why the hub makes no more entries */
     cmwq_spill_t spill;
@@ -59,10 +77,31 @@ static inline void cmwq_hub_spill_(struct cmwq_hub *hub)
 
 static inline void cmwq_hub_note_(struct cmwq_hub *hub, const struct cmwq_call *call, const struct cmwq_reply *reply)
 {
-    if (reply->kind == CMWQ_YES || reply->kind == CMWQ_AGAIN || reply->kind == CMWQ_TICKET_QUEUED)
-        hub->queued[call->item] = reply->number;
-    else if (reply->kind == CMWQ_FIRED)
-        hub->queued[reply->item] = reply->number;
+    struct cmwq_place_ *place = &hub->places[reply->kind == CMWQ_FIRED ? reply->item : call->item];
+
+    switch (reply->kind) {
+    case CMWQ_YES:
+    case CMWQ_AGAIN:
+    case CMWQ_TICKET_QUEUED:
+    case CMWQ_FIRED:
+        place->number = reply->number;
+        place->booked = 0;
+        break;
+    case CMWQ_BOOKED:
+    case CMWQ_REBOOKED:
+        place->booked = 1;
+        break;
+    default:
+        break;
+    }
+    if (reply->kind == CMWQ_YES || reply->kind == CMWQ_AGAIN || reply->kind == CMWQ_BOOKED || reply->kind == CMWQ_REBOOKED) {
+        place->queue = call->queue;
+        place->cpu = call->cpu;
+    }
+    if (!place->booked && place->runs)
+        place->cpu = place->run_cpu;
+    if (call->kind == CMWQ_SET_MAX && reply->kind == CMWQ_WIDTH)
+        hub->widths[call->queue] = call->number;
 }
 
 /* Makes a call, and wakes whom it may concern. Under the lock. */
@@ -126,6 +165,190 @@ static inline uint32_t cmwq_hub_wait(struct cmwq_hub *hub, const struct cmwq_cal
     }
     pthread_mutex_unlock(&hub->lock);
     return status;
+}
+
+/* Whether an item is queued, or booked, and has not started. Under the lock. */
+static inline bool cmwq_hub_is_pending_(struct cmwq_hub *hub, uint16_t item)
+{
+    uint8_t bits = 0;
+
+    return cmwq_bits(&hub->book, item, &bits) == CMWQ_OK && bits & 1;
+}
+
+static inline bool cmwq_hub_is_queued_(struct cmwq_hub *hub, uint16_t item)
+{
+    return !hub->places[item].booked && cmwq_hub_is_pending_(hub, item);
+}
+
+/*
+ * Whether the queueing of an item with this number can never start, because of the runs that are stuck: the item's own run is, or all workers of
+ * its pool have such runs, or all places of its queue on its CPU are held by such runs, and by what is queued of their items. Under the lock.
+ */
+static inline bool cmwq_hub_start_stuck_(struct cmwq_hub *hub, uint16_t item, uint64_t number)
+{
+    uint8_t queue = hub->places[item].queue, cpu = hub->places[item].runs ? hub->places[item].run_cpu : hub->places[item].cpu;
+    unsigned held = 0, in_pool = 0;
+
+    for (unsigned k = 0; k <= hub->lent; k++) {
+        struct cmwq_run *run = hub->waits[k].stuck ? hub->waits[k].run : NULL;
+
+        if (!run)
+            continue;
+        if (run->item == item)
+            return true;
+        in_pool += run->cpu == cpu && (run->who.kind == CMWQ_HIGH_WORKER) == (hub->high[queue] != 0);
+        held += run->queue == queue && run->cpu == cpu && run->number < number;
+        held += cmwq_hub_is_queued_(hub, run->item) && hub->places[run->item].queue == queue && run->cpu == cpu && hub->places[run->item].number < number;
+    }
+    return held >= hub->widths[queue] || in_pool >= hub->shape.workers;
+}
+
+/* Whether what a wait for an item waits for can never start. */
+static inline bool cmwq_hub_item_stuck_(struct cmwq_hub *hub, const struct cmwq_call *call)
+{
+    if (call->kind == CMWQ_CANCEL_SYNC)
+        return false;
+    if (call->kind == CMWQ_FLUSH_DELAYED && hub->places[call->item].booked)
+        return cmwq_hub_is_pending_(hub, call->item) && cmwq_hub_start_stuck_(hub, call->item, UINT64_MAX);
+    return cmwq_hub_is_queued_(hub, call->item) && cmwq_hub_start_stuck_(hub, call->item, hub->places[call->item].number);
+}
+
+/* Whether a wait can never end, because of the runs that are stuck. Under the lock. */
+static inline bool cmwq_hub_wait_stuck_(struct cmwq_hub *hub, const struct cmwq_wait_ *wait)
+{
+    const struct cmwq_call *call = &wait->call;
+    bool of_item = call->kind == CMWQ_FLUSH_ITEM || call->kind == CMWQ_FLUSH_DELAYED || call->kind == CMWQ_CANCEL_SYNC;
+    uint64_t before = call->kind == CMWQ_FLUSH ? wait->ticket : UINT64_MAX;
+
+    for (unsigned k = 0; k <= hub->lent; k++) {
+        struct cmwq_run *run = hub->waits[k].stuck ? hub->waits[k].run : NULL;
+
+        if (run && (of_item ? run->item == call->item : run->queue == call->queue && run->number < before))
+            return true;
+    }
+    if (of_item)
+        return cmwq_hub_item_stuck_(hub, call);
+    for (unsigned item = 0; item < hub->shape.items; item++)
+        if (hub->places[item].queue == call->queue && hub->places[item].number < before && cmwq_hub_is_queued_(hub, (uint16_t)item) &&
+            cmwq_hub_start_stuck_(hub, (uint16_t)item, hub->places[item].number))
+            return true;
+    return false;
+}
+
+/* Why a run may not wait so: the last place of @waits is for this question. Runs that are stuck are the most of which each waits for another. */
+static inline uint32_t cmwq_hub_refusal_(struct cmwq_hub *hub, struct cmwq_run *run, const struct cmwq_call *call)
+{
+    struct cmwq_wait_ *own = &hub->waits[hub->lent];
+    bool goes_on = true;
+    uint32_t why;
+
+    if (call->kind == CMWQ_FLUSH || call->kind == CMWQ_DRAIN ? call->queue == run->queue : call->item == run->item)
+        return CMWQ_ITSELF;
+    own->run = run;
+    own->call = *call;
+    own->ticket = UINT64_MAX;
+    own->stuck = true;
+    for (unsigned k = 0; k < hub->lent; k++)
+        hub->waits[k].stuck = hub->waits[k].run && !cmwq_ready(&hub->book, hub->waits[k].ticket);
+    while (goes_on) {
+        goes_on = false;
+        for (unsigned k = 0; k <= hub->lent; k++)
+            if (hub->waits[k].stuck && !cmwq_hub_wait_stuck_(hub, &hub->waits[k])) {
+                hub->waits[k].stuck = false;
+                goes_on = true;
+            }
+    }
+    why = own->stuck ? CMWQ_DEADLOCK : CMWQ_OK;
+    own->stuck = false;
+    return why;
+}
+
+/* A lent caller that no run waits by, or NULL. */
+static inline struct cmwq_wait_ *cmwq_hub_free_wait_(struct cmwq_hub *hub)
+{
+    for (unsigned k = 0; k < hub->lent; k++)
+        if (!hub->waits[k].run)
+            return &hub->waits[k];
+    return NULL;
+}
+
+/**
+ * cmwq_wait_in_run() - a work function waits: flush_item, flush_delayed, cancel_sync, flush, drain, of another item or queue
+ * @call: its kind, and its item or queue; who makes it is a lent caller
+ * @reply: what it was answered at first
+ *
+ * The run sleeps meanwhile, so that others of its pool may start. The history has it as the worker's sleep, the lent caller's call and end, and
+ * the worker's wake.
+ *
+ * Return: as cmwq_hub_wait(), or a cmwq_refusal: then the run goes on, and may do something else
+ */
+static inline uint32_t cmwq_wait_in_run(struct cmwq_run *run, const struct cmwq_call *call, struct cmwq_reply *reply)
+{
+    struct cmwq_hub *hub = run->hub;
+    struct cmwq_call sleep = {0}, end = {0}, own = *call;
+    struct cmwq_reply other;
+    struct cmwq_wait_ *wait;
+    uint32_t status, woke;
+
+    sleep.kind = CMWQ_SLEEP;
+    sleep.who = run->who;
+    pthread_mutex_lock(&hub->lock);
+    wait = cmwq_hub_free_wait_(hub);
+    status = cmwq_hub_refusal_(hub, run, call);
+    if (status == CMWQ_OK && !wait)
+        status = CMWQ_NO_CALLER;
+    if (status == CMWQ_OK && cmwq_would(&hub->book, &sleep, &other) == CMWQ_OK && other.kind != CMWQ_SLEPT)
+        status = CMWQ_ASLEEP;
+    if (status == CMWQ_OK)
+        status = cmwq_hub_step_(hub, &sleep, &other);
+    if (status != CMWQ_OK) {
+        pthread_mutex_unlock(&hub->lock);
+        return status;
+    }
+    own.who.kind = CMWQ_CALLER;
+    own.who.index = (uint8_t)(hub->first_lent + (unsigned)(wait - hub->waits));
+    own.who.cpu = 0;
+    status = cmwq_hub_step_(hub, &own, reply);
+    if (status == CMWQ_OK && reply->kind >= CMWQ_TICKET && reply->kind <= CMWQ_TICKET_NO) {
+        wait->run = run;
+        wait->call = own;
+        wait->ticket = reply->number;
+        end.kind = CMWQ_END;
+        end.ticket = reply->number;
+        end.who = own.who;
+        hub->waiting++;
+        while (!cmwq_ready(&hub->book, end.ticket) && !hub->failed)
+            pthread_cond_wait(&hub->callers, &hub->lock);
+        hub->waiting--;
+        status = hub->failed ? hub->failed : cmwq_hub_step_(hub, &end, &other);
+        wait->run = NULL;
+    }
+    sleep.kind = CMWQ_WAKE;
+    woke = cmwq_hub_step_(hub, &sleep, &other);
+    pthread_mutex_unlock(&hub->lock);
+    return status == CMWQ_OK ? woke : status;
+}
+
+/** cmwq_wait_item() - cmwq_wait_in_run() of an item: CMWQ_FLUSH_ITEM, CMWQ_FLUSH_DELAYED or CMWQ_CANCEL_SYNC */
+static inline uint32_t cmwq_wait_item(struct cmwq_run *run, enum cmwq_kind kind, uint16_t item)
+{
+    struct cmwq_call call = {0};
+    struct cmwq_reply reply;
+
+    call.kind = (uint8_t)kind;
+    call.item = item;
+    return cmwq_wait_in_run(run, &call, &reply);
+}
+
+/** cmwq_wait_for_queue() - cmwq_wait_in_run() of a queue: CMWQ_FLUSH or CMWQ_DRAIN */
+static inline uint32_t cmwq_wait_for_queue(struct cmwq_run *run, enum cmwq_kind kind, uint8_t queue)
+{
+    struct cmwq_call call = {0};
+    struct cmwq_reply reply;
+
+    call.kind = (uint8_t)kind;
+    call.queue = queue;
+    return cmwq_wait_in_run(run, &call, &reply);
 }
 
 /** cmwq_hub_tick() - lets ticks go by, and fires all that is due then. Return: as cmwq_step() */
@@ -211,15 +434,20 @@ static inline void *cmwq_hub_work_(void *at)
         if (status == CMWQ_CROWDED) {
             cmwq_hub_spill_(hub);
         } else if (status == CMWQ_OK && (reply.kind == CMWQ_STARTED || reply.kind == CMWQ_STARTED_ENLIST)) {
-            struct cmwq_run run = {hub, 0, seat->who};
+            struct cmwq_run run = {hub, 0, seat->who, 0, 0, 0};
 
             if (cmwq_hub_step_(hub, &take, &reply) != CMWQ_OK)
                 break;
-            while (run.item < hub->shape.items && hub->queued[run.item] != reply.number)
+            while (run.item < hub->shape.items && hub->places[run.item].number != reply.number)
                 run.item++;
+            run.number = reply.number;
+            run.queue = hub->places[run.item].queue;
+            run.cpu = hub->places[run.item].run_cpu = seat->who.cpu;
+            hub->places[run.item].runs = 1;
             pthread_mutex_unlock(&hub->lock);
             hub->works[run.item].run(&run, hub->works[run.item].data);
             pthread_mutex_lock(&hub->lock);
+            hub->places[run.item].runs = 0;
             cmwq_hub_step_(hub, &finish, &reply);
         } else if (hub->closing && cmwq_open_count(&hub->book) == 0) {
             break;
@@ -239,23 +467,47 @@ static inline void *cmwq_hub_work_(void *at)
 static inline void cmwq_hub_free_(struct cmwq_hub *hub)
 {
     free(hub->works);
-    free(hub->queued);
+    free(hub->places);
+    free(hub->widths);
+    free(hub->high);
     free(hub->seats);
+    free(hub->waits);
 }
 
-/* Takes memory for what is kept of each item and each worker. */
-static inline bool cmwq_hub_take_(struct cmwq_hub *hub, const struct cmwq_shape *shape, const struct cmwq_work *works)
+/* Takes memory for what is kept of each item, queue, worker and lent caller. */
+static inline bool cmwq_hub_take_(struct cmwq_hub *hub, const struct cmwq_shape *shape, const struct cmwq_queue *queues, size_t len, const struct cmwq_work *works)
 {
     size_t items = shape->items, seats = (size_t)2 * shape->cpus * shape->workers;
 
     hub->works = (struct cmwq_work *)malloc(items * sizeof *works);
-    hub->queued = (uint64_t *)malloc(items * sizeof *hub->queued);
+    hub->places = (struct cmwq_place_ *)malloc(items * sizeof *hub->places);
+    hub->widths = (uint32_t *)malloc(len * sizeof *hub->widths);
+    hub->high = (uint8_t *)malloc(len * sizeof *hub->high);
     hub->seats = (struct cmwq_seat *)calloc(seats, sizeof *hub->seats);
-    if (!hub->works || !hub->queued || !hub->seats)
+    hub->waits = (struct cmwq_wait_ *)calloc((size_t)shape->callers + 1, sizeof *hub->waits);
+    if (!hub->works || !hub->places || !hub->widths || !hub->high || !hub->seats || !hub->waits)
         return false;
     memcpy(hub->works, works, items * sizeof *works);
-    memset(hub->queued, 0xff, items * sizeof *hub->queued);
+    memset(hub->places, 0, items * sizeof *hub->places);
+    for (size_t i = 0; i < items; i++)
+        hub->places[i].number = UINT64_MAX;
+    for (size_t q = 0; q < len; q++) {
+        hub->widths[q] = queues[q].max_active;
+        hub->high[q] = queues[q].high;
+    }
     return true;
+}
+
+/**
+ * cmwq_hub_lend() - lends @count callers of the shape, from @first on, to work functions that wait; as many may wait at the same time
+ * Before the first call, and once. Nobody else calls as one of them.
+ */
+static inline void cmwq_hub_lend(struct cmwq_hub *hub, uint8_t first, uint8_t count)
+{
+    pthread_mutex_lock(&hub->lock);
+    hub->first_lent = first;
+    hub->lent = count;
+    pthread_mutex_unlock(&hub->lock);
 }
 
 /**
@@ -294,7 +546,7 @@ static inline uint32_t cmwq_hub_open(struct cmwq_hub *hub, const struct cmwq_sha
     if (status != CMWQ_OK)
         return status;
     hub->shape = *shape;
-    if (!cmwq_hub_take_(hub, shape, works)) {
+    if (!cmwq_hub_take_(hub, shape, queues, len, works)) {
         cmwq_hub_free_(hub);
         cmwq_close(&hub->book);
         return CMWQ_NO_MEMORY;

@@ -183,7 +183,9 @@ There are 1 to 4 CPUs, 1 to 8 workers in each of their two pools, room for up to
                                      ["drain",queue]          ["destroy",queue]
 
 An action is queue, delay, modify or cancel, or ["open",gate], or ["sleep_at",gate]: the run sleeps until the gate is open.
-There are at most 16 gates, and a name makes one. The output is the history of this one run, which `check` accepts.
+There are at most 16 gates, and a name makes one. An action may also be flush_item, flush_delayed, cancel_sync, flush or drain: the
+run sleeps until that has ended. One run may do so at a time, or as many as "waits":n says. A wait that would never end is refused
+and told. The output is the history of this one run, which `check` accepts.
 
 A run may wait for ever: a caller that flushes, drains or destroys a frozen queue, or waits for an item on it, waits until another
 caller thaws it.

@@ -36,7 +36,7 @@ refused_ends d m said None a read = tt
 refused_ends d m said (Some text) a read = ((d, read, said), Keeps-refl a)
 
 -- a fault of the hub stopped the run
-pub fault_ends : (r : Run) (old new : Option (List ℕ)) (f : RunFault) → FailsAs r.layout r.callers f → RunBreaksOff r old new → ScriptEnds r old new (Err (failed_run f))
+pub fault_ends : (r : Run) (old new : Option (List ℕ)) (f : RunFault) → FailsAs r.layout r.callers r.waits f → RunBreaksOff r old new → ScriptEnds r old new (Err (failed_run f))
 fault_ends r old new (run_fault.NoMemory t) fails breaks = (record {}, breaks)
 fault_ends r old new run_fault.Full fails breaks = ((run_fault.Full, refl, fails), breaks)
 fault_ends r old new run_fault.Unfinished fails breaks = ((run_fault.Unfinished, refl, fails), breaks)

@@ -1,9 +1,10 @@
 -- Actions, one after another.
-use Rattle.cmwq_cmd_run.specs.Common.{◌≡◌, ◌∙◌, ℕ, ◌+◌, ◌<◌, List, [], ◌∷◌, ◌++◌, length, take, get_or, refl, sym, subst, inl, inr, Result, Ok, Err, IfOk, IfErr, Option, None, Call, Layout, View, Refused, RunFault, Full, fault_after, Action}
+use Rattle.cmwq_cmd_run.specs.Common.{◌≡◌, ◌∙◌, ℕ, ◌+◌, ◌<◌, List, [], ◌∷◌, ◌++◌, length, take, get_or, refl, sym, subst, inl, inr, Result, Ok, Err, IfOk, IfErr, Option, None, true, false, is_own, is_workers, Call, Layout, View, Refused, RunFault, Full, fault_after, Action}
 use Rattle.std.proofs.lemmas.List.{take_more}
 use Rattle.cmwq_model.specs.declared.reply.Reply.{Reply}
 use Rattle.cmwq_model.specs.declared.call.Call.TheVariants as call
 use Rattle.cmwq_monitor.specs.Calls.{Extends}
+use Rattle.cmwq_rt.specs.Waiting.{is_wait}
 use Rattle.cmwq_cmd_run.specs.Interpreted.{Acts, ActInTurn, MakesIfRoom, SleepsOnce}
 
 -- one action more
@@ -36,3 +37,16 @@ pub slept_if : (s : Layout) (v m w : View) (r : Reply) (answer : Result Reply Ru
     → before ≡ None → middle ≡ before → after ≡ fault_after answer middle → IfOk passed (λ _. (after ≡ None) × SleepsOnce s v w)
 slept_if s v m w r answer (Ok u) before middle after asleep made refused full none kept is = slept s v m w r answer before middle after asleep made refused full none kept is
 slept_if s v m w r answer (Err f) before middle after asleep made refused full none kept is = tt
+
+-- a call that items make and workers don't is one by which a run waits
+pub own_waits : (c : Call) → is_own c ≡ true → is_workers c ≡ false → is_wait c ≡ true
+own_waits (call.FlushItem i) own other = refl
+own_waits (call.FlushDelayed i) own other = refl
+own_waits (call.CancelSync i) own other = refl
+own_waits (call.Flush q) own other = refl
+own_waits (call.Drain q) own other = refl
+own_waits (call.Queue i q c) own other = absurd (cc other)
+own_waits (call.Delay i q c t) own other = absurd (cc other)
+own_waits (call.Modify i q c t) own other = absurd (cc other)
+own_waits (call.Cancel i) own other = absurd (cc other)
+own_waits c own other = absurd (cc own)

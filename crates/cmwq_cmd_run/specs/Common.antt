@@ -1,12 +1,12 @@
 -- What the files of this crate name from outside it, in one import.
-pub use Rattle.std.proofs.Common.{Err, List, None, Ok, Option, Result, Some, [], ap, get_or, inl, inr, length, refl, subst, sym, take, ℕ, ◌++◌, ◌+◌, ◌<◌, ◌∙◌, ◌∷◌, ◌≡◌}
+pub use Rattle.std.proofs.Common.{Bool, Err, List, None, Ok, Option, Result, Some, [], ap, get_or, inl, inr, length, refl, subst, sym, take, true, false, ℕ, ◌++◌, ◌+◌, ◌<◌, ◌∙◌, ◌∷◌, ◌≡◌}
 pub use Rattle.std.specs.Io.KnownBytes.{Appends, Keeps}
-pub use Rattle.std.specs.Prelude.{IfErr, IfOk, IfSome, MatchBool, MatchOption, slice_get, suc, zero}
+pub use Rattle.std.specs.Prelude.{IfErr, IfOk, IfSome, MatchBool, MatchOption, is_some, slice_get, suc, zero}
 pub use Rattle.cmwq_json.specs.Inputs.{IsJson, IsLong, IsNoJson, Says}
 pub use Rattle.cmwq_json_script.specs.Runs.{Run, run_said}
 pub use Rattle.cmwq_json_script.specs.Scripts.{is_own, run_of}
 pub use Rattle.cmwq_json_script.specs.declared.action.Action.{Action}
-pub use Rattle.cmwq_model.specs.Prelude.{IsLegal, Layout, has_numbers, past_of}
+pub use Rattle.cmwq_model.specs.Prelude.{IsLegal, Layout, has_numbers, is_workers, past_of}
 pub use Rattle.cmwq_model.specs.declared.call.Call.{Call}
 pub use Rattle.cmwq_monitor.specs.Faults.{Refused}
 pub use Rattle.cmwq_monitor.specs.Participants.{View}

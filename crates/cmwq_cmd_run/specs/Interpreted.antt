@@ -1,6 +1,8 @@
 -- What a run of an item makes: what its actions make, in their order.
 use Rattle.std.specs.Prelude.{◌≡◌, ◌⊎◌, ◌&&◌, ◌∷◌}
-use Rattle.cmwq_cmd_run.specs.Common.{List, [], MatchBool, MatchOption, slice_get, Call, Layout, has_numbers, View, Refused, Full, Behavior, MakesOne, Action, is_own}
+use Rattle.cmwq_cmd_run.specs.Common.{List, [], MatchBool, MatchOption, slice_get, Call, Layout, has_numbers, is_workers, View, Refused, Full, Behavior, MakesOne, Action, is_own}
+use Rattle.cmwq_model.specs.declared.reply.Reply.{Reply}
+use Rattle.cmwq_rt.specs.Waiting.{HadNoRoom, HasWaited, IsAwake}
 use Rattle.cmwq_model.specs.declared.call.Call.TheVariants as call
 use Rattle.cmwq_json_script.specs.declared.action.Action.TheVariants as action
 
@@ -12,9 +14,17 @@ MakesIfRoom s v c w = MakesOne s v c w ⊎ Refused s v c Full w
 abbrev pub SleepsOnce : Layout → View → View → Type 0
 SleepsOnce s v w = ((asleep : View) × MakesOne s v call.Sleep asleep × MakesIfRoom s asleep call.Wake w) ⊎ Refused s v call.Sleep Full w
 
+-- A wait: by a caller that was lent to the run the call was made while it slept; or it was refused; or there was no room for it.
+abbrev pub WaitsIfMay : Layout → View → Call → View → Type 0
+WaitsIfMay s v c w = ((r : Reply) × HasWaited s v c r w) ⊎ IsAwake s v w ⊎ HadNoRoom s v w
+
+-- what a call of an item makes: its worker makes it, or the run waits
+abbrev pub Calls : Layout → View → Call → View → Type 0
+Calls s v c w = MatchBool (is_workers c) (MakesIfRoom s v c w) (WaitsIfMay s v c w)
+
 -- One action: a call that makes no sense of a run is left out, and a gate is opened without an entry.
 abbrev pub Acts : Layout → Action → View → View → Type 0
-Acts s (action.Call c) v w = MatchBool (is_own c && has_numbers s c) (MakesIfRoom s v c w) (w ≡ v)
+Acts s (action.Call c) v w = MatchBool (is_own c && has_numbers s c) (Calls s v c w) (w ≡ v)
 Acts s (action.Open gate) v w = w ≡ v
 Acts s (action.SleepAt gate) v w = SleepsOnce s v w
 

@@ -1,6 +1,6 @@
 -- What `run` reads, writes and answers.
 use Rattle.std.specs.Prelude.{◌≡◌, ◌⊎◌}
-use Rattle.cmwq_cmd_run.specs.Common.{ℕ, zero, suc, List, Result, Ok, Err, Option, Some, slice_get, MatchOption, Keeps, Appends, IsLegal, past_of, Says, IsNoJson, IsLong, RunFault, Run, run_said}
+use Rattle.cmwq_cmd_run.specs.Common.{ℕ, zero, suc, Bool, true, false, IfSome, is_some, List, Result, Ok, Err, Option, Some, slice_get, MatchOption, Keeps, Appends, IsLegal, past_of, Says, IsNoJson, IsLong, RunFault, Run, run_said}
 use Rattle.cmwq_io.specs.Moves.{AppendsFront}
 use Rattle.cmwq_model.specs.declared.entry.Entry.{Entry}
 use Rattle.cmwq_text.specs.HistoryText.{text_of_format}
@@ -10,12 +10,14 @@ use Rattle.cmwq_monitor.specs.declared.fault.RunFault.TheVariants as run_fault
 use Rattle.cmwq_rt_scripts.specs.Ended.{FailsAs, IsLeft}
 use Rattle.cmwq_cmd_run.specs.Interpreted.{plays}
 use Rattle.cmwq_cmd_run.specs.declared.failure.Failure.{Failure}
+use Rattle.cmwq_cmd_run.specs.declared.refusals.RefusedWaits.{RefusedWaits}
+use Rattle.cmwq_cmd_run.specs.declared.run.Done.{Done}
 use Rattle.cmwq_cmd_run.specs.declared.failure.Failure.TheVariants as failure
 
 -- A history that the run may leave: it is legal, each caller's entries follow its script but for so many calls in all that had no room, each worker's
 -- are runs in which items did their actions, nobody else has any, and nothing active is left behind.
 abbrev pub RunLeaves : Run → ℕ → List Entry → Type 0
-RunLeaves r full history = IsLeft r.layout (plays r.does r.layout) r.callers full history
+RunLeaves r full history = IsLeft r.layout (plays r.does r.layout) r.callers r.waits full history
 
 -- its text, in the format of the run
 abbrev pub text_of : Run → List Entry → List ℕ
@@ -49,7 +51,7 @@ failed_run run_fault.NoThread = failure.Run 7
 
 -- it is what a fault is told as by which the run's scripts failed
 abbrev pub FailsOf : Run → Failure → Type 0
-FailsOf r told = (f : RunFault) × (failed_run f ≡ told) × FailsAs r.layout r.callers f
+FailsOf r told = (f : RunFault) × (failed_run f ≡ told) × FailsAs r.layout r.callers r.waits f
 
 -- one of these is the name
 abbrev pub IsNamed : List (List ℕ) → List ℕ → Type 0
@@ -62,19 +64,23 @@ FailsOn r (failure.Input f) = ⊥
 FailsOn r (failure.Run n) = FailsOf r (failure.Run n)
 FailsOn r (failure.Gate name full) = IsNamed r.gates name.bytes × ((history : List Entry) × RunLeaves r full history)
 
+-- the item whose wait was refused first is one of the run's
+abbrev pub IsOf : Run → RefusedWaits → Type 0
+IsOf r waits = IsNamed r.names waits.item.bytes
+
 -- How the run of a script ends: it writes a history, or a failure stopped it. A gate is told of a run that came to its end, whose history a journal has written.
-abbrev pub ScriptEnds : Run → Option (List ℕ) → Option (List ℕ) → Result ℕ Failure → Type 0
-ScriptEnds r old new (Ok full) = Writes r full old new
+abbrev pub ScriptEnds : Run → Option (List ℕ) → Option (List ℕ) → Result Done Failure → Type 0
+ScriptEnds r old new (Ok done) = Writes r done.full old new × IfSome done.refused (IsOf r)
 ScriptEnds r old new (Err (failure.Input fault.WriteFault)) = MatchOption r.journal (RunWritesFront r old new) (λ kept. RunBreaksOff r old new)
 ScriptEnds r old new (Err (failure.Gate name full)) = FailsOn r (failure.Gate name full) × MatchOption r.journal (Keeps old new) (λ kept. Writes r full old new)
 ScriptEnds r old new (Err f) = FailsOn r f × RunBreaksOff r old new
 
 -- the text says a script, whose run ends so
-abbrev pub Runs : List ℕ → Option (List ℕ) → Option (List ℕ) → Result ℕ Failure → Type 0
+abbrev pub Runs : List ℕ → Option (List ℕ) → Option (List ℕ) → Result Done Failure → Type 0
 Runs text old new ended = (r : Run) × Says run_said text (Ok r) × ScriptEnds r old new ended
 
 -- Nothing is written but by the run of a script.
-abbrev pub InputEnds : List ℕ → Option (List ℕ) → Option (List ℕ) → Result ℕ Failure → Type 0
+abbrev pub InputEnds : List ℕ → Option (List ℕ) → Option (List ℕ) → Result Done Failure → Type 0
 InputEnds text old new (Err (failure.Input (fault.Member r))) = Says run_said text (Err r) × Keeps old new
 InputEnds text old new (Err (failure.Input fault.NotJson)) = IsNoJson text × Keeps old new
 InputEnds text old new (Err (failure.Input fault.TooLong)) = IsLong text × Keeps old new
@@ -82,13 +88,18 @@ InputEnds text old new (Err (failure.Input fault.ReadFault)) = Keeps old new
 InputEnds text old new (Err (failure.Input fault.NoMemory)) = Keeps old new ⊎ Runs text old new (Err (failure.Input fault.NoMemory))
 InputEnds text old new ended = Runs text old new ended
 
--- the exit status: 0 done, 1 refused input or a gate that was not opened, 4 no memory or calls that had no room, 5 a fault of reading, writing or running
+-- the exit status: 0 done, 1 refused input or a gate that was not opened, 4 no memory or calls that had no room, 5 a fault of reading, writing or
+-- running, 6 waits that were refused
 abbrev pub failure_status : Failure → ℕ
 failure_status (failure.Input f) = fault_status f
 failure_status (failure.Run n) = 5
 failure_status (failure.Gate name full) = 1
 
-abbrev pub run_status : Result ℕ Failure → ℕ
-run_status (Ok zero) = 0
-run_status (Ok (suc n)) = 4
+abbrev pub done_status : ℕ → Bool → ℕ
+done_status zero false = 0
+done_status zero true = 6
+done_status (suc n) refused = 4
+
+abbrev pub run_status : Result Done Failure → ℕ
+run_status (Ok done) = done_status done.full (is_some done.refused)
 run_status (Err f) = failure_status f

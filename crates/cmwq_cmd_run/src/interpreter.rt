@@ -1,18 +1,19 @@
 //! The work functions of a script: what each item does when it runs.
-ghost use Rattle.std.specs.Prelude.{◌≡◌, ◌<◌, true, false, IfOk, IfErr, None, Some};
-ghost use Rattle.cmwq_model.specs.Prelude.{has_numbers};
-ghost use Rattle.cmwq_monitor.specs.Calls.{Extends};
-ghost use Rattle.cmwq_monitor.specs.Faults.{Refused, is_full};
+ghost use Rattle.std.specs.Prelude.{◌≡◌, ◌⊎◌, true, false, map, string_bytes, IfOk, IfErr, IfSome, None, Some, Err};
+ghost use Rattle.cmwq_monitor.specs.Faults.{is_full};
 ghost use Rattle.cmwq_monitor.specs.declared.fault.RunFault.TheVariants.{Full};
 ghost use Rattle.cmwq_rt.specs.Later.{Later};
-ghost use Rattle.cmwq_rt.specs.Running.{fault_after};
+ghost use Rattle.cmwq_rt.specs.Waiting.{is_refusal};
+ghost use Rattle.cmwq_rt.specs.declared.wait_fault.WaitFault.TheVariants as waits;
 ghost use Rattle.cmwq_json_script.specs.Scripts.{is_own};
 ghost use Rattle.cmwq_json_script.specs.declared.action.Action.TheVariants as actions;
 ghost use Rattle.cmwq_cmd_run.specs.Interpreted.{Acts, ActInTurn, SleepsOnce};
+ghost use Rattle.cmwq_cmd_run.specs.Run.{IsNamed};
 
+use crate::refusals::{Place, Refusals, RefusedWaits};
 use cmwq_json_script::Action;
 use cmwq_model::{Call, ItemId, Reply};
-use cmwq_rt::{Gate, Gates, HubName, RunCtx, RunFault, Work};
+use cmwq_rt::{Gate, Gates, HubName, RunCtx, RunFault, WaitFault, Work};
 use std::sync::Wait;
 
 /// Runs an item by doing its actions, one after another.
@@ -20,55 +21,25 @@ use std::sync::Wait;
 pub struct Interpreter<'a> {
     does: &'a [Vec<Action>],
     gates: Gates,
+    refusals: Refusals,
 }
 
+/// Whether an item may make such a call.
 fn is_own(call: Call) -> bool
     ensures { result ≡ is_own call }
 {
     matches!(
         call,
-        Call::Queue { .. } | Call::Delay { .. } | Call::Modify { .. } | Call::Cancel { .. }
+        Call::Queue { .. }
+            | Call::Delay { .. }
+            | Call::Modify { .. }
+            | Call::Cancel { .. }
+            | Call::FlushItem { .. }
+            | Call::FlushDelayed { .. }
+            | Call::CancelSync { .. }
+            | Call::Flush { .. }
+            | Call::Drain { .. }
     )
-}
-
-fn make<N: HubName, R: Wait>(context: &mut RunCtx<N, R>, call: Call) -> Result<Reply, RunFault>
-    requires own { is_own call ≡ true }
-    requires numbers { has_numbers N.layout call ≡ true }
-    ensures later { Later context.old.participant context.new.participant }
-    ensures made { IfOk result (λ reply. Extends N.layout context.old.participant call reply context.new.participant) }
-    ensures refused { IfErr result (λ f. Refused N.layout context.old.participant call f context.new.participant) }
-    ensures fault { context.new.fault ≡ fault_after result context.old.fault }
-{
-    match call {
-        Call::Queue { item, queue, cpu } => context.queue(item, queue, cpu),
-        Call::Delay {
-            item,
-            queue,
-            cpu,
-            ticks,
-        } => context.delay(item, queue, cpu, ticks),
-        Call::Modify {
-            item,
-            queue,
-            cpu,
-            ticks,
-        } => context.modify(item, queue, cpu, ticks),
-        Call::Cancel { item } => context.cancel(item),
-        _ => unreachable!(),
-    }
-}
-
-/// What a run makes of a call that it is told to make: calls that make no sense of a run are left out.
-fn call<N: HubName, R: Wait>(context: &mut RunCtx<N, R>, call: Call) -> Result<(), RunFault>
-    requires { context.old.fault ≡ None }
-    ensures later { Later context.old.participant context.new.participant }
-    ensures done { IfOk result (λ _. (context.new.fault ≡ None) × Acts N.layout (actions.Call call) context.old.participant context.new.participant) }
-    ensures broke { IfErr result (λ f. context.new.fault ≡ Some f) }
-{
-    if !is_own(call) || !context.shape().has_numbers(call) {
-        return Ok(());
-    }
-    unless_full(make(context, call))
 }
 
 /// An action for which there is no room is left out.
@@ -90,12 +61,68 @@ impl<'a> Interpreter<'a> {
         Interpreter {
             does,
             gates: Gates::new(),
+            refusals: Refusals::new(),
         }
     }
 
     /// Whether a run passed this gate after it had looked at it in vain.
     pub fn was_missed<R: Wait>(&self, rt: &R, gate: u8) -> bool {
         self.gates.was_missed(rt, gate)
+    }
+
+    /// What is told of the waits that were refused, if any were, by these names of the items.
+    pub fn refused<R: Wait>(&self, rt: &R, names: &[String]) -> Option<RefusedWaits>
+        ensures { IfSome result (λ waits. IsNamed (map string_bytes names.now) waits.item.bytes) }
+    {
+        self.refusals.told(rt, names)
+    }
+
+    /// A wait that is refused, or for which there is no room, is left out.
+    fn unless_refused<R: Wait>(
+        &self,
+        rt: &R,
+        place: Place,
+        answer: Result<Reply, WaitFault>,
+    ) -> Result<(), RunFault>
+        ensures passes { IfOk result (λ _. IfErr answer (λ f. (is_refusal f ≡ true) ⊎ (f ≡ waits.Run Full))) }
+        ensures broke { IfErr result (λ f. (answer ≡ Err (waits.Run f)) × (is_full f ≡ false)) }
+    {
+        match answer {
+            Ok(_)
+            | Err(
+                WaitFault::Run {
+                    fault: RunFault::Full,
+                },
+            ) => Ok(()),
+            Err(WaitFault::Run { fault }) => Err(fault),
+            Err(refusal) => {
+                self.refusals.add(rt, place, refusal);
+                Ok(())
+            }
+        }
+    }
+
+    /// Makes a call. One that makes no sense of a run is left out.
+    #[tactic(auto, using(crate::proofs::Interpreting::own_waits))]
+    fn call<N: HubName, R: Wait>(
+        &self,
+        context: &mut RunCtx<N, R>,
+        place: Place,
+        call: Call,
+    ) -> Result<(), RunFault>
+        requires { context.old.fault ≡ None }
+        ensures later { Later context.old.participant context.new.participant }
+        ensures done { IfOk result (λ _. (context.new.fault ≡ None) × Acts N.layout (actions.Call call) context.old.participant context.new.participant) }
+        ensures broke { IfErr result (λ f. context.new.fault ≡ Some f) }
+    {
+        if !is_own(call) || !context.shape().has_numbers(call) {
+            return Ok(());
+        }
+        if call.is_workers() {
+            return unless_full(context.make(call));
+        }
+        let answer = context.wait(call);
+        self.unless_refused(context.rt(), place, answer)
     }
 
     /// Sleeps, passes a gate and wakes. Where there is no room for the sleep, it and the wake are left out.
@@ -120,6 +147,7 @@ impl<'a> Interpreter<'a> {
     fn act<N: HubName, R: Wait>(
         &self,
         context: &mut RunCtx<N, R>,
+        place: Place,
         action: Action,
     ) -> Result<(), RunFault>
         requires { context.old.fault ≡ None }
@@ -128,7 +156,7 @@ impl<'a> Interpreter<'a> {
         ensures broke { IfErr result (λ f. context.new.fault ≡ Some f) }
     {
         match action {
-            Action::Call(made) => call(context, made),
+            Action::Call(call) => self.call(context, place, call),
             Action::Open { gate } => {
                 self.gates.open(context.rt(), gate);
                 Ok(())
@@ -141,6 +169,7 @@ impl<'a> Interpreter<'a> {
     fn act_all<N: HubName, R: Wait>(
         &self,
         context: &mut RunCtx<N, R>,
+        item: ItemId,
         actions: &[Action],
     ) -> Result<(), RunFault>
         requires { context.old.fault ≡ None }
@@ -149,7 +178,7 @@ impl<'a> Interpreter<'a> {
         ensures broke { IfErr result (λ f. context.new.fault ≡ Some f) }
     {
         for k in 0..actions.len() {
-            self.act(context, actions[k])?;
+            self.act(context, Place { item, action: k }, actions[k])?;
         }
         Ok(())
     }
@@ -166,6 +195,6 @@ impl<'a> Work for Interpreter<'a> {
         let Some(actions) = self.does.get(usize::from(item.0)) else {
             return;
         };
-        let _broke = self.act_all(context, actions.as_slice());
+        let _broke = self.act_all(context, item, actions.as_slice());
     }
 }

@@ -3,6 +3,7 @@
 
 mod failure;
 mod interpreter;
+mod refusals;
 mod run;
 
 pub use interpreter::Interpreter;

@@ -1,24 +1,35 @@
 //! The word `run`.
-ghost use Rattle.std.specs.Prelude.{◌≡◌, ◌≤◌, ℕ, Result, None, Some, length, map, string_bytes, IfSome, IfOk, IfErr, OnOk, IsErrOf};
+ghost use Rattle.std.specs.Prelude.{◌≡◌, ◌≤◌, is_some, Result, None, Some, length, map, string_bytes, IfSome, IfOk, IfErr, OnOk, IsErrOf};
 ghost use Rattle.cmwq_io.specs.Counts.{Rises};
 ghost use Rattle.cmwq_cmd_run.specs.declared.failure.Failure.{Failure as TheFailure};
+ghost use Rattle.cmwq_cmd_run.specs.declared.run.Done.{Done as TheDone};
 ghost use Rattle.cmwq_cmd_run.specs.declared.failure.Failure.TheVariants as failure;
-ghost use Rattle.cmwq_cmd_run.specs.Run.{InputEnds, ScriptEnds, RunLeaves, FailsOn, IsNamed, run_status};
+ghost use Rattle.cmwq_cmd_run.specs.Run.{InputEnds, ScriptEnds, RunLeaves, FailsOn, IsNamed, done_status, run_status};
 ghost use Rattle.cmwq_json.specs.declared.fault.Fault.TheVariants as fault;
 ghost use Rattle.cmwq_json_script.specs.Scripts.{run_of, MayRun};
 
 use crate::failure::{Failure, GateName, failure_status_of};
 use crate::interpreter::Interpreter;
+use crate::refusals::RefusedWaits;
 use cmwq_cmd_history::{tell_full, write_history};
 use cmwq_explain::explain_gate;
 use cmwq_io::{Sink, Source, tell};
 use cmwq_json::{Fault, read_value};
 use cmwq_json_script::{Script, read_script};
-use cmwq_rt_scripts::{Report, Unwritten, run_scripts, run_scripts_with_journal};
+use cmwq_rt_scripts::{Report, Unwritten, run_scripts_lending, run_scripts_with_journal};
 use std::alloc::Global;
 use std::sync::Wait;
 use std::thread::Threads;
 use std::time::Clock;
+
+/// How a run ended whose history is written.
+#[derive(Clone, Copy, Debug)]
+pub struct Done {
+    /// How many calls were left out for want of room.
+    pub full: u64,
+    /// The waits that were refused, if any were.
+    pub refused: Option<RefusedWaits>,
+}
 
 /// The first gate, in the order of their first use, that a run passed after it had looked at it in vain.
 fn missed_gate<R: Wait>(rt: &R, interpreter: &Interpreter, gates: &[String]) -> Option<GateName>
@@ -38,17 +49,19 @@ fn run_script<R: Threads + Wait + Sync>(
     rt: &R,
     alloc: Global,
     script: &Script,
+    interpreter: &Interpreter,
 ) -> Result<Report, Failure>
-    requires { MayRun script.now }
+    requires may { MayRun script.now }
+    requires plays { interpreter.now.does.now ≡ script.now.does.items }
     ensures leaves { IfOk result (λ r. RunLeaves (run_of script.now) r.full r.history.items) }
     ensures failed { IfErr result (λ f. FailsOn (run_of script.now) f) }
 {
-    let interpreter = Interpreter::new(&script.does);
-    let report = match run_scripts(rt, alloc, &script.shape, &script.callers, &interpreter) {
+    let (shape, callers) = (&script.shape, &script.callers);
+    let report = match run_scripts_lending(rt, alloc, shape, callers, script.waits, interpreter) {
         Ok(report) => report,
         Err(fault) => return Err(Failure::from(fault)),
     };
-    match missed_gate(rt, &interpreter, &script.gates) {
+    match missed_gate(rt, interpreter, &script.gates) {
         Some(name) => Err(Failure::Gate {
             name,
             left_out: report.full,
@@ -57,13 +70,13 @@ fn run_script<R: Threads + Wait + Sync>(
     }
 }
 
-/// Runs a script on threads, and then writes the history that it left. Answers how many calls were left out for want of room.
+/// Runs a script on threads, and then writes the history that it left.
 fn run_and_write<O: Sink, R: Threads + Wait + Sync>(
     rt: &R,
     alloc: Global,
     script: &Script,
     output: &mut O,
-) -> Result<u64, Failure>
+) -> Result<Done, Failure>
     requires may { MayRun script.now }
     requires unjournaled { script.now.journal ≡ None }
     ensures ends { ScriptEnds (run_of script.now) (O.written output.old) (O.written output.new) result }
@@ -71,12 +84,16 @@ fn run_and_write<O: Sink, R: Threads + Wait + Sync>(
     ensures read_fault { IsErrOf result (failure.Input fault.ReadFault) → ⊥ }
     ensures write_fault { IsErrOf result (failure.Input fault.WriteFault) → Rises (O.troubles output.old) (O.troubles output.new) }
 {
-    let report = match run_script(rt, alloc, script) {
+    let interpreter = Interpreter::new(&script.does);
+    let report = match run_script(rt, alloc, script, &interpreter) {
         Ok(report) => report,
         Err(failure) => return Err(failure),
     };
     match write_history(output, script.version, &script.shape, &report.history) {
-        Ok(()) => Ok(report.full),
+        Ok(()) => Ok(Done {
+            full: report.full,
+            refused: interpreter.refused(rt, &script.names),
+        }),
         Err(_) => Err(Failure::Input(Fault::WriteFault)),
     }
 }
@@ -88,7 +105,7 @@ fn run_with_journal<O: Sink, R: Threads + Wait + Clock + Sync>(
     script: &Script,
     kept: u32,
     output: &mut O,
-) -> Result<u64, Failure>
+) -> Result<Done, Failure>
     requires may { MayRun script.now }
     requires journaled { script.now.journal ≡ Some kept }
     ensures ends { ScriptEnds (run_of script.now) (O.written output.old) (O.written output.new) result }
@@ -103,6 +120,7 @@ fn run_with_journal<O: Sink, R: Threads + Wait + Clock + Sync>(
         alloc,
         shape,
         callers,
+        script.waits,
         &interpreter,
         kept,
         output,
@@ -116,7 +134,10 @@ fn run_with_journal<O: Sink, R: Threads + Wait + Clock + Sync>(
             name,
             left_out: full,
         }),
-        None => Ok(full),
+        None => Ok(Done {
+            full,
+            refused: interpreter.refused(rt, &script.names),
+        }),
     }
 }
 
@@ -126,7 +147,7 @@ fn run_as_said<O: Sink, R: Threads + Wait + Clock + Sync>(
     alloc: Global,
     script: &Script,
     output: &mut O,
-) -> Result<u64, Failure>
+) -> Result<Done, Failure>
     requires { MayRun script.now }
     ensures ends { ScriptEnds (run_of script.now) (O.written output.old) (O.written output.new) result }
     ensures flushed { OnOk result (O.held output.new ≡ 0) }
@@ -139,13 +160,13 @@ fn run_as_said<O: Sink, R: Threads + Wait + Clock + Sync>(
     }
 }
 
-/// Reads a script, runs it on threads, and writes the history that it leaves. Answers how many calls were left out for want of room.
+/// Reads a script, runs it on threads, and writes the history that it leaves.
 fn run<S: Source, O: Sink, R: Threads + Wait + Clock + Sync>(
     rt: &R,
     alloc: Global,
     input: &mut S,
     output: &mut O,
-) -> Result<u64, Failure>
+) -> Result<Done, Failure>
     ensures ends { IfSome (S.left input.old) (λ text. InputEnds text (O.written output.old) (O.written output.new) result) }
     ensures flushed { OnOk result (O.held output.new ≡ 0) }
     ensures read_fault { IsErrOf result (failure.Input fault.ReadFault) → Rises (S.troubles input.old) (S.troubles input.new) }
@@ -160,9 +181,9 @@ fn run<S: Source, O: Sink, R: Threads + Wait + Clock + Sync>(
 
 /// Reads all of a script in JSON, runs it on threads, and writes the history that it leaves with its shape, and nothing else: when the run
 /// is over, or with a journal as it is made. What went wrong is told on `errors`, whose own failing changes nothing: of a run that came
-/// to its end the first of a fault of the hub, a gate that was not opened, and calls left out for want of room. Answers the exit status:
-/// 0 done, 1 refused input or a gate, 4 no memory, or calls left out, 5 a fault of reading, writing or running. At calls left out the
-/// history is written all the same; at a fault of writing a front of it is; at all else nothing is. With a journal the history is whole
+/// to its end the first of a fault of the hub, a gate that was not opened, calls left out for want of room, and waits of items that were
+/// refused. Answers the exit status: 0 done, 1 refused input or a gate, 4 no memory, or calls left out, 5 a fault of reading, writing or
+/// running, 6 waits that were refused. At calls left out and at refused waits the history is written all the same; at a fault of writing a front of it is; at all else nothing is. With a journal the history is whole
 /// at a gate too, and at want of memory and at a fault of the hub or of writing a front of a legal history is written. Where it is to explain, of a
 /// gate it is told too how many calls were left out for want of room, if any were.
 pub fn run_run<S: Source, O: Sink, E: Sink, R: Threads + Wait + Clock + Sync>(
@@ -173,7 +194,7 @@ pub fn run_run<S: Source, O: Sink, E: Sink, R: Threads + Wait + Clock + Sync>(
     errors: &mut E,
     explain: bool,
 ) -> u8
-    ensures ends { (ended : Result ℕ TheFailure)
+    ensures ends { (ended : Result TheDone TheFailure)
         × (result ≡ run_status ended)
         × IfSome (S.left input.old) (λ text. InputEnds text (O.written output.old) (O.written output.new) ended)
         × OnOk ended (O.held output.new ≡ 0)
@@ -182,8 +203,7 @@ pub fn run_run<S: Source, O: Sink, E: Sink, R: Threads + Wait + Clock + Sync>(
 {
     let ended = run(rt, alloc, input, output);
     match &ended {
-        Ok(0) => {}
-        Ok(left_out) => tell_full(errors, *left_out),
+        Ok(done) => tell_done(done, errors),
         Err(failure) => tell(errors, *failure),
     }
     if explain {
@@ -192,20 +212,38 @@ pub fn run_run<S: Source, O: Sink, E: Sink, R: Threads + Wait + Clock + Sync>(
     status(&ended)
 }
 
+/// Tells what was left out of a history: calls for want of room, or else waits that were refused.
+fn tell_done<E: Sink>(done: &Done, errors: &mut E) {
+    match (done.full, done.refused) {
+        (0, None) => {}
+        (0, Some(waits)) => tell(errors, waits),
+        (left_out, _) => tell_full(errors, left_out),
+    }
+}
+
 /// Tells more of a run that ended so, where more is known than its input says.
-fn tell_more<E: Sink>(ended: &Result<u64, Failure>, errors: &mut E) {
+fn tell_more<E: Sink>(ended: &Result<Done, Failure>, errors: &mut E) {
     if let Err(Failure::Gate { name, left_out }) = ended {
         explain_gate(name.as_str(), *left_out, errors);
     }
 }
 
 /// The exit status of a run that ended so.
-fn status(ended: &Result<u64, Failure>) -> u8
+fn status(ended: &Result<Done, Failure>) -> u8
     ensures { result ≡ run_status ended.now }
 {
     match ended {
-        Ok(0) => 0,
-        Ok(_) => 4,
+        Ok(done) => status_of(done),
         Err(failure) => failure_status_of(*failure),
+    }
+}
+
+fn status_of(done: &Done) -> u8
+    ensures { result ≡ done_status done.now.full (is_some done.now.refused) }
+{
+    match (done.full, done.refused) {
+        (0, None) => 0,
+        (0, Some(_)) => 6,
+        _ => 4,
     }
 }

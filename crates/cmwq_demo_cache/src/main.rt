@@ -1,14 +1,15 @@
 //! A write-back cache over two devices, in the way of the kernel's: pages that are written to become dirty, and go to their device later.
 //!
-//! Each device has a work item that writes its dirty pages back. A page that becomes dirty puts that off by some ticks, so that many pages
-//! go at once. A sync writes now and waits (`flush_delayed`); an unmount takes the item back (`cancel_sync`) and writes what is left itself.
-//! Printed is what holds of each run, whatever the threads' order: all pages came to their devices.
+//! Each device has a work item that writes its dirty pages back. A page that becomes dirty puts that off by some ticks,
+//! so that many pages go at once. A sync writes now and waits (`flush_delayed`). An unmount is an item too: its work
+//! function takes the other item back, waits until it does not run (`cancel_sync`), and writes what is left itself.
+//! The program prints what holds of each run, in any order of the threads: all pages reached their devices.
 #![tactic(auto)]
 
 use anyhow::Result;
 use cmwq_service::{
     Client, Context, CpuId, Fault, ItemId, PLAIN, QueueId, QueueShape, Service, ShapeBuilder,
-    run_dropping,
+    run_dropping_with_waits,
 };
 use std::sync::Wait;
 use std::sync::atomic::{AtomicU32, Ordering};
@@ -20,8 +21,10 @@ const QUEUE: QueueShape = QueueShape {
     ..PLAIN
 };
 
-/// The one queue, and the one CPU.
+/// The queue of write-backs, that of unmounts, and the one CPU.
 const WRITEBACK: QueueId = QueueId(0);
+
+const UNMOUNT: QueueId = QueueId(1);
 
 const CPU: CpuId = CpuId(0);
 
@@ -56,8 +59,21 @@ struct Cache {
     tape: Device,
 }
 
-/// The item that writes back the disk; the other one is the tape's.
+/// How many runs may wait: one for each device.
+const WAITS: u8 = 2;
+
+/// How many devices there are. Item 0 writes back the disk, and item 1 the tape; items 2 and 3 unmount them.
+const DEVICES: u16 = 2;
+
 const DISK: ItemId = ItemId(0);
+
+/// The item that writes back the device which this item unmounts, if it does.
+fn unmounted_by(item: ItemId) -> Option<ItemId> {
+    if item.0 < DEVICES {
+        return None;
+    }
+    Some(ItemId(item.0 - DEVICES))
+}
 
 impl Cache {
     fn device(&self, item: ItemId) -> &Device {
@@ -80,9 +96,16 @@ impl Service for Cache {
         &self,
         _rt: &R,
         item: ItemId,
-        _context: &mut C,
+        context: &mut C,
     ) -> Result<(), Fault> {
-        self.device(item).write_back();
+        match unmounted_by(item) {
+            Some(device) => {
+                // no write-back is pending or runs after this
+                context.cancel_sync(device)?;
+                self.device(device).write_back();
+            }
+            None => self.device(item).write_back(),
+        }
         Ok(())
     }
 
@@ -101,16 +124,18 @@ impl Service for Cache {
                 client.flush_delayed(item)?;
             }
         }
-        // the unmount: no write-back is pending or runs any more
-        client.cancel_sync(item)?;
-        self.device(item).write_back();
+        let unmount = ItemId(DEVICES + u16::from(place));
+        client.queue(unmount, UNMOUNT, CPU)?;
+        client.flush_item(unmount)?;
         Ok(())
     }
 
-    /// What comes when both devices are unmounted: the queue goes.
+    /// What comes when both devices are unmounted: the queues go.
     fn end<R: Wait + Clock, C: Client>(&self, _rt: &R, client: &mut C) -> Result<(), Fault> {
-        client.drain(WRITEBACK)?;
-        client.destroy(WRITEBACK)?;
+        for queue in [WRITEBACK, UNMOUNT] {
+            client.drain(queue)?;
+            client.destroy(queue)?;
+        }
         Ok(())
     }
 }
@@ -118,14 +143,15 @@ impl Service for Cache {
 fn main(rt: HostRuntime) -> Result<()> {
     let alloc = rt.alloc();
     let shape = ShapeBuilder::new(alloc)
-        .workers(2)
-        .callers(2)
-        .items(2)
+        .workers(4)
+        .callers_and_waits(2, WAITS)
+        .items(4)
+        .queue(QUEUE)?
         .queue(QUEUE)?
         .build()?;
     let cache = Cache::default();
     // the history would say which call was answered what, and in which order; here nobody looks at it
-    run_dropping(&rt, alloc, &shape, &cache)?;
+    run_dropping_with_waits(&rt, alloc, &shape, &cache, WAITS)?;
     let disk = cache.disk.stored.load(Ordering::SeqCst);
     let tape = cache.tape.stored.load(Ordering::SeqCst);
     println!(rt; "pages on the disk: {disk}")?;

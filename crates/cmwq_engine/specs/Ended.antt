@@ -1,7 +1,7 @@
 -- What the threads of callers and workers gave back, and what they leave in one history.
 use Rattle.cmwq_rt.specs.Places.{shares}
 use Rattle.std.specs.Prelude.{◌≡◌, ◌+◌, ◌<◌, ◌≤◌}
-use Rattle.cmwq_engine.specs.Common.{ℕ, zero, suc, List, [], length, drop, slice_get, Some, None, Bool, true, false, Result, Ok, Err, IfOk, IfErr, Worker, WorkerId, Entry, Layout, serial_of, past_of, IsLegal, View, newcomer, made_by, worker_by_number, Behavior, HasWorked, RunsInTurn, breaks_off, IsPrefix, Conduct, caller_numbered}
+use Rattle.cmwq_engine.specs.Common.{ℕ, zero, suc, List, [], length, drop, slice_get, Some, None, Bool, true, false, Result, Ok, Err, IfOk, IfErr, Worker, WorkerId, Entry, Layout, serial_of, past_of, IsLegal, View, newcomer, made_by, worker_by_number, Behavior, HasWorked, RunsInTurn, breaks_off, IsPrefix, Conduct, Roster, caller_numbered}
 use Rattle.cmwq_monitor.specs.Held.{active_in}
 use Rattle.cmwq_monitor.specs.declared.fault.RunFault.{RunFault}
 use Rattle.cmwq_monitor.specs.declared.fault.RunFault.TheVariants.{Full, Unfinished, NoPlace}
@@ -68,13 +68,17 @@ pub record AllWorked (s : Layout) (does : Behavior) (history : List Entry) : Typ
 abbrev pub IsUnfinished : Layout → Conduct → ℕ → List Entry → Type 0
 IsUnfinished s calls many history = (full : ℕ) × AllCalled s calls 0 many full history × (0 < active_in s history)
 
--- what a fault tells of a run: a legal history that is unfinished, or that more callers should have a thread than there are; calls without room
--- are left out
-abbrev pub FailsAs : Layout → Conduct → ℕ → RunFault → Type 0
-FailsAs s calls many Unfinished = (history : List Entry) × IsLegal s (past_of history) × IsUnfinished s calls many history
-FailsAs s calls many NoPlace = s.callers < many
-FailsAs s calls many Full = ⊥
-FailsAs s calls many f = Unit {0}
+-- how many callers are used: those that have a thread, and those that are lent to runs that wait
+abbrev pub used : Roster → ℕ
+used r = r.threads + r.lent
+
+-- what a fault tells of a run: a legal history that is unfinished, or that more callers should be used than there are; calls without room are
+-- left out
+abbrev pub FailsAs : Layout → Conduct → Roster → RunFault → Type 0
+FailsAs s calls r Unfinished = (history : List Entry) × IsLegal s (past_of history) × IsUnfinished s calls r.threads history
+FailsAs s calls r NoPlace = s.callers < used r
+FailsAs s calls r Full = ⊥
+FailsAs s calls r f = Unit {0}
 
 -- a fault that says nothing of what callers and workers did
 abbrev pub is_silent : RunFault → Bool
@@ -83,25 +87,29 @@ is_silent NoPlace = false
 is_silent Full = false
 is_silent f = true
 
--- all threads have ended, and none with a fault, or by one that tells so much
-pub record HaveRun {N : Type 0} (s : Layout) (does : Behavior) (calls : Conduct) (many : ℕ) (ends : Ends N) : Type 0 where
-  pub callers : HaveCalled s calls many ends.callers.items
+-- all threads have ended, but for the callers that were lent
+pub record HaveEnded {N : Type 0} (s : Layout) (does : Behavior) (calls : Conduct) (r : Roster) (ends : Ends N) : Type 0 where
+  pub callers : HaveCalled s calls r.threads ends.callers.items
   pub workers : HaveWorked s does ends.workers.items
-  pub idle : AreNewcomers s many ends.idle.items
-  pub parts : ends.rest.parts + (length ends.callers.items + length ends.workers.items + length ends.idle.items) ≡ shares
+  pub idle : AreNewcomers s (used r) ends.idle.items
+  pub parts : ends.rest.parts + (length ends.callers.items + length ends.workers.items + length ends.idle.items + r.lent) ≡ shares
   pub amount : ends.rest.amount ≡ 0
 
-abbrev pub EndsAll : {N : Type 0} → Layout → Behavior → Conduct → ℕ → Result (Ends N) RunFault → Type 0
-EndsAll s does calls many (Ok ends) = HaveRun s does calls many ends
-EndsAll s does calls many (Err f) = FailsAs s calls many f
+-- all have, and the callers that were lent are back
+abbrev pub HaveRun : {N : Type 0} → Layout → Behavior → Conduct → Roster → Ends N → Type 0
+HaveRun s does calls r ends = HaveEnded s does calls r ends × (length ends.lent.items ≡ r.lent)
 
--- A history that a run leaves: it is legal, each of the first so many callers did what it should, but for so many calls in all that had no room,
--- each worker's entries are runs of items, nobody else has any, and nothing active is left behind.
-pub record IsLeft (s : Layout) (does : Behavior) (calls : Conduct) (many full : ℕ) (history : List Entry) : Type 0 where
+abbrev pub EndsAll : {N : Type 0} → Layout → Behavior → Conduct → Roster → Result (Ends N) RunFault → Type 0
+EndsAll s does calls r (Ok ends) = HaveRun s does calls r ends
+EndsAll s does calls r (Err f) = FailsAs s calls r f
+
+-- A history that a run leaves: it is legal, each caller that has a thread did what it should, but for so many calls in all that had no room, each
+-- worker's entries are runs of items, callers that aren't used have none, and nothing active is left.
+pub record IsLeft (s : Layout) (does : Behavior) (calls : Conduct) (r : Roster) (full : ℕ) (history : List Entry) : Type 0 where
   pub legal : IsLegal s (past_of history)
-  pub called : AllCalled s calls 0 many full history
+  pub called : AllCalled s calls 0 r.threads full history
   pub worked : AllWorked s does history
-  pub silent : AreSilent s many history
+  pub silent : AreSilent s (used r) history
   pub finished : active_in s history ≡ 0
 
 -- what a hub kept of a legal history, behind its first so many entries, and the same of one that a run leaves, of so many entries
@@ -110,8 +118,8 @@ pub record IsRest (s : Layout) (first : ℕ) (rest : List Entry) : Type 0 where
   pub legal : IsLegal s (past_of history)
   pub rest_is : rest ≡ drop first history
 
-pub record IsRestOfLeft (s : Layout) (does : Behavior) (calls : Conduct) (many entries full first : ℕ) (rest : List Entry) : Type 0 where
+pub record IsRestOfLeft (s : Layout) (does : Behavior) (calls : Conduct) (r : Roster) (entries full first : ℕ) (rest : List Entry) : Type 0 where
   pub history : List Entry
-  pub left : IsLeft s does calls many full history
+  pub left : IsLeft s does calls r full history
   pub counted : entries ≡ length history
   pub rest_is : rest ≡ drop first history

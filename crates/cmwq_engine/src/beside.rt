@@ -28,7 +28,7 @@ pub struct RunsAll<N: HubName, C, W> {
 impl<N: HubName, C: Crew, W: Work> Promise<Result<Ends<N>, RunFault>> for RunsAll<N, C, W> {
     ghost use Rattle.cmwq_engine.specs.Ended.{EndsAll};
 
-    ghost kept_by = { λ p r. EndsAll N.layout (W.does p.work.value N.layout) (C.calls p.crew.value) (C.many p.crew.value N.layout) r };
+    ghost kept_by = { λ p r. EndsAll N.layout (W.does p.work.value N.layout) (C.calls p.crew.value) (C.roles p.crew.value N.layout) r };
 }
 
 /// The thread that runs all others.
@@ -45,7 +45,7 @@ fn conduct<'x, N: HubName + Send + Sync, C: Crew + Sync, W: Work + Sync, R: Thre
 ) -> Result<Ends<N>, RunFault>
     requires fresh { participants ≡ all_free }
     requires fits { C.fits crew.now N.layout }
-    ensures { EndsAll N.layout (W.does work.now N.layout) (C.calls crew.now) (C.many crew.now N.layout) result }
+    ensures { EndsAll N.layout (W.does work.now N.layout) (C.calls crew.now) (C.roles crew.now N.layout) result }
 {
     let ends = run_threads(rt, alloc, hub, participants, crew, work);
     hub.fail(rt);
@@ -86,7 +86,7 @@ pub fn start_all<
         promise,
         move || -> Result<Ends<N>, RunFault>
             requires { (participants ≡ all_free) × C.fits crew.now N.layout }
-            ensures { EndsAll N.layout (W.does work.entry.now N.layout) (C.calls crew.entry.now) (C.many crew.entry.now N.layout) result }
+            ensures { EndsAll N.layout (W.does work.entry.now N.layout) (C.calls crew.entry.now) (C.roles crew.entry.now N.layout) result }
         { conduct(rt, alloc, hub, participants, crew, work) },
     );
     match started {
@@ -144,12 +144,12 @@ pub fn end_with<N: HubName, C: Crew, W: Work, R: Wait>(
     journal: &mut Journal<N>,
 ) -> Result<Counted, RunFault>
     requires parts { N.parts ≡ shares }
-    requires ends { HaveRun N.layout (W.does work.now N.layout) (C.calls crew.now) (C.many crew.now N.layout) ends }
-    ensures left { IfOk result (λ c. IsLeft N.layout (W.does work.now N.layout) (C.calls crew.now) (C.many crew.now N.layout) c.tally.full journal.old.seen) }
+    requires ends { HaveRun N.layout (W.does work.now N.layout) (C.calls crew.now) (C.roles crew.now N.layout) ends }
+    ensures left { IfOk result (λ c. IsLeft N.layout (W.does work.now N.layout) (C.calls crew.now) (C.roles crew.now N.layout) c.tally.full journal.old.seen) }
     ensures counted { IfOk result (λ c. c.tally.answered ≡ length journal.old.seen) }
     ensures same { OnOk result (journal.new.seen ≡ journal.old.seen) }
     ensures rest { IfOk result (λ c. c.rest.entries.items ≡ []) }
-    ensures fails { IfErr result (FailsAs N.layout (C.calls crew.now) (C.many crew.now N.layout)) }
+    ensures fails { IfErr result (FailsAs N.layout (C.calls crew.now) (C.roles crew.now N.layout)) }
 {
     let mut monitor = into_monitor(hub);
     let gathered = gather(&mut monitor, ends, crew, work);

@@ -4,27 +4,37 @@ use cmwq_model::Shape;
 use cmwq_rt::{Caller, Hub, HubName, RunFault};
 use std::sync::Wait;
 
+/// Which callers of a hub are used: the first ones have a thread each, and the next ones are lent to runs that wait.
+#[derive(Clone, Copy, Debug, PartialEq, Eq)]
+pub struct Roster {
+    /// How many callers have a thread.
+    pub threads: u8,
+    /// How many callers are lent, so that as many runs may wait at the same time.
+    pub lent: u8,
+}
+
 /// What the callers of a hub do. All threads share it.
 pub trait Crew {
-    ghost use Rattle.std.specs.Prelude.{◌≡◌, ◌<◌, ℕ, true, IfOk, IfErr};
+    ghost use Rattle.std.specs.Prelude.{◌≡◌, ◌<◌, true, IfOk, IfErr};
     ghost use Rattle.cmwq_model.specs.Prelude.{Layout};
     ghost use Rattle.cmwq_monitor.specs.Participants.{newcomer};
     ghost use Rattle.cmwq_rt.specs.Running.{breaks_off};
     ghost use Rattle.cmwq_engine.specs.Conduct.{Conduct, caller_numbered};
+    ghost use Rattle.cmwq_engine.specs.declared.crew.Roster as crews;
 
     /// Hubs of which shapes it can run on: all, where it is left out.
     ghost fits: { Self → Layout → Type 0 } = { λ _ _. Unit {0} };
 
-    /// How many callers have a thread, in a hub of this shape.
-    ghost many: { Self → Layout → ℕ };
+    /// Which callers it uses, in a hub of this shape.
+    ghost roles: { Self → Layout → crews.Roster };
 
     /// What a caller leaves: `run` carries it into the history. Nothing is said where it is left out.
     ghost calls: { Self → Conduct } = { λ _ _ _ _ _. Unit {0} };
 
-    /// How many callers have a thread: the first so many.
-    fn callers(&self, shape: &Shape) -> u8
+    /// Which callers it uses.
+    fn roster(&self, shape: &Shape) -> Roster
         requires { fits self.now shape.now }
-        ensures { result ≡ many self.now shape.now };
+        ensures { result ≡ roles self.now shape.now };
 
     /// What the caller with this number does, on a thread of its own. It answers how many of its calls were left out
     /// for want of room.
@@ -39,7 +49,7 @@ pub trait Crew {
         number: u8,
     ) -> (Caller<N>, Result<u32, RunFault>)
         requires fits { fits self.now N.layout }
-        requires number { number < many self.now N.layout }
+        requires number { number < (roles self.now N.layout).threads }
         requires fresh { caller ≡ newcomer (caller_numbered number) }
         ensures same { result.0.who ≡ caller_numbered number }
         ensures called { IfOk result.1 (λ full. calls self.now N.layout number full result.0) }

@@ -6,7 +6,7 @@ ghost use Rattle.cmwq_engine.specs.Conduct.{caller_numbered};
 ghost use Rattle.cmwq_engine.specs.Ended.{CalledAt, WorkedFrom};
 
 use crate::crew::Crew;
-use cmwq_rt::{Caller, Hub, HubName, RunFault, Work, Worker};
+use cmwq_rt::{Caller, Hub, HubName, Lent, RunFault, Work, Worker};
 use std::marker::PhantomData;
 use std::snapshot::Snapshot;
 use std::sync::Wait;
@@ -89,7 +89,7 @@ pub(crate) fn call_all<N: HubName, C: Crew, R: Wait>(
     number: u8,
 ) -> CallerEnd<N>
     requires fits { C.fits crew.now N.layout }
-    requires number { number < C.many crew.now N.layout }
+    requires number { number < (C.roles crew.now N.layout).threads }
     requires fresh { caller ≡ newcomer (caller_numbered number) }
     ensures called { IfOk result.outcome (λ full. CalledAt N.layout (C.calls crew.now) number full result.caller) }
     ensures fault { IfErr result.outcome (λ f. breaks_off f ≡ true) }
@@ -100,9 +100,10 @@ pub(crate) fn call_all<N: HubName, C: Crew, R: Wait>(
 }
 
 /// What a worker's thread runs.
-pub(crate) fn work_all<N: HubName, C: Crew, W: Work, R: Wait>(
-    rt: &R,
-    hub: &Hub<N>,
+pub(crate) fn work_all<'a, N: HubName, C: Crew, W: Work, R: Wait>(
+    rt: &'a R,
+    hub: &'a Hub<N>,
+    lent: &'a Lent<N>,
     crew: &C,
     work: &W,
     worker: Worker<N>,
@@ -111,7 +112,7 @@ pub(crate) fn work_all<N: HubName, C: Crew, W: Work, R: Wait>(
     ensures fault { IfErr result.outcome (λ f. breaks_off f ≡ true) }
 {
     let mut worker = worker;
-    let outcome = hub.work(rt, &mut worker, work);
+    let outcome = hub.work_lent(rt, &mut worker, work, lent);
     stop_at(rt, hub, crew, &outcome);
     WorkerEnd { worker, outcome }
 }

@@ -7,7 +7,7 @@ ghost use Rattle.cmwq_monitor.specs.Participants.{newcomer};
 ghost use Rattle.cmwq_monitor.specs.declared.fault.RunFault.TheVariants.{Unfinished};
 ghost use Rattle.cmwq_rt.specs.Places.{shares};
 ghost use Rattle.cmwq_rt.specs.Running.{breaks_off};
-ghost use Rattle.cmwq_engine.specs.Ended.{AllCalled, AllWorked, AreNewcomers, AreSilent, CalledAt, CalledIn, HaveCalled, HaveRun, HaveWorked, IsUnfinished, WorkedFrom, WorkedIn, is_silent};
+ghost use Rattle.cmwq_engine.specs.Ended.{AllCalled, AllWorked, AreNewcomers, AreSilent, CalledAt, CalledIn, HaveCalled, HaveRun, HaveWorked, IsUnfinished, WorkedFrom, WorkedIn, is_silent, used};
 
 use crate::crew::Crew;
 use crate::ends::{CallerEnd, WorkerEnd};
@@ -16,16 +16,18 @@ use cmwq_rt::ending::{settle_caller, settle_worker, share_of_caller, share_of_wo
 use cmwq_rt::{Caller, HubName, RunFault, Work};
 use std::sync::ledger::Share;
 
-/// All threads, after they have ended, the callers that had none, and what no participant got of the ledger.
+/// All threads, after they have ended, the callers that were lent, those that weren't used, and what no participant got
+/// of the ledger.
 #[derive(Drop)]
 pub struct Ends<N: HubName> {
     pub callers: Vec<CallerEnd<N>>,
     pub workers: Vec<WorkerEnd<N>>,
+    pub lent: Vec<Caller<N>>,
     pub idle: Vec<Caller<N>>,
     pub rest: Share<N>,
 }
 
-/// How many entries the callers and workers of a run count as theirs, and how many calls were left out for want of
+/// How many entries all callers and workers of a run count as theirs, and how many calls were left out for want of
 /// room.
 #[derive(Clone, Copy, Debug, PartialEq, Eq)]
 pub struct Tally {
@@ -76,10 +78,10 @@ fn gather_callers<N: HubName, C: Crew>(
     crew: &C,
     all: &mut Share<N>,
 ) -> Result<(u64, u64), RunFault>
-    requires { HaveCalled N.layout (C.calls crew.now) (C.many crew.now N.layout) callers.items }
+    requires { HaveCalled N.layout (C.calls crew.now) (C.roles crew.now N.layout).threads callers.items }
     ensures share { IfOk result (λ t. (all.new.parts ≡ all.old.parts + length callers.items) × (all.new.amount ≡ all.old.amount + t.0)) }
     ensures fault { IfErr result (λ f. is_silent f ≡ true) }
-    ensures called { IfOk result (λ t. AllCalled N.layout (C.calls crew.now) 0 (C.many crew.now N.layout) t.1 monitor.now.history) }
+    ensures called { IfOk result (λ t. AllCalled N.layout (C.calls crew.now) 0 (C.roles crew.now N.layout).threads t.1 monitor.now.history) }
 {
     let mut callers = callers;
     let mut answered = 0u64;
@@ -144,17 +146,40 @@ fn gather_workers<N: HubName, W: Work>(
     Ok(answered)
 }
 
-/// The callers that had no thread, the last one first: they made no entry.
+/// The callers that were lent: how many entries they made.
+fn gather_lent<N: HubName>(
+    monitor: &Monitor<N>,
+    lent: Vec<Caller<N>>,
+    all: &mut Share<N>,
+) -> Result<u64, RunFault>
+    ensures share { IfOk result (λ n. (all.new.parts ≡ all.old.parts + length lent.items) × (all.new.amount ≡ all.old.amount + n)) }
+    ensures fault { IfErr result (λ f. is_silent f ≡ true) }
+{
+    let mut lent = lent;
+    let mut answered = 0u64;
+    for _ in 0..lent.len() {
+        let Some(caller) = lent.pop() else {
+            unreachable!()
+        };
+        let mut caller = caller;
+        settle_caller(&mut caller, monitor)?;
+        answered = added(answered, caller.serial())?;
+        all.merge(share_of_caller(caller));
+    }
+    Ok(answered)
+}
+
+/// The callers that weren't used, the last one first: they made no entry.
 fn gather_idle<N: HubName, C: Crew>(
     monitor: &Monitor<N>,
     idle: Vec<Caller<N>>,
     crew: &C,
     all: &mut Share<N>,
 ) -> Result<(), RunFault>
-    requires { AreNewcomers N.layout (C.many crew.now N.layout) idle.items }
+    requires { AreNewcomers N.layout (used (C.roles crew.now N.layout)) idle.items }
     ensures share { IfOk result (λ _. (all.new.parts ≡ all.old.parts + length idle.items) × (all.new.amount ≡ all.old.amount)) }
     ensures fault { IfErr result (λ f. is_silent f ≡ true) }
-    ensures silent { IfOk result (λ _. AreSilent N.layout (C.many crew.now N.layout) monitor.now.history) }
+    ensures silent { IfOk result (λ _. AreSilent N.layout (used (C.roles crew.now N.layout)) monitor.now.history) }
 {
     let _crew = crew;
     let mut idle = idle;
@@ -177,29 +202,32 @@ pub(crate) fn gather<N: HubName, C: Crew, W: Work>(
     work: &W,
 ) -> Result<Tally, RunFault>
     requires parts { N.parts ≡ shares }
-    requires ends { HaveRun N.layout (W.does work.now N.layout) (C.calls crew.now) (C.many crew.now N.layout) ends }
+    requires ends { HaveRun N.layout (W.does work.now N.layout) (C.calls crew.now) (C.roles crew.now N.layout) ends }
     ensures same { monitor.new ≡ monitor.old }
     ensures counted { IfOk result (λ t. t.answered ≡ length monitor.old.history) }
-    ensures called { IfOk result (λ t. AllCalled N.layout (C.calls crew.now) 0 (C.many crew.now N.layout) t.full monitor.old.history) }
+    ensures called { IfOk result (λ t. AllCalled N.layout (C.calls crew.now) 0 (C.roles crew.now N.layout).threads t.full monitor.old.history) }
     ensures worked { IfOk result (λ _. AllWorked N.layout (W.does work.now N.layout) monitor.old.history) }
-    ensures silent { IfOk result (λ _. AreSilent N.layout (C.many crew.now N.layout) monitor.old.history) }
+    ensures silent { IfOk result (λ _. AreSilent N.layout (used (C.roles crew.now N.layout)) monitor.old.history) }
     ensures finished { IfOk result (λ _. active_in N.layout monitor.old.history ≡ 0) }
-    ensures fails { IfErr result (λ f. ((f ≡ Unfinished) × IsUnfinished N.layout (C.calls crew.now) (C.many crew.now N.layout) monitor.old.history) ⊎ (is_silent f ≡ true)) }
+    ensures fails { IfErr result (λ f. ((f ≡ Unfinished) × IsUnfinished N.layout (C.calls crew.now) (C.roles crew.now N.layout).threads monitor.old.history) ⊎ (is_silent f ≡ true)) }
 {
     let Ends {
         callers,
         workers,
+        lent,
         idle,
         rest,
     } = ends;
     let mut all = rest;
     let (made, full) = gather_callers(monitor, callers, crew, &mut all)?;
     let worked = gather_workers(monitor, workers, work, &mut all)?;
+    let waited = gather_lent(monitor, lent, &mut all)?;
     gather_idle(monitor, idle, crew, &mut all)?;
     if monitor.active_count() != 0 {
         return Err(RunFault::Unfinished);
     }
     monitor.audit(&mut all);
-    let answered = added(made, worked)?;
+    let of_threads = added(made, worked)?;
+    let answered = added(of_threads, waited)?;
     Ok(Tally { answered, full })
 }

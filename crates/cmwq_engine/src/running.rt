@@ -1,30 +1,30 @@
 //! Runs all threads, and ends the hub.
-ghost use Rattle.std.specs.Prelude.{◌≡◌, IfOk, IfErr};
+ghost use Rattle.std.specs.Prelude.{◌≡◌, length, true, IfOk, IfErr};
 ghost use Rattle.cmwq_rt.specs.Places.{all_free, shares};
-ghost use Rattle.cmwq_engine.specs.Ended.{EndsAll, FailsAs, HaveRun, IsRest, IsRestOfLeft};
+ghost use Rattle.cmwq_engine.specs.Ended.{EndsAll, FailsAs, HaveEnded, IsRest, IsRestOfLeft, is_silent};
 
-use crate::crew::Crew;
+use crate::crew::{Crew, Roster};
 use crate::ends::stop_at;
 use crate::gather::{Ends, Tally, gather};
-use crate::start::{idle_callers, start_callers, start_workers};
+use crate::start::{idle_callers, lend_callers, start_callers, start_workers};
 use cmwq_monitor::Rest;
 use cmwq_rt::ending::into_monitor;
-use cmwq_rt::{Hub, HubName, HubParts, Participants, RunFault, Work};
+use cmwq_rt::{Caller, Hub, HubName, HubParts, Lent, Participants, RunFault, Work};
 use std::alloc::Global;
 use std::marker::Brand;
 use std::sync::Wait;
 use std::thread::{self, Scope, Threads, join_promised};
 
-/// How many callers have a thread.
-fn many_callers<N: HubName, C: Crew>(hub: &Hub<N>, crew: &C) -> u8
+/// Which callers the crew uses.
+fn roster_of<N: HubName, C: Crew>(hub: &Hub<N>, crew: &C) -> Roster
     requires { C.fits crew.now N.layout }
-    ensures { result ≡ C.many crew.now N.layout }
+    ensures { result ≡ C.roles crew.now N.layout }
 {
-    crew.callers(hub.shape())
+    crew.roster(hub.shape())
 }
 
 /// Starts all threads, and joins them: first the callers, and then the workers, who go on until no active queueing is
-/// open.
+/// open. The callers that are lent are not yet taken back.
 fn run_all<
     's,
     E,
@@ -37,22 +37,29 @@ fn run_all<
     rt: &'s R,
     alloc: Global,
     hub: &'s Hub<N>,
+    lent: &'s Lent<N>,
+    roster: Roster,
     participants: Participants<N>,
     crew: &'s C,
     work: &'s W,
 ) -> Result<Ends<N>, RunFault>
     requires fresh { participants ≡ all_free }
     requires fits { C.fits crew.now N.layout }
-    ensures run { IfOk result (λ ends. HaveRun N.layout (W.does work.now N.layout) (C.calls crew.now) (C.many crew.now N.layout) ends) }
-    ensures fails { IfErr result (λ f. FailsAs N.layout (C.calls crew.now) (C.many crew.now N.layout) f) }
+    requires roster { roster ≡ C.roles crew.now N.layout }
+    ensures run { IfOk result (λ ends. HaveEnded N.layout (W.does work.now N.layout) (C.calls crew.now) (C.roles crew.now N.layout) ends) }
+    ensures fails { IfErr result (λ f. FailsAs N.layout (C.calls crew.now) (C.roles crew.now N.layout) f) }
 {
-    let many = many_callers(hub, crew);
     let mut participants = participants;
+    let many = roster.threads;
     let handles = match start_callers(scope, rt, alloc, hub, crew, many, &mut participants) {
         Ok(handles) => handles,
         Err(fault) => return Err(fault),
     };
-    let working = match start_workers(scope, rt, alloc, hub, crew, work, &mut participants) {
+    match lend_callers(rt, lent, roster.lent, &mut participants) {
+        Ok(()) => {}
+        Err(fault) => return Err(fault),
+    }
+    let working = match start_workers(scope, rt, alloc, hub, lent, crew, work, &mut participants) {
         Ok(working) => working,
         Err(fault) => return Err(fault),
     };
@@ -69,6 +76,7 @@ fn run_all<
     Ok(Ends {
         callers,
         workers,
+        lent: Vec::new(alloc),
         idle,
         rest: participants.into_rest(),
     })
@@ -87,20 +95,108 @@ fn run_or_stop<
     rt: &'s R,
     alloc: Global,
     hub: &'s Hub<N>,
+    lent: &'s Lent<N>,
+    roster: Roster,
     participants: Participants<N>,
     crew: &'s C,
     work: &'s W,
 ) -> Result<Ends<N>, RunFault>
     requires fresh { participants ≡ all_free }
     requires fits { C.fits crew.now N.layout }
-    ensures { EndsAll N.layout (W.does work.now N.layout) (C.calls crew.now) (C.many crew.now N.layout) result }
+    requires roster { roster ≡ C.roles crew.now N.layout }
+    ensures run { IfOk result (λ ends. HaveEnded N.layout (W.does work.now N.layout) (C.calls crew.now) (C.roles crew.now N.layout) ends) }
+    ensures fails { IfErr result (λ f. FailsAs N.layout (C.calls crew.now) (C.roles crew.now N.layout) f) }
 {
-    let ends = run_all(scope, rt, alloc, hub, participants, crew, work);
+    let ends = run_all(
+        scope,
+        rt,
+        alloc,
+        hub,
+        lent,
+        roster,
+        participants,
+        crew,
+        work,
+    );
     stop_at(rt, hub, crew, &ends);
     ends
 }
 
 /// Runs all threads to their end, in a scope of their own.
+fn run_in_scope<
+    'x,
+    N: HubName + Send + Sync,
+    C: Crew + Sync,
+    W: Work + Sync,
+    R: Threads + Wait + Sync,
+>(
+    rt: &'x R,
+    alloc: Global,
+    hub: &'x Hub<N>,
+    lent: &'x Lent<N>,
+    roster: Roster,
+    participants: Participants<N>,
+    crew: &'x C,
+    work: &'x W,
+) -> Result<Ends<N>, RunFault>
+    requires fresh { participants ≡ all_free }
+    requires fits { C.fits crew.now N.layout }
+    requires roster { roster ≡ C.roles crew.now N.layout }
+    ensures run { IfOk result (λ ends. HaveEnded N.layout (W.does work.now N.layout) (C.calls crew.now) (C.roles crew.now N.layout) ends) }
+    ensures fails { IfErr result (λ f. FailsAs N.layout (C.calls crew.now) (C.roles crew.now N.layout) f) }
+{
+    thread::scope(
+        thread::scope_env(),
+        rt,
+        |scope| -> Result<Ends<N>, RunFault>
+            requires { (participants ≡ all_free) × C.fits crew.now N.layout × (roster ≡ C.roles crew.now N.layout) }
+            ensures { IfOk result (λ ends. HaveEnded N.layout (W.does work.entry.now N.layout) (C.calls crew.entry.now) (C.roles crew.entry.now N.layout) ends)
+                × IfErr result (λ f. FailsAs N.layout (C.calls crew.entry.now) (C.roles crew.entry.now N.layout) f) }
+        {
+            run_or_stop(
+                scope,
+                rt,
+                alloc,
+                hub,
+                lent,
+                roster,
+                participants,
+                crew,
+                work,
+            )
+        },
+    )
+}
+
+/// The ends of all threads with the callers that were lent, all of which are back as nobody waits.
+fn with_lent<N: HubName>(
+    ends: Ends<N>,
+    callers: Vec<Caller<N>>,
+    lent: u8,
+) -> Result<Ends<N>, RunFault>
+    ensures all { IfOk result (λ e. (e ≡ record ends { lent = callers }) × (length callers.items ≡ lent)) }
+    ensures fault { IfErr result (λ f. is_silent f ≡ true) }
+{
+    if callers.len() != usize::from(lent) {
+        return Err(RunFault::NoMemory { ticket: None });
+    }
+    let Ends {
+        callers: ended,
+        workers,
+        lent: _,
+        idle,
+        rest,
+    } = ends;
+    Ok(Ends {
+        callers: ended,
+        workers,
+        lent: callers,
+        idle,
+        rest,
+    })
+}
+
+/// Lends callers to runs that wait, runs all threads to their end, and takes the callers back.
 pub(crate) fn run_threads<
     'x,
     N: HubName + Send + Sync,
@@ -117,16 +213,19 @@ pub(crate) fn run_threads<
 ) -> Result<Ends<N>, RunFault>
     requires fresh { participants ≡ all_free }
     requires fits { C.fits crew.now N.layout }
-    ensures { EndsAll N.layout (W.does work.now N.layout) (C.calls crew.now) (C.many crew.now N.layout) result }
+    ensures { EndsAll N.layout (W.does work.now N.layout) (C.calls crew.now) (C.roles crew.now N.layout) result }
 {
-    thread::scope(
-        thread::scope_env(),
-        rt,
-        |scope| -> Result<Ends<N>, RunFault>
-            requires { (participants ≡ all_free) × C.fits crew.now N.layout }
-            ensures { EndsAll N.layout (W.does work.entry.now N.layout) (C.calls crew.entry.now) (C.many crew.entry.now N.layout) result }
-        { run_or_stop(scope, rt, alloc, hub, participants, crew, work) },
-    )
+    let roster = roster_of(hub, crew);
+    let Ok(callers) = Vec::with_capacity(alloc, usize::from(roster.lent)) else {
+        return Err(RunFault::NoMemory { ticket: None });
+    };
+    let lent = Lent::new(callers);
+    let ended = run_in_scope(rt, alloc, hub, &lent, roster, participants, crew, work);
+    let callers = lent.into_callers();
+    match ended {
+        Ok(ends) => with_lent(ends, callers, roster.lent),
+        Err(fault) => Err(fault),
+    }
 }
 
 /// Ends a hub whose threads have ended: what it kept of its history, and what all count.
@@ -138,10 +237,10 @@ fn end_hub<N: HubName, C: Crew, W: Work, R: Wait>(
     work: &W,
 ) -> (Rest, Result<Tally, RunFault>)
     requires parts { N.parts ≡ shares }
-    requires ends { EndsAll N.layout (W.does work.now N.layout) (C.calls crew.now) (C.many crew.now N.layout) ends }
+    requires ends { EndsAll N.layout (W.does work.now N.layout) (C.calls crew.now) (C.roles crew.now N.layout) ends }
     ensures rest { IsRest N.layout result.0.first result.0.entries.items }
-    ensures left { IfOk result.1 (λ t. IsRestOfLeft N.layout (W.does work.now N.layout) (C.calls crew.now) (C.many crew.now N.layout) t.answered t.full result.0.first result.0.entries.items) }
-    ensures fails { IfErr result.1 (FailsAs N.layout (C.calls crew.now) (C.many crew.now N.layout)) }
+    ensures left { IfOk result.1 (λ t. IsRestOfLeft N.layout (W.does work.now N.layout) (C.calls crew.now) (C.roles crew.now N.layout) t.answered t.full result.0.first result.0.entries.items) }
+    ensures fails { IfErr result.1 (FailsAs N.layout (C.calls crew.now) (C.roles crew.now N.layout)) }
 {
     let mut monitor = into_monitor(hub);
     match ends {
@@ -172,8 +271,8 @@ fn run_parts<
     requires ledger { (parts.blank.name ≡ N.name) × (parts.blank.parts ≡ N.parts) }
     requires fits { C.fits crew.now N.layout }
     ensures rest { IsRest N.layout result.0.first result.0.entries.items }
-    ensures left { IfOk result.1 (λ t. IsRestOfLeft N.layout (W.does work.now N.layout) (C.calls crew.now) (C.many crew.now N.layout) t.answered t.full result.0.first result.0.entries.items) }
-    ensures fails { IfErr result.1 (FailsAs N.layout (C.calls crew.now) (C.many crew.now N.layout)) }
+    ensures left { IfOk result.1 (λ t. IsRestOfLeft N.layout (W.does work.now N.layout) (C.calls crew.now) (C.roles crew.now N.layout) t.answered t.full result.0.first result.0.entries.items) }
+    ensures fails { IfErr result.1 (FailsAs N.layout (C.calls crew.now) (C.roles crew.now N.layout)) }
 {
     let (hub, participants) = Hub::<N>::open(parts);
     let ends = run_threads(rt, alloc, &hub, participants, crew, work);
@@ -197,8 +296,8 @@ pub fn run<'x, C: Crew + Sync, W: Work + Sync, R: Threads + Wait + Sync>(
 ) -> (Rest, Result<Tally, RunFault>)
     requires { C.fits crew.now parts.shape }
     ensures rest { IsRest parts.shape result.0.first result.0.entries.items }
-    ensures left { IfOk result.1 (λ t. IsRestOfLeft parts.shape (W.does work.now parts.shape) (C.calls crew.now) (C.many crew.now parts.shape) t.answered t.full result.0.first result.0.entries.items) }
-    ensures fails { IfErr result.1 (FailsAs parts.shape (C.calls crew.now) (C.many crew.now parts.shape)) }
+    ensures left { IfOk result.1 (λ t. IsRestOfLeft parts.shape (W.does work.now parts.shape) (C.calls crew.now) (C.roles crew.now parts.shape) t.answered t.full result.0.first result.0.entries.items) }
+    ensures fails { IfErr result.1 (FailsAs parts.shape (C.calls crew.now) (C.roles crew.now parts.shape)) }
 {
     run_parts::<Brand, C, W, R>(rt, alloc, parts, crew, work)
 }

@@ -3,6 +3,7 @@ ghost use Rattle.std.specs.Prelude.{◌≡◌, ℕ, ◌+◌, ◌<◌, length, tr
 ghost use Rattle.cmwq_model.specs.declared.id.WorkerId as ids;
 ghost use Rattle.cmwq_model.specs.declared.id.Who.TheVariants as whos;
 ghost use Rattle.cmwq_monitor.specs.Participants.{newcomer};
+ghost use Rattle.cmwq_monitor.specs.declared.fault.RunFault.TheVariants as faults;
 ghost use Rattle.cmwq_rt.specs.Places.{first_worker, worker_by_number};
 ghost use Rattle.cmwq_rt.specs.Running.{breaks_off};
 ghost use Rattle.cmwq_engine.specs.Conduct.{caller_numbered};
@@ -11,7 +12,7 @@ ghost use Rattle.cmwq_engine.specs.Ended.{AreNewcomers, CalledAt, FailsAs, Worke
 use crate::crew::Crew;
 use crate::ends::{CallerEnd, Calls, RunsWork, WorkerEnd, call_all, work_all};
 use cmwq_model::Shape;
-use cmwq_rt::{Caller, Hub, HubName, Participants, RunFault, Work, Worker};
+use cmwq_rt::{Caller, Hub, HubName, Lent, Participants, RunFault, Work, Worker};
 use std::alloc::Global;
 use std::marker::PhantomData;
 use std::snapshot::Snapshot;
@@ -31,7 +32,7 @@ fn start_caller<'s, E, N: HubName + Send + Sync + 's, C: Crew + Sync, R: Wait + 
     number: u8,
 ) -> Result<CallerThread<N, C>, RunFault>
     requires fits { C.fits crew.now N.layout }
-    requires number { number < C.many crew.now N.layout }
+    requires number { number < (C.roles crew.now N.layout).threads }
     requires fresh { caller ≡ newcomer (caller_numbered number) }
     ensures thread { IfOk result (λ h. (h.promise.number ≡ number) × (h.promise.crew.value ≡ crew.now)) }
     ensures fault { IfErr result (λ f. is_silent f ≡ true) }
@@ -44,7 +45,7 @@ fn start_caller<'s, E, N: HubName + Send + Sync + 's, C: Crew + Sync, R: Wait + 
     let started = scope.spawn_with(
         promise,
         move || -> CallerEnd<N>
-            requires { C.fits crew.now N.layout × (number < C.many crew.now N.layout) × (caller ≡ newcomer (caller_numbered number)) }
+            requires { C.fits crew.now N.layout × (number < (C.roles crew.now N.layout).threads) × (caller ≡ newcomer (caller_numbered number)) }
             ensures { IfOk result.outcome (λ full. CalledAt N.layout (C.calls crew.entry.now) number full result.caller) × IfErr result.outcome (λ f. breaks_off f ≡ true) }
         { call_all(rt, hub, crew, caller, number) },
     );
@@ -66,9 +67,9 @@ pub(crate) fn start_callers<'s, E, N: HubName + Send + Sync + 's, C: Crew + Sync
 ) -> Result<Vec<CallerThread<N, C>>, RunFault>
     requires fresh { participants.old.callers ≡ 0 }
     requires fits { C.fits crew.now N.layout }
-    requires many { many ≡ C.many crew.now N.layout }
+    requires many { many ≡ (C.roles crew.now N.layout).threads }
     ensures all { IfOk result (λ hs. (participants.new ≡ record participants.old { callers = length hs.items }) × (length hs.items ≡ many)) }
-    ensures fails { IfErr result (λ f. FailsAs N.layout (C.calls crew.now) many f) }
+    ensures fails { IfErr result (λ f. FailsAs N.layout (C.calls crew.now) (C.roles crew.now N.layout) f) }
     ensures each { IfOk result (λ hs. (k : ℕ) (h : _) → slice_get hs.items k ≡ Some h → (h.promise.number ≡ k) × (h.promise.crew.value ≡ crew.now)) }
 {
     let mut threads = Vec::new(alloc);
@@ -88,6 +89,26 @@ pub(crate) fn start_callers<'s, E, N: HubName + Send + Sync + 's, C: Crew + Sync
     Ok(threads)
 }
 
+/// Lends the next so many callers.
+pub(crate) fn lend_callers<N: HubName, R: Wait>(
+    rt: &R,
+    lent: &Lent<N>,
+    many: u8,
+    participants: &mut Participants<N>,
+) -> Result<(), RunFault>
+    ensures all { IfOk result (λ _. participants.new ≡ record participants.old { callers = participants.old.callers + many }) }
+    ensures fails { IfErr result (λ f. (f ≡ faults.NoPlace) × (N.layout.callers < participants.old.callers + many)) }
+{
+    for _ in 0..many {
+        let caller = match participants.caller() {
+            Ok(caller) => caller,
+            Err(fault) => return Err(fault),
+        };
+        lent.give(rt, caller);
+    }
+    Ok(())
+}
+
 /// The thread of a worker.
 pub(crate) type WorkerThread<N, W> = PromisedHandle<WorkerEnd<N>, RunsWork<N, W>>;
 
@@ -103,6 +124,7 @@ fn start_worker<
     scope: &Scope<'s, E>,
     rt: &'s R,
     hub: &'s Hub<N>,
+    lent: &'s Lent<N>,
     crew: &'s C,
     work: &'s W,
     worker: Worker<N>,
@@ -118,7 +140,7 @@ fn start_worker<
         promise,
         move || -> WorkerEnd<N>
             ensures { IfOk result.outcome (λ _. WorkedFrom N.layout (W.does work.entry.now N.layout) worker result.worker) × IfErr result.outcome (λ f. breaks_off f ≡ true) }
-        { work_all(rt, hub, crew, work, worker) },
+        { work_all(rt, hub, lent, crew, work, worker) },
     );
     match started {
         Ok(thread) => Ok(thread),
@@ -139,6 +161,7 @@ pub(crate) fn start_workers<
     rt: &'s R,
     alloc: Global,
     hub: &'s Hub<N>,
+    lent: &'s Lent<N>,
     crew: &'s C,
     work: &'s W,
     participants: &mut Participants<N>,
@@ -156,7 +179,7 @@ pub(crate) fn start_workers<
         let Ok(worker) = participants.worker() else {
             return Ok(threads);
         };
-        match start_worker(scope, rt, hub, crew, work, worker) {
+        match start_worker(scope, rt, hub, lent, crew, work, worker) {
             Ok(thread) => threads.push_reserved(thread),
             Err(fault) => return Err(fault),
         }
@@ -170,7 +193,7 @@ fn most_workers(shape: &Shape) -> u32 {
     2 * u32::from(counts.cpus) * u32::from(counts.workers)
 }
 
-/// The callers that have no thread.
+/// The callers that aren't used.
 pub(crate) fn idle_callers<N: HubName>(
     alloc: Global,
     shape: &Shape,

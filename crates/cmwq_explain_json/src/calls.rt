@@ -95,6 +95,37 @@ const SAMPLES: [Sample; SAMPLE_COUNT] = [
     ("sleep_at", [GATE, NONE, NONE, NONE]),
 ];
 
+/// The actions by which a run waits.
+const WAITS: [&str; 5] = [
+    "flush_item",
+    "flush_delayed",
+    "cancel_sync",
+    "flush",
+    "drain",
+];
+
+/// Whether an action of an item is a wait.
+fn is_wait(action: &Value) -> bool {
+    match action.get(0).and_then(Value::as_str) {
+        Some(word) => WAITS.contains(&word),
+        None => false,
+    }
+}
+
+/// Whether an item of a script waits.
+pub fn any_waits(world: World<'_>) -> bool {
+    if let Some(Value::Array(items)) = world.whole.get("items") {
+        for item in items {
+            if let Some(Value::Array(actions)) = item.get("does") {
+                if actions.iter().any(|action| is_wait(action)) {
+                    return true;
+                }
+            }
+        }
+    }
+    false
+}
+
 /// The call or action with this number.
 fn sample_of(number: usize) -> Option<Sample> {
     SAMPLES.get(number).copied()

@@ -23,12 +23,13 @@ pub enum Place {
 /// A key, and a value that it may have.
 pub type Member = (&'static str, &'static str);
 
-const SCRIPT: [Member; 8] = [
+const SCRIPT: [Member; 9] = [
     ("cpus", "1"),
     ("workers", "1"),
     ("journal", "1"),
     ("format", "3"),
     ("room", "1"),
+    ("waits", "1"),
     ("queues", "[]"),
     ("items", "[]"),
     ("callers", "[]"),

@@ -1,6 +1,6 @@
 //! The first member of an input that is refused, of each part.
 
-use crate::calls::{Maker, tell_call, tell_count};
+use crate::calls::{Maker, any_waits, tell_call, tell_count};
 use crate::gates::tell_gates;
 use crate::grammar::Place;
 use crate::members::{Path, say_value, tell_object};
@@ -61,8 +61,29 @@ fn tell_member(
         path.say(text);
         text.say(": one too many; at most ");
         text.number(path.index as u64);
+        if place == Place::Top {
+            say_waits(text, world);
+        }
     }
     Ok(())
+}
+
+/// Says how many runs may wait at once, if any may: there are fewer callers then.
+fn say_waits(text: &mut Text, world: World<'_>) {
+    let waits = match world.whole.get("waits") {
+        Some(waits) => waits.as_u64().unwrap_or(0),
+        None if any_waits(world) => 1,
+        None => 0,
+    };
+    match waits {
+        0 => {}
+        1 => text.say(", as 1 run may wait"),
+        _ => {
+            text.say(", as ");
+            text.number(waits);
+            text.say(" runs may wait");
+        }
+    }
 }
 
 /// Tells a name that a member before has too.

@@ -2,7 +2,7 @@
 pub use Rattle.std.proofs.Common.{Bool, Bor, Err, List, None, Ok, Option, Result, Some, [], add-one, ap, ap₂, arith, cond, drop, drop-cons, false, get_or, if◌then◌else◌, length, length-append, map, nat_eq, nat_le, nat_lt, not, position, refl, string_bytes, subst, suc, sym, true, zero, ℕ, ◌&&◌, ◌++◌, ◌+◌, ◌<◌, ◌==◌, ◌||◌, ◌∙◌, ◌∷◌, ◌≡◌, ◌≤◌}
 pub use Rattle.std.proofs.lemmas.Bool.{and_parts, lt-ltb, ne_eqb}
 pub use Rattle.std.proofs.lemmas.List.{length-map, map-append}
-pub use Rattle.std.specs.List.{AllByRecursion, list_all, list_any, position_or_len, prefix_len}
+pub use Rattle.std.specs.List.{AllByRecursion, filter, list_all, list_any, position_or_len, prefix_len}
 pub use Rattle.std.specs.Option.{option_eq, option_map_or}
 pub use Rattle.std.specs.Prelude.{IfSome, String, codes, is_some, min, option_and_then, option_map}
 pub use Rattle.std.specs.Result.{result_map_both, result_unwrap_or}

@@ -15,7 +15,7 @@ mod value;
 
 pub use bytes::MOST_BYTES;
 pub use fault::Fault;
-pub use keys::{array_at, has_keys};
+pub use keys::{array_at, has_keys, has_keys_with_optional};
 pub use names::{Members, in_order, is_name, number_of, read_name};
 pub use numbers::{read_number, read_width};
 pub use output::write_text;

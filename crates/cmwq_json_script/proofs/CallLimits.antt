@@ -68,12 +68,12 @@ module _ (known : Known) (s : Layout) (are : AreIn known s) where
   own_call_in word.Delay ds = four_holds _ _ _ _ (IsOwn s) (item_known known) (queue_known known) (cpu_said known) ticks_said call.Delay item_in queue_in cpu_in any_ticks (λ i q c t hi hq hc ht. record { own = refl; whole = refl; numbers = all_three _ _ _ hi hq hc }) ds
   own_call_in word.Modify ds = four_holds _ _ _ _ (IsOwn s) (item_known known) (queue_known known) (cpu_said known) ticks_said call.Modify item_in queue_in cpu_in any_ticks (λ i q c t hi hq hc ht. record { own = refl; whole = refl; numbers = all_three _ _ _ hi hq hc }) ds
   own_call_in word.Cancel ds = one_holds _ (IsOwn s) (item_known known) call.Cancel item_in (λ i hi. record { own = refl; whole = refl; numbers = hi }) ds
+  own_call_in word.FlushItem ds = one_holds _ (IsOwn s) (item_known known) call.FlushItem item_in (λ i hi. record { own = refl; whole = refl; numbers = hi }) ds
+  own_call_in word.FlushDelayed ds = one_holds _ (IsOwn s) (item_known known) call.FlushDelayed item_in (λ i hi. record { own = refl; whole = refl; numbers = hi }) ds
+  own_call_in word.CancelSync ds = one_holds _ (IsOwn s) (item_known known) call.CancelSync item_in (λ i hi. record { own = refl; whole = refl; numbers = hi }) ds
+  own_call_in word.Flush ds = one_holds _ (IsOwn s) (queue_known known) call.Flush queue_in (λ q hq. record { own = refl; whole = refl; numbers = hq }) ds
+  own_call_in word.Drain ds = one_holds _ (IsOwn s) (queue_known known) call.Drain queue_in (λ q hq. record { own = refl; whole = refl; numbers = hq }) ds
   own_call_in word.Tick ds = tt
-  own_call_in word.Flush ds = tt
-  own_call_in word.FlushItem ds = tt
-  own_call_in word.FlushDelayed ds = tt
-  own_call_in word.CancelSync ds = tt
-  own_call_in word.Drain ds = tt
   own_call_in word.SetMax ds = tt
   own_call_in word.Freeze ds = tt
   own_call_in word.Thaw ds = tt
@@ -87,11 +87,6 @@ module _ (known : Known) (s : Layout) (are : AreIn known s) where
   call_in : (w : Word) (ds : Items) → IfSome (call_with_members known w ds) (λ r. IsScripted s r.0)
   unfolding call_with_members
   call_in word.Tick ds = one_holds _ (IsScripted s) ticks_said call.Tick any_ticks (λ t h. (refl, refl)) ds
-  call_in word.Flush ds = one_holds _ (IsScripted s) (queue_known known) call.Flush queue_in (λ q h. (refl, h)) ds
-  call_in word.FlushItem ds = one_holds _ (IsScripted s) (item_known known) call.FlushItem item_in (λ i h. (refl, h)) ds
-  call_in word.FlushDelayed ds = one_holds _ (IsScripted s) (item_known known) call.FlushDelayed item_in (λ i h. (refl, h)) ds
-  call_in word.CancelSync ds = one_holds _ (IsScripted s) (item_known known) call.CancelSync item_in (λ i h. (refl, h)) ds
-  call_in word.Drain ds = one_holds _ (IsScripted s) (queue_known known) call.Drain queue_in (λ q h. (refl, h)) ds
   call_in word.SetMax ds = two_holds _ _ (IsScripted s) (queue_known known) width_in_call call.SetMax queue_in some_width (λ q n h k. (refl, and_from _ _ h k)) ds
   call_in word.Freeze ds = (refl, refl)
   call_in word.Thaw ds = (refl, refl)
@@ -100,6 +95,11 @@ module _ (known : Known) (s : Layout) (are : AreIn known s) where
   call_in word.Delay ds = own_is_scripted word.Delay ds
   call_in word.Modify ds = own_is_scripted word.Modify ds
   call_in word.Cancel ds = own_is_scripted word.Cancel ds
+  call_in word.FlushItem ds = own_is_scripted word.FlushItem ds
+  call_in word.FlushDelayed ds = own_is_scripted word.FlushDelayed ds
+  call_in word.CancelSync ds = own_is_scripted word.CancelSync ds
+  call_in word.Flush ds = own_is_scripted word.Flush ds
+  call_in word.Drain ds = own_is_scripted word.Drain ds
   call_in word.Open ds = own_is_scripted word.Open ds
   call_in word.SleepAt ds = own_is_scripted word.SleepAt ds
 

@@ -1,4 +1,5 @@
 mod Lists
+mod Waiting
 mod Naming
 mod Gating
 mod Readings

@@ -1,7 +1,7 @@
 -- What an item does: at most 64 actions, in turn. Each is a call, or opens a gate, or sleeps at one.
 use Rattle.cmwq_text.specs.Words.{◌>>=◌}
 use Rattle.std.specs.Prelude.{if◌then◌else◌, ◌∷◌, ◌++◌}
-use Rattle.cmwq_json_script.specs.Common.{ℕ, List, [], length, Option, Some, None, nat_lt, result_ok, Data, Items, as_array, in_turn}
+use Rattle.cmwq_json_script.specs.Common.{ℕ, Bool, false, not, List, [], length, Option, Some, None, nat_lt, result_ok, is_workers, Data, Items, as_array, in_turn}
 use Rattle.cmwq_json_script.specs.declared.word.Word.{Word}
 use Rattle.cmwq_json_script.specs.declared.word.Word.TheVariants as word
 use Rattle.cmwq_json_script.specs.declared.action.Action.{Action}
@@ -10,6 +10,11 @@ use Rattle.cmwq_json_script.specs.Lists.{whole, first_item, word_of_items}
 use Rattle.cmwq_json_script.specs.Known.{Known}
 use Rattle.cmwq_json_script.specs.Calls.{own_call_after}
 use Rattle.cmwq_json_script.specs.Gates.{gate_said}
+
+-- an action by which a run waits: a call that workers don't make
+abbrev pub is_wait : Action → Bool
+is_wait (action.Call c) = not (is_workers c)
+is_wait a = false
 
 -- the gate that the only part of a list names
 abbrev pub only_gate : List (List ℕ) → Items → Option (ℕ × List (List ℕ))

@@ -19,15 +19,15 @@ own_call_after known word.Queue = items_three (item_known known) (queue_known kn
 own_call_after known word.Delay = items_four (item_known known) (queue_known known) (cpu_said known) ticks_said call.Delay
 own_call_after known word.Modify = items_four (item_known known) (queue_known known) (cpu_said known) ticks_said call.Modify
 own_call_after known word.Cancel = items_one (item_known known) call.Cancel
+own_call_after known word.FlushItem = items_one (item_known known) call.FlushItem
+own_call_after known word.FlushDelayed = items_one (item_known known) call.FlushDelayed
+own_call_after known word.CancelSync = items_one (item_known known) call.CancelSync
+own_call_after known word.Flush = items_one (queue_known known) call.Flush
+own_call_after known word.Drain = items_one (queue_known known) call.Drain
 own_call_after known w = λ ds. None
 
 unfoldable pub call_with_members : Known → Word → Items → Option (Call × Items)
 call_with_members known word.Tick = items_one ticks_said call.Tick
-call_with_members known word.Flush = items_one (queue_known known) call.Flush
-call_with_members known word.FlushItem = items_one (item_known known) call.FlushItem
-call_with_members known word.FlushDelayed = items_one (item_known known) call.FlushDelayed
-call_with_members known word.CancelSync = items_one (item_known known) call.CancelSync
-call_with_members known word.Drain = items_one (queue_known known) call.Drain
 call_with_members known word.SetMax = items_two (queue_known known) width_in_call call.SetMax
 call_with_members known word.Freeze = items_none call.Freeze
 call_with_members known word.Thaw = items_none call.Thaw

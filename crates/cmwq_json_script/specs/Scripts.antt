@@ -1,5 +1,5 @@
 -- What the reader's scripts are as plain values, and what they keep to.
-use Rattle.std.specs.Prelude.{◌≡◌, ◌<◌, ◌≤◌, ◌^◌}
+use Rattle.std.specs.Prelude.{◌≡◌, ◌<◌, ◌≤◌, ◌^◌, ◌+◌}
 use Rattle.cmwq_json_script.specs.Common.{ℕ, Bool, true, false, length, List, map, string_bytes, All, AllByRecursion, Call, Layout, is_layout, most_callers, has_numbers, IsScripted}
 use Rattle.cmwq_model.specs.declared.call.Call.TheVariants as call
 use Rattle.cmwq_json_script.specs.declared.action.Action.{Action}
@@ -11,7 +11,7 @@ use Rattle.cmwq_json_script.specs.Runs.{Run}
 use Rattle.cmwq_json_script.specs.Views.{calls_of}
 
 abbrev pub run_of : Script → Run
-run_of s = record { layout = s.shape; does = map (λ d. d.items) s.does.items; gates = map string_bytes s.gates.items; callers = calls_of s.callers; version = s.version; journal = s.journal }
+run_of s = record { layout = s.shape; names = map string_bytes s.names.items; does = map (λ d. d.items) s.does.items; gates = map string_bytes s.gates.items; callers = calls_of s.callers; waits = s.waits; version = s.version; journal = s.journal }
 
 -- the calls that an item may make
 abbrev pub is_own : Call → Bool
@@ -19,6 +19,11 @@ is_own (call.Queue i q c) = true
 is_own (call.Delay i q c t) = true
 is_own (call.Modify i q c t) = true
 is_own (call.Cancel i) = true
+is_own (call.FlushItem i) = true
+is_own (call.FlushDelayed i) = true
+is_own (call.CancelSync i) = true
+is_own (call.Flush q) = true
+is_own (call.Drain q) = true
 is_own c = false
 
 -- an action inside the layout, and among so many gates
@@ -34,8 +39,8 @@ AreCalls layout calls = AllByRecursion (IsScripted layout) calls × (length call
 -- a run inside the limits: what has to hold of the parts that are read, so that a script can be made of them
 pub record IsRunWithin (run : Run) : Type 0 where
   pub allowed : is_layout run.layout ≡ true
-  pub few_callers : length run.callers ≤ callers_in run.version
-  pub callers : length run.callers ≡ run.layout.callers
+  pub few_callers : length run.callers + run.waits ≤ callers_in run.version
+  pub callers : length run.callers + run.waits ≡ run.layout.callers
   pub calls : AllByRecursion (AreCalls run.layout) run.callers
   pub few_items : length run.does ≤ items_in run.version
   pub items : length run.does ≡ run.layout.items
@@ -45,8 +50,8 @@ pub record IsRunWithin (run : Run) : Type 0 where
 
 -- what a runner of the script needs
 pub record MayRun (s : Script) : Type 0 where
-  pub few_callers : length s.callers.items ≤ most_callers
-  pub callers : length s.callers.items ≡ s.shape.callers
+  pub few_callers : length s.callers.items + s.waits ≤ most_callers
+  pub callers : length s.callers.items + s.waits ≡ s.shape.callers
   pub calls : All (λ cs. All (IsScripted s.shape) cs.items × (length cs.items < 2 ^ 32)) s.callers.items
   pub items : length s.does.items ≡ s.shape.items
   pub does : All (λ actions. All (IsAction s.shape (length s.gates.items)) actions.items) s.does.items

@@ -10,7 +10,7 @@ abbrev pub work_of : Items → Work
 work_of w = record { items = map_named (λ actions. actions.items) (named_of w.members); gates = w.gates }
 
 abbrev pub top_of : declared.Top → Top
-top_of t = record { cpus = t.cpus; workers = t.workers; room = t.room; version = t.version; journal = t.journal; queues = items_view t.queues.now; items = items_view t.items.now; callers = items_view t.callers.now }
+top_of t = record { cpus = t.cpus; workers = t.workers; room = t.room; version = t.version; journal = t.journal; waits = t.waits; queues = items_view t.queues.now; items = items_view t.items.now; callers = items_view t.callers.now }
 
 abbrev pub calls_of : Vec (Vec Call Global) Global → List (List Call)
 calls_of callers = map (λ calls. calls.items) callers.items

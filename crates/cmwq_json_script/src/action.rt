@@ -1,6 +1,7 @@
 //! What an item does: its actions in turn.
 
-ghost use Rattle.std.specs.Prelude.{◌≡◌, IfOk, option_map, if◌then◌else◌, Some, None};
+ghost use Rattle.std.specs.Prelude.{◌≡◌, IfOk, map, option_map, if◌then◌else◌, Some, None};
+ghost use Rattle.std.specs.List.{list_any};
 ghost use Rattle.serde_json.specs.View.{view, items_view};
 ghost use Rattle.cmwq_json_script.specs.Lists.{whole, first_item};
 ghost use Rattle.cmwq_json_script.specs.Calls as calls;
@@ -18,12 +19,37 @@ use std::alloc::{AllocError, Global};
 /// What the function of an item does, one after the other.
 #[derive(Clone, Copy, Debug)]
 pub enum Action {
-    /// Makes a call: Queue, Delay, Modify or Cancel.
+    /// Makes a call: Queue, Delay, Modify or Cancel; or waits: FlushItem, FlushDelayed, CancelSync, Flush or Drain.
     Call(Call),
     /// Opens a gate.
     Open { gate: u8 },
     /// Sleeps, passes a gate, and wakes.
     SleepAt { gate: u8 },
+}
+
+impl Action {
+    /// Whether a run waits by it: it is a call that workers don't make.
+    fn is_wait(self) -> bool
+        ensures { result ≡ spec.is_wait self }
+    {
+        match self {
+            Action::Call(call) => !call.is_workers(),
+            _ => false,
+        }
+    }
+}
+
+fn has_wait(actions: &[Action]) -> bool
+    ensures { result ≡ list_any spec.is_wait actions.now }
+{
+    actions.iter().any(|action| action.is_wait())
+}
+
+/// Whether an item waits.
+pub fn any_waits(does: &[Vec<Action>]) -> bool
+    ensures { result ≡ list_any (list_any spec.is_wait) (map (λ actions. actions.items) does.now) }
+{
+    does.iter().any(|actions| has_wait(actions))
 }
 
 /// The greatest number of actions of an item.

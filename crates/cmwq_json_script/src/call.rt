@@ -100,6 +100,26 @@ pub fn own_call_after<'v>(
             let (item, parts) = item_in(names, parts)?;
             Some((Call::Cancel { item }, parts))
         }
+        Word::FlushItem => {
+            let (item, parts) = item_in(names, parts)?;
+            Some((Call::FlushItem { item }, parts))
+        }
+        Word::FlushDelayed => {
+            let (item, parts) = item_in(names, parts)?;
+            Some((Call::FlushDelayed { item }, parts))
+        }
+        Word::CancelSync => {
+            let (item, parts) = item_in(names, parts)?;
+            Some((Call::CancelSync { item }, parts))
+        }
+        Word::Flush => {
+            let (queue, parts) = queue_in(names, parts)?;
+            Some((Call::Flush { queue }, parts))
+        }
+        Word::Drain => {
+            let (queue, parts) = queue_in(names, parts)?;
+            Some((Call::Drain { queue }, parts))
+        }
         _ => None,
     }
 }
@@ -113,26 +133,6 @@ fn call_after<'v>(names: &Names, word: Word, parts: &'v [Value]) -> Option<(Call
         Word::Tick => {
             let (ticks, parts) = ticks_in(parts)?;
             Some((Call::Tick { ticks }, parts))
-        }
-        Word::Flush => {
-            let (queue, parts) = queue_in(names, parts)?;
-            Some((Call::Flush { queue }, parts))
-        }
-        Word::FlushItem => {
-            let (item, parts) = item_in(names, parts)?;
-            Some((Call::FlushItem { item }, parts))
-        }
-        Word::FlushDelayed => {
-            let (item, parts) = item_in(names, parts)?;
-            Some((Call::FlushDelayed { item }, parts))
-        }
-        Word::CancelSync => {
-            let (item, parts) = item_in(names, parts)?;
-            Some((Call::CancelSync { item }, parts))
-        }
-        Word::Drain => {
-            let (queue, parts) = queue_in(names, parts)?;
-            Some((Call::Drain { queue }, parts))
         }
         Word::SetMax => {
             let (queue, parts) = queue_in(names, parts)?;

@@ -31,15 +31,23 @@ pub fn workers_in(version: u8) -> u8
 }
 
 /// How many callers there may be.
-pub fn callers_in(version: u8) -> usize
+pub fn callers_in(version: u8) -> u8
     ensures is { result ≡ spec.callers_in version }
+    ensures least { 1 ≤ result }
     ensures most { result ≤ most_callers }
 {
-    usize::from(if version == LONG {
+    if version == LONG {
         MOST_CALLERS
     } else {
         OLD_CALLERS
-    })
+    }
+}
+
+/// How many runs may wait at once: there is a caller beside theirs at least.
+pub fn most_waits(version: u8) -> u8
+    ensures is { result ≡ spec.most_waits version }
+{
+    callers_in(version) - 1
 }
 
 /// How many items there may be.

@@ -10,7 +10,7 @@ ghost use Rattle.cmwq_json.specs.Readings.{map_ok};
 ghost use Rattle.cmwq_json_script.specs.Queues as spec;
 ghost use Rattle.cmwq_json_script.specs.Runs.{some_of};
 
-use cmwq_json::{Members, Part, Refused, has_keys, read_parts};
+use cmwq_json::{Members, Part, Refused, has_keys_with_optional, read_parts};
 use cmwq_model::QueueShape;
 use serde_json::Value;
 use std::alloc::{AllocError, Global};
@@ -18,11 +18,11 @@ use std::alloc::{AllocError, Global};
 fn has_queue_keys(value: &Value) -> bool
     ensures { result ≡ spec.has_queue_keys (view value.now) }
 {
-    has_keys(value, &["high", "intensive", "max_active", "name"])
-        || has_keys(
-            value,
-            &["freezable", "high", "intensive", "max_active", "name"],
-        )
+    has_keys_with_optional(
+        value,
+        &["high", "intensive", "max_active", "name"],
+        &["freezable"],
+    )
 }
 
 fn read_freezable(value: &Value) -> Option<bool>

@@ -1,40 +1,57 @@
 //! A script of a run, as a JSON value names it.
 
-ghost use Rattle.std.specs.Prelude.{◌≡◌, IfOk, Ok};
+ghost use Rattle.std.specs.Prelude.{◌≡◌, ◌<◌, IfOk, Ok};
 ghost use Rattle.serde_json.specs.View.{view};
 ghost use Rattle.cmwq_json.specs.Members.{named_of};
 ghost use Rattle.cmwq_json.specs.Readings.{map_ok};
+ghost use Rattle.cmwq_json_script.specs.Limits.{callers_in};
 ghost use Rattle.cmwq_json_script.specs.Runs as spec;
 ghost use Rattle.cmwq_json_script.specs.Scripts.{run_of, IsRunWithin, MayRun};
 ghost use Rattle.cmwq_json_script.specs.Views.{top_of, queues_of, work_of, calls_of};
 
-use crate::action::Action;
+use crate::action::{Action, any_waits};
 use crate::caller::read_callers;
 use crate::item::{Items, read_items};
 use crate::limits::{callers_in, items_in, queues_in};
 use crate::names::Names;
 use crate::queue::read_queues;
 use crate::top::Top;
-use cmwq_json::{Members, Part, Refused};
+use cmwq_json::{Members, Part, Refused, in_order};
 use cmwq_model::{Call, Counts, QueueShape, Shape};
 use serde_json::Value;
 use std::alloc::{AllocError, Global};
 
-/// What a run does: its shape, what the function of each item does, the names of the gates, the calls of each caller, and how its history
-/// is written.
+/// What a run does: its shape, the names of the items and what the function of each does, the names of the gates, the calls of each caller,
+/// how many runs may wait at once, and how its history is written.
 #[derive(Drop)]
 pub struct Script {
     pub shape: Shape,
+    /// The name of each item, by its number.
+    pub names: Vec<String>,
     /// The actions of each item, by its number.
     pub does: Vec<Vec<Action>>,
     /// The name of each gate, by its number.
     pub gates: Vec<String>,
     /// The calls of each caller, by its number.
     pub callers: Vec<Vec<Call>>,
+    /// How many runs may wait at once: so many callers come after those.
+    pub waits: u8,
     /// The format of the history: 2 or 3.
     pub version: u8,
     /// How many entries are kept at a time, where the history is written as it is made: in format 3 then.
     pub journal: Option<u32>,
+}
+
+/// How many runs may wait at once.
+fn waits_in(top: &Top<'_>, items: &Items) -> u8
+    ensures is { result ≡ spec.waits_in (top_of top.now) (work_of items.now) }
+    ensures few { result < callers_in top.now.version }
+{
+    match top.waits {
+        Some(waits) => waits,
+        None if any_waits(&items.members.values) => 1,
+        None => 0,
+    }
 }
 
 /// The script of parts that are inside the limits.
@@ -44,27 +61,35 @@ fn script_of(
     queues: Vec<QueueShape>,
     items: Items,
     callers: Vec<Vec<Call>>,
+    waits: u8,
 ) -> Result<Script, AllocError>
-    requires { IsRunWithin (spec.run_in (top_of top.now) queues.items (work_of items) (calls_of callers)) }
+    requires within { IsRunWithin (spec.run_in (top_of top.now) queues.items (work_of items) (calls_of callers)) }
+    requires waits { waits ≡ spec.waits_in (top_of top.now) (work_of items) }
     ensures says { IfOk result (λ script. run_of script ≡ spec.run_in (top_of top.now) queues.items (work_of items) (calls_of callers)) }
     ensures within { IfOk result MayRun }
 {
     let Items { members, gates } = items;
-    let does = members.values;
+    let Members {
+        names,
+        values: does,
+    } = members;
     let counts = Counts {
         cpus: top.cpus,
         workers: top.workers,
-        callers: callers.len() as u8,
+        callers: callers.len() as u8 + waits,
         items: does.len() as u16,
         room: top.room,
     };
     let shape = Shape::new(counts, queues).unwrap();
+    let names = in_order(alloc, names)?;
     let gates = gates.into_names(alloc)?;
     Ok(Script {
         shape,
+        names,
         does,
         gates,
         callers,
+        waits,
         version: top.version,
         journal: top.journal,
     })
@@ -81,11 +106,16 @@ fn with_items(
     requires known { names.now ≡ spec.known_in (top_of top.now) (queues_of names.now queues) }
     requires queues { spec.queues_said (top_of top.now) ≡ Ok (queues_of names.now queues) }
     requires items { spec.items_said names.now (top_of top.now) ≡ Ok (work_of items) }
-    ensures says { IfOk result (λ r. map_ok run_of r ≡ spec.with_callers (top_of top.now) (queues_of names.now queues) (work_of items) (spec.callers_said names.now (top_of top.now))) }
+    ensures says { IfOk result (λ r. map_ok run_of r ≡ spec.with_callers (top_of top.now) (queues_of names.now queues) (work_of items) (spec.callers_said names.now (top_of top.now) (work_of items))) }
     ensures within { IfOk result (λ r. IfOk r MayRun) }
 {
-    match read_callers(alloc, callers_in(top.version), names, top.callers)? {
-        Ok(callers) => Ok(Ok(script_of(alloc, top, queues, items, callers)?)),
+    let waits = waits_in(top, &items);
+    let most = usize::from(callers_in(top.version) - waits);
+    match read_callers(alloc, most, names, top.callers)? {
+        Ok(callers) => {
+            let script = script_of(alloc, top, queues, items, callers, waits)?;
+            Ok(Ok(script))
+        }
         Err(refused) => Ok(Err(refused)),
     }
 }

@@ -18,6 +18,7 @@ use crate::fault::{RunFault, Shortage};
 use crate::journal::{Journal, Rest};
 use crate::participant::Participant;
 use crate::sleepers::{Sleepers, Wakes};
+use crate::waits::Stuck;
 use cmwq_core::{Execution, Full, Plan};
 use cmwq_model::{Call, Entry, ItemId, NoMemory, Number, Queueing, Reply, Shape, Ticket, Who};
 use cmwq_publish::{HubName, Publisher};
@@ -208,6 +209,20 @@ impl<N: HubName> Monitor<N> {
         self.compare(participant)
     }
 
+    /// Whether the hub takes a call that a closed one takes too.
+    #[inline(always)]
+    fn admits_closed(&self, participant: &Participant<N>) -> Result<(), RunFault>
+        ensures open { IfOk result (λ _. self.now.failed ≡ false) }
+        ensures step { IfOk result (λ _. InStep self.now.history participant.now) }
+        ensures says { IfErr result (λ f. (call : Call) → SaysFault N.layout participant.now call f) }
+        ensures leaves { IfErr result (λ f. LeavesHeld self.now f self.now) }
+    {
+        if self.failed {
+            return Err(RunFault::NoMemory { ticket: None });
+        }
+        self.compare(participant)
+    }
+
     /// A call of one entry. A closed hub refuses those of callers.
     pub fn call<R: Wait>(
         &mut self,
@@ -230,6 +245,93 @@ impl<N: HubName> Monitor<N> {
             Ok(reply) => Ok(reply),
             Err(Shortage::Room) => Err(RunFault::Full),
             Err(Shortage::Memory) => Err(RunFault::NoMemory { ticket: None }),
+        }
+    }
+
+    /// The same by a caller that is lent to a run. A closed hub takes it too.
+    pub fn call_in_run<R: Wait>(
+        &mut self,
+        rt: &R,
+        participant: &mut Participant<N>,
+        call: Call,
+    ) -> Result<Reply, RunFault>
+        requires { IsTrue (fits N.layout participant.old.who call) }
+        ensures made { IfOk result (λ reply. Extends N.layout participant.old call reply participant.new × InStep self.new.history participant.new) }
+        ensures goes_on { IfOk result (λ _. (self.old.failed ≡ false) × GoesOn self.old self.new) }
+        ensures refused { IfErr result (λ f. Refused N.layout participant.old call f participant.new) }
+        ensures leaves { IfErr result (λ f. LeavesHeld self.old f self.new) }
+    {
+        match self.admits_closed(participant) {
+            Ok(()) => {}
+            Err(fault) => return Err(fault),
+        }
+        let entered = self.enter(rt, participant, call);
+        match entered {
+            Ok(reply) => Ok(reply),
+            Err(Shortage::Room) => Err(RunFault::Full),
+            Err(Shortage::Memory) => Err(RunFault::NoMemory { ticket: None }),
+        }
+    }
+
+    /// What the worker runs, unless its run sleeps.
+    fn run_of(&self, participant: &Participant<N>) -> Option<Queueing>
+        requires { is_caller participant.now.who ≡ false }
+    {
+        let who = participant.who();
+        let planned = self.execution.plan(who, Call::Finish);
+        match &planned {
+            Ok(plan) => self.execution.ended_by(plan),
+            Err(Full) => None,
+        }
+    }
+
+    /// What the worker runs, if its run may wait by this call of a caller that is lent to it. Of a run that sleeps
+    /// nothing is known.
+    ///
+    /// # Errors
+    /// Why the wait could never end, if that is seen.
+    pub fn may_wait(
+        &mut self,
+        participant: &Participant<N>,
+        caller: Who,
+        call: Call,
+    ) -> Result<Option<Queueing>, Stuck>
+        requires { is_caller participant.now.who ≡ false }
+        ensures { self.new ≡ self.old }
+    {
+        let (Some(run), Who::Caller(caller)) = (self.run_of(participant), caller) else {
+            return Ok(None);
+        };
+        match self
+            .sleepers
+            .refuses(&self.execution, &self.shape, &run, caller, call)
+        {
+            Some(stuck) => Err(stuck),
+            None => Ok(Some(run)),
+        }
+    }
+
+    /// The run waits from now on, for the ticket that the call of this caller gave.
+    pub fn run_waits(&mut self, run: Option<Queueing>, caller: Who, call: Call, ticket: Number)
+        ensures { self.new ≡ self.old }
+    {
+        let (Some(run), Who::Caller(caller)) = (run, caller) else {
+            return;
+        };
+        let ticket = Ticket {
+            caller,
+            call,
+            number: ticket,
+        };
+        self.sleepers.run_waits(run, ticket);
+    }
+
+    /// The run to which this caller is lent goes on.
+    pub fn run_goes_on(&mut self, caller: Who)
+        ensures { self.new ≡ self.old }
+    {
+        if let Who::Caller(caller) = caller {
+            self.sleepers.run_goes_on(caller);
         }
     }
 

@@ -2,6 +2,7 @@
 
 ghost use Rattle.std.specs.Prelude.{◌≡◌};
 
+use crate::waits::{RunWaits, Stuck};
 use cmwq_core::Execution;
 use cmwq_model::{
     Call, CallerId, CpuId, Entry, NoMemory, PoolId, QueueId, Queueing, Reply, Shape, Ticket, Who,
@@ -94,6 +95,8 @@ pub struct Sleepers {
     /// By pool.
     idle: Vec<IdleWorkers>,
     wakes: Wakes,
+    /// The runs that wait.
+    runs: RunWaits,
 }
 
 /// The bit of a worker in the word of its pool.
@@ -236,6 +239,7 @@ impl Sleepers {
             flushes: Vec::with_capacity(alloc, usize::from(counts.callers))?,
             idle: Vec::from_elem(alloc, NONE_IDLE, 2 * usize::from(counts.cpus))?,
             wakes: NOBODY,
+            runs: RunWaits::new(alloc, shape)?,
         })
     }
 
@@ -392,6 +396,30 @@ impl Sleepers {
                 }
             }
         }
+    }
+
+    /// A run begins to wait for this ticket.
+    pub fn run_waits(&mut self, run: Queueing, ticket: Ticket) {
+        self.runs.begins(run, ticket);
+    }
+
+    /// The run to which this caller is lent goes on.
+    pub fn run_goes_on(&mut self, caller: CallerId) {
+        self.runs.ends(caller);
+    }
+
+    /// Why a wait of this run, by this call of a caller that is lent to it, could never end, if that is seen.
+    pub fn refuses(
+        &mut self,
+        book: &Execution,
+        shape: &Shape,
+        run: &Queueing,
+        caller: CallerId,
+        call: Call,
+    ) -> Option<Stuck>
+        requires { book.now.layout ≡ shape.now }
+    {
+        self.runs.refuses(book, shape, run, caller, call)
     }
 
     /// All workers are to be woken.

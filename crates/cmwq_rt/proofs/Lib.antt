@@ -3,3 +3,4 @@ pub mod Settling
 pub mod Placing
 pub mod Following
 pub mod Running
+pub mod Sleeping

@@ -5,4 +5,5 @@ pub mod Scripts
 pub mod Ending
 pub mod Starting
 pub mod Running
+pub mod Waiting
 pub mod Prelude

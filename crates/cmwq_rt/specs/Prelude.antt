@@ -18,3 +18,4 @@ pub use Rattle.cmwq_rt.specs.Scripts.{Follows, HasFollowed, HasStopped}
 pub use Rattle.cmwq_rt.specs.Ending.{EndsAs, OneIsStranger}
 pub use Rattle.cmwq_rt.specs.Starting.{HasStarted}
 pub use Rattle.cmwq_rt.specs.Running.{Running, fault_after, breaks_off, MakesOne, Behavior, RunsItem, EndsRun, RunsInTurn, HasWorked, IsNextStart}
+pub use Rattle.cmwq_rt.specs.Waiting.{SleepsThrough, HasWaited, is_refusal, IsOfRun, fault_after_wait}

@@ -4,8 +4,9 @@ use Rattle.cmwq_rt.specs.Common.{ℕ, zero, suc, Bool, true, false, Option, Some
 use Rattle.cmwq_model.specs.declared.call.Call.TheVariants as call
 use Rattle.cmwq_model.specs.declared.reply.Reply.TheVariants as reply
 
--- a worker that runs an item, and the fault that one of its calls has answered since the run began, want of room aside
+-- a worker that runs this item, and the fault that one of its calls has answered since the run began, want of room aside
 pub record Running : Type 0 where
+  pub item : ItemId
   pub participant : View
   pub fault : Option RunFault
 

@@ -11,7 +11,7 @@ ghost use Rattle.cmwq_monitor.specs.Settled.{Settles};
 
 use crate::hub::Hub;
 use crate::worker::Worker;
-use cmwq_model::{Call, CpuId, ItemId, Number, QueueId, Reply, Who};
+use cmwq_model::{Call, CpuId, ItemId, Number, QueueId, Queueing, Reply, Who};
 use cmwq_monitor::{Monitor, Participant, RunFault};
 use cmwq_publish::{HubName, Reader};
 use std::marker::Model;
@@ -65,6 +65,13 @@ impl<N: HubName> Caller<N> {
         ensures stranger { IfErr result (λ f. (self.new ≡ self.old) × IsStranger self.old f) }
     {
         monitor.settle(&mut self.participant)
+    }
+
+    pub(crate) fn participant(&self) -> &Participant<N>
+        ensures same { result.now ≡ self.now }
+        ensures caller { is_caller self.now.who ≡ true }
+    {
+        &self.participant
     }
 
     /// How many entries it has made.
@@ -179,6 +186,47 @@ impl<N: HubName> Caller<N> {
             return (monitor, Ok(reply));
         };
         let (monitor, ended) = hub.until_ended(rt, monitor, &mut self.participant, call, ticket);
+        match ended {
+            Ok(()) => {}
+            Err(fault) => return (monitor, Err(fault)),
+        }
+        (monitor, Ok(reply))
+    }
+
+    /// The same for a run that waits. A closed hub takes it too, and the monitor knows meanwhile what the run waits
+    /// for.
+    pub(crate) fn wait_in_run<'a, R: Wait>(
+        &mut self,
+        rt: &R,
+        hub: &'a Hub<N>,
+        monitor: MutexGuard<'a, Monitor<N>>,
+        run: Option<Queueing>,
+        call: Call,
+    ) -> (MutexGuard<'a, Monitor<N>>, Result<Reply, RunFault>)
+        requires callers { is_callers call ≡ true }
+        requires numbers { has_numbers N.layout call ≡ true }
+        requires waits { is_tick call ≡ false }
+        ensures done { IfOk result.1 (λ reply. Completes N.layout self.old call reply self.new) }
+        ensures broke { IfErr result.1 (λ f. BrokeOff N.layout self.old call f self.new) }
+    {
+        let who = self.participant.who();
+        let mut monitor = monitor;
+        let reply = match monitor.call_in_run(rt, &mut self.participant, call) {
+            Ok(reply) => reply,
+            Err(fault) => return (monitor, Err(fault)),
+        };
+        let Some(ticket) = ticket_in(reply) else {
+            return (monitor, Ok(reply));
+        };
+        monitor.run_waits(run, who, call, ticket);
+        let (mut monitor, ended) = hub.until_ended(
+            rt,
+            monitor,
+            &mut self.participant,
+            call,
+            ticket,
+        );
+        monitor.run_goes_on(who);
         match ended {
             Ok(()) => {}
             Err(fault) => return (monitor, Err(fault)),

@@ -1,15 +1,22 @@
 //! What workers run.
-ghost use Rattle.std.specs.Prelude.{◌≡◌, ◌⊎◌, ◌<◌, true, false, IfOk, IfErr, None, Some};
-ghost use Rattle.cmwq_model.specs.Prelude.{has_numbers, is_workers};
+ghost use Rattle.std.specs.Prelude.{◌≡◌, ◌⊎◌, ◌<◌, true, false, IfOk, IfErr, None, Some, Err};
+ghost use Rattle.cmwq_model.specs.Prelude.{has_numbers, is_callers, is_workers, item_called};
 ghost use Rattle.cmwq_model.specs.declared.call.Call.TheVariants as calls;
 ghost use Rattle.cmwq_monitor.specs.Participants.{is_caller};
 ghost use Rattle.cmwq_monitor.specs.Calls.{Extends};
 ghost use Rattle.cmwq_monitor.specs.Faults.{Refused, is_full};
+ghost use Rattle.cmwq_monitor.specs.declared.fault.RunFault.TheVariants.{Full};
 ghost use Rattle.cmwq_rt.specs.Later.{Later};
 ghost use Rattle.cmwq_rt.specs.Starting.{HasStarted};
 ghost use Rattle.cmwq_rt.specs.Running.{RunsItem, MakesOne, fault_after, breaks_off};
+ghost use Rattle.cmwq_rt.specs.Waiting.{HadNoRoom, HasWaited, IsOfRun, SleepsInVain, SleepsThrough, fault_after_wait, is_refusal, is_wait};
+ghost use Rattle.cmwq_rt.specs.declared.wait_fault.WaitFault.TheVariants as waits;
+ghost use Rattle.cmwq_monitor.specs.Whole.{is_tick};
 
+use crate::caller::Caller;
 use crate::hub::Hub;
+use crate::lent::Lent;
+use crate::wait_fault::WaitFault;
 use cmwq_model::{Call, CpuId, ItemId, QueueId, Reply, Shape};
 use cmwq_monitor::{Participant, RunFault};
 use cmwq_publish::HubName;
@@ -17,13 +24,15 @@ use core::mem::replace_with;
 use std::marker::Model;
 use std::sync::Wait;
 
-/// What a work function is given: it makes calls by its worker. Contracts see who that is, its serial and the history that it has seen,
+/// What a work function is given: it makes calls by its worker. Contracts see the item, who runs it, its serial and the history that it has seen,
 /// and the fault that a call of this run has answered, if any but want of room was.
 #[derive(Drop)]
 pub struct RunCtx<'a, N: HubName, R> {
     rt: &'a R,
     hub: &'a Hub<N>,
     participant: Participant<N>,
+    lent: Option<&'a Lent<N>>,
+    item: ItemId,
     is_asleep: bool,
     fault: Option<RunFault>,
 }
@@ -35,7 +44,7 @@ impl<'a, N: HubName, R> Model for RunCtx<'a, N, R> {
 
     ghost Value = { Running };
 
-    ghost view = { λ c. record { participant = c.participant; fault = c.fault } };
+    ghost view = { λ c. record { item = c.item; participant = c.participant; fault = c.fault } };
 
     ghost invariant = { λ c. (is_caller c.participant.who ≡ false) × IfSome c.fault (λ f. breaks_off f ≡ true) };
 }
@@ -56,6 +65,7 @@ pub trait Work {
     fn run<N: HubName, R: Wait>(&self, item: ItemId, context: &mut RunCtx<N, R>)
         requires item { item.0 < N.layout.items }
         requires started { HasStarted context.old.participant item }
+        requires own { context.old.item ≡ item }
         requires fresh { context.old.fault ≡ None }
         ensures later { Later context.old.participant context.new.participant }
         ensures done { context.new.fault ≡ None → does self.now N.layout item context.old.participant context.new.participant };
@@ -72,6 +82,13 @@ impl<'a, N: HubName, R: Wait> RunCtx<'a, N, R> {
         ensures { result.now ≡ N.layout }
     {
         self.hub.shape()
+    }
+
+    /// The item that runs.
+    pub fn item(&self) -> ItemId
+        ensures { result ≡ self.now.item }
+    {
+        self.item
     }
 
     /// Breaks the run off: its worker returns this fault, as if a call of the run had returned it.
@@ -94,6 +111,7 @@ impl<'a, N: HubName, R: Wait> RunCtx<'a, N, R> {
         ensures made { IfOk result (λ reply. Extends N.layout self.old.participant call reply self.new.participant) }
         ensures refused { IfErr result (λ f. Refused N.layout self.old.participant call f self.new.participant) }
         ensures fault { self.new.fault ≡ fault_after result self.old.fault }
+        ensures item { self.new.item ≡ self.old.item }
     {
         let _who = self.participant.who();
         let answer = self.hub.call(self.rt, &mut self.participant, call);
@@ -116,6 +134,7 @@ impl<'a, N: HubName, R: Wait> RunCtx<'a, N, R> {
         ensures made { IfOk result (λ reply. Extends N.layout self.old.participant (calls.Queue item queue cpu) reply self.new.participant) }
         ensures refused { IfErr result (λ f. Refused N.layout self.old.participant (calls.Queue item queue cpu) f self.new.participant) }
         ensures fault { self.new.fault ≡ fault_after result self.old.fault }
+        ensures item { self.new.item ≡ self.old.item }
     {
         self.make(Call::Queue { item, queue, cpu })
     }
@@ -136,6 +155,7 @@ impl<'a, N: HubName, R: Wait> RunCtx<'a, N, R> {
         ensures made { IfOk result (λ reply. Extends N.layout self.old.participant (calls.Delay item queue cpu ticks) reply self.new.participant) }
         ensures refused { IfErr result (λ f. Refused N.layout self.old.participant (calls.Delay item queue cpu ticks) f self.new.participant) }
         ensures fault { self.new.fault ≡ fault_after result self.old.fault }
+        ensures item { self.new.item ≡ self.old.item }
     {
         self.make(Call::Delay {
             item,
@@ -161,6 +181,7 @@ impl<'a, N: HubName, R: Wait> RunCtx<'a, N, R> {
         ensures made { IfOk result (λ reply. Extends N.layout self.old.participant (calls.Modify item queue cpu ticks) reply self.new.participant) }
         ensures refused { IfErr result (λ f. Refused N.layout self.old.participant (calls.Modify item queue cpu ticks) f self.new.participant) }
         ensures fault { self.new.fault ≡ fault_after result self.old.fault }
+        ensures item { self.new.item ≡ self.old.item }
     {
         self.make(Call::Modify {
             item,
@@ -180,6 +201,7 @@ impl<'a, N: HubName, R: Wait> RunCtx<'a, N, R> {
         ensures made { IfOk result (λ reply. Extends N.layout self.old.participant (calls.Cancel item) reply self.new.participant) }
         ensures refused { IfErr result (λ f. Refused N.layout self.old.participant (calls.Cancel item) f self.new.participant) }
         ensures fault { self.new.fault ≡ fault_after result self.old.fault }
+        ensures item { self.new.item ≡ self.old.item }
     {
         self.make(Call::Cancel { item })
     }
@@ -193,6 +215,7 @@ impl<'a, N: HubName, R: Wait> RunCtx<'a, N, R> {
         ensures made { IfOk result (λ reply. Extends N.layout self.old.participant calls.Sleep reply self.new.participant) }
         ensures refused { IfErr result (λ f. Refused N.layout self.old.participant calls.Sleep f self.new.participant) }
         ensures fault { self.new.fault ≡ fault_after result self.old.fault }
+        ensures item { self.new.item ≡ self.old.item }
     {
         self.make(Call::Sleep)
     }
@@ -206,8 +229,219 @@ impl<'a, N: HubName, R: Wait> RunCtx<'a, N, R> {
         ensures made { IfOk result (λ reply. Extends N.layout self.old.participant calls.Wake reply self.new.participant) }
         ensures refused { IfErr result (λ f. Refused N.layout self.old.participant calls.Wake f self.new.participant) }
         ensures fault { self.new.fault ≡ fault_after result self.old.fault }
+        ensures item { self.new.item ≡ self.old.item }
     {
         self.make(Call::Wake)
+    }
+}
+
+impl<'a, N: HubName, R: Wait> RunCtx<'a, N, R> {
+    /// Waits until the open queueings of another item have ended (`flush_work`). The run sleeps meanwhile, and wakes
+    /// after that.
+    ///
+    /// # Errors
+    /// As of `wait`.
+    pub fn flush_item(&mut self, item: ItemId) -> Result<Reply, WaitFault>
+        requires { has_numbers N.layout (calls.FlushItem item) ≡ true }
+        ensures later { Later self.old.participant self.new.participant }
+        ensures waited { IfOk result (λ reply. HasWaited N.layout self.old.participant (calls.FlushItem item) reply self.new.participant) }
+        ensures itself { item.0 ≡ self.old.item.0 → (result ≡ Err waits.Itself) × (self.new ≡ self.old) }
+        ensures refused { IfErr result (λ f. is_refusal f ≡ true → (self.new.participant ≡ self.old.participant) ⊎ MakesOne N.layout self.old.participant calls.Wake self.new.participant) }
+        ensures fault { self.new.fault ≡ fault_after_wait result self.old.fault }
+        ensures item { self.new.item ≡ self.old.item }
+    {
+        self.wait(Call::FlushItem { item })
+    }
+
+    /// Takes another item back and waits until it doesn't run (`cancel_work_sync`, `cancel_delayed_work_sync`). The run
+    /// sleeps meanwhile, and wakes after that.
+    ///
+    /// # Errors
+    /// As of `wait`.
+    pub fn cancel_sync(&mut self, item: ItemId) -> Result<Reply, WaitFault>
+        requires { has_numbers N.layout (calls.CancelSync item) ≡ true }
+        ensures later { Later self.old.participant self.new.participant }
+        ensures waited { IfOk result (λ reply. HasWaited N.layout self.old.participant (calls.CancelSync item) reply self.new.participant) }
+        ensures itself { item.0 ≡ self.old.item.0 → (result ≡ Err waits.Itself) × (self.new ≡ self.old) }
+        ensures refused { IfErr result (λ f. is_refusal f ≡ true → (self.new.participant ≡ self.old.participant) ⊎ MakesOne N.layout self.old.participant calls.Wake self.new.participant) }
+        ensures fault { self.new.fault ≡ fault_after_wait result self.old.fault }
+        ensures item { self.new.item ≡ self.old.item }
+    {
+        self.wait(Call::CancelSync { item })
+    }
+
+    /// Queues another item at once if it is delayed, and waits as `flush_item` does (`flush_delayed_work`).
+    ///
+    /// # Errors
+    /// As of `wait`.
+    pub fn flush_delayed(&mut self, item: ItemId) -> Result<Reply, WaitFault>
+        requires { has_numbers N.layout (calls.FlushDelayed item) ≡ true }
+        ensures later { Later self.old.participant self.new.participant }
+        ensures waited { IfOk result (λ reply. HasWaited N.layout self.old.participant (calls.FlushDelayed item) reply self.new.participant) }
+        ensures itself { item.0 ≡ self.old.item.0 → (result ≡ Err waits.Itself) × (self.new ≡ self.old) }
+        ensures refused { IfErr result (λ f. is_refusal f ≡ true → (self.new.participant ≡ self.old.participant) ⊎ MakesOne N.layout self.old.participant calls.Wake self.new.participant) }
+        ensures fault { self.new.fault ≡ fault_after_wait result self.old.fault }
+        ensures item { self.new.item ≡ self.old.item }
+    {
+        self.wait(Call::FlushDelayed { item })
+    }
+
+    /// Waits until everything that was queued on another queue before has ended (`flush_workqueue`). The run sleeps
+    /// meanwhile, and wakes after that.
+    ///
+    /// # Errors
+    /// As of `wait`.
+    pub fn flush(&mut self, queue: QueueId) -> Result<Reply, WaitFault>
+        requires { has_numbers N.layout (calls.Flush queue) ≡ true }
+        ensures later { Later self.old.participant self.new.participant }
+        ensures waited { IfOk result (λ reply. HasWaited N.layout self.old.participant (calls.Flush queue) reply self.new.participant) }
+        ensures refused { IfErr result (λ f. is_refusal f ≡ true → (self.new.participant ≡ self.old.participant) ⊎ MakesOne N.layout self.old.participant calls.Wake self.new.participant) }
+        ensures fault { self.new.fault ≡ fault_after_wait result self.old.fault }
+        ensures item { self.new.item ≡ self.old.item }
+    {
+        self.wait(Call::Flush { queue })
+    }
+
+    /// Waits until another queue is empty (`drain_workqueue`), and fires what is due. The run sleeps meanwhile, and
+    /// wakes after that.
+    ///
+    /// # Errors
+    /// As of `wait`.
+    pub fn drain(&mut self, queue: QueueId) -> Result<Reply, WaitFault>
+        requires { has_numbers N.layout (calls.Drain queue) ≡ true }
+        ensures later { Later self.old.participant self.new.participant }
+        ensures waited { IfOk result (λ reply. HasWaited N.layout self.old.participant (calls.Drain queue) reply self.new.participant) }
+        ensures refused { IfErr result (λ f. is_refusal f ≡ true → (self.new.participant ≡ self.old.participant) ⊎ MakesOne N.layout self.old.participant calls.Wake self.new.participant) }
+        ensures fault { self.new.fault ≡ fault_after_wait result self.old.fault }
+        ensures item { self.new.item ≡ self.old.item }
+    {
+        self.wait(Call::Drain { queue })
+    }
+
+    /// Waits by a caller that is lent to the run meanwhile, as the method of the call's name does. The run sleeps from
+    /// before the call's first entry until after its last. A run that is asleep wakes first.
+    ///
+    /// # Errors
+    /// `Itself` for the item or the queue of the run; `Deadlock` for what cannot end or start before this run, or runs
+    /// that wait for it, have ended; `NoCaller` if no caller is left to be lent. Then nothing was made, but that a run
+    /// that was asleep may have woken. `Run` for a fault of the hub.
+    pub fn wait(&mut self, call: Call) -> Result<Reply, WaitFault>
+        requires waits { is_wait call ≡ true }
+        requires numbers { has_numbers N.layout call ≡ true }
+        ensures later { Later self.old.participant self.new.participant }
+        ensures waited { IfOk result (λ reply. HasWaited N.layout self.old.participant call reply self.new.participant) }
+        ensures itself { item_called call ≡ Some self.old.item.0 → (result ≡ Err waits.Itself) × (self.new ≡ self.old) }
+        ensures refused { IfErr result (λ f. is_refusal f ≡ true → (self.new.participant ≡ self.old.participant) ⊎ MakesOne N.layout self.old.participant calls.Wake self.new.participant) }
+        ensures full { IfErr result (λ f. f ≡ waits.Run Full → HadNoRoom N.layout self.old.participant self.new.participant) }
+        ensures fault { self.new.fault ≡ fault_after_wait result self.old.fault }
+        ensures item { self.new.item ≡ self.old.item }
+    {
+        if is_of_item(call, self.item) {
+            return Err(WaitFault::Itself);
+        }
+        self.wait_lent(call)
+    }
+}
+
+/// Whether the call names this item.
+fn is_of_item(call: Call, item: ItemId) -> bool
+    ensures { item_called call ≡ Some item.0 → result ≡ true }
+{
+    match call.item() {
+        Some(named) => named.0 == item.0,
+        None => false,
+    }
+}
+
+impl<'a, N: HubName, R: Wait> RunCtx<'a, N, R> {
+    /// Waits by a caller that is lent to the run.
+    #[tactic(auto, using(crate::proofs::Sleeping::waits_by_caller))]
+    fn wait_lent(&mut self, call: Call) -> Result<Reply, WaitFault>
+        requires waits { is_wait call ≡ true }
+        requires numbers { has_numbers N.layout call ≡ true }
+        ensures later { Later self.old.participant self.new.participant }
+        ensures waited { IfOk result (λ reply. HasWaited N.layout self.old.participant call reply self.new.participant) }
+        ensures refused { IfErr result (λ f. is_refusal f ≡ true → (self.new.participant ≡ self.old.participant) ⊎ MakesOne N.layout self.old.participant calls.Wake self.new.participant) }
+        ensures full { IfErr result (λ f. f ≡ waits.Run Full → HadNoRoom N.layout self.old.participant self.new.participant) }
+        ensures fault { self.new.fault ≡ fault_after_wait result self.old.fault }
+        ensures item { self.new.item ≡ self.old.item }
+    {
+        let Some(lent) = self.lent else {
+            return Err(WaitFault::NoCaller);
+        };
+        let Some(caller) = lent.take(self.rt) else {
+            return Err(WaitFault::NoCaller);
+        };
+        let mut caller = caller;
+        let answer = self.wait_by(&mut caller, call);
+        lent.give(self.rt, caller);
+        answer
+    }
+
+    /// Waits by this caller, awake.
+    fn wait_by(&mut self, caller: &mut Caller<N>, call: Call) -> Result<Reply, WaitFault>
+        requires callers { is_callers call ≡ true }
+        requires numbers { has_numbers N.layout call ≡ true }
+        requires waits { is_tick call ≡ false }
+        ensures later { Later self.old.participant self.new.participant }
+        ensures waited { IfOk result (λ reply. HasWaited N.layout self.old.participant call reply self.new.participant) }
+        ensures refused { IfErr result (λ f. is_refusal f ≡ true → (self.new.participant ≡ self.old.participant) ⊎ MakesOne N.layout self.old.participant calls.Wake self.new.participant) }
+        ensures full { IfErr result (λ f. f ≡ waits.Run Full → HadNoRoom N.layout self.old.participant self.new.participant) }
+        ensures fault { self.new.fault ≡ fault_after_wait result self.old.fault }
+        ensures item { self.new.item ≡ self.old.item }
+    {
+        match self.be_awake() {
+            Ok(()) => self.wait_awake(caller, call),
+            Err(fault) => Err(WaitFault::Run { fault }),
+        }
+    }
+
+    /// Wakes a run that is asleep.
+    #[tactic(auto, using(crate::proofs::Later::later_self, crate::proofs::Running::refused_breaks_off))]
+    fn be_awake(&mut self) -> Result<(), RunFault>
+        ensures later { Later self.old.participant self.new.participant }
+        ensures wakes { IfOk result (λ _. (self.new.participant ≡ self.old.participant) ⊎ MakesOne N.layout self.old.participant calls.Wake self.new.participant) }
+        ensures kept { IfOk result (λ _. self.new.fault ≡ self.old.fault) }
+        ensures full { IfErr result (λ f. f ≡ Full → Refused N.layout self.old.participant calls.Wake Full self.new.participant) }
+        ensures fault { IfErr result (λ f. self.new.fault ≡ fault_after_wait (Err (waits.Run f)) self.old.fault) }
+        ensures item { self.new.item ≡ self.old.item }
+    {
+        if !self.is_asleep {
+            return Ok(());
+        }
+        match self.wake() {
+            Ok(_) => Ok(()),
+            Err(fault) => Err(fault),
+        }
+    }
+
+    /// Waits by this caller. The run is awake.
+    fn wait_awake(&mut self, caller: &mut Caller<N>, call: Call) -> Result<Reply, WaitFault>
+        requires callers { is_callers call ≡ true }
+        requires numbers { has_numbers N.layout call ≡ true }
+        requires waits { is_tick call ≡ false }
+        ensures later { Later self.old.participant self.new.participant }
+        ensures waited { IfOk result (λ reply. SleepsThrough N.layout self.old.participant call reply self.new.participant) }
+        ensures refused { IfErr result (λ f. is_refusal f ≡ true → self.new.participant ≡ self.old.participant) }
+        ensures full { IfErr result (λ f. f ≡ waits.Run Full → SleepsInVain N.layout self.old.participant self.new.participant) }
+        ensures fault { self.new.fault ≡ fault_after_wait result self.old.fault }
+        ensures item { self.new.item ≡ self.old.item }
+    {
+        let _who = self.participant.who();
+        let answer = self
+            .hub
+            .sleep_through(self.rt, &mut self.participant, caller, call);
+        match answer {
+            Ok(_)
+            | Err(
+                WaitFault::Run {
+                    fault: RunFault::Full,
+                },
+            ) => {}
+            Err(WaitFault::Run { fault }) => self.fault = Some(fault),
+            Err(_) => {}
+        }
+        answer
     }
 }
 
@@ -250,6 +484,7 @@ fn run_once<N: HubName, R: Wait, W: Work>(
     rt: &R,
     hub: &Hub<N>,
     participant: Participant<N>,
+    lent: Option<&Lent<N>>,
     work: &W,
     item: ItemId,
 ) -> (Participant<N>, Result<(), RunFault>)
@@ -264,6 +499,8 @@ fn run_once<N: HubName, R: Wait, W: Work>(
         rt,
         hub,
         participant,
+        lent,
+        item,
         is_asleep: false,
         fault: None,
     };
@@ -273,6 +510,8 @@ fn run_once<N: HubName, R: Wait, W: Work>(
         rt: _,
         hub: _,
         participant,
+        lent: _,
+        item: _,
         is_asleep: _,
         fault: _,
     } = context;
@@ -284,6 +523,7 @@ pub(crate) fn run_in<N: HubName, R: Wait, W: Work>(
     rt: &R,
     hub: &Hub<N>,
     participant: &mut Participant<N>,
+    lent: Option<&Lent<N>>,
     work: &W,
     item: ItemId,
 ) -> Result<(), RunFault>
@@ -296,10 +536,10 @@ pub(crate) fn run_in<N: HubName, R: Wait, W: Work>(
 {
     replace_with(
         participant,
-        (),
-        |participant, _nothing| -> (Participant<N>, Result<(), RunFault>)
+        lent,
+        |participant, lent| -> (Participant<N>, Result<(), RunFault>)
             requires { (is_caller participant.who ≡ false) × (item.0 < N.layout.items) × HasStarted participant item }
             ensures { Later participant result.0 × IfOk result.1 (λ _. RunsItem N.layout (W.does work.entry.now N.layout) item participant result.0) × IfErr result.1 (λ f. breaks_off f ≡ true) }
-        { run_once(rt, hub, participant, work, item) },
+        { run_once(rt, hub, participant, lent, work, item) },
     )
 }

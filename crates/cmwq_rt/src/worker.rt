@@ -10,6 +10,7 @@ ghost use Rattle.cmwq_rt.specs.Running.{EndsRun, HasWorked, IsNextStart, breaks_
 ghost use Rattle.cmwq_monitor.specs.Settled.{Settles};
 
 use crate::hub::Hub;
+use crate::lent::Lent;
 use crate::work::{Work, run_in, with_room};
 use cmwq_model::{Call, ItemId};
 use cmwq_monitor::{Monitor, Participant, RunFault};
@@ -98,8 +99,49 @@ impl<N: HubName> Hub<N> {
         ensures legal { IsLegal N.layout (past_of worker.new.seen) }
         ensures same { worker.new.who ≡ worker.old.who }
     {
+        self.loop_on(rt, worker, None, work)
+    }
+
+    /// The same. Runs may wait, by callers that are lent to them meanwhile.
+    ///
+    /// # Errors
+    /// Those of `work`.
+    pub fn work_lent<'a, R: Wait, W: Work>(
+        &'a self,
+        rt: &'a R,
+        worker: &mut Worker<N>,
+        work: &W,
+        lent: &'a Lent<N>,
+    ) -> Result<u64, RunFault>
+        ensures fault { IfErr result (λ f. breaks_off f ≡ true) }
+        ensures worked { IfOk result (λ _. HasWorked N.layout (W.does work.now N.layout) worker.old worker.new) }
+        ensures idle { IfOk result (λ _. active_in N.layout worker.new.seen ≡ 0) }
+        ensures count { IfOk result (λ n. worker.new.serial ≡ worker.old.serial + n) }
+        ensures seen { IsPrefix worker.old.seen worker.new.seen }
+        ensures legal { IsLegal N.layout (past_of worker.new.seen) }
+        ensures same { worker.new.who ≡ worker.old.who }
+    {
+        self.loop_on(rt, worker, Some(lent), work)
+    }
+
+    /// Runs one item after another until the hub is over, and counts the entries.
+    fn loop_on<'a, R: Wait, W: Work>(
+        &'a self,
+        rt: &'a R,
+        worker: &mut Worker<N>,
+        lent: Option<&'a Lent<N>>,
+        work: &W,
+    ) -> Result<u64, RunFault>
+        ensures fault { IfErr result (λ f. breaks_off f ≡ true) }
+        ensures worked { IfOk result (λ _. HasWorked N.layout (W.does work.now N.layout) worker.old worker.new) }
+        ensures idle { IfOk result (λ _. active_in N.layout worker.new.seen ≡ 0) }
+        ensures count { IfOk result (λ n. worker.new.serial ≡ worker.old.serial + n) }
+        ensures seen { IsPrefix worker.old.seen worker.new.seen }
+        ensures legal { IsLegal N.layout (past_of worker.new.seen) }
+        ensures same { worker.new.who ≡ worker.old.who }
+    {
         let first = worker.participant.serial();
-        let ended = self.run_all(rt, &mut worker.participant, work);
+        let ended = self.run_all(rt, &mut worker.participant, lent, work);
         let last = worker.participant.serial();
         let _legal = worker.participant.seen();
         match ended {
@@ -112,10 +154,11 @@ impl<N: HubName> Hub<N> {
     }
 
     /// One run after another.
-    fn run_all<R: Wait, W: Work>(
-        &self,
-        rt: &R,
+    fn run_all<'a, R: Wait, W: Work>(
+        &'a self,
+        rt: &'a R,
         participant: &mut Participant<N>,
+        lent: Option<&'a Lent<N>>,
         work: &W,
     ) -> Result<(), RunFault>
         requires { is_caller participant.old.who ≡ false }
@@ -129,7 +172,7 @@ impl<N: HubName> Hub<N> {
             let Some(item) = next else {
                 return Ok(());
             };
-            run_in(rt, self, participant, work, item)?;
+            run_in(rt, self, participant, lent, work, item)?;
             next = self.go_on(rt, participant)?;
         }
         unreachable!()

@@ -74,12 +74,12 @@ fn end_run<N: HubName, C: Crew, W: Work, R: Wait, O: Sink>(
     output: &mut O,
 ) -> Result<Tally, Unwritten>
     requires parts { N.parts ≡ shares }
-    requires ends { EndsAll N.layout (W.does work.now N.layout) (C.calls crew.now) (C.many crew.now N.layout) beside.ends }
+    requires ends { EndsAll N.layout (W.does work.now N.layout) (C.calls crew.now) (C.roles crew.now N.layout) beside.ends }
     requires legal { IsLegal N.layout (past_of beside.journal.seen) }
-    ensures whole { IfOk result (λ t. (start : Option (List ℕ)) → HasKept N.layout beside.journal.seen start (O.written output.old) beside.kept → WritesLeft N.layout (W.does work.now N.layout) (C.calls crew.now) (C.many crew.now N.layout) t.answered t.full start (O.written output.new)) }
+    ensures whole { IfOk result (λ t. (start : Option (List ℕ)) → HasKept N.layout beside.journal.seen start (O.written output.old) beside.kept → WritesLeft N.layout (W.does work.now N.layout) (C.calls crew.now) (C.roles crew.now N.layout) t.answered t.full start (O.written output.new)) }
     ensures flushed { OnOk result (O.held output.new ≡ 0) }
     ensures front { OnErr result ((start : Option (List ℕ)) → HasKept N.layout beside.journal.seen start (O.written output.old) beside.kept → WritesFront N.layout start (O.written output.new)) }
-    ensures tells { IfErr result (TellsOf N.layout (C.calls crew.now) (C.many crew.now N.layout)) }
+    ensures tells { IfErr result (TellsOf N.layout (C.calls crew.now) (C.roles crew.now N.layout)) }
     ensures sink { IsErrOf result unwritten.Sink → ((start : ℕ) → start ≤ O.troubles output.old → IfErr beside.kept (λ f. is_of_sink f ≡ true → Rises start (O.troubles output.old)) → Rises start (O.troubles output.new)) }
 {
     let Beside {
@@ -127,10 +127,10 @@ fn run_parts<
     requires ledger { (parts.blank.name ≡ N.name) × (parts.blank.parts ≡ N.parts) }
     requires fits { C.fits crew.now N.layout }
     requires spare { spare.items ≡ [] }
-    ensures whole { IfOk result (λ t. WritesLeft N.layout (W.does work.now N.layout) (C.calls crew.now) (C.many crew.now N.layout) t.answered t.full (O.written output.old) (O.written output.new)) }
+    ensures whole { IfOk result (λ t. WritesLeft N.layout (W.does work.now N.layout) (C.calls crew.now) (C.roles crew.now N.layout) t.answered t.full (O.written output.old) (O.written output.new)) }
     ensures flushed { OnOk result (O.held output.new ≡ 0) }
     ensures front { OnErr result (WritesFront N.layout (O.written output.old) (O.written output.new)) }
-    ensures tells { IfErr result (TellsOf N.layout (C.calls crew.now) (C.many crew.now N.layout)) }
+    ensures tells { IfErr result (TellsOf N.layout (C.calls crew.now) (C.roles crew.now N.layout)) }
     ensures sink { IsErrOf result unwritten.Sink → Rises (O.troubles output.old) (O.troubles output.new) }
 {
     let (hub, participants) = Hub::<N>::open(parts);
@@ -170,10 +170,10 @@ pub fn run_with_journal<
     output: &mut O,
 ) -> Result<Tally, Unwritten>
     requires { C.fits crew.now shape.now }
-    ensures whole { IfOk result (λ t. WritesLeft shape.now (W.does work.now shape.now) (C.calls crew.now) (C.many crew.now shape.now) t.answered t.full (O.written output.old) (O.written output.new)) }
+    ensures whole { IfOk result (λ t. WritesLeft shape.now (W.does work.now shape.now) (C.calls crew.now) (C.roles crew.now shape.now) t.answered t.full (O.written output.old) (O.written output.new)) }
     ensures flushed { OnOk result (O.held output.new ≡ 0) }
     ensures front { OnErr result (WritesFront shape.now (O.written output.old) (O.written output.new)) }
-    ensures tells { IfErr result (TellsOf shape.now (C.calls crew.now) (C.many crew.now shape.now)) }
+    ensures tells { IfErr result (TellsOf shape.now (C.calls crew.now) (C.roles crew.now shape.now)) }
     ensures sink { IsErrOf result unwritten.Sink → Rises (O.troubles output.old) (O.troubles output.new) }
 {
     // a tick is made only where there is space for its fires

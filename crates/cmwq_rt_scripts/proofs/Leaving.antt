@@ -7,6 +7,7 @@ use Rattle.cmwq_monitor.specs.declared.fault.RunFault.TheVariants.{Full, NoPlace
 use Rattle.cmwq_rt.proofs.Following.{follows_later}
 use Rattle.cmwq_engine.specs.Ended.{CalledIn, AllCalled, AreSilent, IsRestOfLeft}
 use Rattle.cmwq_engine.specs.Ended.{FailsAs as CrewFails, IsLeft as CrewLeaves}
+use Rattle.cmwq_engine.specs.declared.crew.Roster.{Roster}
 use Rattle.cmwq_rt_journal.specs.Journaled.{WritesLeft}
 use Rattle.cmwq_rt_journal.specs.Journaled.{TellsOf as CrewTells}
 use Rattle.cmwq_rt_journal.specs.declared.fault.Unwritten.{Unwritten}
@@ -15,6 +16,10 @@ use Rattle.cmwq_rt_scripts.specs.Common.{◌≡◌, ◌+◌, ◌<◌, ◌∙◌,
 use Rattle.cmwq_rt_scripts.specs.Followed.{FollowedAt, follows}
 use Rattle.cmwq_rt_scripts.specs.Ended.{AllFollow, FailsAs, FollowsIn, IsLeft}
 use Rattle.cmwq_rt_scripts.specs.Journaled.{TellsOf, WritesAll}
+
+-- one caller for each script, and so many that are lent
+abbrev pub roles : List (Vec Call Global) → ℕ → Roster
+roles scripts lent = record { threads = length scripts; lent = lent }
 
 -- the lists of calls
 abbrev pub lists : List (Vec Call Global) → List (List Call)
@@ -45,20 +50,24 @@ pub all_follow : (s : Layout) (all : List (Vec Call Global)) (full : ℕ) (h : L
 all_follow s all full h so =
     follow_from s all all 0 full h (λ j x is. (let same : j ≡ 0 + j = omega arith in subst (λ (i : ℕ). slice_get all i ≡ Some x) same is)) so
 
-pub leaves : (s : Layout) (does : Behavior) (all : List (Vec Call Global)) (full : ℕ) (h : List Entry) → CrewLeaves s does (follows all) (length all) full h → IsLeft s does (lists all) full h
-leaves s does all full h left = record {
+-- as many scripts as lists of calls
+same_number : (all : List (Vec Call Global)) (lent : ℕ) → length all + lent ≡ length (lists all) + lent
+same_number all lent = ap (λ n. n + lent) (sym (length-map all (λ x. x.items)))
+
+pub leaves : (s : Layout) (does : Behavior) (all : List (Vec Call Global)) (lent full : ℕ) (h : List Entry) → CrewLeaves s does (follows all) (roles all lent) full h → IsLeft s does (lists all) lent full h
+leaves s does all lent full h left = record {
   legal = left.legal;
   follow = all_follow s all full h left.called;
   worked = left.worked;
-  silent = subst (λ (n : ℕ). AreSilent s n h) (sym (length-map all (λ x. x.items))) left.silent;
+  silent = subst (λ (n : ℕ). AreSilent s n h) (same_number all lent) left.silent;
   finished = left.finished;
 }
 
-pub fails : (s : Layout) (all : List (Vec Call Global)) (f : RunFault) → CrewFails s (follows all) (length all) f → FailsAs s (lists all) f
-fails s all Unfinished (h, legal, (full, called, active)) = (h, legal, (full, all_follow s all full h called, active))
-fails s all NoPlace few = subst (λ (n : ℕ). s.callers < n) (sym (length-map all (λ x. x.items))) few
-fails s all Full none = none
-fails s all f so = record {}
+pub fails : (s : Layout) (all : List (Vec Call Global)) (lent : ℕ) (f : RunFault) → CrewFails s (follows all) (roles all lent) f → FailsAs s (lists all) lent f
+fails s all lent Unfinished (h, legal, (full, called, active)) = (h, legal, (full, all_follow s all full h called, active))
+fails s all lent NoPlace few = subst (λ (n : ℕ). s.callers < n) (same_number all lent) few
+fails s all lent Full none = none
+fails s all lent f so = record {}
 
 -- what a report says is what is left
 pub if_ok : {T F : Type 0} (P Q : T → Type 0) (r : Result T F) → ((x : T) → P x → Q x) → IfOk r P → IfOk r Q
@@ -69,15 +78,17 @@ pub if_err : {T F : Type 0} (P Q : F → Type 0) (r : Result T F) → ((x : F) �
 if_err P Q (Ok x) f given = tt
 if_err P Q (Err e) f given = f e given
 
-pub silent_of : (s : Layout) (all : List (Vec Call Global)) (h : List Entry) → AreSilent s (length (lists all)) h → AreSilent s (length all) h
-silent_of s all h silent = subst (λ (n : ℕ). AreSilent s n h) (length-map all (λ x. x.items)) silent
+pub silent_of : (s : Layout) (all : List (Vec Call Global)) (h : List Entry) → AreSilent s (length (lists all) + 0) h → AreSilent s (length all) h
+silent_of s all h silent =
+    let none : length all + 0 ≡ length all = omega arith in
+    subst (λ (n : ℕ). AreSilent s n h) (sym (same_number all 0) ∙ none) silent
 
-pub writes : (s : Layout) (does : Behavior) (all : List (Vec Call Global)) (entries full : ℕ) (a b : Option (List ℕ)) → WritesLeft s does (follows all) (length all) entries full a b → WritesAll s does (lists all) entries full a b
-writes s does all entries full a b (h, left, many, text) = (h, leaves s does all full h left, many, text)
+pub writes : (s : Layout) (does : Behavior) (all : List (Vec Call Global)) (lent entries full : ℕ) (a b : Option (List ℕ)) → WritesLeft s does (follows all) (roles all lent) entries full a b → WritesAll s does (lists all) lent entries full a b
+writes s does all lent entries full a b (h, left, many, text) = (h, leaves s does all lent full h left, many, text)
 
-pub tells : (s : Layout) (all : List (Vec Call Global)) (f : Unwritten) → CrewTells s (follows all) (length all) f → TellsOf s (lists all) f
-tells s all unwritten.Sink so = so
-tells s all (unwritten.Run f) so = fails s all f so
+pub tells : (s : Layout) (all : List (Vec Call Global)) (lent : ℕ) (f : Unwritten) → CrewTells s (follows all) (roles all lent) f → TellsOf s (lists all) lent f
+tells s all lent unwritten.Sink so = so
+tells s all lent (unwritten.Run f) so = fails s all lent f so
 
 -- nothing was handed over before the rest
 pub all_is_rest : (h es : List Entry) (first : ℕ) → es ≡ drop first h → first ≡ 0 → h ≡ es

@@ -19,18 +19,19 @@ AllFollow s k (x ∷ xs) full history = (n m : ℕ) × FollowsIn s k x n history
 abbrev pub IsUnfinished : Layout → List (List Call) → List Entry → Type 0
 IsUnfinished s scripts history = (full : ℕ) × AllFollow s 0 scripts full history × (0 < active_in s history)
 
--- what a fault tells of a run: a legal history that is unfinished, or that there are more scripts than callers; calls without room are left out
-abbrev pub FailsAs : Layout → List (List Call) → RunFault → Type 0
-FailsAs s scripts Unfinished = (history : List Entry) × IsLegal s (past_of history) × IsUnfinished s scripts history
-FailsAs s scripts NoPlace = s.callers < length scripts
-FailsAs s scripts Full = ⊥
-FailsAs s scripts f = Unit {0}
+-- what a fault tells of a run of which so many callers are lent: a legal history that is unfinished, or that there are too few callers; calls
+-- without room are left out
+abbrev pub FailsAs : Layout → List (List Call) → ℕ → RunFault → Type 0
+FailsAs s scripts lent Unfinished = (history : List Entry) × IsLegal s (past_of history) × IsUnfinished s scripts history
+FailsAs s scripts lent NoPlace = s.callers < length scripts + lent
+FailsAs s scripts lent Full = ⊥
+FailsAs s scripts lent f = Unit {0}
 
--- A history that these scripts leave: it is legal, each caller's entries follow its script but for so many calls in all that had no room, each worker's
--- are runs of items, nobody else has any, and nothing active is left behind.
-pub record IsLeft (s : Layout) (does : Behavior) (scripts : List (List Call)) (full : ℕ) (history : List Entry) : Type 0 where
+-- A history that these scripts leave, where the next so many callers are lent to runs that wait: it is legal, each caller's entries follow its
+-- script but for so many calls in all that had no room, each worker's are runs of items, nobody else has any, and nothing active is left.
+pub record IsLeft (s : Layout) (does : Behavior) (scripts : List (List Call)) (lent full : ℕ) (history : List Entry) : Type 0 where
   pub legal : IsLegal s (past_of history)
   pub follow : AllFollow s 0 scripts full history
   pub worked : AllWorked s does history
-  pub silent : AreSilent s (length scripts) history
+  pub silent : AreSilent s (length scripts + lent) history
   pub finished : active_in s history ≡ 0

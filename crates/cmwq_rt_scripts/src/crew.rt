@@ -1,14 +1,15 @@
 //! Callers that follow scripts.
 
-use cmwq_engine::Crew;
+use cmwq_engine::{Crew, Roster};
 use cmwq_model::{Call, Shape};
 use cmwq_rt::{Caller, Hub, HubName, RunFault};
 use std::sync::Wait;
 
-/// A crew of callers, each of which follows the script of its number.
+/// A crew of callers, each of which follows the script of its number. The next callers are lent to runs that wait.
 #[derive(Drop)]
 pub struct Scripts<'x> {
     pub(crate) scripts: &'x [Vec<Call>],
+    pub(crate) lent: u8,
 }
 
 impl<'x> Crew for Scripts<'x> {
@@ -17,12 +18,15 @@ impl<'x> Crew for Scripts<'x> {
 
     ghost fits = { λ p s. AreFit s p.scripts.now };
 
-    ghost many = { λ p s. length p.scripts.now };
+    ghost roles = { λ p s. record { threads = length p.scripts.now; lent = p.lent } };
 
     ghost calls = { λ p. follows p.scripts.now };
 
-    fn callers(&self, _shape: &Shape) -> u8 {
-        self.scripts.len() as u8
+    fn roster(&self, _shape: &Shape) -> Roster {
+        Roster {
+            threads: self.scripts.len() as u8,
+            lent: self.lent,
+        }
     }
 
     fn call<N: HubName, R: Wait>(

@@ -8,5 +8,5 @@ mod tested;
 
 pub use cmwq_rt_journal::{Tally as Written, Unwritten};
 pub use crew::Scripts;
-pub use run::{Report, run_scripts, run_scripts_with_journal};
+pub use run::{Report, run_scripts, run_scripts_lending, run_scripts_with_journal};
 pub use tested::are_scripts;

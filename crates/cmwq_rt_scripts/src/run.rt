@@ -50,16 +50,17 @@ fn run_parts<'x, W: Work + Sync, R: Threads + Wait + Sync>(
     shape: &Shape,
     parts: HubParts,
     scripts: &'x [Vec<Call>],
+    lent: u8,
     work: &'x W,
 ) -> Result<Report, RunFault>
     requires shape { parts.shape ≡ shape.now }
     requires fits { AreFit parts.shape scripts.now }
-    ensures left { IfOk result (λ r. IsLeft shape.now (W.does work.now shape.now) (map (λ s. s.items) scripts.now) r.full r.history.items) }
+    ensures left { IfOk result (λ r. IsLeft shape.now (W.does work.now shape.now) (map (λ s. s.items) scripts.now) lent r.full r.history.items) }
     ensures counted { IfOk result (λ r. r.answered ≡ length r.history.items) }
-    ensures fails { IfErr result (FailsAs shape.now (map (λ s. s.items) scripts.now)) }
+    ensures fails { IfErr result (FailsAs shape.now (map (λ s. s.items) scripts.now) lent) }
 {
     let _shape = shape;
-    let crew = Scripts { scripts };
+    let crew = Scripts { scripts, lent };
     let (rest, outcome) = run(rt, alloc, parts, &crew, work);
     let Rest { first, entries } = rest;
     let tally = match outcome {
@@ -81,12 +82,12 @@ fn run_parts<'x, W: Work + Sync, R: Threads + Wait + Sync>(
 }
 
 /// Runs scripts on a new hub: a thread for each script, whose caller follows it, and one for each worker. When all
-/// callers have ended, it closes the hub, and the workers go on until no active queueing is open.
+/// callers have ended, it closes the hub, and the workers go on until no active queueing is open. No run waits.
 ///
 /// # Errors
-/// The fault of a thread; `NoThread` if one cannot be made; `NoPlace` only if there are more scripts than callers;
-/// `Unfinished` only if all callers have followed their scripts and an active queueing is open at the end; `NoMemory`.
-/// All threads have ended then.
+/// The fault of a thread; `NoThread` if one cannot be made; `NoPlace` only if there are more scripts than
+/// callers; `Unfinished` only if all callers have followed their scripts and an active queueing is open at the end;
+/// `NoMemory`. All threads have ended then.
 pub fn run_scripts<'x, W: Work + Sync, R: Threads + Wait + Sync>(
     rt: &'x R,
     alloc: Global,
@@ -102,41 +103,64 @@ pub fn run_scripts<'x, W: Work + Sync, R: Threads + Wait + Sync>(
     ensures worked { IfOk result (λ r. AllWorked shape.now (W.does work.now shape.now) r.history.items) }
     ensures silent { IfOk result (λ r. AreSilent shape.now (length scripts.now) r.history.items) }
     ensures finished { IfOk result (λ r. active_in shape.now r.history.items ≡ 0) }
-    ensures fails { IfErr result (λ f. FailsAs shape.now (map (λ s. s.items) scripts.now) f) }
+    ensures fails { IfErr result (λ f. FailsAs shape.now (map (λ s. s.items) scripts.now) 0 f) }
+{
+    run_scripts_lending(rt, alloc, shape, scripts, 0, work)
+}
+
+/// Runs scripts on a new hub, as `run_scripts` does. The callers after those of the scripts, so many, are lent to runs
+/// that wait.
+///
+/// # Errors
+/// Those of `run_scripts`; `NoPlace` also if there are too few callers to lend.
+pub fn run_scripts_lending<'x, W: Work + Sync, R: Threads + Wait + Sync>(
+    rt: &'x R,
+    alloc: Global,
+    shape: &Shape,
+    scripts: &'x [Vec<Call>],
+    lent: u8,
+    work: &'x W,
+) -> Result<Report, RunFault>
+    requires few { length scripts.now ≤ most_callers }
+    requires calls { All (λ s. All (IsScripted shape.now) s.items × (length s.items < 2 ^ 32)) scripts.now }
+    ensures left { IfOk result (λ r. IsLeft shape.now (W.does work.now shape.now) (map (λ s. s.items) scripts.now) lent r.full r.history.items) }
+    ensures counted { IfOk result (λ r. r.answered ≡ length r.history.items) }
+    ensures fails { IfErr result (FailsAs shape.now (map (λ s. s.items) scripts.now) lent) }
 {
     match unread_parts(rt, alloc, shape) {
-        Ok(parts) => run_parts(rt, alloc, shape, parts, scripts, work),
+        Ok(parts) => run_parts(rt, alloc, shape, parts, scripts, lent, work),
         Err(fault) => Err(fault),
     }
 }
 
-/// Runs scripts on a new hub, as `run_scripts` does, and writes the history with its shape in format 3 while it is
-/// made, flushed behind each batch: so many entries are kept at a time, or as many as a hold of the lock may make where
-/// that is more, and what is made is written after a tenth of a second at the latest. The journal is kept in this
-/// thread, beside one that runs those of callers and workers.
+/// Runs scripts on a new hub, as `run_scripts_lending` does, and writes the history with its shape in format 3 while it
+/// is made. It keeps so many entries at a time, or as many as a hold of the lock may make if that is more, and flushes
+/// after each batch, a tenth of a second after an entry at the latest. The calling thread keeps the journal, beside one
+/// that runs those of callers and workers.
 ///
 /// # Errors
-/// `Sink` where the sink failed. `Run` with what `run_scripts` answers, all threads having ended, or with `NoMemory` or
-/// `NoThread` for the journal. A front of the text of a legal history is written then, and no last line but where the
-/// sink failed behind it.
+/// `Sink` if the sink failed. `Run` with a fault of `run_scripts_lending`, after all threads have ended, or with
+/// `NoMemory` or `NoThread` for the journal. A prefix of the text of a legal history is written then, with no last line
+/// unless the sink failed after it.
 pub fn run_scripts_with_journal<'x, W: Work + Sync, R: Threads + Wait + Clock + Sync, O: Sink>(
     rt: &'x R,
     alloc: Global,
     shape: &Shape,
     scripts: &'x [Vec<Call>],
+    lent: u8,
     work: &'x W,
     kept: u32,
     output: &mut O,
 ) -> Result<Tally, Unwritten>
     requires few { length scripts.now ≤ most_callers }
     requires calls { All (λ s. All (IsScripted shape.now) s.items × (length s.items < 2 ^ 32)) scripts.now }
-    ensures whole { IfOk result (λ w. WritesAll shape.now (W.does work.now shape.now) (map (λ s. s.items) scripts.now) w.answered w.full (O.written output.old) (O.written output.new)) }
+    ensures whole { IfOk result (λ w. WritesAll shape.now (W.does work.now shape.now) (map (λ s. s.items) scripts.now) lent w.answered w.full (O.written output.old) (O.written output.new)) }
     ensures flushed { OnOk result (O.held output.new ≡ 0) }
     ensures front { OnErr result (WritesFront shape.now (O.written output.old) (O.written output.new)) }
-    ensures tells { IfErr result (TellsOf shape.now (map (λ s. s.items) scripts.now)) }
+    ensures tells { IfErr result (TellsOf shape.now (map (λ s. s.items) scripts.now) lent) }
     ensures sink { IsErrOf result unwritten.Sink → Rises (O.troubles output.old) (O.troubles output.new) }
 {
-    let crew = Scripts { scripts };
+    let crew = Scripts { scripts, lent };
     // scripts never look
     run_with_journal(rt, alloc, shape, 0, kept, &crew, work, output)
 }

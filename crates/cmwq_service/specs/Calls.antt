@@ -1,26 +1,46 @@
 -- What a call of a service answers, and what it leaves.
-use Rattle.std.specs.Prelude.{◌≡◌, ◌≤◌, false, List, length, take}
+use Rattle.std.specs.Prelude.{◌≡◌, ◌⊎◌, ◌≤◌, false, List, length, take}
 use Rattle.cmwq_model.specs.Prelude.{Layout, has_numbers}
 use Rattle.cmwq_model.specs.declared.call.Call.{Call}
+use Rattle.cmwq_model.specs.declared.call.Call.TheVariants as call
 use Rattle.cmwq_model.specs.declared.entry.Entry.{Entry}
 use Rattle.cmwq_monitor.specs.Participants.{View, Gains}
 use Rattle.cmwq_monitor.specs.Faults.{Refused}
 use Rattle.cmwq_monitor.specs.Whole.{BrokeOff}
+use Rattle.cmwq_rt.specs.Later.{Later}
+use Rattle.cmwq_rt.specs.Running.{MakesOne}
+use Rattle.cmwq_rt.specs.declared.wait_fault.WaitFault.{WaitFault}
+use Rattle.cmwq_rt.specs.declared.wait_fault.WaitFault.TheVariants as wait
 use Rattle.cmwq_service.specs.declared.fault.Fault.{Fault}
-use Rattle.cmwq_service.specs.declared.fault.Fault.TheVariants.{Outside, Run, Own}
+use Rattle.cmwq_service.specs.declared.fault.Fault.TheVariants.{Outside, Run, Itself, Deadlock, NoCaller, Own}
 
 -- A call of one entry made none: a number of it isn't inside the shape, and nothing has changed, or the hub refused it. No call answers a fault
 -- of the service's own.
 abbrev pub Denied : Layout → View → Call → Fault → View → Type 0
 Denied s v c Outside w = (has_numbers s c ≡ false) × (w ≡ v)
 Denied s v c (Run f) w = Refused s v c f w
-Denied _ _ _ (Own _) _ = ⊥
+Denied _ _ _ f _ = ⊥
 
 -- a call of several entries: so too, or it stopped behind some of them
 abbrev pub Interrupted : Layout → View → Call → Fault → View → Type 0
 Interrupted s v c Outside w = (has_numbers s c ≡ false) × (w ≡ v)
 Interrupted s v c (Run f) w = BrokeOff s v c f w
-Interrupted _ _ _ (Own _) _ = ⊥
+Interrupted _ _ _ f _ = ⊥
+
+-- A run's wait was refused: no entry was made, but that a run that was asleep is awake. Or it broke off.
+abbrev pub Unwaited : Layout → View → Call → Fault → View → Type 0
+Unwaited s v c Outside w = (has_numbers s c ≡ false) × (w ≡ v)
+Unwaited s v c (Run f) w = Later v w
+Unwaited s v c (Own _) w = ⊥
+Unwaited s v c f w = (w ≡ v) ⊎ MakesOne s v call.Wake w
+
+-- the fault of a wait, as a service sees it
+abbrev pub IsFaultOfWait : WaitFault → Fault → Type 0
+IsFaultOfWait wait.Itself (Itself _ _) = Unit {0}
+IsFaultOfWait wait.Deadlock (Deadlock _ _) = Unit {0}
+IsFaultOfWait wait.NoCaller (NoCaller _ _) = Unit {0}
+IsFaultOfWait (wait.Run f) (Run g) = g ≡ f
+IsFaultOfWait _ _ = ⊥
 
 -- the same caller, which sees all that it had seen, and has made these entries since and no others
 pub record Continues (v w : View) : Type 0 where

@@ -32,7 +32,7 @@ pub enum Misfit {
     #[error("{0} workers of a pool, where there may be 1 to 64")]
     Workers(u8),
     #[error("{0} callers, where there may be 0 to 253")]
-    Callers(u8),
+    Callers(u16),
     #[error("{0} items, where there may be 1 to 65,535")]
     Items(u16),
     #[error("a room of {0} entries, where 4611686018427387904 is the most")]
@@ -48,7 +48,7 @@ pub enum Misfit {
 pub struct ShapeBuilder {
     cpus: u8,
     workers: u8,
-    callers: u8,
+    callers: u16,
     items: u16,
     room: u64,
     queues: Vec<QueueShape>,
@@ -98,7 +98,21 @@ impl ShapeBuilder {
     pub fn callers(self, callers: u8) -> ShapeBuilder
         ensures { result ≡ record self { callers = callers + own_callers } }
     {
-        ShapeBuilder { callers, ..self }
+        ShapeBuilder {
+            callers: u16::from(callers),
+            ..self
+        }
+    }
+
+    /// So many callers of the service, and so many that `run_with_waits` lends to runs that wait.
+    /// Together they may be 253.
+    pub fn callers_and_waits(self, callers: u8, waits: u8) -> ShapeBuilder
+        ensures { result ≡ record self { callers = callers + waits + own_callers } }
+    {
+        ShapeBuilder {
+            callers: u16::from(callers) + u16::from(waits),
+            ..self
+        }
     }
 
     /// So many items, 1 to 65,535.
@@ -146,7 +160,7 @@ impl ShapeBuilder {
         let counts = Counts {
             cpus: self.cpus,
             workers: self.workers,
-            callers: self.callers + OWN_CALLERS,
+            callers: self.callers as u8 + OWN_CALLERS,
             items: self.items,
             room: self.room,
         };
@@ -167,7 +181,7 @@ impl ShapeBuilder {
         if !(1..=MOST_WORKERS).contains(&self.workers) {
             return Some(Misfit::Workers(self.workers));
         }
-        if self.callers > MOST_CALLERS - OWN_CALLERS {
+        if self.callers > u16::from(MOST_CALLERS - OWN_CALLERS) {
             return Some(Misfit::Callers(self.callers));
         }
         if !(1..=MOST_ITEMS).contains(&self.items) {

@@ -3,7 +3,7 @@ ghost use Rattle.std.specs.Prelude.{◌≡◌};
 ghost use Rattle.cmwq_rt.specs.Later.{Later};
 ghost use Rattle.cmwq_service.specs.Calls.{IsAfter};
 
-use crate::fault::Fault;
+use crate::fault::{Fault, fault_of_wait};
 use crate::start::Start;
 use cmwq_model::{Call, CpuId, ItemId, QueueId, Reply, Shape};
 use cmwq_rt::{HubName, RunCtx};
@@ -23,7 +23,8 @@ pub trait Context {
     ghost use Rattle.cmwq_model.specs.Prelude.{Layout, is_workers};
     ghost use Rattle.cmwq_monitor.specs.Calls.{Extends};
     ghost use Rattle.cmwq_monitor.specs.Participants.{View};
-    ghost use Rattle.cmwq_service.specs.Calls.{Denied};
+    ghost use Rattle.cmwq_rt.specs.Waiting.{HasWaited, is_wait};
+    ghost use Rattle.cmwq_service.specs.Calls.{Denied, Unwaited};
 
     /// The shape of its hub.
     ghost layout: { Layout };
@@ -40,6 +41,17 @@ pub trait Context {
         requires { is_workers call ≡ true }
         ensures made { IfOk result (λ reply. Extends layout (view self.old) call reply (view self.new)) }
         ensures denied { IfErr result (λ f. Denied layout (view self.old) call f (view self.new)) };
+
+    /// Waits, by a caller that the library lends to it. The run sleeps meanwhile, and wakes after it. Each method below
+    /// waits by this one.
+    ///
+    /// # Errors
+    /// `Itself`, `Deadlock` and `NoCaller` if it may not wait. `Run` as the hub returns it: the run may have slept and
+    /// woken.
+    fn wait(&mut self, call: Call) -> Result<Reply, Fault>
+        requires { is_wait call ≡ true }
+        ensures waited { IfOk result (λ reply. HasWaited layout (view self.old) call reply (view self.new)) }
+        ensures unwaited { IfErr result (λ f. Unwaited layout (view self.old) call f (view self.new)) };
 
     /// Queues an item (`queue_work_on`).
     final fn queue(&mut self, item: ItemId, queue: QueueId, cpu: CpuId) -> Result<Reply, Fault>
@@ -110,6 +122,46 @@ pub trait Context {
     {
         self.make(Call::Wake)
     }
+
+    /// Waits until the queueings of another item that are open have ended (`flush_work`).
+    final fn flush_item(&mut self, item: ItemId) -> Result<Reply, Fault>
+        ensures waited { IfOk result (λ reply. HasWaited layout (view self.old) (calls.FlushItem item) reply (view self.new)) }
+        ensures unwaited { IfErr result (λ f. Unwaited layout (view self.old) (calls.FlushItem item) f (view self.new)) }
+    {
+        self.wait(Call::FlushItem { item })
+    }
+
+    /// The same, after queueing the item at once if it is delayed (`flush_delayed_work`).
+    final fn flush_delayed(&mut self, item: ItemId) -> Result<Reply, Fault>
+        ensures waited { IfOk result (λ reply. HasWaited layout (view self.old) (calls.FlushDelayed item) reply (view self.new)) }
+        ensures unwaited { IfErr result (λ f. Unwaited layout (view self.old) (calls.FlushDelayed item) f (view self.new)) }
+    {
+        self.wait(Call::FlushDelayed { item })
+    }
+
+    /// Takes another item back, and waits until it does not run (`cancel_work_sync`, `cancel_delayed_work_sync`).
+    final fn cancel_sync(&mut self, item: ItemId) -> Result<Reply, Fault>
+        ensures waited { IfOk result (λ reply. HasWaited layout (view self.old) (calls.CancelSync item) reply (view self.new)) }
+        ensures unwaited { IfErr result (λ f. Unwaited layout (view self.old) (calls.CancelSync item) f (view self.new)) }
+    {
+        self.wait(Call::CancelSync { item })
+    }
+
+    /// Waits until all that was queued on another queue before has ended (`flush_workqueue`).
+    final fn flush(&mut self, queue: QueueId) -> Result<Reply, Fault>
+        ensures waited { IfOk result (λ reply. HasWaited layout (view self.old) (calls.Flush queue) reply (view self.new)) }
+        ensures unwaited { IfErr result (λ f. Unwaited layout (view self.old) (calls.Flush queue) f (view self.new)) }
+    {
+        self.wait(Call::Flush { queue })
+    }
+
+    /// Waits until another queue is empty (`drain_workqueue`).
+    final fn drain(&mut self, queue: QueueId) -> Result<Reply, Fault>
+        ensures waited { IfOk result (λ reply. HasWaited layout (view self.old) (calls.Drain queue) reply (view self.new)) }
+        ensures unwaited { IfErr result (λ f. Unwaited layout (view self.old) (calls.Drain queue) f (view self.new)) }
+    {
+        self.wait(Call::Drain { queue })
+    }
 }
 
 /// The context that `run` gives to a service: its worker is the one of its start, and sees all that it had seen.
@@ -158,6 +210,17 @@ impl<'a, N: HubName, B: Start, R: Wait> Context for HubContext<'a, N, B, R> {
         match self.run.make(call) {
             Ok(reply) => Ok(reply),
             Err(fault) => Err(Fault::Run { fault }),
+        }
+    }
+
+    #[tactic(auto, using(crate::proofs::Continuing::after_later))]
+    fn wait(&mut self, call: Call) -> Result<Reply, Fault> {
+        if !self.run.shape().has_numbers(call) {
+            return Err(Fault::Outside);
+        }
+        match self.run.wait(call) {
+            Ok(reply) => Ok(reply),
+            Err(fault) => Err(fault_of_wait(self.run.item(), call, fault)),
         }
     }
 }

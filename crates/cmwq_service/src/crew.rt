@@ -14,7 +14,7 @@ use crate::fault::Fault;
 use crate::service::Service;
 use crate::signal::Signal;
 use crate::start::Start;
-use cmwq_engine::{Crew, Tally};
+use cmwq_engine::{Crew, Roster, Tally};
 use cmwq_model::{ItemId, Shape};
 use cmwq_rt::{Caller, Hub, HubName, RunCtx, RunFault, Work};
 use core::mem::replace_with;
@@ -22,20 +22,28 @@ use std::marker::Brand;
 use std::sync::Wait;
 use std::time::{Clock, Duration};
 
-/// How many callers of a shape are the service's.
-fn service_callers(shape: &Shape) -> u8
-    ensures { result ≡ shape.now.callers - own_callers }
+/// How many callers of a shape have a thread, if so many are lent: those of the service, and the library's own two.
+fn thread_callers(shape: &Shape, waits: u8) -> u8
+    ensures { result ≡ shape.now.callers - waits }
 {
-    shape.counts().callers.saturating_sub(OWN_CALLERS)
+    shape.counts().callers.saturating_sub(waits)
+}
+
+/// How many callers of a shape are the service's.
+fn service_callers(shape: &Shape, waits: u8) -> u8
+    ensures { result ≡ shape.now.callers - waits - own_callers }
+{
+    thread_callers(shape, waits).saturating_sub(OWN_CALLERS)
 }
 
 /// A service, with all that its threads share. Its callers have a thread each, and so have the library's own two: the
-/// clock, and the one that comes at the end.
+/// clock, and the one that comes at the end. So many callers are lent to runs that wait.
 #[derive(Drop)]
 pub struct Serving<'s, S, R> {
     rt: &'s R,
     service: &'s S,
     signal: Signal,
+    waits: u8,
 }
 
 /// Calls the service by a client that begins where the caller stands.
@@ -118,12 +126,19 @@ fn run_in<'a, N: HubName, S: Service, R: Wait + Clock, Q: Wait>(
 }
 
 impl<'s, S: Service, R: Wait + Clock> Serving<'s, S, R> {
-    /// The service, before it runs on a hub of this shape.
+    /// The service, before it runs on a hub of this shape, of which so many callers are lent to runs that wait.
     ///
     /// # Errors
-    /// `NoPlace` where the shape has fewer callers than the library's own.
-    pub fn new(rt: &'s R, service: &'s S, shape: &Shape) -> Result<Serving<'s, S, R>, Fault> {
-        if shape.counts().callers < OWN_CALLERS {
+    /// `NoPlace` if the shape has fewer callers than the library needs: its own two, and those that are lent.
+    pub fn new(
+        rt: &'s R,
+        service: &'s S,
+        shape: &Shape,
+        waits: u8,
+    ) -> Result<Serving<'s, S, R>, Fault>
+        ensures { IfOk result (λ serving. serving.waits ≡ waits) }
+    {
+        if thread_callers(shape, waits) < OWN_CALLERS {
             return Err(Fault::Run {
                 fault: RunFault::NoPlace,
             });
@@ -131,7 +146,8 @@ impl<'s, S: Service, R: Wait + Clock> Serving<'s, S, R> {
         Ok(Serving {
             rt,
             service,
-            signal: Signal::new(service_callers(shape)),
+            signal: Signal::new(service_callers(shape, waits)),
+            waits,
         })
     }
 
@@ -227,15 +243,18 @@ fn help_once<'s, N: HubName, S: Service, R: Wait + Clock>(
 }
 
 impl<'s, S: Service, R: Wait + Clock> Crew for Serving<'s, S, R> {
-    ghost use Rattle.std.specs.Prelude.{◌+◌, ◌<◌};
+    ghost use Rattle.std.specs.Prelude.{◌+◌, ◌-◌, ◌<◌};
     ghost use Rattle.cmwq_service.specs.Serving.{HasCalled, own_callers};
 
-    ghost many = { λ _ s. s.callers };
+    ghost roles = { λ p s. record { threads = s.callers - p.waits; lent = p.waits } };
 
-    ghost calls = { λ _ s k _ v. k + own_callers < s.callers → ∥ HasCalled s S.calls k v ∥₁ };
+    ghost calls = { λ p s k _ v. k + own_callers + p.waits < s.callers → ∥ HasCalled s S.calls k v ∥₁ };
 
-    fn callers(&self, shape: &Shape) -> u8 {
-        shape.counts().callers
+    fn roster(&self, shape: &Shape) -> Roster {
+        Roster {
+            threads: thread_callers(shape, self.waits),
+            lent: self.waits,
+        }
     }
 
     fn call<N: HubName, Q: Wait>(
@@ -245,7 +264,7 @@ impl<'s, S: Service, R: Wait + Clock> Crew for Serving<'s, S, R> {
         caller: Caller<N>,
         number: u8,
     ) -> (Caller<N>, Result<u32, RunFault>) {
-        let all = service_callers(hub.shape());
+        let all = service_callers(hub.shape(), self.waits);
         if number < all {
             let (caller, outcome) = call_once(self.rt, hub, self.service, caller, number);
             let told = self.told(outcome);

@@ -24,6 +24,6 @@ pub use cmwq_model::{
 };
 pub use cmwq_rt::RunFault;
 pub use context::Context;
-pub use fault::{Fault, Stopped};
-pub use running::{run, run_dropping};
+pub use fault::{Awaited, Fault, Stopped};
+pub use running::{run, run_dropping, run_dropping_with_waits, run_with_waits};
 pub use service::Service;

@@ -1,5 +1,5 @@
 //! Runs a service on threads.
-ghost use Rattle.std.specs.Prelude.{◌≡◌, List, IfOk, IfErr, OnOk};
+ghost use Rattle.std.specs.Prelude.{◌≡◌, ℕ, List, IfOk, IfErr, OnOk};
 ghost use Rattle.cmwq_model.specs.Prelude.{Layout, past_of};
 ghost use Rattle.cmwq_model.specs.declared.entry.Entry as entries;
 ghost use Rattle.cmwq_core.specs.Relied.{IsReliable};
@@ -34,7 +34,7 @@ fn give_all<S: Service>(
     rest: Rest,
     outcome: Result<Tally, Fault>,
 ) -> Result<Vec<Entry>, Stopped>
-    ensures served { (s : Layout) → OnOk outcome (IsRestOfServed s S.calls S.does rest.first rest.entries.items) → IfOk result (λ history. IsServed s S.calls S.does history.items) }
+    ensures served { (s : Layout) (waits : ℕ) → OnOk outcome (IsRestOfServed s waits S.calls S.does rest.first rest.entries.items) → IfOk result (λ history. IsServed s waits S.calls S.does history.items) }
     ensures stopped { (s : Layout) → IsRest s rest.first rest.entries.items → IfErr result (λ stopped. IsReliable s (past_of stopped.history.items)) }
 {
     let Rest { first, entries } = rest;
@@ -59,31 +59,49 @@ fn run_parts<'s, S: Service + Send + Sync, R: Threads + Wait + Clock + Sync>(
     serving: &Serving<'s, S, R>,
 ) -> (Rest, Result<Tally, Fault>)
     ensures rest { IsRest parts.shape result.0.first result.0.entries.items }
-    ensures served { OnOk result.1 (IsRestOfServed parts.shape S.calls S.does result.0.first result.0.entries.items) }
+    ensures served { OnOk result.1 (IsRestOfServed parts.shape serving.now.waits S.calls S.does result.0.first result.0.entries.items) }
 {
     let (rest, ended) = cmwq_engine::run(&*rt, alloc, parts, &*serving, &*serving);
     (rest, serving.outcome(ended))
 }
 
 /// Runs a service on a new hub of this shape: a thread for each worker, for each of the service's callers, for the
-/// clock and for the end. When the callers have ended `end` comes, then the hub is closed, the workers run what is
-/// active, and the whole history is given. All entries are kept until then, so the shape's room may be at most
-/// 4,294,967,295.
+/// clock and for the end. When the callers have ended, `end` is called. Then the hub is closed, the workers run what is
+/// active, and the whole history is returned. All entries are kept until then, so the shape's room may be at most
+/// 4,294,967,295. No run waits: `Context::wait` returns `NoCaller`.
 ///
 /// # Errors
-/// The first fault that a function of the service, a worker, or the clock has answered; `NoThread` where a thread can't
-/// be made; `NoPlace` where the shape has fewer than two callers; `Unfinished` where an active queueing is open at the
-/// end; `NoMemory`. All threads have ended then. The history so far is given with the fault.
+/// The first fault that a function of the service, a worker, or the clock has returned; `NoThread` if a thread cannot
+/// be made; `NoPlace` if the shape has fewer than two callers; `Unfinished` if an active queueing is open at the end;
+/// `NoMemory`. All threads have ended then. The history so far is returned with the fault.
 pub fn run<S: Service + Send + Sync, R: Threads + Wait + Clock + Sync>(
     rt: &R,
     alloc: Global,
     shape: &Shape,
     service: &S,
 ) -> Result<Vec<Entry>, Stopped>
-    ensures served { IfOk result (λ history. IsServed shape.now S.calls S.does history.items) }
+    ensures served { IfOk result (λ history. IsServed shape.now 0 S.calls S.does history.items) }
     ensures stopped { IfErr result (λ stopped. IsReliable shape.now (past_of stopped.history.items)) }
 {
-    let serving = match Serving::new(rt, service, shape) {
+    run_with_waits(rt, alloc, shape, service, 0)
+}
+
+/// The same, but so many runs may wait at the same time (`Context::wait`). The shape has as many callers more, which
+/// are lent to them (`ShapeBuilder::callers_and_waits`).
+///
+/// # Errors
+/// Those of `run`; `NoPlace` if the shape has fewer callers than two and those that are lent.
+pub fn run_with_waits<S: Service + Send + Sync, R: Threads + Wait + Clock + Sync>(
+    rt: &R,
+    alloc: Global,
+    shape: &Shape,
+    service: &S,
+    waits: u8,
+) -> Result<Vec<Entry>, Stopped>
+    ensures served { IfOk result (λ history. IsServed shape.now waits S.calls S.does history.items) }
+    ensures stopped { IfErr result (λ stopped. IsReliable shape.now (past_of stopped.history.items)) }
+{
+    let serving = match Serving::new(rt, service, shape, waits) {
         Ok(serving) => serving,
         Err(fault) => return Err(stopped_at_first(alloc, fault)),
     };
@@ -96,20 +114,36 @@ pub fn run<S: Service + Send + Sync, R: Threads + Wait + Clock + Sync>(
     }
 }
 
-/// The same, but the history is dropped while it is made, so the shape's room may be as great as any, and no memory
-/// holds it.
+/// The same as `run`, but the history is dropped while it is made. So the shape's room may be as great as any, and no
+/// memory holds it.
 ///
 /// # Errors
-/// As of `run`.
+/// Those of `run`.
 pub fn run_dropping<S: Service + Send + Sync, R: Threads + Wait + Clock + Sync>(
     rt: &R,
     alloc: Global,
     shape: &Shape,
     service: &S,
 ) -> Result<(), Fault>
-    ensures { OnOk result ((history : List entries.Entry) × IsServed shape.now S.calls S.does history) }
+    ensures { OnOk result ((history : List entries.Entry) × IsServed shape.now 0 S.calls S.does history) }
 {
-    let serving = Serving::new(rt, service, shape)?;
+    run_dropping_with_waits(rt, alloc, shape, service, 0)
+}
+
+/// The same as `run_with_waits`, but the history is dropped while it is made.
+///
+/// # Errors
+/// Those of `run_with_waits`.
+pub fn run_dropping_with_waits<S: Service + Send + Sync, R: Threads + Wait + Clock + Sync>(
+    rt: &R,
+    alloc: Global,
+    shape: &Shape,
+    service: &S,
+    waits: u8,
+) -> Result<(), Fault>
+    ensures { OnOk result ((history : List entries.Entry) × IsServed shape.now waits S.calls S.does history) }
+{
+    let serving = Serving::new(rt, service, shape, waits)?;
     match HubParts::dropping(rt, alloc, shape) {
         Ok(parts) => {
             let (_rest, outcome) = run_parts(rt, alloc, parts, &serving);

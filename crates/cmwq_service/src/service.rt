@@ -35,7 +35,7 @@ pub trait Service {
         ensures { OnOk result (does C.layout item (C.view context.old) (C.view context.new)) };
 
     /// What the caller of this place does, on a thread of its own. Places are numbered from 0; there are as many as the
-    /// shape has callers, but for the library's own two.
+    /// shape has callers, without the library's own two and those that are lent to runs that wait.
     fn call<R: Wait + Clock, C: Client>(
         &self,
         rt: &R,

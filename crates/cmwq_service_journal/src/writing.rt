@@ -47,12 +47,33 @@ pub fn run_writing<S: Service + Send + Sync, R: Threads + Wait + Clock + Sync, O
     kept: u32,
     output: &mut O,
 ) -> Result<u64, Unwritten>
-    ensures whole { IfOk result (λ n. WritesServed shape.now S.calls S.does n (O.written output.old) (O.written output.new)) }
+    ensures whole { IfOk result (λ n. WritesServed shape.now 0 S.calls S.does n (O.written output.old) (O.written output.new)) }
     ensures flushed { OnOk result (O.held output.new ≡ 0) }
     ensures front { OnErr result (WritesFront shape.now (O.written output.old) (O.written output.new)) }
     ensures sink { IsErrOf result unwritten.Sink → Rises (O.troubles output.old) (O.troubles output.new) }
 {
-    let serving = match Serving::new(rt, service, shape) {
+    run_writing_with_waits(rt, alloc, shape, service, 0, kept, output)
+}
+
+/// The same, but so many runs may wait at the same time (`cmwq_service::run_with_waits`).
+///
+/// # Errors
+/// Those of `run_writing`; `NoPlace` if the shape has fewer callers than two and those that are lent.
+pub fn run_writing_with_waits<S: Service + Send + Sync, R: Threads + Wait + Clock + Sync, O: Sink>(
+    rt: &R,
+    alloc: Global,
+    shape: &Shape,
+    service: &S,
+    waits: u8,
+    kept: u32,
+    output: &mut O,
+) -> Result<u64, Unwritten>
+    ensures whole { IfOk result (λ n. WritesServed shape.now waits S.calls S.does n (O.written output.old) (O.written output.new)) }
+    ensures flushed { OnOk result (O.held output.new ≡ 0) }
+    ensures front { OnErr result (WritesFront shape.now (O.written output.old) (O.written output.new)) }
+    ensures sink { IsErrOf result unwritten.Sink → Rises (O.troubles output.old) (O.troubles output.new) }
+{
+    let serving = match Serving::new(rt, service, shape, waits) {
         Ok(serving) => serving,
         Err(fault) => return Err(Unwritten::Stopped { fault }),
     };

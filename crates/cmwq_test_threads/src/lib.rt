@@ -25,3 +25,5 @@ mod step;
 mod subcommand;
 #[cfg(test)]
 mod table;
+#[cfg(test)]
+mod waits;

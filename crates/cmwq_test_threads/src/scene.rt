@@ -4,8 +4,10 @@ ghost use Rattle.std.specs.Prelude.{◌<◌};
 ghost use Rattle.cmwq_rt.specs.Later.{Later};
 
 use crate::step::Step;
-use cmwq_model::{Call, CpuId, ItemId, QueueId, QueueShape};
-use cmwq_rt::{Gate, Gates, HubName, RunCtx, Work};
+use cmwq_model::{Call, CpuId, ItemId, QueueId, QueueShape, Shape};
+use cmwq_rt::{Gate, Gates, HubName, Reply, RunCtx, WaitFault, Work};
+use rand_core::utils::NextWord;
+use rand_pcg::Pcg32;
 use std::sync::Wait;
 use std::sync::atomic::{AtomicBool, AtomicU64, Ordering};
 use std::thread;
@@ -49,6 +51,23 @@ pub(crate) enum Deed {
     QueueNext,
     /// Queues its own item, unless so many runs were before it.
     QueueAgain(u64),
+    /// Meets the runs of so many items at gates, asleep, or none, and then makes these calls, which wait.
+    Wait {
+        met: Option<u8>,
+        calls: &'static [Call],
+    },
+    /// Once the first gate is open, queues its own item, and the next time makes this call, which waits.
+    WaitTheSecondTime(Call),
+    /// Makes calls at random, most of which wait.
+    WaitAtRandom(Waits),
+}
+
+/// Which calls a run makes at random. Runs that queue items do not drain, since a drain also waits for what is queued
+/// later.
+#[derive(Clone, Copy)]
+pub(crate) struct Waits {
+    pub(crate) seed: u64,
+    pub(crate) drains: bool,
 }
 
 /// What becomes of the entries of a hub.
@@ -77,6 +96,34 @@ pub(crate) enum Taker {
 /// The call of no run.
 pub(crate) const NEVER: u64 = u64::MAX;
 
+/// How many waits of runs ended, and how many were refused as waits for themselves, as deadlocks, and for want of a
+/// caller.
+#[derive(Drop)]
+pub(crate) struct WaitCounts {
+    pub(crate) ended: AtomicU64,
+    pub(crate) refused: [AtomicU64; 3],
+}
+
+impl WaitCounts {
+    fn new() -> WaitCounts {
+        WaitCounts {
+            ended: AtomicU64::new(0),
+            refused: [AtomicU64::new(0), AtomicU64::new(0), AtomicU64::new(0)],
+        }
+    }
+
+    fn count(&self, waited: &Result<Reply, WaitFault>) {
+        let count = match waited {
+            Ok(_) => &self.ended,
+            Err(WaitFault::Itself) => &self.refused[0],
+            Err(WaitFault::Deadlock) => &self.refused[1],
+            Err(WaitFault::NoCaller) => &self.refused[2],
+            Err(WaitFault::Run { .. }) => return,
+        };
+        count.fetch_add(1, Ordering::SeqCst);
+    }
+}
+
 /// What happens on a hub. Callers for whom there is no role have the last one. Items for which there is no deed begin
 /// anew with the first, at the next gate. Without deeds the hub has no workers.
 #[derive(Drop)]
@@ -90,6 +137,9 @@ pub(crate) struct Scene<'a> {
     /// How many runs there were, and how many of them found their gate open.
     pub(crate) runs: AtomicU64,
     pub(crate) passed: AtomicU64,
+    /// How many callers, the first ones of the hub, are lent to runs that wait.
+    pub(crate) lent: u8,
+    pub(crate) waits: WaitCounts,
     /// How many lines of the history were flushed.
     pub(crate) lines: AtomicU64,
     /// Whether a journal that is late may begin.
@@ -108,6 +158,8 @@ impl<'a> Scene<'a> {
             steps: AtomicU64::new(0),
             runs: AtomicU64::new(0),
             passed: AtomicU64::new(0),
+            lent: 0,
+            waits: WaitCounts::new(),
             lines: AtomicU64::new(0),
             may_begin: AtomicBool::new(false),
             is_over: AtomicBool::new(false),
@@ -118,13 +170,120 @@ impl<'a> Scene<'a> {
         let was_open = self.gates.pass(rt, gate);
         self.passed.fetch_add(u64::from(was_open), Ordering::SeqCst);
     }
+
+    /// Waits by this call, if the hub has its numbers.
+    fn wait<N: HubName, R: Wait>(&self, call: Call, context: &mut RunCtx<N, R>)
+        ensures { Later context.old.participant context.new.participant }
+    {
+        if !context.shape().has_numbers(call) {
+            return;
+        }
+        let waited = match call {
+            Call::FlushItem { item } => context.flush_item(item),
+            Call::FlushDelayed { item } => context.flush_delayed(item),
+            Call::CancelSync { item } => context.cancel_sync(item),
+            Call::Flush { queue } => context.flush(queue),
+            Call::Drain { queue } => context.drain(queue),
+            _ => return,
+        };
+        self.waits.count(&waited);
+    }
+
+    /// The gate of an item is the one after its number. The first is that of a caller.
+    fn meet<N: HubName, R: Wait>(&self, item: ItemId, met: u8, context: &mut RunCtx<N, R>)
+        ensures { Later context.old.participant context.new.participant }
+    {
+        let _slept = context.sleep();
+        self.gates.open(context.rt(), 1 + (item.0 % 15) as u8);
+        self.pass_all(context.rt(), met);
+    }
+
+    fn pass_all<R: Wait>(&self, rt: &R, met: u8) {
+        for gate in 0..met {
+            self.pass(rt, gate);
+        }
+        self.pass(rt, met);
+    }
+
+    fn wait_for_all<N: HubName, R: Wait>(&self, calls: &[Call], context: &mut RunCtx<N, R>)
+        ensures { Later context.old.participant context.new.participant }
+    {
+        for call in calls {
+            self.wait(*call, context);
+        }
+    }
+
+    /// Makes three calls, and lets other threads go first.
+    fn wait_at_random<N: HubName, R: Wait>(
+        &self,
+        waits: Waits,
+        run: u64,
+        context: &mut RunCtx<N, R>,
+    )
+        ensures { Later context.old.participant context.new.participant }
+    {
+        let mut words = Pcg32::new(waits.seed, run);
+        self.call_at_random(waits, words.next_word(), context);
+        self.call_at_random(waits, words.next_word(), context);
+        self.call_at_random(waits, words.next_word(), context);
+    }
+
+    fn call_at_random<N: HubName, R: Wait>(
+        &self,
+        waits: Waits,
+        word: u32,
+        context: &mut RunCtx<N, R>,
+    )
+        ensures { Later context.old.participant context.new.participant }
+    {
+        thread::yield_now();
+        let call = call_of(waits, context.shape(), word);
+        match call {
+            Call::Queue { item, queue, cpu } => queue_on(item, queue, cpu, context),
+            _ => self.wait(call, context),
+        }
+    }
 }
 
-/// Queues an item, if the hub has it.
+/// A number below this one.
+pub(crate) fn below(word: u32, many: u32) -> u8 {
+    (word.checked_rem(many).unwrap_or(0) % 256) as u8
+}
+
+/// A call of an item or a queue of the hub.
+fn call_of(waits: Waits, shape: &Shape, word: u32) -> Call {
+    let counts = shape.counts();
+    let item = ItemId(u16::from(below(word % 256, u32::from(counts.items))));
+    let queues = u32::try_from(shape.queues().len()).unwrap_or(1);
+    let queue = QueueId(below(word / 256 % 16, queues));
+    let cpu = CpuId(below(word / 4_096 % 16, u32::from(counts.cpus)));
+    match word / 65_536 % 8 {
+        0..2 => Call::FlushItem { item },
+        2 => Call::FlushDelayed { item },
+        3..5 => Call::CancelSync { item },
+        5 => Call::Flush { queue },
+        6 if waits.drains => Call::Drain { queue },
+        _ if waits.drains => Call::Flush { queue },
+        _ => Call::Queue { item, queue, cpu },
+    }
+}
+
+/// Queues an item on the first queue, if the hub has it.
 fn queue<N: HubName, R: Wait>(item: ItemId, context: &mut RunCtx<N, R>)
     ensures { Later context.old.participant context.new.participant }
 {
-    let (queue, cpu) = (QueueId(0), CpuId(0));
+    queue_on(item, QueueId(0), CpuId(0), context);
+}
+
+/// Queues an item, if the hub has it, the queue and the CPU.
+fn queue_on<N: HubName, R: Wait>(
+    item: ItemId,
+    queue: QueueId,
+    cpu: CpuId,
+    context: &mut RunCtx<N, R>,
+)
+    ensures { Later context.old.participant context.new.participant }
+{
     if context
         .shape()
         .has_numbers(Call::Queue { item, queue, cpu })
@@ -165,6 +324,23 @@ impl<'a> Work for Scene<'a> {
                     queue(item, context);
                 }
             }
+            Deed::Wait { met, calls } => {
+                if let Some(met) = met {
+                    self.meet(item, met, context);
+                }
+                self.wait_for_all(calls, context);
+            }
+            Deed::WaitTheSecondTime(call) => {
+                if before < 2 {
+                    let _slept = context.sleep();
+                    self.pass(context.rt(), 0);
+                    let _woke = context.wake();
+                    queue(item, context);
+                } else {
+                    self.wait(call, context);
+                }
+            }
+            Deed::WaitAtRandom(waits) => self.wait_at_random(waits, before, context),
         }
     }
 }

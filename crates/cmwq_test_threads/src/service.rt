@@ -6,10 +6,10 @@ use crate::table::{Act, Table};
 use cmwq_base::{Memory, read_history};
 use cmwq_model::Call;
 use cmwq_service::{
-    CpuId, Fault, ItemId, Misfit, PLAIN, QueueId, QueueShape, RunFault, Shape, ShapeBuilder, run,
-    run_dropping,
+    Awaited, CpuId, Fault, ItemId, Misfit, PLAIN, QueueId, QueueShape, RunFault, Shape,
+    ShapeBuilder, run, run_dropping, run_dropping_with_waits, run_with_waits,
 };
-use cmwq_service_journal::{Unwritten, run_writing};
+use cmwq_service_journal::{Unwritten, run_writing, run_writing_with_waits};
 use std::alloc::AllocError;
 use std::process::Abort;
 use std::sync::Wait;
@@ -28,6 +28,10 @@ const FREEZABLE: QueueId = QueueId(1);
 const KEPT: u32 = 8;
 
 fn shape(rt: &(impl Abort + AllocGlobal), callers: u8, room: u64) -> Shape {
+    shape_with_waits(rt, callers, 0, room)
+}
+
+fn shape_with_waits(rt: &(impl Abort + AllocGlobal), callers: u8, waits: u8, room: u64) -> Shape {
     let plain = QueueShape {
         max_active: 2,
         ..PLAIN
@@ -39,7 +43,7 @@ fn shape(rt: &(impl Abort + AllocGlobal), callers: u8, room: u64) -> Shape {
     let builder = ShapeBuilder::new(rt.alloc())
         .cpus(1)
         .workers(2)
-        .callers(callers)
+        .callers_and_waits(callers, waits)
         .items(4)
         .room(room)
         .queue(plain)
@@ -186,6 +190,64 @@ fn every_call_is_answered(rt: HostRuntime) {
     let lines = lines_in(output.inner().as_slice());
     assert_eq!(rt; lines, entries.wrapping_add(5));
     is_as_told(&rt, &table, 3);
+}
+
+/// Item 0, of the first queue, waits for all others, and is refused what would wait for itself.
+const WAITS_OF_RUN: [Act; 9] = [
+    Act::WaitInVain(
+        Call::CancelSync { item: ItemId(0) },
+        Fault::Itself {
+            item: 0,
+            awaited: Awaited::Item(0),
+        },
+    ),
+    Act::WaitInVain(
+        Call::Flush { queue: QUEUE },
+        Fault::Itself {
+            item: 0,
+            awaited: Awaited::Queue(0),
+        },
+    ),
+    Act::MakeOutside(Call::FlushItem { item: ItemId(4) }),
+    Act::Make(QUEUE_SECOND),
+    Act::Make(Call::FlushItem { item: ItemId(1) }),
+    Act::Make(Call::FlushDelayed { item: ItemId(2) }),
+    Act::Make(Call::CancelSync { item: ItemId(1) }),
+    Act::Make(Call::Flush { queue: FREEZABLE }),
+    Act::Make(Call::Drain { queue: FREEZABLE }),
+];
+
+const FLUSH_FIRST: Act = Act::Make(Call::FlushItem { item: ItemId(0) });
+
+const NO_WAIT_OF_RUN: [Act; 1] = [Act::WaitInVain(
+    Call::FlushItem { item: ItemId(1) },
+    Fault::NoCaller {
+        item: 0,
+        awaited: Awaited::Item(1),
+    },
+)];
+
+#[test]
+fn runs_wait_by_callers_that_are_lent(rt: HostRuntime) {
+    let shape = shape_with_waits(&rt, 1, 1, 2_000);
+    let acts = [Act::Make(QUEUE_FIRST), FLUSH_FIRST];
+    let (callers, items): ([&[Act]; 1], [&[Act]; 1]) = ([&acts], [&WAITS_OF_RUN]);
+    let table = Table::new(&callers, &items);
+    let history = run_with_waits(&rt, rt.alloc(), &shape, &table, 1).expect(&rt, "a history");
+    is_as_told(&rt, &table, 2);
+    assert!(rt; is_legal(&rt, &shape, &history));
+    let table = Table::new(&callers, &items);
+    assert!(rt; run_dropping_with_waits(&rt, rt.alloc(), &shape, &table, 1).is_ok());
+    is_as_told(&rt, &table, 2);
+    let table = Table::new(&callers, &items);
+    let mut output = output(&rt, NEVER);
+    let outcome = run_writing_with_waits(&rt, rt.alloc(), &shape, &table, 1, KEPT, &mut output);
+    assert_eq!(rt; outcome.ok(), Some(entries_of(&rt, &output).len() as u64));
+    is_as_told(&rt, &table, 2);
+    let items: [&[Act]; 1] = [&NO_WAIT_OF_RUN];
+    let table = Table::new(&callers, &items);
+    assert!(rt; run(&rt, rt.alloc(), &shape, &table).is_ok());
+    is_as_told(&rt, &table, 1);
 }
 
 const OUTSIDE: [Act; 14] = [

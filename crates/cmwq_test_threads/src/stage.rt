@@ -6,7 +6,9 @@ use crate::scene::{Fate, Scene, Taker};
 use crate::sink::{Counted, Output, entries_of, is_legal, output};
 use crate::step::{Acted, act};
 use cmwq_model::{Counts, Entry, QueueShape, Reply, Shape, Who};
-use cmwq_rt::{Caller, Hub, HubName, HubParts, Journal, Participants, Rest, RunFault, Worker};
+use cmwq_rt::{
+    Caller, Hub, HubName, HubParts, Journal, Lent, Participants, Rest, RunFault, Worker,
+};
 use cmwq_rt_journal::{JournalFault, drop_journal, end_journal, keep_journal};
 use std::alloc::Global;
 use std::marker::Brand;
@@ -64,9 +66,19 @@ pub(crate) struct Played {
     pub(crate) untaken: Option<JournalFault>,
 }
 
-fn work<N: HubName, R: Wait>(rt: &R, hub: &Hub<N>, worker: Worker<N>, scene: &Scene) -> Worked<N> {
+fn work<N: HubName, R: Wait>(
+    rt: &R,
+    hub: &Hub<N>,
+    lent: &Lent<N>,
+    worker: Worker<N>,
+    scene: &Scene,
+) -> Worked<N> {
     let mut worker = worker;
-    let made = hub.work(rt, &mut worker, scene).ok();
+    let made = if scene.lent == 0 {
+        hub.work(rt, &mut worker, scene).ok()
+    } else {
+        hub.work_lent(rt, &mut worker, scene, lent).ok()
+    };
     Worked { worker, made }
 }
 
@@ -142,7 +154,7 @@ fn start_callers<
     scene: &'s Scene<'s>,
 ) -> Vec<JoinHandle<Acted<N>>> {
     let mut threads = Vec::new(rt.alloc());
-    for number in 0..hub.shape().counts().callers {
+    for number in 0..hub.shape().counts().callers.saturating_sub(scene.lent) {
         let caller = participants.caller().expect(rt, "a caller");
         match scope.spawn(move || act(rt, hub, caller, number, scene)) {
             Ok(thread) => threads.push(thread).expect(rt, "memory"),
@@ -162,6 +174,7 @@ fn start_workers<
     scope: &Scope<'s, E>,
     rt: &'s R,
     hub: &'s Hub<N>,
+    lent: &'s Lent<N>,
     participants: &mut Participants<N>,
     scene: &'s Scene<'s>,
 ) -> Vec<JoinHandle<Worked<N>>> {
@@ -169,7 +182,7 @@ fn start_workers<
     let counts = hub.shape().counts();
     for _ in 0..2 * u32::from(counts.workers) * u32::from(counts.cpus) {
         let worker = participants.worker().expect(rt, "a worker");
-        match scope.spawn(move || work(rt, hub, worker, scene)) {
+        match scope.spawn(move || work(rt, hub, lent, worker, scene)) {
             Ok(thread) => threads.push(thread).expect(rt, "memory"),
             Err(_) => panic!(rt; "no thread"),
         }
@@ -219,6 +232,7 @@ fn play_threads<
     scope: &Scope<'s, E>,
     rt: &'s R,
     hub: &'s Hub<N>,
+    lent: &'s Lent<N>,
     participants: Participants<N>,
     scene: &'s Scene<'s>,
 ) -> Ended<N> {
@@ -231,7 +245,7 @@ fn play_threads<
     let working = if scene.deeds.is_empty() {
         Vec::new(alloc)
     } else {
-        start_workers(scope, rt, hub, &mut participants, scene)
+        start_workers(scope, rt, hub, lent, &mut participants, scene)
     };
     let acting = start_callers(scope, rt, hub, &mut participants, scene);
     let mut callers = Vec::new(alloc);
@@ -270,10 +284,30 @@ fn play_all<
     'x,
     N: HubName + Send + Sync + 'static,
     R: Threads + Wait + Clock + Abort + AllocGlobal + Sync,
->(rt: &'x R, hub: &'x Hub<N>, participants: Participants<N>, scene: &'x Scene<'x>) -> Ended<N> {
+>(
+    rt: &'x R,
+    hub: &'x Hub<N>,
+    lent: &'x Lent<N>,
+    participants: Participants<N>,
+    scene: &'x Scene<'x>,
+) -> Ended<N> {
     thread::scope(thread::scope_env(), rt, |scope| -> Ended<N> {
-        play_threads(scope, rt, hub, participants, scene)
+        play_threads(scope, rt, hub, lent, participants, scene)
     })
+}
+
+/// The first callers, which runs are lent.
+fn lend<N: HubName>(
+    rt: &(impl Abort + AllocGlobal),
+    participants: &mut Participants<N>,
+    many: u8,
+) -> Lent<N> {
+    let mut callers = Vec::new(rt.alloc());
+    for _ in 0..many {
+        let caller = participants.caller().expect(rt, "a caller");
+        callers.push(caller).expect(rt, "memory");
+    }
+    Lent::new(callers)
 }
 
 /// How many entries all callers and workers count.
@@ -323,14 +357,18 @@ fn play_under<
     requires book { parts.opening.book ≡ N.book }
     requires ledger { (parts.blank.name ≡ N.name) × (parts.blank.parts ≡ N.parts) }
 {
-    let (hub, participants) = Hub::<N>::open(parts);
+    let (hub, mut participants) = Hub::<N>::open(parts);
+    let lent = lend(rt, &mut participants, scene.lent);
     let Ended {
         mut callers,
         mut workers,
         faults,
         made,
         taken,
-    } = play_all(rt, &hub, participants, scene);
+    } = play_all(rt, &hub, &lent, participants, scene);
+    for caller in lent.into_callers() {
+        callers.push(caller).expect(rt, "memory");
+    }
     let rest = hub
         .into_history(rt, callers.as_mut_slice(), workers.as_mut_slice())
         .expect(rt, "a history");

@@ -2,7 +2,7 @@
 
 ghost use Rattle.std.specs.Prelude.{◌<◌};
 
-use crate::scene::Scene;
+use crate::scene::{Scene, below};
 use cmwq_model::{Call, CallerId, CpuId, ItemId, QueueId, Reply, Who};
 use cmwq_rt::{Caller, Gate, Hub, HubName, RunFault};
 use rand_core::utils::NextWord;
@@ -25,6 +25,8 @@ pub(crate) enum Step {
     DelayAll(u32),
     /// Makes so many calls of all kinds, up to the first that has a fault.
     Throw(u32),
+    /// Queues or delays each item of the hub at random, and lets the time go by, so many times.
+    Scatter { seed: u64, turns: u32 },
     Until(Event),
     /// Compares what is seen of an item.
     Look(ItemId, Option<u8>),
@@ -113,6 +115,29 @@ fn delay_all<N: HubName, R: Wait + Abort>(
         };
         make(rt, hub, caller, call)?;
     }
+    Ok(())
+}
+
+/// Queues each item at a place at random, or delays it. Then a tick goes by.
+fn scatter<N: HubName, R: Wait + Abort>(
+    rt: &R,
+    hub: &Hub<N>,
+    caller: &mut Caller<N>,
+    words: &mut Pcg32,
+) -> Result<(), RunFault> {
+    let counts = hub.shape().counts();
+    let queues = u32::try_from(hub.shape().queues().len()).unwrap_or(1);
+    for item in 0..counts.items {
+        let word = words.next_word();
+        let call = Call::Delay {
+            item: ItemId(item),
+            queue: QueueId(below(word % 256, queues)),
+            cpu: CpuId(below(word / 256 % 256, u32::from(counts.cpus))),
+            ticks: (word / 65_536 % 4).saturating_sub(2),
+        };
+        make(rt, hub, caller, call)?;
+    }
+    make(rt, hub, caller, Call::Tick { ticks: 1 })?;
     Ok(())
 }
 
@@ -233,6 +258,12 @@ fn take<N: HubName, R: Wait + Clock + Abort + AllocGlobal>(
             caller.flush_begin(rt, hub, queue)?;
         }
         Step::DelayAll(ticks) => return delay_all(rt, hub, caller, ticks),
+        Step::Scatter { seed, turns } => {
+            let mut words = Pcg32::new(seed, 2);
+            for _ in 0..turns {
+                scatter(rt, hub, caller, &mut words)?;
+            }
+        }
         Step::Throw(calls) => return throw(rt, hub, caller, number, calls, scene),
         Step::Until(event) => until(rt, hub, caller, event, scene),
         Step::Look(item, bits) => {

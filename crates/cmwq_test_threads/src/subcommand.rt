@@ -1,4 +1,4 @@
-//! The subcommand `run`: gates, refused scripts, calls without room, faults, and histories written as they are made.
+//! The subcommand `run`: gates, runs that wait, refused scripts, calls without room, faults, and histories written as they are made.
 
 use crate::scene::NEVER;
 use crate::sink::{Output, entries_of, output};
@@ -77,6 +77,116 @@ fn gates_are_opened_or_told_by_their_names(rt: HostRuntime) {
 cmwq: gate h: 1 call of a caller was left out for want of room; what it queues may open the gate
 ";
     ends_so(&rt, SECOND_GATE_SHUT, 1, told, Some(6));
+}
+
+/// A script on one CPU with these keys and items, of which the caller queues the first.
+fn waiting(rt: &impl AllocGlobal, keys: &str, items: &str) -> Result<String, Fail> {
+    Ok(format!(in rt.alloc();
+        r#"{{"cpus":1,"workers":4,"room":1000,{keys}
+        "queues":[{{"name":"q","max_active":4,"high":false,"intensive":false}},
+        {{"name":"r","max_active":1,"high":false,"intensive":false}}],
+        "items":[{items}],"callers":[[["queue","A","q",0]]]}}"#
+    )?)
+}
+
+/// Item B takes item A back while A sleeps at a gate. Item C, which opens it, starts only after both sleep.
+const TAKES_BACK: &str = r#"{"name":"A","does":[["queue","B","q",0],["sleep_at","g"]]},
+{"name":"B","does":[["queue","C","q",0],["cancel_sync","A"]]},{"name":"C","does":[["open","g"]]}"#;
+
+/// Item A waits by each call for item B or its queue.
+const EACH_WAIT: &str =
+    r#"{"name":"A","does":[["queue","B","r",0],["flush_item","B"],["delay","B","r",0,9],
+["flush_delayed","B"],["cancel_sync","B"],["queue","B","r",0],["flush","r"],["queue","B","r",0],["drain","r"]]},
+{"name":"B","does":[]}"#;
+
+#[test]
+fn runs_wait_for_other_items(rt: HostRuntime) -> Result<(), Fail> {
+    let output = tells(&rt, "", TAKES_BACK, 0, "")?;
+    let written = output.inner().as_slice();
+    assert!(rt; written.starts_with(b"history 2\nshape 1 4 2 3 1000\n"));
+    for part in [b"\nc1 0 cancel_sync 0 = ticket ".as_slice(), b"\nc1 1 end "] {
+        assert!(rt; written.windows(part.len()).any(|place| place == part));
+    }
+    assert!(rt; entries_of(&rt, &output).len() > 12);
+    for keys in ["", r#""waits":3,"#, r#""journal":2,"#] {
+        let output = tells(&rt, keys, EACH_WAIT, 0, "")?;
+        assert!(rt; entries_of(&rt, &output).len() > 20);
+    }
+    Ok(())
+}
+
+/// Item A waits for itself, and on its own queue.
+const ITSELF: &str =
+    r#"{"name":"A","does":[["flush_item","A"],["flush","q"],["cancel_sync","A"]]}"#;
+
+/// Item A waits for item B, which starts after that and then waits for its own queue and for A.
+const RING: &str = r#"{"name":"A","does":[["queue","B","q",0],["flush_item","B"]]},
+{"name":"B","does":[["drain","q"],["flush_item","A"]]}"#;
+
+/// Item A waits for item B, and B for item C.
+const ROW: &str = r#"{"name":"A","does":[["queue","B","q",0],["flush_item","B"]]},
+{"name":"B","does":[["queue","C","q",0],["flush_item","C"]]},{"name":"C","does":[]}"#;
+
+/// Runs such a script, and compares the status and the line that is told, if one is.
+fn tells<R: Threads + Wait + Clock + Abort + AllocGlobal + Sync>(
+    rt: &R,
+    keys: &str,
+    items: &str,
+    status: u8,
+    told: &str,
+) -> Result<Output, Fail> {
+    let script = waiting(rt, keys, items)?;
+    let ran = run_faulty(rt, script.as_bytes(), (NEVER, NEVER, NEVER));
+    let line = match told {
+        "" => String::new(rt.alloc()),
+        _ => format!(in rt.alloc(); "cmwq: {told}\n")?,
+    };
+    assert_eq!(rt; ran.errors.inner().as_slice(), line.as_bytes());
+    assert_eq!(rt; ran.status, status);
+    Ok(ran.output)
+}
+
+/// The history is written all the same.
+#[test]
+fn waits_that_are_refused_are_told(rt: HostRuntime) -> Result<(), Fail> {
+    let itself = "item A, action 0: would wait for ever (and 2 more)";
+    let ring = "item B, action 0: would wait for ever (and 1 more)";
+    let none = "item A, action 1: too many runs wait (and 2 more)";
+    let one = "item B, action 1: too many runs wait";
+    for (keys, items, status, told) in [
+        ("", ITSELF, 6, itself),
+        (r#""waits":2,"#, RING, 6, ring),
+        (r#""waits":2,"journal":2,"#, RING, 6, ring),
+        (r#""waits":0,"#, RING, 6, none),
+        ("", ROW, 6, one),
+        (r#""waits":2,"#, ROW, 0, ""),
+    ] {
+        let output = tells(&rt, keys, items, status, told)?;
+        assert!(rt; entries_of(&rt, &output).len() > 2);
+    }
+    Ok(())
+}
+
+/// As many runs may wait as there may be callers beside those of the scripts.
+#[test]
+fn how_many_may_wait_is_limited(rt: HostRuntime) -> Result<(), Fail> {
+    let item = r#"{"name":"A","does":[]}"#;
+    for keys in [r#""waits":63,"#, r#""waits":254,"format":3,"#] {
+        tells(&rt, keys, item, 0, "")?;
+    }
+    for keys in [
+        r#""waits":64,"#,
+        r#""waits":255,"format":3,"#,
+        r#""waits":-1,"#,
+        r#""waits":"1","#,
+    ] {
+        tells(&rt, keys, item, 1, "top 0: refused")?;
+    }
+    let script = b"{\"cpus\":1,\"workers\":1,\"room\":9,\"waits\":63,
+\"queues\":[{\"name\":\"q\",\"max_active\":1,\"high\":false,\"intensive\":false}],
+\"items\":[{\"name\":\"A\",\"does\":[]}],\"callers\":[[],[]]}";
+    ends_so(&rt, script, 1, b"cmwq: callers 1: refused\n", None);
+    Ok(())
 }
 
 /// A run queues, delays, pushes back and cancels another item.

@@ -21,6 +21,8 @@ pub(crate) enum Act {
     UntilRuns(u64),
     /// Makes a call again and again, a millisecond apart, until it answers a fault.
     UntilFault(Call),
+    /// Waits in a run, and is refused by this fault.
+    WaitInVain(Call, Fault),
     GiveUp(Fault),
 }
 
@@ -57,6 +59,11 @@ fn make_in_run<C: Context>(context: &mut C, call: Call) -> Result<Reply, Fault> 
         Call::Cancel { item } => context.cancel(item),
         Call::Sleep => context.sleep(),
         Call::Wake => context.wake(),
+        Call::FlushItem { item } => context.flush_item(item),
+        Call::FlushDelayed { item } => context.flush_delayed(item),
+        Call::CancelSync { item } => context.cancel_sync(item),
+        Call::Flush { queue } => context.flush(queue),
+        Call::Drain { queue } => context.drain(queue),
         _ => Err(Fault::Own(0)),
     }
 }
@@ -152,6 +159,7 @@ impl<'a> Table<'a> {
             Act::UntilRuns(runs) => self.until_runs(rt, runs),
             Act::UntilFault(call) => self.until_fault(rt, client, call)?,
             Act::GiveUp(fault) => return Err(fault),
+            Act::WaitInVain(..) => self.expect(false),
         }
         Ok(())
     }
@@ -180,6 +188,9 @@ impl<'a> Table<'a> {
                 }
                 Act::MakeOutside(call) => {
                     self.expect(matches!(make_in_run(context, call), Err(Fault::Outside)));
+                }
+                Act::WaitInVain(call, fault) => {
+                    self.expect(make_in_run(context, call).err() == Some(fault));
                 }
                 _ => self.expect(false),
             }

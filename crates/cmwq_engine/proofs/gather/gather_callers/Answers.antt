@@ -27,5 +27,5 @@ returns-clause-called g c =
     let s = g.N.HubName.layout in
     let calls = g.C.Crew.calls c.args.crew.now in
     let none : length c.loop.callers.items ≡ 0 = search rules in
-    let all : c.loop.counter ≡ g.C.Crew.many c.args.crew.now s = (let i = c.loop.invariant.0 in let r = c.requires.all in omega (arith, none, i, r)) in
+    let all : c.loop.counter ≡ (g.C.Crew.roles c.args.crew.now s).threads = (let i = c.loop.invariant.0 in let r = c.requires.all in omega (arith, none, i, r)) in
     all_called s calls (length c.loop.callers.items) c.loop.counter _ c.loop.full c.args.monitor.now.history none all c.loop.invariant.4

@@ -1,11 +1,12 @@
 use Rattle.cmwq_engine.specs.Common.{◌≡◌, ◌+◌, ◌++◌, ◌∷◌, [], length, length-append, arith, ap, sym, ◌∙◌, subst, slice_get, Some, View, made_by}
 use Rattle.cmwq_engine.specs.Conduct.{caller_numbered}
+use Rattle.cmwq_engine.specs.Ended.{used}
 use Rattle.cmwq_engine.proofs.Gathering.{last_at, kept_at, one_before, silent_in}
 use Rattle.cmwq_engine.proofs.gather.gather_idle.Goals as goal
 
 pub loop-preserved : goal.loop-preserved
 loop-preserved g c =
-    let first = g.C.Crew.many c.args.crew.now g.N.HubName.layout in
+    let first = used (g.C.Crew.roles c.args.crew.now g.N.HubName.layout) in
     let inv = c.loop.invariant in
     let new = c.pop.new.self.items in
     let one = c.in-Some.caller in

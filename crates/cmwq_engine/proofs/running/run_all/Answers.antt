@@ -1,16 +1,15 @@
-use Rattle.cmwq_engine.specs.Common.{◌≡◌, ℕ, ◌<◌, true, length, get_or, arith, ap, sym, ◌∙◌, subst, slice_get, Some, IfOk, IfErr, breaks_off, slice_get_within, slice_get-get_or, get_or_from_slice_get, Worker, newcomer, worker_by_number, Places}
-use Rattle.cmwq_engine.specs.Ended.{AreNewcomers, CalledAt, FailsAs, WorkedFrom}
+use Rattle.cmwq_engine.specs.Common.{◌≡◌, ℕ, ◌<◌, true, length, get_or, arith, ap, sym, ◌∙◌, subst, slice_get, Some, IfOk, IfErr, breaks_off, slice_get_within, slice_get-get_or, get_or_from_slice_get, Worker, newcomer, worker_by_number, Places, Roster}
+use Rattle.cmwq_engine.specs.Ended.{AreNewcomers, CalledAt, WorkedFrom, used}
 use Rattle.cmwq_engine.proofs.running.run_all.Goals as goal
-
-pub returns-in-Err-clause-fails : goal.returns-in-Err-clause-fails
-returns-in-Err-clause-fails g c = subst (λ (n : ℕ). FailsAs g.N.HubName.layout (g.C.Crew.calls c.args.crew.now) n c.in-Err.fault) c.many_callers-many.ensures c.in-Err.ensures.fails
 
 pub returns-clause-run : goal.returns-clause-run
 returns-clause-run g c =
     let s = g.N.HubName.layout in
     let does = g.W.Work.does c.args.work.now s in
     let calls = g.C.Crew.calls c.args.crew.now in
-    let many = g.C.Crew.many c.args.crew.now s in
+    let roles = g.C.Crew.roles c.args.crew.now s in
+    let threads : c.args.roster.threads ≡ roles.threads = ap (λ (r : Roster). r.threads) c.requires.roster in
+    let lent : c.args.roster.lent ≡ roles.lent = ap (λ (r : Roster). r.lent) c.requires.roster in
     let hs = c.in-Ok.handles.items in
     let rs = c.in-Ok-joined.callers.items in
     let ws = c.in-Ok-start_workers.working.items in
@@ -25,8 +24,13 @@ returns-clause-run g c =
     let got_workers = c.in-Ok-ended.workers.ok in
     let len : length rs ≡ length hs = sym got.0 ∙ joined.len ∙ of_callers.0 in
     let len_workers : length xs ≡ length ws = sym got_workers.0 ∙ ended.len ∙ of_workers.0 in
-    let are_many : length rs ≡ many = len ∙ started.all.1 ∙ c.many_callers-many.ensures in
-    let callers_are : c.start_workers.new.participants.callers ≡ many = working.all.2 ∙ ap (λ (p : Places). p.callers) started.all.0 ∙ started.all.1 ∙ c.many_callers-many.ensures in
+    let are_many : length rs ≡ roles.threads = len ∙ started.all.1 ∙ threads in
+    let lends = c.in-Ok-lend_callers.ensures.all in
+    let callers_are : c.start_workers.new.participants.callers ≡ used roles = (let a = working.all.2 in
+    let b = ap (λ (p : Places). p.callers) lends in
+    let d = ap (λ (p : Places). p.callers) started.all.0 in
+    let e = started.all.1 in
+    omega (arith, a, b, d, e, threads, lent)) in
     record {
       callers = record {
         all = are_many;
@@ -70,10 +74,11 @@ returns-clause-run g c =
           let d = c.in_ok-idle.ensures.participants.1 in
           let e = working.all.1 in
           let f = ap (λ (p : Places). p.workers) started.all.0 in
+          let h = ap (λ (p : Places). p.workers) lends in
           let z = ap (λ (p : Places). p.workers) c.requires.fresh in
           let k = callers_are in
           let l = are_many in
           let w = len_workers in
-          omega (arith, a, b, d, e, f, z, k, l, w));
+          omega (arith, a, b, d, e, f, h, z, k, l, w));
       amount = c.into_rest.ensures.1;
     }

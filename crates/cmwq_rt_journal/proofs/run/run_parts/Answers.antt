@@ -1,6 +1,6 @@
 use Rattle.std.proofs.Common.{ap}
 use Rattle.cmwq_rt_journal.proofs.Kept.{nothing_written}
-use Rattle.cmwq_rt_journal.proofs.Journaling.{fails_silently}
+use Rattle.cmwq_engine.proofs.Outcome.{fails_silently}
 use Rattle.cmwq_rt_journal.proofs.run.run_parts.Goals as goal
 
 pub returns-in-Ok-clause-sink : goal.returns-in-Ok-clause-sink

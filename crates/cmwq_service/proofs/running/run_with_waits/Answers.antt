@@ -1,7 +1,7 @@
 use Rattle.std.proofs.Common.{subst}
 use Rattle.cmwq_model.specs.Prelude.{Layout}
 use Rattle.cmwq_engine.specs.Ended.{IsRest}
-use Rattle.cmwq_service.proofs.running.run.Goals as goal
+use Rattle.cmwq_service.proofs.running.run_with_waits.Goals as goal
 
 pub returns-in-Ok-new-clause-stopped : goal.returns-in-Ok-new-clause-stopped
 returns-in-Ok-new-clause-stopped g c =

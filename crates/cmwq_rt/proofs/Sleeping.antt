@@ -1,0 +1,56 @@
+-- A run that waits.
+use Rattle.cmwq_rt.specs.Common.{◌≡◌, true, false, refl, Result, Ok, Err, IfOk, IsPrefix, Call, Reply, Layout, View, is_caller, Completes}
+use Rattle.cmwq_rt.specs.declared.wait_fault.WaitFault.{WaitFault}
+use Rattle.cmwq_model.specs.declared.call.Call.TheVariants as call
+use Rattle.cmwq_model.specs.Prelude.{is_callers}
+use Rattle.cmwq_monitor.specs.Whole.{is_tick}
+use Rattle.cmwq_rt.specs.Later.{Later}
+use Rattle.cmwq_rt.specs.Running.{MakesOne}
+use Rattle.cmwq_rt.specs.Waiting.{SleepsThrough, is_wait}
+use Rattle.cmwq_rt.proofs.Later.{later_trans, later_made}
+
+-- who may make the call by which a run waits
+pub waits_by_caller : (c : Call) → is_wait c ≡ true → (is_callers c ≡ true) × (is_tick c ≡ false)
+waits_by_caller (call.FlushItem i) e = (refl, refl)
+waits_by_caller (call.FlushDelayed i) e = (refl, refl)
+waits_by_caller (call.CancelSync i) e = (refl, refl)
+waits_by_caller (call.Flush q) e = (refl, refl)
+waits_by_caller (call.Drain q) e = (refl, refl)
+waits_by_caller (call.Queue i q p) e = absurd (cc e)
+waits_by_caller (call.Delay i q p t) e = absurd (cc e)
+waits_by_caller (call.Modify i q p t) e = absurd (cc e)
+waits_by_caller (call.Cancel i) e = absurd (cc e)
+waits_by_caller (call.Tick n) e = absurd (cc e)
+waits_by_caller call.Fire e = absurd (cc e)
+waits_by_caller (call.End t) e = absurd (cc e)
+waits_by_caller call.Take e = absurd (cc e)
+waits_by_caller call.Finish e = absurd (cc e)
+waits_by_caller call.Sleep e = absurd (cc e)
+waits_by_caller call.Wake e = absurd (cc e)
+waits_by_caller call.Retire e = absurd (cc e)
+waits_by_caller (call.SetMax q n) e = absurd (cc e)
+waits_by_caller call.Freeze e = absurd (cc e)
+waits_by_caller call.Thaw e = absurd (cc e)
+waits_by_caller (call.Destroy q) e = absurd (cc e)
+
+pub later_one : (s : Layout) (v w : View) (c : Call) → MakesOne s v c w → Later v w
+later_one s v w c m = later_made s v w c m.0 m.1
+
+pub later_slept : (s : Layout) (v w : View) (c : Call) (r : Reply) → SleepsThrough s v c r w → Later v w
+later_slept s v w c r x = later_trans v x.asleep w (later_one s v x.asleep call.Sleep x.sleeps) (later_one s x.asleep w call.Wake x.wakes)
+
+-- put together of its steps
+pub slept_through : (s : Layout) (v asleep before after w : View) (c : Call) (o : Result Reply WaitFault) → MakesOne s v call.Sleep asleep → is_caller after.who ≡ true → IfOk o (λ r. Completes s before c r after)
+    → IfOk o (λ _. MakesOne s asleep call.Wake w) → IfOk o (λ _. IsPrefix asleep.seen after.seen) → IfOk o (λ _. IsPrefix after.seen w.seen) → IfOk o (λ r. SleepsThrough s v c r w)
+slept_through s v asleep before after w c (Ok r) sleeps caller completes wakes saw_sleep sees = record {
+  asleep = asleep;
+  sleeps = sleeps;
+  before = before;
+  after = after;
+  by_caller = caller;
+  completes = completes;
+  wakes = wakes;
+  saw_sleep = saw_sleep;
+  sees = sees;
+}
+slept_through s v asleep before after w c (Err f) sleeps caller completes wakes saw_sleep sees = tt
