@@ -1,11 +1,16 @@
 -- Actions, one after another.
-use Rattle.cmwq_cmd_run.specs.Common.{◌≡◌, ◌∙◌, ℕ, ◌+◌, ◌<◌, List, [], ◌∷◌, ◌++◌, length, take, get_or, refl, sym, subst, inl, inr, Result, Ok, Err, IfOk, IfErr, Option, None, true, false, is_own, is_workers, Call, Layout, View, Refused, RunFault, Full, fault_after, Action}
+use Rattle.cmwq_cmd_run.specs.Common.{◌≡◌, ◌∙◌, ℕ, ◌+◌, ◌<◌, List, [], ◌∷◌, ◌++◌, length, take, get_or, refl, sym, subst, inl, inr, Result, Ok, Err, IfOk, IfErr, Option, None, true, false, is_own, is_workers, Call, Layout, View, Refused, RunFault, Full, fault_after, has_numbers, Action}
 use Rattle.std.proofs.lemmas.List.{take_more}
 use Rattle.cmwq_model.specs.declared.reply.Reply.{Reply}
 use Rattle.cmwq_model.specs.declared.call.Call.TheVariants as call
 use Rattle.cmwq_monitor.specs.Calls.{Extends}
-use Rattle.cmwq_rt.specs.Waiting.{is_wait}
-use Rattle.cmwq_cmd_run.specs.Interpreted.{Acts, ActInTurn, MakesIfRoom, SleepsOnce}
+use Rattle.std.specs.Prelude.{◌⊎◌}
+use Rattle.cmwq_json_script.specs.declared.action.Action.TheVariants as action
+use Rattle.cmwq_rt.specs.Running.{MakesOne}
+use Rattle.cmwq_rt.specs.Waiting.{HadNoRoom, HasWaited, fault_after_wait, is_refusal, is_wait}
+use Rattle.cmwq_rt.specs.declared.wait_fault.WaitFault.{WaitFault}
+use Rattle.cmwq_rt.specs.declared.wait_fault.WaitFault.TheVariants as waits
+use Rattle.cmwq_cmd_run.specs.Interpreted.{Acts, ActInTurn, MakesIfRoom, SleepsOnce, WaitsIfMay}
 
 -- one action more
 act_more : (s : Layout) (xs : List Action) (a : Action) (v m w : View) → ActInTurn s xs v m → Acts s a m w → ActInTurn s (xs ++ a ∷ []) v w
@@ -37,6 +42,39 @@ pub slept_if : (s : Layout) (v m w : View) (r : Reply) (answer : Result Reply Ru
     → before ≡ None → middle ≡ before → after ≡ fault_after answer middle → IfOk passed (λ _. (after ≡ None) × SleepsOnce s v w)
 slept_if s v m w r answer (Ok u) before middle after asleep made refused full none kept is = slept s v m w r answer before middle after asleep made refused full none kept is
 slept_if s v m w r answer (Err f) before middle after asleep made refused full none kept is = tt
+
+-- what is left of a wait that was made, was refused or had no room, and the run has met no fault
+left_out : (s : Layout) (c : Call) (v w : View) (f : WaitFault) (before after : Option RunFault)
+    → (is_refusal f ≡ true → (w ≡ v) ⊎ MakesOne s v call.Wake w) → (f ≡ waits.Run Full → HadNoRoom s v w) → (is_refusal f ≡ true) ⊎ (f ≡ waits.Run Full)
+    → before ≡ None → after ≡ fault_after_wait (Err f) before → (after ≡ None) × WaitsIfMay s v c w
+left_out s c v w waits.Itself before after refused full passes none is = (is ∙ none, inr (inl (refused refl)))
+left_out s c v w waits.Deadlock before after refused full passes none is = (is ∙ none, inr (inl (refused refl)))
+left_out s c v w waits.NoCaller before after refused full passes none is = (is ∙ none, inr (inl (refused refl)))
+left_out s c v w (waits.Run f) before after refused full (inl no) none is = absurd (cc no)
+left_out s c v w (waits.Run f) before after refused full (inr same) none is =
+    (subst (λ e. after ≡ fault_after_wait (Err e) before) same is ∙ none, inr (inr (full same)))
+
+waits_or_not : (s : Layout) (c : Call) (v w : View) (answer : Result Reply WaitFault) (before after : Option RunFault)
+    → IfOk answer (λ r. HasWaited s v c r w) → IfErr answer (λ f. is_refusal f ≡ true → (w ≡ v) ⊎ MakesOne s v call.Wake w)
+    → IfErr answer (λ f. f ≡ waits.Run Full → HadNoRoom s v w) → IfErr answer (λ f. (is_refusal f ≡ true) ⊎ (f ≡ waits.Run Full))
+    → before ≡ None → after ≡ fault_after_wait answer before → (after ≡ None) × WaitsIfMay s v c w
+waits_or_not s c v w (Ok r) before after waited refused full passes none is = (is ∙ none, inl (r, waited))
+waits_or_not s c v w (Err f) before after waited refused full passes none is = left_out s c v w f before after refused full passes none is
+
+-- an action that waits
+acts_by_wait : (s : Layout) (c : Call) (v w : View) → is_own c ≡ true → has_numbers s c ≡ true → is_workers c ≡ false → WaitsIfMay s v c w
+    → Acts s (action.Call c) v w
+acts_by_wait s c v w own numbers other left = rw own (rw numbers (rw other left))
+
+pub waits_if_may : (s : Layout) (c : Call) (v w : View) (answer : Result Reply WaitFault) (passed : Result (Unit {0}) RunFault)
+    (before after : Option RunFault) → is_own c ≡ true → has_numbers s c ≡ true → is_workers c ≡ false
+    → IfOk answer (λ r. HasWaited s v c r w) → IfErr answer (λ f. is_refusal f ≡ true → (w ≡ v) ⊎ MakesOne s v call.Wake w)
+    → IfErr answer (λ f. f ≡ waits.Run Full → HadNoRoom s v w) → IfOk passed (λ _. IfErr answer (λ f. (is_refusal f ≡ true) ⊎ (f ≡ waits.Run Full)))
+    → before ≡ None → after ≡ fault_after_wait answer before → IfOk passed (λ _. (after ≡ None) × Acts s (action.Call c) v w)
+waits_if_may s c v w answer (Ok u) before after own numbers other waited refused full passes none is =
+    let left = waits_or_not s c v w answer before after waited refused full passes none is in
+    (left.0, acts_by_wait s c v w own numbers other left.1)
+waits_if_may s c v w answer (Err f) before after own numbers other waited refused full passes none is = tt
 
 -- a call that items make and workers don't is one by which a run waits
 pub own_waits : (c : Call) → is_own c ≡ true → is_workers c ≡ false → is_wait c ≡ true

@@ -8,3 +8,4 @@ pub mod Stepped
 pub mod Timely
 pub mod Shapes
 pub mod Checked
+pub mod Held

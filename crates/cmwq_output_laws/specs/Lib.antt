@@ -3,3 +3,4 @@ pub mod SleepLaws
 pub mod LevelLaws
 pub mod Common
 pub mod Checks
+pub mod WaitLaws

@@ -1,11 +1,12 @@
-//! Laws of what the program writes, which no running code needs: of the shapes of a history that charts and traces show, over the
-//! definitions alone, and that what one subcommand writes another takes.
+//! Laws that no running code needs: of the shapes of a history that charts and traces show, over the definitions alone; that what one subcommand
+//! writes another takes; and that waits which are refused would never have ended.
 #![tactic(auto)]
 
 mod bars;
 mod checks;
 mod levels;
 mod sleeps;
+mod waits;
 
 pub use bars::{bars_are_of_starts, bars_of_a_lane_are_apart, starts_have_one_bar};
 pub use checks::{
@@ -14,3 +15,4 @@ pub use checks::{
 };
 pub use levels::{levels_are_alone, levels_are_true, places_have_levels, used_places_are_shown};
 pub use sleeps::sleepers_are_asleep;
+pub use waits::{circles_never_end, runs_hold_waits};
