@@ -1,6 +1,6 @@
 //! Why a wait for a run that waits for it would never end, in every history.
 
-ghost use Rattle.cmwq_wait_laws.specs.WaitLaws.{CirclesNeverEnd, RunsHoldWaits};
+ghost use Rattle.cmwq_output_laws.specs.WaitLaws.{CirclesNeverEnd, RunsHoldWaits};
 
 /// A wait does not end while a run goes on that it is for. So a run that waited for its own end would never go on.
 pub fn runs_hold_waits()
