@@ -50,7 +50,7 @@ left_out : (s : Layout) (c : Call) (v w : View) (f : WaitFault) (before after : 
 left_out s c v w waits.Itself before after refused full passes none is = (is ∙ none, inr (inl (refused refl)))
 left_out s c v w waits.Deadlock before after refused full passes none is = (is ∙ none, inr (inl (refused refl)))
 left_out s c v w waits.NoCaller before after refused full passes none is = (is ∙ none, inr (inl (refused refl)))
-left_out s c v w (waits.Run f) before after refused full (inl no) none is = absurd (cc no)
+left_out s c v w (waits.Run f) before after refused full (inl never) none is = absurd (cc never)
 left_out s c v w (waits.Run f) before after refused full (inr same) none is =
     (subst (λ e. after ≡ fault_after_wait (Err e) before) same is ∙ none, inr (inr (full same)))
 
