@@ -362,18 +362,37 @@ fn queue_at_random(words: &mut Pcg32) -> QueueShape {
     }
 }
 
-/// Plays a hub of one to four CPUs, with one to eight workers in each pool, and returns how many waits ended, and how
-/// many were refused as deadlocks.
+/// Plays a hub whose caller has this role and whose items wait so, and returns how many waits ended, and how many were
+/// refused as deadlocks.
+fn play_role<R: Threads + Wait + Clock + Abort + AllocGlobal + Sync>(
+    rt: &R,
+    counts: Counts,
+    queues: &[QueueShape],
+    role: Role,
+    waits: Waits,
+) -> (u64, u64) {
+    let roles = [role];
+    let deeds = [Deed::WaitAtRandom(waits)];
+    let mut scene = Scene::new(&roles, &deeds, Fate::Kept);
+    scene.lent = counts.callers.saturating_sub(1);
+    play_well(rt, counts, queues, &scene);
+    (
+        scene.waits.ended.load(Ordering::SeqCst),
+        scene.waits.refused[1].load(Ordering::SeqCst),
+    )
+}
+
+/// The same of a hub of one to four CPUs, with one to eight workers in each pool, and with one caller and one to eight
+/// that are lent.
 fn play_at_random<R: Threads + Wait + Clock + Abort + AllocGlobal + Sync>(
     rt: &R,
     seed: u64,
 ) -> (u64, u64) {
     let mut words = Pcg32::new(seed, 3);
-    let lent = below(words.next_word(), 8).saturating_add(1);
     let counts = Counts {
+        callers: below(words.next_word(), 8).saturating_add(2),
         cpus: below(words.next_word(), 4).saturating_add(1),
         workers: below(words.next_word(), 8).saturating_add(1),
-        callers: lent.saturating_add(1),
         items: 2 + u16::from(below(words.next_word(), 8)),
         room: 5_000,
     };
@@ -383,23 +402,16 @@ fn play_at_random<R: Threads + Wait + Clock + Abort + AllocGlobal + Sync>(
         queue_at_random(&mut words),
     ];
     let many = usize::from(below(words.next_word(), 3));
+    let last = [Step::Scatter { seed, turns: 4 }];
     let role = Role {
-        last: &[Step::Scatter { seed, turns: 4 }],
+        last: &last,
         ..IDLE
     };
     let waits = Waits {
         seed,
         drains: words.next_word() % 2 == 0,
     };
-    let roles = [role];
-    let deeds = [Deed::WaitAtRandom(waits)];
-    let mut scene = Scene::new(&roles, &deeds, Fate::Kept);
-    scene.lent = lent;
-    play_well(rt, counts, queues.get(many..).unwrap_or(&[]), &scene);
-    (
-        scene.waits.ended.load(Ordering::SeqCst),
-        scene.waits.refused[1].load(Ordering::SeqCst),
-    )
+    play_role(rt, counts, queues.get(many..).unwrap_or(&[]), role, waits)
 }
 
 #[test]
