@@ -258,7 +258,7 @@ static inline uint32_t cmwq_hub_refusal_(struct cmwq_hub *hub, struct cmwq_run *
                 goes_on = true;
             }
     }
-    why = own->stuck ? CMWQ_DEADLOCK : CMWQ_OK;
+    why = own->stuck ? (uint32_t)CMWQ_DEADLOCK : (uint32_t)CMWQ_OK;
     own->stuck = false;
     return why;
 }

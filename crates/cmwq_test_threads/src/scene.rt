@@ -122,6 +122,12 @@ impl WaitCounts {
         };
         count.fetch_add(1, Ordering::SeqCst);
     }
+
+    /// How many waits were refused as deadlocks.
+    pub(crate) fn deadlocks(&self) -> u64 {
+        let count = &self.refused[1];
+        count.load(Ordering::SeqCst)
+    }
 }
 
 /// What happens on a hub. Callers for whom there is no role have the last one. Items for which there is no deed begin

@@ -378,7 +378,7 @@ fn play_role<R: Threads + Wait + Clock + Abort + AllocGlobal + Sync>(
     play_well(rt, counts, queues, &scene);
     (
         scene.waits.ended.load(Ordering::SeqCst),
-        scene.waits.refused[1].load(Ordering::SeqCst),
+        scene.waits.deadlocks(),
     )
 }
 
