@@ -79,11 +79,13 @@ const WRONG_USES: [(&[&str], &str); 8] = [
     ),
     (
         &["cmwq", "step", "--front"],
-        "error: unexpected argument '--front' found\n\nUsage: cmwq step [OPTIONS] [FILE]\n",
+        "error: unexpected argument '--front' found\n\n  tip: to pass '--front' as a value, use '-- --front'\n\n\
+        Usage: cmwq step [OPTIONS] [FILE]\n",
     ),
     (
         &["cmwq", "check", "--live"],
-        "error: unexpected argument '--live' found\n\nUsage: cmwq check [OPTIONS] [FILE]\n",
+        "error: unexpected argument '--live' found\n\n  tip: to pass '--live' as a value, use '-- --live'\n\n\
+        Usage: cmwq check [OPTIONS] [FILE]\n",
     ),
     (
         &["cmwq", "check", "--front", "--front"],
