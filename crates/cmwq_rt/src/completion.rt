@@ -3,10 +3,11 @@ ghost use Rattle.std.specs.Prelude.{◌≡◌, IfErr, None};
 ghost use Rattle.cmwq_monitor.specs.declared.fault.RunFault.TheVariants as faults;
 
 use crate::hub::Hub;
-use cmwq_monitor::RunFault;
+use cmwq_monitor::{Monitor, RunFault};
 use cmwq_publish::HubName;
+use cmwq_turns::Turnstile;
 use std::sync::atomic::{AtomicU32, Ordering};
-use std::sync::{CondvarTimeouts, Wait};
+use std::sync::{CondvarTimeouts, MutexGuard, Wait};
 use std::time::{Clock, Duration};
 
 /// So many times it is completed for good.
@@ -108,27 +109,49 @@ impl<N: HubName> Hub<N> {
     ) -> Result<bool, RunFault>
         ensures { IfErr result (λ f. f ≡ faults.NoMemory None) }
     {
-        let mut monitor = self.lock(rt);
-        if !completion.is_done() && !monitor.has_failed() {
-            monitor = match &self.turns {
-                Some(turns) => self.sleep_in_turn_within(rt, turns, monitor, time),
-                None => {
-                    let (monitor, _) = self.completed.wait_timeout_while(
-                        rt,
-                        monitor,
-                        time,
-                        |monitor| !completion.is_done() && !monitor.has_failed(),
-                    );
-                    monitor
-                }
-            };
-        }
-        let is_done = completion.take();
-        let has_failed = monitor.has_failed();
+        let monitor = match &self.turns {
+            Some(turns) => self.wait_in_turn_within(rt, turns, completion, time),
+            None => self.wait_on_thread_within(rt, completion, time),
+        };
+        let (is_done, has_failed) = (completion.take(), monitor.has_failed());
         self.leave(rt, monitor);
         if !is_done && has_failed {
             return Err(FAILED);
         }
         Ok(is_done)
+    }
+
+    fn wait_on_thread_within<'a, R: Wait + Clock>(
+        &'a self,
+        rt: &R,
+        completion: &Completion,
+        time: Duration,
+    ) -> MutexGuard<'a, Monitor<N>> {
+        let (monitor, _) = self.completed.wait_timeout_while(
+            rt,
+            self.lock(rt),
+            time,
+            |monitor| !completion.is_done() && !monitor.has_failed(),
+        );
+        monitor
+    }
+
+    fn wait_in_turn_within<'a, R: Wait>(
+        &'a self,
+        rt: &R,
+        turns: &Turnstile,
+        completion: &Completion,
+        time: Duration,
+    ) -> MutexGuard<'a, Monitor<N>> {
+        let until = turns.time_after(rt, time);
+        let mut monitor = self.lock(rt);
+        let mut is_past = false;
+        for _ in rt.forever() {
+            if is_past || completion.is_done() || monitor.has_failed() {
+                return monitor;
+            }
+            (monitor, is_past) = self.sleep_in_turn_until(rt, turns, monitor, until);
+        }
+        unreachable!()
     }
 }

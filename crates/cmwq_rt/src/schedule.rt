@@ -7,7 +7,6 @@ use cmwq_monitor::{Monitor, Wakes};
 use cmwq_publish::HubName;
 use cmwq_turns::{Awaited, Turnstile};
 use std::sync::{MutexGuard, Wait};
-use std::time::Duration;
 
 /// What a caller sleeps for whose call gave this ticket.
 pub(crate) fn awaited_end(who: Who, call: Call, ticket: Number) -> Awaited {
@@ -185,17 +184,17 @@ impl<N: HubName> Hub<N> {
         }
     }
 
-    /// In a trial, sleeps until something is completed, the trial has stopped, or so long has gone by by its clock.
-    pub(crate) fn sleep_in_turn_within<'a, R: Wait>(
+    /// In a trial, sleeps until something is completed, and returns whether it is this time by the trial's clock.
+    pub(crate) fn sleep_in_turn_until<'a, R: Wait>(
         &'a self,
         rt: &R,
         turns: &Turnstile,
         monitor: MutexGuard<'a, Monitor<N>>,
-        time: Duration,
-    ) -> MutexGuard<'a, Monitor<N>> {
+        until: u64,
+    ) -> (MutexGuard<'a, Monitor<N>>, bool) {
         self.leave(rt, monitor);
-        turns.sleep_within(rt, Awaited::Completion, time);
-        self.lock_in_turn(rt, turns)
+        let is_past = turns.sleep_until(rt, Awaited::Completion, until);
+        (self.lock_in_turn(rt, turns), is_past)
     }
 
     /// In a trial, the one that closes the hub comes, and waits for its turn. Returns whether it has one.

@@ -5,6 +5,8 @@
 #[cfg(test)]
 mod common;
 #[cfg(test)]
+mod completions;
+#[cfg(test)]
 mod frozen;
 #[cfg(test)]
 mod hour;

@@ -115,6 +115,7 @@ pub(crate) fn replay(alloc: Global, shape: &Shape, entries: &[Entry]) -> Option<
 }
 
 /// What a history says of those who take part.
+#[derive(Drop)]
 pub(crate) struct Scene<'a> {
     pub alloc: Global,
     pub shape: &'a Shape,

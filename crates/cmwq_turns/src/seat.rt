@@ -33,7 +33,7 @@ impl<'a, R: Wait> Clock for Seat<'a, R> {
     }
 
     fn sleep(&self, duration: Duration) {
-        self.turnstile
-            .sleep_within(self.rt, Awaited::Time, duration);
+        let until = self.turnstile.time_after(self.rt, duration);
+        self.turnstile.sleep_until(self.rt, Awaited::Time, until);
     }
 }

@@ -151,15 +151,11 @@ impl Turns {
         self.next()
     }
 
-    /// The one that has the turn sleeps, unless the trial has stopped.
-    pub(crate) fn sleep(&mut self, awaited: Awaited, time: Option<u64>) -> Option<usize> {
+    /// The one that has the turn sleeps, until this time at the latest, unless the trial has stopped.
+    pub(crate) fn sleep(&mut self, awaited: Awaited, until: Option<u64>) -> Option<usize> {
         if self.has_stopped {
             return self.ask();
         }
-        let until = match time {
-            Some(time) => Some(self.now.saturating_add(time)),
-            None => None,
-        };
         let place = self.whose;
         self.stand(place, Standing::Sleeps { awaited, until });
         self.next()
@@ -382,6 +378,10 @@ impl Turns {
     /// The time, which goes on by a microsecond at each look, so that who looks until it has come to its end does so.
     pub(crate) fn look_at_clock(&mut self) -> u64 {
         self.now = self.now.saturating_add(1_000);
+        self.now
+    }
+
+    pub(crate) fn now(&self) -> u64 {
         self.now
     }
 

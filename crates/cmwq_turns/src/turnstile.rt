@@ -136,21 +136,30 @@ impl Turnstile {
 
     /// Sleeps until it is woken, and has the turn again.
     pub fn sleep<R: Wait>(&self, rt: &R, awaited: Awaited) {
-        self.sleep_until(rt, awaited, None);
+        self.sleep_to(rt, awaited, None);
     }
 
-    /// Sleeps until it is woken or so long has gone by, and it has the turn again.
-    pub fn sleep_within<R: Wait>(&self, rt: &R, awaited: Awaited, time: Duration) {
-        self.sleep_until(rt, awaited, Some(nanoseconds(time)));
+    /// The time that it is after so long, in nanoseconds.
+    pub fn time_after<R: Wait>(&self, rt: &R, time: Duration) -> u64 {
+        let turns = self.turns.lock(rt);
+        turns.now().saturating_add(nanoseconds(time))
     }
 
-    fn sleep_until<R: Wait>(&self, rt: &R, awaited: Awaited, time: Option<u64>) {
+    /// Sleeps until it is woken or this time has come, and it has the turn again. Returns whether the time has come, or
+    /// all has stopped.
+    pub fn sleep_until<R: Wait>(&self, rt: &R, awaited: Awaited, until: u64) -> bool {
+        self.sleep_to(rt, awaited, Some(until));
+        let turns = self.turns.lock(rt);
+        turns.has_stopped() || turns.now() >= until
+    }
+
+    fn sleep_to<R: Wait>(&self, rt: &R, awaited: Awaited, until: Option<u64>) {
         if self.is_open() {
             return;
         }
         let mut turns = self.turns.lock(rt);
         let own = turns.whose();
-        let next = turns.sleep(awaited, time);
+        let next = turns.sleep(awaited, until);
         self.note(&*turns);
         drop(turns);
         self.pass(rt, own, next);
