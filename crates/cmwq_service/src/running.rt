@@ -124,10 +124,7 @@ pub fn run_with_waits<S: Service + Send + Sync, R: Threads + Wait + Clock + Sync
         Err(fault) => return Err(stopped_at_first(alloc, fault)),
     };
     match HubParts::new(rt, alloc, shape) {
-        Ok(parts) => {
-            let (rest, outcome) = run_parts(rt, alloc, parts, &serving);
-            give_all::<S>(alloc, rest, outcome)
-        }
+        Ok(parts) => run_served(rt, alloc, parts, &serving),
         Err(fault) => Err(stopped_at_first(alloc, Fault::Run { fault })),
     }
 }
