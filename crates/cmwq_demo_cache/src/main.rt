@@ -6,11 +6,15 @@
 //! The program prints what holds of each run, in any order of the threads: all pages reached their devices.
 #![tactic(auto)]
 
+#[cfg(test)]
+mod tests;
+
 use anyhow::Result;
 use cmwq_service::{
-    Client, Context, CpuId, Fault, ItemId, PLAIN, QueueId, QueueShape, Service, ShapeBuilder,
-    run_dropping_with_waits,
+    Client, Context, CpuId, Fault, ItemId, PLAIN, QueueId, QueueShape, Service, Shape,
+    ShapeBuilder, run_dropping_with_waits,
 };
+use std::alloc::Global;
 use std::sync::Wait;
 use std::sync::atomic::{AtomicU32, Ordering};
 use std::time::Clock;
@@ -37,6 +41,9 @@ const PAGES: u32 = 60;
 const SYNC: u32 = 20;
 
 const MANY: u32 = 16;
+
+/// The service stops by it if a page is not on its device at the end.
+const LOST: Fault = Fault::Own(1);
 
 /// A device: its pages that are dirty in memory, and those that it has. Here they are only counted.
 #[derive(Default, Drop)]
@@ -136,12 +143,16 @@ impl Service for Cache {
             client.drain(queue)?;
             client.destroy(queue)?;
         }
+        for device in [&self.disk, &self.tape] {
+            if device.stored.load(Ordering::SeqCst) != PAGES {
+                return Err(LOST);
+            }
+        }
         Ok(())
     }
 }
 
-fn main(rt: HostRuntime) -> Result<()> {
-    let alloc = rt.alloc();
+fn shape(alloc: Global) -> Result<Shape> {
     let shape = ShapeBuilder::new(alloc)
         .workers(4)
         .callers_and_waits(2, WAITS)
@@ -149,6 +160,12 @@ fn main(rt: HostRuntime) -> Result<()> {
         .queue(QUEUE)?
         .queue(QUEUE)?
         .build()?;
+    Ok(shape)
+}
+
+fn main(rt: HostRuntime) -> Result<()> {
+    let alloc = rt.alloc();
+    let shape = shape(alloc)?;
     let cache = Cache::default();
     // the history would say which call was answered what, and in which order; here nobody looks at it
     run_dropping_with_waits(&rt, alloc, &shape, &cache, WAITS)?;

@@ -5,12 +5,17 @@
 //! themselves. A caller queues the batch, and waits until each job is done or given up.
 #![tactic(auto)]
 
+#[cfg(test)]
+mod tests;
+
 use anyhow::Result;
 use cmwq_service::{
-    Client, Context, CpuId, Fault, ItemId, PLAIN, QueueId, QueueShape, Service, ShapeBuilder, run,
+    Client, Completion, Context, CpuId, Fault, ItemId, PLAIN, QueueId, QueueShape, Service, Shape,
+    ShapeBuilder, run,
 };
+use std::alloc::Global;
+use std::sync::Wait;
 use std::sync::atomic::{AtomicU32, Ordering};
-use std::sync::{Condvar, Mutex, Wait};
 use std::thread;
 use std::time::{Clock, Duration};
 
@@ -36,17 +41,19 @@ const COUNT: u16 = 6;
 
 const MOST_TRIES: u32 = 4;
 
+/// The service stops by it if a job is left at the end.
+const UNSETTLED: Fault = Fault::Own(1);
+
 /// The item behind those of the jobs: it queues them all.
 const BATCH: ItemId = ItemId(COUNT);
 
-/// What all threads share: how often each job was tried, how many were done and given up, and how many of them are left.
+/// What all threads share: how often each job was tried, how many were done and given up, and what is completed once for each.
 #[derive(Drop)]
 struct Jobs {
     tries: [AtomicU32; 6],
     done: AtomicU32,
     given_up: AtomicU32,
-    left: Mutex<u16>,
-    settled: Condvar,
+    settled: Completion,
 }
 
 impl Jobs {
@@ -55,18 +62,20 @@ impl Jobs {
             tries: Default::default(),
             done: AtomicU32::new(0),
             given_up: AtomicU32::new(0),
-            left: Mutex::new(COUNT),
-            settled: Condvar::new(),
+            settled: Completion::new(),
         }
     }
 
     /// A job is settled for good.
-    fn settle<R: Wait>(&self, rt: &R, count: &AtomicU32) {
+    fn settle<C: Context>(&self, context: &C, count: &AtomicU32) {
         count.fetch_add(1, Ordering::SeqCst);
-        let mut left = self.left.lock(rt);
-        *left = left.saturating_sub(1);
-        drop(left);
-        self.settled.notify_all();
+        context.complete(&self.settled);
+    }
+
+    /// How many jobs are done or given up.
+    fn count_settled(&self) -> u32 {
+        let done = self.done.load(Ordering::SeqCst);
+        done.saturating_add(self.given_up.load(Ordering::SeqCst))
     }
 
     /// Tries a job. While it waits for an answer from elsewhere its run sleeps, so that another one may start on the same CPU. A delay of
@@ -86,12 +95,12 @@ impl Jobs {
         context.wake()?;
         let before = tries.fetch_add(1, Ordering::SeqCst);
         if before >= *failures {
-            self.settle(rt, &self.done);
+            self.settle(context, &self.done);
         } else if before + 1 >= MOST_TRIES {
-            self.settle(rt, &self.given_up);
+            self.settle(context, &self.given_up);
         } else if context.delay(item, JOBS, CPU, 1 << before).is_err() {
             // there is no room for a further try
-            self.settle(rt, &self.given_up);
+            self.settle(context, &self.given_up);
         }
         Ok(())
     }
@@ -117,14 +126,24 @@ impl Service for Jobs {
     /// Queues the batch, and waits until no job is left.
     fn call<R: Wait + Clock, C: Client>(
         &self,
-        rt: &R,
+        _rt: &R,
         _place: u8,
         client: &mut C,
     ) -> Result<(), Fault> {
         client.queue(BATCH, JOBS, CPU)?;
-        let left = self.left.lock(rt);
-        let _none = self.settled.wait_while(rt, left, |left| *left > 0);
+        for _ in 0..COUNT {
+            client.wait_for(&self.settled)?;
+        }
         Ok(())
+    }
+
+    /// Each job is settled.
+    fn end<R: Wait + Clock, C: Client>(&self, _rt: &R, _client: &mut C) -> Result<(), Fault> {
+        if self.count_settled() == u32::from(COUNT) {
+            Ok(())
+        } else {
+            Err(UNSETTLED)
+        }
     }
 
     /// The clock: a tick each millisecond.
@@ -133,14 +152,19 @@ impl Service for Jobs {
     }
 }
 
-fn main(rt: HostRuntime) -> Result<()> {
-    let alloc = rt.alloc();
+fn shape(alloc: Global) -> Result<Shape> {
     let shape = ShapeBuilder::new(alloc)
         .workers(WORKERS)
         .callers(1)
         .items(COUNT + 1)
         .queue(QUEUE)?
         .build()?;
+    Ok(shape)
+}
+
+fn main(rt: HostRuntime) -> Result<()> {
+    let alloc = rt.alloc();
+    let shape = shape(alloc)?;
     let jobs = Jobs::new();
     let _history = run(&rt, alloc, &shape, &jobs)?;
     let mut tries = 0u32;

@@ -5,11 +5,15 @@
 //! each run, whatever the threads' order: all lines went through both items.
 #![tactic(auto)]
 
+#[cfg(test)]
+mod tests;
+
 use anyhow::{Result, ensure};
 use cmwq_service::{
-    Client, Context, CpuId, Fault, ItemId, PLAIN, QueueId, QueueShape, Service, ShapeBuilder,
-    all_fit, check, run,
+    Client, Context, CpuId, Fault, ItemId, PLAIN, QueueId, QueueShape, Service, Shape,
+    ShapeBuilder, all_fit, check, run,
 };
+use std::alloc::Global;
 use std::sync::Wait;
 use std::sync::atomic::{AtomicU32, Ordering};
 use std::time::Clock;
@@ -38,6 +42,12 @@ const CPU: CpuId = CpuId(0);
 const WRITERS: u8 = 2;
 
 const LINES: u32 = 100;
+
+/// How many all of them gather.
+const GATHERED: u32 = WRITERS as u32 * LINES;
+
+/// The service stops by it if a line is not in a closed file at the end.
+const LOST: Fault = Fault::Own(1);
 
 /// For how many ticks no line comes before the lines are written.
 const QUIET: u32 = 3;
@@ -106,13 +116,15 @@ impl Service for Log {
             client.drain(queue)?;
             client.destroy(queue)?;
         }
-        Ok(())
+        if self.closed.load(Ordering::SeqCst) == GATHERED {
+            Ok(())
+        } else {
+            Err(LOST)
+        }
     }
 }
 
-/// A fault, or want of memory or of a thread, is told on standard error, with status 1.
-fn main(rt: HostRuntime) -> Result<()> {
-    let alloc = rt.alloc();
+fn shape(alloc: Global) -> Result<Shape> {
     let shape = ShapeBuilder::new(alloc)
         .workers(2)
         .callers(WRITERS)
@@ -120,6 +132,13 @@ fn main(rt: HostRuntime) -> Result<()> {
         .queue(PLAIN)?
         .queue(INTENSIVE)?
         .build()?;
+    Ok(shape)
+}
+
+/// A fault, or want of memory or of a thread, is told on standard error, with status 1.
+fn main(rt: HostRuntime) -> Result<()> {
+    let alloc = rt.alloc();
+    let shape = shape(alloc)?;
     let log = Log::default();
     let history = run(&rt, alloc, &shape, &log)?;
     // `run` promises a legal history; `check` judges it anew, by other code
@@ -127,9 +146,8 @@ fn main(rt: HostRuntime) -> Result<()> {
     let fits = entries.len() <= 1_000_000 && all_fit(&shape, entries);
     let is_legal = fits && check(alloc, &shape, entries)?.is_ok();
     ensure!(is_legal, "an illegal history");
-    let gathered = u32::from(WRITERS) * LINES;
     let closed = log.closed.load(Ordering::SeqCst);
-    println!(rt; "lines gathered: {gathered}")?;
+    println!(rt; "lines gathered: {GATHERED}")?;
     println!(rt; "lines in closed files: {closed}")?;
     println!(rt; "the history is legal")?;
     Ok(())

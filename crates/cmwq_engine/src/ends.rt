@@ -6,7 +6,7 @@ ghost use Rattle.cmwq_engine.specs.Conduct.{caller_numbered};
 ghost use Rattle.cmwq_engine.specs.Ended.{CalledAt, WorkedFrom};
 
 use crate::crew::Crew;
-use cmwq_rt::{Caller, Hub, HubName, Lent, RunFault, Work, Worker};
+use cmwq_rt::{Caller, Hub, HubName, Lent, RunFault, Work, Worker, turns};
 use std::marker::PhantomData;
 use std::snapshot::Snapshot;
 use std::sync::Wait;
@@ -80,6 +80,13 @@ pub(crate) fn stop_at<T, N: HubName, C: Crew, R: Wait>(
     }
 }
 
+/// Where threads could not be started, or not be joined, nobody waits for a turn any more.
+pub(crate) fn open_at<T, N: HubName, R: Wait>(rt: &R, hub: &Hub<N>, ended: &Result<T, RunFault>) {
+    if ended.is_err() {
+        turns::open(rt, hub);
+    }
+}
+
 /// What a caller's thread runs.
 pub(crate) fn call_all<N: HubName, C: Crew, R: Wait>(
     rt: &R,
@@ -94,8 +101,10 @@ pub(crate) fn call_all<N: HubName, C: Crew, R: Wait>(
     ensures called { IfOk result.outcome (λ full. CalledAt N.layout (C.calls crew.now) number full result.caller) }
     ensures fault { IfErr result.outcome (λ f. breaks_off f ≡ true) }
 {
+    turns::caller_comes(rt, hub, &caller);
     let (caller, outcome) = crew.call(rt, hub, caller, number);
     stop_at(rt, hub, crew, &outcome);
+    turns::goes(rt, hub);
     CallerEnd { caller, outcome }
 }
 
@@ -112,7 +121,9 @@ pub(crate) fn work_all<'a, N: HubName, C: Crew, W: Work, R: Wait>(
     ensures fault { IfErr result.outcome (λ f. breaks_off f ≡ true) }
 {
     let mut worker = worker;
+    turns::worker_comes(rt, hub, &worker);
     let outcome = hub.work_lent(rt, &mut worker, work, lent);
     stop_at(rt, hub, crew, &outcome);
+    turns::goes(rt, hub);
     WorkerEnd { worker, outcome }
 }

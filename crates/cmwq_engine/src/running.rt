@@ -4,7 +4,7 @@ ghost use Rattle.cmwq_rt.specs.Places.{all_free, shares};
 ghost use Rattle.cmwq_engine.specs.Ended.{EndsAll, FailsAs, HaveEnded, IsRest, IsRestOfLeft, is_silent};
 
 use crate::crew::{Crew, Roster};
-use crate::ends::stop_at;
+use crate::ends::{open_at, stop_at};
 use crate::gather::{Ends, Tally, gather};
 use crate::start::{idle_callers, lend_callers, start_callers, start_workers};
 use cmwq_monitor::Rest;
@@ -118,6 +118,7 @@ fn run_or_stop<
         crew,
         work,
     );
+    open_at(rt, hub, &ends);
     stop_at(rt, hub, crew, &ends);
     ends
 }

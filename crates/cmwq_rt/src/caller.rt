@@ -274,7 +274,7 @@ impl<N: HubName> Caller<N> {
         ensures broke { IfErr result (λ f. BrokeOff N.layout self.old call f self.new) }
     {
         let (monitor, answer) = self.make_locked(rt, hub, hub.lock(rt), call);
-        hub.leave(monitor);
+        hub.leave(rt, monitor);
         answer
     }
 

@@ -55,14 +55,14 @@ impl<N: HubName> Caller<N> {
                 Ok(_) => {}
                 Err(fault) => {
                     if !is_full(fault) {
-                        hub.leave(monitor);
+                        hub.leave(rt, monitor);
                         return Err(fault);
                     }
                     full += 1;
                 }
             }
         }
-        hub.leave(monitor);
+        hub.leave(rt, monitor);
         Ok((self.serial() - first, full))
     }
 }

@@ -16,20 +16,26 @@ ghost use Rattle.cmwq_rt.specs.Ending.{EndsAs, OneIsStranger};
 use crate::caller::Caller;
 use crate::condvars::Condvars;
 use crate::parts::HubParts;
+use crate::schedule::awaited_end;
 use crate::worker::Worker;
-use cmwq_model::{Call, Entry, ItemId, Number, Reply, Shape, Who};
-use cmwq_monitor::{Journal, MOST_FIRES, Monitor, Participant, Rest, RunFault, Wakes};
+use cmwq_model::{Call, Entry, ItemId, Number, Reply, Shape};
+use cmwq_monitor::{Journal, MOST_FIRES, Monitor, Participant, Rest, RunFault};
 use cmwq_publish::HubName;
-use std::sync::{Condvar, CondvarTimeouts, Mutex, MutexGuard, Wait};
+use cmwq_turns::{Awaited, Turnstile};
+use std::alloc::Global;
+use std::sync::{Arc, Condvar, CondvarTimeouts, Mutex, MutexGuard, Wait};
 use std::time::{Clock, Duration};
 
 /// The runtime that threads share. Its callers and workers carry its name, so that none of them is taken for another hub's.
 pub struct Hub<N: HubName> {
-    monitor: Mutex<Monitor<N>>,
-    condvars: Condvars,
-    journal: Condvar,
+    pub(crate) monitor: Mutex<Monitor<N>>,
+    pub(crate) condvars: Condvars,
+    pub(crate) journal: Condvar,
+    pub(crate) completed: Condvar,
+    /// In a trial, where threads take turns.
+    pub(crate) turns: Option<Arc<Turnstile, Global>>,
     shape: Shape,
-    is_dropping: bool,
+    pub(crate) is_dropping: bool,
     ghost shape_is: { shape ≡ N.layout },
 }
 
@@ -37,6 +43,7 @@ impl<N: HubName> Hub<N> {
     pub(crate) fn new(
         monitor: Monitor<N>,
         condvars: Condvars,
+        turns: Option<Arc<Turnstile, Global>>,
         shape: Shape,
         is_dropping: bool,
     ) -> Hub<N>
@@ -46,6 +53,8 @@ impl<N: HubName> Hub<N> {
             monitor: Mutex::new(monitor),
             condvars,
             journal: Condvar::new(),
+            completed: Condvar::new(),
+            turns,
             shape,
             is_dropping,
         }
@@ -61,9 +70,13 @@ impl<N: HubName> Hub<N> {
     /// Callers make no calls from now on: each answers `Closed`. Calls that wait go on to their end, and workers go on until no active
     /// queueing is open.
     pub fn close<R: Wait>(&self, rt: &R) {
+        let has_turn = self.comes_to_close(rt);
         let mut monitor = self.monitor.lock(rt);
         monitor.close();
-        self.leave(monitor);
+        self.leave(rt, monitor);
+        if has_turn {
+            self.goes(rt);
+        }
     }
 
     /// Nobody makes a call from now on: each answers `NoMemory`, and so do those that wait. So ends the journal of a hub whose callers and
@@ -71,91 +84,13 @@ impl<N: HubName> Hub<N> {
     pub fn fail<R: Wait>(&self, rt: &R) {
         let mut monitor = self.monitor.lock(rt);
         monitor.fail();
-        self.leave(monitor);
-    }
-
-    pub(crate) fn lock<R: Wait>(&self, rt: &R) -> MutexGuard<Monitor<N>> {
-        self.monitor.lock(rt)
-    }
-
-    /// Lets the lock go, and then wakes those who can go on after what was done under it.
-    pub(crate) fn leave(&self, mut monitor: MutexGuard<Monitor<N>>) {
-        let wakes = monitor.wakes();
-        let is_wanted = monitor.wants_journal();
-        MutexGuard::unlock(monitor);
-        self.notify(wakes);
-        if is_wanted {
-            self.journal.notify_all();
-        }
-    }
-
-    /// Wakes whom the monitor named, behind the lock, so that nobody wakes only to wait for it.
-    fn notify(&self, wakes: Option<Wakes>) {
-        if let Some(wakes) = wakes {
-            self.condvars.notify(&wakes);
-        }
-    }
-
-    /// Spins for a while or sleeps, until it is woken, with the lock let go meanwhile. What it waits for is looked at before it sleeps: who
-    /// has spun in vain sleeps the next time.
-    fn sleep<'a, R: Wait>(
-        &'a self,
-        rt: &R,
-        monitor: MutexGuard<'a, Monitor<N>>,
-        who: Who,
-    ) -> MutexGuard<'a, Monitor<N>> {
-        let mut monitor = match self.condvars.to_spin(who) {
-            Some(seen) => {
-                self.leave(monitor);
-                self.condvars.spin(who, seen);
-                self.lock(rt)
-            }
-            None => self.sleep_at_once(rt, monitor, who),
-        };
-        monitor.awakes(who);
-        monitor
-    }
-
-    /// Sleeps until its condvar is notified, with the lock let go meanwhile.
-    fn sleep_at_once<'a, R: Wait>(
-        &self,
-        rt: &R,
-        mut monitor: MutexGuard<'a, Monitor<N>>,
-        who: Who,
-    ) -> MutexGuard<'a, Monitor<N>> {
-        self.notify(monitor.wakes());
-        if monitor.wants_journal() {
-            self.journal.notify_all();
-        }
-        self.condvars.wait(rt, monitor, who)
+        self.leave(rt, monitor);
+        self.stop_turns(rt);
     }
 
     /// How many entries are made in one hold of the lock, at most, where what is due is fired behind the first.
     pub(crate) fn with_fires(&self) -> u32 {
         HubParts::least_kept(&self.shape)
-    }
-
-    /// Sleeps until there is space for so many entries, or makes it where nobody wants them.
-    pub(crate) fn spacious<'a, R: Wait>(
-        &'a self,
-        rt: &R,
-        monitor: MutexGuard<'a, Monitor<N>>,
-        who: Who,
-        entries: u32,
-    ) -> MutexGuard<'a, Monitor<N>> {
-        let mut monitor = monitor;
-        for _ in rt.forever() {
-            if monitor.has_space(entries) {
-                return monitor;
-            }
-            if self.is_dropping {
-                monitor.drop_kept();
-                return monitor;
-            }
-            monitor.crowds();
-            monitor = self.sleep(rt, monitor, who);
-        }
-        unreachable!()
     }
 
     /// A journal of a hub that has no entry yet, or of what comes from now on. `spare` is an empty buffer, at least as large as the
@@ -167,7 +102,7 @@ impl<N: HubName> Hub<N> {
     {
         let monitor = self.monitor.lock(rt);
         let journal = monitor.journal(spare);
-        self.leave(monitor);
+        self.leave(rt, monitor);
         let _legal = journal.len();
         journal
     }
@@ -189,7 +124,7 @@ impl<N: HubName> Hub<N> {
             }
             monitor = self.journal.wait(rt, monitor);
         }
-        self.give(monitor, journal)
+        self.give(rt, monitor, journal)
     }
 
     /// The same, but it sleeps no longer than so, and takes what there is then: so the last entries of a quiet hub are written down too.
@@ -210,12 +145,13 @@ impl<N: HubName> Hub<N> {
         if !monitor.wants_journal() {
             (monitor, _) = self.journal.wait_timeout(rt, monitor, time);
         }
-        self.give(monitor, journal)
+        self.give(rt, monitor, journal)
     }
 
     /// Hands over what there is, lets the lock go, and answers whether more may come.
-    fn give(
+    fn give<R: Wait>(
         &self,
+        rt: &R,
         monitor: MutexGuard<Monitor<N>>,
         journal: &mut Journal<N>,
     ) -> Result<bool, RunFault>
@@ -226,7 +162,7 @@ impl<N: HubName> Hub<N> {
         let mut monitor = monitor;
         let has_failed = monitor.has_failed();
         let handed = monitor.hand_over(journal);
-        self.leave(monitor);
+        self.leave(rt, monitor);
         match handed {
             Ok(()) => {
                 let _len = journal.len();
@@ -249,18 +185,8 @@ impl<N: HubName> Hub<N> {
     {
         let mut monitor = self.spacious(rt, self.lock(rt), participant.who(), 1);
         let answer = monitor.call(rt, participant, call);
-        self.leave(monitor);
+        self.leave(rt, monitor);
         answer
-    }
-
-    /// Lets the lock go and takes it again, so that others come in between.
-    pub(crate) fn let_in<'a, R: Wait>(
-        &'a self,
-        rt: &R,
-        monitor: MutexGuard<'a, Monitor<N>>,
-    ) -> MutexGuard<'a, Monitor<N>> {
-        self.leave(monitor);
-        self.lock(rt)
     }
 
     /// Fires what is due, `MOST_FIRES` timers in a hold of the lock, so that others come in between.
@@ -341,7 +267,8 @@ impl<N: HubName> Hub<N> {
                 Err(fault) => return (monitor, Err(fault)),
             }
             monitor.waits(participant.who(), call, ticket);
-            monitor = self.sleep(rt, monitor, participant.who());
+            let awaited = awaited_end(participant.who(), call, ticket);
+            monitor = self.sleep(rt, monitor, participant.who(), awaited);
         }
         unreachable!()
     }
@@ -362,11 +289,11 @@ impl<N: HubName> Hub<N> {
         for _ in rt.forever() {
             monitor = self.spacious(rt, monitor, participant.who(), 1);
             if let Some(next) = next_start(rt, &mut *monitor, participant) {
-                self.leave(monitor);
+                self.leave(rt, monitor);
                 return next;
             }
             monitor.idles(participant.who());
-            monitor = self.sleep(rt, monitor, participant.who());
+            monitor = self.sleep(rt, monitor, participant.who(), Awaited::Work);
         }
         unreachable!()
     }
@@ -399,6 +326,8 @@ impl<N: HubName> Hub<N> {
             monitor,
             condvars: _condvars,
             journal: _journal,
+            completed: _completed,
+            turns: _turns,
             shape: _shape,
             is_dropping: _,
         } = self;

@@ -5,6 +5,7 @@
 #![tactic(auto)]
 
 mod caller;
+mod completion;
 mod condvars;
 pub mod ending;
 mod follow;
@@ -13,6 +14,8 @@ mod hub;
 mod lent;
 mod participants;
 mod parts;
+mod schedule;
+pub mod turns;
 mod wait_fault;
 mod waiting;
 mod work;
@@ -26,6 +29,7 @@ pub use cmwq_model::{
 };
 pub use cmwq_monitor::{Journal, Rest, RunFault};
 pub use cmwq_publish::HubName;
+pub use completion::Completion;
 pub use gates::{Gate, Gates};
 pub use hub::Hub;
 pub use lent::Lent;

@@ -11,9 +11,10 @@ use cmwq_model::{Entry, MOST_CALLERS, MOST_CPUS, MOST_WORKERS, NoMemory, Shape};
 use cmwq_monitor::{MOST_FIRES, Monitor, RunFault, Sleepers};
 use cmwq_publish::{HubName, Opening};
 use cmwq_state::Tail;
+use cmwq_turns::Turnstile;
 use std::alloc::Global;
-use std::sync::Wait;
 use std::sync::ledger::Blank;
+use std::sync::{Arc, Wait};
 
 /// How many shares the ledger of a hub's entries is cut into: one for each caller and each worker that there may be.
 const SHARES: u64 = MOST_CALLERS as u64 + 2 * MOST_WORKERS as u64 * MOST_CPUS as u64;
@@ -29,6 +30,7 @@ pub struct HubParts {
     condvars: Condvars,
     pub blank: Blank,
     is_dropping: bool,
+    turns: Option<Arc<Turnstile, Global>>,
     ghost shapes_are: { shape_of_monitor ≡ shape },
     ghost execution_is: { execution ≡ record { layout = shape; room = shape.room; entries = [] } },
     ghost tail_is: { tail.all ≡ [] },
@@ -160,6 +162,7 @@ impl HubParts {
             condvars,
             blank: Blank::new(SHARES),
             is_dropping: false,
+            turns: None,
         })
     }
 
@@ -176,6 +179,26 @@ impl HubParts {
         let kept = HubParts::least_kept(shape);
         let mut parts = HubParts::keeping(rt, alloc, shape, kept)?;
         parts.is_dropping = true;
+        Ok(parts)
+    }
+
+    /// The same of a hub in a trial, whose threads take turns (`turns`): a thread of each of the turnstile's callers,
+    /// of each worker, and of the one that closes the hub. They move only in their turns.
+    ///
+    /// # Errors
+    /// `NoMemory` where memory runs out.
+    pub fn in_turns<R: Wait>(
+        rt: &R,
+        alloc: Global,
+        shape: &Shape,
+        turnstile: Arc<Turnstile, Global>,
+    ) -> Result<HubParts, RunFault>
+        ensures shape { IfOk result (λ p. p.shape ≡ shape.now) }
+        ensures readers { IfOk result (λ p. p.opening.readers ≡ shape.now.callers) }
+        ensures fault { IfErr result (λ f. f ≡ faults.NoMemory None) }
+    {
+        let mut parts = HubParts::new(rt, alloc, shape)?;
+        parts.turns = Some(turnstile);
         Ok(parts)
     }
 }
@@ -198,6 +221,7 @@ impl<N: HubName> Hub<N> {
             condvars,
             blank,
             is_dropping,
+            turns,
         } = parts;
         let counts = shape.counts();
         let (publisher, readers) = opening.named::<N>();
@@ -213,7 +237,7 @@ impl<N: HubName> Hub<N> {
         );
         let participants = Participants::new(counts, readers, start, rest);
         (
-            Hub::new(monitor, condvars, shape, is_dropping),
+            Hub::new(monitor, condvars, turns, shape, is_dropping),
             participants,
         )
     }

@@ -69,12 +69,12 @@ impl<N: HubName> Hub<N> {
         let run = match monitor.may_wait(worker, caller.participant().who(), call) {
             Ok(run) => run,
             Err(stuck) => {
-                self.leave(monitor);
+                self.leave(rt, monitor);
                 return Err(fault_of(stuck));
             }
         };
         if let Err(fault) = monitor.call(rt, worker, Call::Sleep) {
-            self.leave(monitor);
+            self.leave(rt, monitor);
             return Err(WaitFault::Run { fault });
         }
         self.wake_after(rt, monitor, run, worker, caller, call)
@@ -109,7 +109,7 @@ impl<N: HubName> Hub<N> {
         let saw_sleep = has_seen(caller.participant(), worker);
         let mut monitor = self.spacious(rt, monitor, worker.who(), 1);
         let woke = monitor.call(rt, worker, Call::Wake);
-        self.leave(monitor);
+        self.leave(rt, monitor);
         if let Err(fault) = woke {
             let fault = with_room(fault);
             return Err(WaitFault::Run { fault });

@@ -6,6 +6,7 @@ ghost use Rattle.cmwq_monitor.specs.Participants.{is_caller};
 ghost use Rattle.cmwq_monitor.specs.Calls.{Extends};
 ghost use Rattle.cmwq_monitor.specs.Faults.{Refused, is_full};
 ghost use Rattle.cmwq_monitor.specs.declared.fault.RunFault.TheVariants.{Full};
+ghost use Rattle.cmwq_monitor.specs.declared.fault.RunFault.TheVariants as faults;
 ghost use Rattle.cmwq_rt.specs.Later.{Later};
 ghost use Rattle.cmwq_rt.specs.Starting.{HasStarted};
 ghost use Rattle.cmwq_rt.specs.Running.{RunsItem, MakesOne, fault_after, breaks_off};
@@ -14,6 +15,7 @@ ghost use Rattle.cmwq_rt.specs.declared.wait_fault.WaitFault.TheVariants as wait
 ghost use Rattle.cmwq_monitor.specs.Whole.{is_tick};
 
 use crate::caller::Caller;
+use crate::completion::Completion;
 use crate::hub::Hub;
 use crate::lent::Lent;
 use crate::wait_fault::WaitFault;
@@ -97,6 +99,27 @@ impl<'a, N: HubName, R: Wait> RunCtx<'a, N, R> {
         ensures { self.new ≡ record self.old { fault = Some fault } }
     {
         self.fault = Some(fault);
+    }
+
+    /// Completes it once: one of those who wait for it goes on, or the next one who does (`complete`).
+    pub fn complete(&self, completion: &Completion) {
+        self.hub.complete(self.rt, completion);
+    }
+
+    /// Completes it for good: all who wait for it go on, now and later (`complete_all`).
+    pub fn complete_all(&self, completion: &Completion) {
+        self.hub.complete_all(self.rt, completion);
+    }
+
+    /// The run waits until it is completed (`wait_for_completion`). It makes no entry: a run that is to let others of
+    /// its pool start sleeps before, and wakes after that.
+    ///
+    /// # Errors
+    /// `NoMemory` if the hub has failed.
+    pub fn wait_for(&self, completion: &Completion) -> Result<(), RunFault>
+        ensures { IfErr result (λ f. f ≡ faults.NoMemory None) }
+    {
+        self.hub.wait_for(self.rt, completion)
     }
 
     /// Makes a call of the worker, as the method of its name does: one entry.

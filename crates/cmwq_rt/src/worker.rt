@@ -191,12 +191,12 @@ impl<N: HubName> Hub<N> {
     {
         let mut monitor = self.spacious(rt, self.lock(rt), participant.who(), 1);
         if let Err(fault) = monitor.call(rt, participant, Call::Finish) {
-            self.leave(monitor);
+            self.leave(rt, monitor);
             return Err(with_room(fault));
         }
         monitor = self.spacious(rt, monitor, participant.who(), 1);
         if let Err(fault) = monitor.retire(rt, participant) {
-            self.leave(monitor);
+            self.leave(rt, monitor);
             return Err(fault);
         }
         self.until_start(rt, monitor, participant)

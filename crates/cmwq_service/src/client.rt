@@ -5,7 +5,7 @@ ghost use Rattle.cmwq_service.specs.Calls.{GoesOn};
 use crate::fault::Fault;
 use crate::start::Start;
 use cmwq_model::{Call, CpuId, ItemId, Number, QueueId, Reply, Shape};
-use cmwq_rt::{Caller, Hub, HubName};
+use cmwq_rt::{Caller, Completion, Hub, HubName, turns};
 use std::marker::PhantomData;
 use std::sync::Wait;
 
@@ -18,14 +18,15 @@ use std::sync::Wait;
 /// `NoMemory` where the hub has failed, `Full`. It has made no entry then; but a call of several entries may break off
 /// behind some of them, with `NoMemory`, which tells a ticket that stands unended.
 pub trait Client {
-    ghost use Rattle.std.specs.Prelude.{◌≡◌, [], false, true, IfOk, IfErr, OnOk, MatchOption};
+    ghost use Rattle.std.specs.Prelude.{◌≡◌, [], false, true, IfOk, IfErr, OnOk, MatchOption, None};
     ghost use Rattle.cmwq_model.specs.declared.call.Call.TheVariants as calls;
     ghost use Rattle.cmwq_model.specs.Prelude.{IsLegal, Layout, past_of, bits, has_numbers, is_callers};
     ghost use Rattle.cmwq_monitor.specs.Calls.{Extends};
     ghost use Rattle.cmwq_monitor.specs.Participants.{View, Gains};
     ghost use Rattle.cmwq_monitor.specs.Whole.{Completes};
     ghost use Rattle.cmwq_service.specs.Calls.{Denied, Interrupted};
-    ghost use Rattle.cmwq_service.specs.declared.fault.Fault.TheVariants.{Outside};
+    ghost use Rattle.cmwq_monitor.specs.declared.fault.RunFault.TheVariants.{NoMemory};
+    ghost use Rattle.cmwq_service.specs.declared.fault.Fault.TheVariants.{Outside, Run};
 
     /// The shape of its hub.
     ghost layout: { Layout };
@@ -61,6 +62,19 @@ pub trait Client {
         requires { is_callers call ≡ true }
         ensures done { IfOk result (λ reply. Completes layout (view self.old) call reply (view self.new)) }
         ensures broke { IfErr result (λ f. Interrupted layout (view self.old) call f (view self.new)) };
+
+    /// Waits until another thread of the service completes it (`wait_for_completion`). This makes no entry.
+    ///
+    /// # Errors
+    /// `Run` with `NoMemory` after the service has stopped, so that it may never be completed.
+    fn wait_for(&self, completion: &Completion) -> Result<(), Fault>
+        ensures { IfErr result (λ f. f ≡ Run (NoMemory None)) };
+
+    /// Completes it once: one of those who wait for it goes on, or the next one who does (`complete`).
+    fn complete(&self, completion: &Completion);
+
+    /// Completes it for good: all who wait for it go on, now and later (`complete_all`).
+    fn complete_all(&self, completion: &Completion);
 
     // Calls of one entry. Their promises are `Extends` and `Denied`.
 
@@ -274,6 +288,7 @@ impl<'a, N: HubName, B: Start, R: Wait> Client for HubClient<'a, N, B, R> {
         if !self.hub.shape().has_numbers(Call::Cancel { item }) {
             return Err(Fault::Outside);
         }
+        turns::turn(self.rt, self.hub);
         Ok(self.caller.busy(item))
     }
 
@@ -296,5 +311,20 @@ impl<'a, N: HubName, B: Start, R: Wait> Client for HubClient<'a, N, B, R> {
             Ok(reply) => Ok(reply),
             Err(fault) => Err(Fault::Run { fault }),
         }
+    }
+
+    fn wait_for(&self, completion: &Completion) -> Result<(), Fault> {
+        match self.hub.wait_for(self.rt, completion) {
+            Ok(()) => Ok(()),
+            Err(fault) => Err(Fault::Run { fault }),
+        }
+    }
+
+    fn complete(&self, completion: &Completion) {
+        self.hub.complete(self.rt, completion);
+    }
+
+    fn complete_all(&self, completion: &Completion) {
+        self.hub.complete_all(self.rt, completion);
     }
 }

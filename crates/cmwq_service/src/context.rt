@@ -6,7 +6,7 @@ ghost use Rattle.cmwq_service.specs.Calls.{IsAfter};
 use crate::fault::{Fault, fault_of_wait};
 use crate::start::Start;
 use cmwq_model::{Call, CpuId, ItemId, QueueId, Reply, Shape};
-use cmwq_rt::{HubName, RunCtx};
+use cmwq_rt::{Completion, HubName, RunCtx};
 use std::marker::PhantomData;
 use std::sync::Wait;
 
@@ -18,13 +18,15 @@ use std::sync::Wait;
 /// a call answers what the hub does, as `Fault::Run`: `Full` where there is no room for it, `NoMemory` where the hub
 /// has failed. It has made no entry then.
 pub trait Context {
-    ghost use Rattle.std.specs.Prelude.{◌≡◌, true, IfOk, IfErr};
+    ghost use Rattle.std.specs.Prelude.{◌≡◌, true, IfOk, IfErr, None};
     ghost use Rattle.cmwq_model.specs.declared.call.Call.TheVariants as calls;
     ghost use Rattle.cmwq_model.specs.Prelude.{Layout, is_workers};
     ghost use Rattle.cmwq_monitor.specs.Calls.{Extends};
     ghost use Rattle.cmwq_monitor.specs.Participants.{View};
     ghost use Rattle.cmwq_rt.specs.Waiting.{HasWaited, is_wait};
+    ghost use Rattle.cmwq_monitor.specs.declared.fault.RunFault.TheVariants.{NoMemory};
     ghost use Rattle.cmwq_service.specs.Calls.{Denied, Unwaited};
+    ghost use Rattle.cmwq_service.specs.declared.fault.Fault.TheVariants.{Run};
 
     /// The shape of its hub.
     ghost layout: { Layout };
@@ -52,6 +54,20 @@ pub trait Context {
         requires { is_wait call ≡ true }
         ensures waited { IfOk result (λ reply. HasWaited layout (view self.old) call reply (view self.new)) }
         ensures unwaited { IfErr result (λ f. Unwaited layout (view self.old) call f (view self.new)) };
+
+    /// Waits until another thread of the service completes it (`wait_for_completion`). This makes no entry: a run that
+    /// is to let others of its pool start sleeps before, and wakes after it.
+    ///
+    /// # Errors
+    /// `Run` with `NoMemory` after the service has stopped, so that it may never be completed.
+    fn wait_for(&self, completion: &Completion) -> Result<(), Fault>
+        ensures { IfErr result (λ f. f ≡ Run (NoMemory None)) };
+
+    /// Completes it once: one of those who wait for it goes on, or the next one who does (`complete`).
+    fn complete(&self, completion: &Completion);
+
+    /// Completes it for good: all who wait for it go on, now and later (`complete_all`).
+    fn complete_all(&self, completion: &Completion);
 
     /// Queues an item (`queue_work_on`).
     final fn queue(&mut self, item: ItemId, queue: QueueId, cpu: CpuId) -> Result<Reply, Fault>
@@ -222,5 +238,20 @@ impl<'a, N: HubName, B: Start, R: Wait> Context for HubContext<'a, N, B, R> {
             Ok(reply) => Ok(reply),
             Err(fault) => Err(fault_of_wait(self.run.item(), call, fault)),
         }
+    }
+
+    fn wait_for(&self, completion: &Completion) -> Result<(), Fault> {
+        match self.run.wait_for(completion) {
+            Ok(()) => Ok(()),
+            Err(fault) => Err(Fault::Run { fault }),
+        }
+    }
+
+    fn complete(&self, completion: &Completion) {
+        self.run.complete(completion);
+    }
+
+    fn complete_all(&self, completion: &Completion) {
+        self.run.complete_all(completion);
     }
 }

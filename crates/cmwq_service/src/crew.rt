@@ -11,6 +11,7 @@ use crate::builder::OWN_CALLERS;
 use crate::client::{Client, HubClient};
 use crate::context::HubContext;
 use crate::fault::Fault;
+pub use crate::running::run_served;
 use crate::service::Service;
 use crate::signal::Signal;
 use crate::start::Start;
@@ -177,16 +178,21 @@ impl<'s, S: Service, R: Wait + Clock> Serving<'s, S, R> {
         match outcome {
             Ok(()) => Ok(0),
             Err(fault) => {
-                self.signal.end(self.rt, Some(fault));
+                self.signal.fail(self.rt, fault);
                 Err(RunFault::Closed)
             }
         }
     }
 
     /// Hands in a tick each time so long has gone by, until the service is over.
-    fn tick_on<C: Client>(&self, client: &mut C, time: Duration) -> Result<(), Fault> {
+    fn tick_on<N: HubName, C: Client>(
+        &self,
+        hub: &Hub<N>,
+        client: &mut C,
+        time: Duration,
+    ) -> Result<(), Fault> {
         for _ in self.rt.forever() {
-            if self.signal.is_over_within(self.rt, time) {
+            if self.signal.is_over_within(self.rt, hub, time) {
                 return Ok(());
             }
             client.tick(1)?;
@@ -195,19 +201,19 @@ impl<'s, S: Service, R: Wait + Clock> Serving<'s, S, R> {
     }
 
     /// The thread of the clock, which ends at once where the service wants no ticks.
-    fn tick_all<C: Client>(&self, client: &mut C) -> Result<(), Fault> {
+    fn tick_all<N: HubName, C: Client>(&self, hub: &Hub<N>, client: &mut C) -> Result<(), Fault> {
         match self.service.tick_every() {
-            Some(time) => self.tick_on(client, time),
+            Some(time) => self.tick_on(hub, client, time),
             None => Ok(()),
         }
     }
 
     /// What comes when the service's callers have ended, if none of them gave up. Then the service is over.
-    fn end_all<C: Client>(&self, client: &mut C) -> Result<(), Fault> {
-        if self.signal.have_left(self.rt) {
+    fn end_all<N: HubName, C: Client>(&self, hub: &Hub<N>, client: &mut C) -> Result<(), Fault> {
+        if self.signal.have_left(self.rt, hub) {
             self.service.end(self.rt, client)?;
         }
-        self.signal.end(self.rt, None);
+        self.signal.end(self.rt, hub);
         Ok(())
     }
 }
@@ -224,9 +230,9 @@ fn help_from<'s, B: Start, N: HubName, S: Service, R: Wait + Clock>(
 {
     let mut client: HubClient<N, B, R> = HubClient::new(serving.rt, hub, caller);
     let outcome = if is_clock {
-        serving.tick_all(&mut client)
+        serving.tick_all(hub, &mut client)
     } else {
-        serving.end_all(&mut client)
+        serving.end_all(hub, &mut client)
     };
     (client.into_caller(), outcome)
 }
@@ -268,7 +274,7 @@ impl<'s, S: Service, R: Wait + Clock> Crew for Serving<'s, S, R> {
         if number < all {
             let (caller, outcome) = call_once(self.rt, hub, self.service, caller, number);
             let told = self.told(outcome);
-            self.signal.leave(self.rt);
+            self.signal.leave(self.rt, hub);
             return (caller, told);
         }
         let (caller, outcome) = help_once(self, hub, caller, number == all);
@@ -276,7 +282,7 @@ impl<'s, S: Service, R: Wait + Clock> Crew for Serving<'s, S, R> {
     }
 
     fn stop<Q: Wait>(&self, _rt: &Q, fault: RunFault) {
-        self.signal.end(self.rt, Some(Fault::Run { fault }));
+        self.signal.fail(self.rt, Fault::Run { fault });
     }
 }
 

@@ -52,17 +52,35 @@ fn give_all<S: Service>(
 }
 
 /// Runs a service on a hub of these parts: what the hub kept of its history, and how it ended.
-fn run_parts<'s, S: Service + Send + Sync, R: Threads + Wait + Clock + Sync>(
+fn run_parts<'s, S: Service + Send + Sync, R: Threads + Wait + Sync, Q: Wait + Clock + Sync>(
     rt: &R,
     alloc: Global,
     parts: HubParts,
-    serving: &Serving<'s, S, R>,
+    serving: &Serving<'s, S, Q>,
 ) -> (Rest, Result<Tally, Fault>)
     ensures rest { IsRest parts.shape result.0.first result.0.entries.items }
     ensures served { OnOk result.1 (IsRestOfServed parts.shape serving.now.waits S.calls S.does result.0.first result.0.entries.items) }
 {
     let (rest, ended) = cmwq_engine::run(&*rt, alloc, parts, &*serving, &*serving);
     (rest, serving.outcome(ended))
+}
+
+/// Runs a service on a hub of these parts, which keeps all of its history, and returns that. The handle by which threads
+/// are started and joined may be another than the one that the service is given.
+///
+/// # Errors
+/// Those of `run_with_waits`.
+pub fn run_served<'s, S: Service + Send + Sync, R: Threads + Wait + Sync, Q: Wait + Clock + Sync>(
+    rt: &R,
+    alloc: Global,
+    parts: HubParts,
+    serving: &Serving<'s, S, Q>,
+) -> Result<Vec<Entry>, Stopped>
+    ensures served { IfOk result (λ history. IsServed parts.shape serving.now.waits S.calls S.does history.items) }
+    ensures stopped { IfErr result (λ stopped. IsReliable parts.shape (past_of stopped.history.items)) }
+{
+    let (rest, outcome) = run_parts(rt, alloc, parts, serving);
+    give_all::<S>(alloc, rest, outcome)
 }
 
 /// Runs a service on a new hub of this shape: a thread for each worker, for each of the service's callers, for the
@@ -106,10 +124,7 @@ pub fn run_with_waits<S: Service + Send + Sync, R: Threads + Wait + Clock + Sync
         Err(fault) => return Err(stopped_at_first(alloc, fault)),
     };
     match HubParts::new(rt, alloc, shape) {
-        Ok(parts) => {
-            let (rest, outcome) = run_parts(rt, alloc, parts, &serving);
-            give_all::<S>(alloc, rest, outcome)
-        }
+        Ok(parts) => run_served(rt, alloc, parts, &serving),
         Err(fault) => Err(stopped_at_first(alloc, Fault::Run { fault })),
     }
 }

@@ -1,0 +1,55 @@
+//! The cache in many orders: `end` returns a fault if a page is lost.
+
+use super::{Cache, WAITS, shape};
+use anyhow::Result;
+use cmwq_trial::{Schedule, Setup, UNIFORM, trial_with, trials};
+
+const CHANCE: Setup = Setup {
+    waits: WAITS,
+    ..UNIFORM
+};
+
+const PRIORITIES: Setup = Setup {
+    schedule: Schedule::Priorities {
+        changes: 3,
+        turns: 600,
+    },
+    ..CHANCE
+};
+
+#[test]
+fn all_pages_are_stored_in_any_order(rt: HostRuntime) -> Result<()> {
+    let shape = shape(rt.alloc())?;
+    for setup in [CHANCE, PRIORITIES] {
+        let tried = trials(
+            &rt,
+            rt.alloc(),
+            &shape,
+            &setup,
+            0..100,
+            &|_seed| Cache::default(),
+            &|_progress| {},
+        );
+        if let Some(failure) = &tried.first_failure {
+            println!(rt; "{failure}")?;
+        }
+        assert_eq!(rt; tried.ended, 100);
+    }
+    Ok(())
+}
+
+#[test]
+fn a_seed_gives_the_same_history_again(rt: HostRuntime) -> Result<()> {
+    let shape = shape(rt.alloc())?;
+    let first = trial_with(&rt, rt.alloc(), &shape, &Cache::default(), &CHANCE, 1);
+    let first = first.expect(&rt, "a history");
+    for _ in 0..20 {
+        let again = trial_with(&rt, rt.alloc(), &shape, &Cache::default(), &CHANCE, 1);
+        let again = again.expect(&rt, "a history");
+        assert_eq!(rt; again.history.len(), first.history.len());
+        for (entry, of_first) in again.history.iter().zip(first.history.iter()) {
+            assert!(rt; entry.who == of_first.who && entry.serial == of_first.serial);
+        }
+    }
+    Ok(())
+}

@@ -1,0 +1,85 @@
+//! The item waits for a completion. One caller flushes before it completes it; the other one completes it if it sees
+//! that the item runs.
+
+use crate::common::{CPU, FIRST, PRIORITIES, QUEUE, SEEDS, shape};
+use cmwq_service::{Client, Completion, Context, Fault, ItemId, Service};
+use cmwq_trial::{Awaits, Doing, Failure, Party, Role, UNIFORM, trials};
+use std::sync::Wait;
+use std::time::Clock;
+
+#[derive(Drop)]
+struct Waiter {
+    told: Completion,
+}
+
+impl Service for Waiter {
+    fn run<R: Wait + Clock, C: Context>(
+        &self,
+        _rt: &R,
+        _item: ItemId,
+        context: &mut C,
+    ) -> Result<(), Fault> {
+        context.sleep()?;
+        context.wait_for(&self.told)?;
+        context.wake()?;
+        Ok(())
+    }
+
+    fn call<R: Wait + Clock, C: Client>(
+        &self,
+        _rt: &R,
+        place: u8,
+        client: &mut C,
+    ) -> Result<(), Fault> {
+        if place == 0 {
+            client.queue(FIRST, QUEUE, CPU)?;
+            client.flush(QUEUE)?;
+            client.complete(&self.told);
+            return Ok(());
+        }
+        for _ in 0..3 {
+            client.tick(1)?;
+        }
+        if client.busy(FIRST)? == Some(2) {
+            client.complete_all(&self.told);
+        }
+        Ok(())
+    }
+}
+
+const WAITING: Doing = Doing::RunsAndWaits(0, Awaits::Completion);
+
+#[test]
+fn a_completion_that_comes_too_late_is_found(rt: HostRuntime) {
+    let shape = shape(&rt, 0);
+    for setup in [UNIFORM, PRIORITIES] {
+        let make = |_seed| Waiter {
+            told: Completion::new(),
+        };
+        let tried = trials(
+            &rt,
+            rt.alloc(),
+            &shape,
+            &setup,
+            0..SEEDS,
+            &make,
+            &|_progress| {},
+        );
+        assert_eq!(rt; tried.stopped, 0);
+        assert!(rt;
+            tried.stuck > 0 && tried.ended > 0,
+            "{} are stuck",
+            tried.stuck
+        );
+        let Some(Failure::Stuck { parties, .. }) = tried.first_failure else {
+            panic!(rt; "no failure")
+        };
+        let waits = parties.iter().filter(|party| party.doing == WAITING);
+        assert_eq!(rt; waits.count(), 1);
+        let end = Party {
+            role: Role::End,
+            doing: Doing::Waits(Awaits::Callers),
+        };
+        assert!(rt; parties.iter().any(|party| *party == end));
+    }
+}
