@@ -7,6 +7,7 @@ use cmwq_service::{
 };
 use std::sync::Wait;
 use std::sync::atomic::{AtomicU32, Ordering};
+use std::thread::Threads;
 use std::time::{Clock, Instant};
 
 /// How many callers there are, and how many items each has.
@@ -44,6 +45,7 @@ impl Load {
 }
 
 /// What all threads share: the load, how often it is to be made, and how many runs there were.
+#[derive(Drop)]
 struct Jobs {
     load: Load,
     rounds: u32,
@@ -126,7 +128,11 @@ impl Service for Jobs {
 
 /// Runs the load that the words after `jobs` say, and prints how many runs a second there were: the kind, the rounds, how many workers a pool
 /// has, and whether the history is `dropped` or `kept`.
-pub fn time(rt: &HostRuntime, words: &[String]) -> Result<()> {
+pub fn time<T: Threads + Wait + Clock + Sync>(
+    rt: &HostRuntime,
+    threads: &T,
+    words: &[String],
+) -> Result<()> {
     let alloc = rt.alloc();
     let kind = words.get(1).context("self, fanout or stream?")?;
     let load = Load::of(kind).context("self, fanout or stream?")?;
@@ -152,11 +158,11 @@ pub fn time(rt: &HostRuntime, words: &[String]) -> Result<()> {
     };
     let start = Instant::now(rt);
     if keeps {
-        if let Err(stopped) = run(rt, alloc, &shape, &jobs) {
+        if let Err(stopped) = run(threads, alloc, &shape, &jobs) {
             bail!("{}", stopped.fault);
         }
     } else {
-        run_dropping(rt, alloc, &shape, &jobs)?;
+        run_dropping(threads, alloc, &shape, &jobs)?;
     }
     let spent = Instant::now(rt)?.duration_since(start?);
     let runs = jobs.runs.load(Ordering::SeqCst);

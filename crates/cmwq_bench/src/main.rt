@@ -188,7 +188,7 @@ fn main(rt: HostRuntime) -> Result<()> {
         return steps::time(&rt);
     }
     if words.first().is_some_and(|word| word.as_str() == "jobs") {
-        return jobs::time(&rt, words);
+        return jobs::time(&rt, &rt, words);
     }
     let Job {
         callers,
