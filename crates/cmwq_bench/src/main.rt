@@ -3,6 +3,7 @@
 //! which so many may look. At `steps`: the calls of a file, made in a Book.
 #![tactic(auto)]
 
+mod jobs;
 mod steps;
 
 ghost use Rattle.std.specs.Prelude.{◌≡◌, ◌<◌};
@@ -185,6 +186,9 @@ fn main(rt: HostRuntime) -> Result<()> {
     let words = args.get(1..).unwrap_or(&[]);
     if words.first().is_some_and(|word| word.as_str() == "steps") {
         return steps::time(&rt);
+    }
+    if words.first().is_some_and(|word| word.as_str() == "jobs") {
+        return jobs::time(&rt, &rt, words);
     }
     let Job {
         callers,
