@@ -11,7 +11,6 @@ use cmwq_model::{
 };
 use cmwq_plain::{Past, has_room, is_pending, item_runs, reply_of, serial_of};
 use cmwq_text::{entry_line, illegal_line};
-use std::mem::drop;
 use std::process::Abort;
 
 /// As many entries the TailBook keeps.
@@ -40,6 +39,15 @@ fn bits_of(rt: &impl Abort, entries: &[Entry], item: ItemId) -> u8 {
     assert!(rt; entries.len() <= 1_000_000);
     let past = Past::new(entries);
     u8::from(is_pending(&past, item.0)) + 2 * u8::from(item_runs(&past, item.0))
+}
+
+/// The sum of the numbers.
+fn total(numbers: &[u32]) -> u64 {
+    let mut total: u64 = 0;
+    for number in numbers {
+        total = total.saturating_add(u64::from(*number));
+    }
+    total
 }
 
 /// A reply other than this one.
@@ -187,8 +195,10 @@ impl Machines {
             "{entry:?}"
         );
         assert_eq!(rt; self.judge.open_count(), self.book.open_count());
-        let active: u32 = self.judge.active_counts().iter().sum();
-        assert_eq!(rt; active, self.book.active_count());
+        assert_eq!(rt;
+            total(self.judge.active_counts()),
+            u64::from(self.book.active_count())
+        );
     }
 
     /// Whether a wait that ends is over, as the machines say before the entry.
