@@ -1,13 +1,18 @@
 -- What a text gives, by how its first line is found.
-use Rattle.cmwq_base.specs.Common.{◌≡◌, ◌+◌, ◌≤◌, ◌==◌, ℕ, Bool, true, false, cond, List, [], ◌∷◌, length, Err, nat_lt, Some, None, refl, sym, ap, ◌∙◌, arith, if◌then◌else◌, is_some, position_or_len, ltb-true, take_all, slice_split_first, slice_split_none, fails_before_first, is_feed, has_feed, Whole, Cut, Long, End, first_line, TakesLine}
+use Rattle.cmwq_base.specs.Common.{◌≡◌, ◌+◌, ◌≤◌, ◌==◌, ℕ, Bool, true, false, cond, List, [], ◌∷◌, length, Err, nat_lt}
+use Rattle.cmwq_base.specs.Common.{Some, None, refl, sym, ap, ◌∙◌, arith, if◌then◌else◌, is_some, position_or_len}
+use Rattle.cmwq_base.specs.Common.{ltb-true, take_all, slice_split_first, slice_split_none, fails_before_first, is_feed}
+use Rattle.cmwq_base.specs.Common.{has_feed, Whole, Cut, Long, End, first_line, TakesLine}
 use Rattle.cmwq_io.specs.FirstLine.{after_line as rest_of, is_line_long as is_text_long}
 use Rattle.cmwq_base.specs.declared.refusal.Refusal.TheVariants as refusal
 use Rattle.cmwq_base.specs.Pieces.{pieces}
-use Rattle.cmwq_base.specs.Files.{Stage, Kind, is_long, and_then, after_whole_line, at_end, at_cut, after_last, after_pieces, after_text}
+use Rattle.cmwq_base.specs.Files.{Stage, Kind, is_long, and_then, after_whole_line, at_end, at_cut, after_last}
+use Rattle.cmwq_base.specs.Files.{after_pieces, after_text}
 
 -- ---- pieces
 
-feed_within : (text : List ℕ) (b : Bool) → nat_lt (position_or_len is_feed text) (length text) ≡ b → is_some (cond b (Some (position_or_len is_feed text)) None) ≡ b
+feed_within : (text : List ℕ) (b : Bool) → nat_lt (position_or_len is_feed text) (length text) ≡ b
+    → is_some (cond b (Some (position_or_len is_feed text)) None) ≡ b
 feed_within text b h = grind arith
 
 pub has_feed_is : (text : List ℕ) → has_feed text ≡ nat_lt (position_or_len is_feed text) (length text)
@@ -36,13 +41,16 @@ pieces_some text = by_feed (has_feed text) refl
 
 -- ---- how the first line was found
 
-pub whole_found : (a b c : Bool) → Whole ≡ (if a then Long else if b then Whole else if c then End else Cut) → (a ≡ false) × (b ≡ true)
+pub whole_found : (a b c : Bool) → Whole ≡ (if a then Long else if b then Whole else if c then End else Cut)
+    → (a ≡ false) × (b ≡ true)
 whole_found a b c h = grind arith
 
-pub cut_found : (a b c : Bool) → Cut ≡ (if a then Long else if b then Whole else if c then End else Cut) → (a ≡ false) × (b ≡ false) × (c ≡ false)
+pub cut_found : (a b c : Bool) → Cut ≡ (if a then Long else if b then Whole else if c then End else Cut)
+    → (a ≡ false) × (b ≡ false) × (c ≡ false)
 cut_found a b c h = grind arith
 
-pub end_found : (a b c : Bool) → End ≡ (if a then Long else if b then Whole else if c then End else Cut) → (b ≡ false) × (c ≡ true)
+pub end_found : (a b c : Bool) → End ≡ (if a then Long else if b then Whole else if c then End else Cut)
+    → (b ≡ false) × (c ≡ true)
 end_found a b c h = grind arith
 
 pub long_found : (a b c : Bool) → Long ≡ (if a then Long else if b then Whole else if c then End else Cut) → a ≡ true
@@ -51,29 +59,38 @@ long_found a b c h = grind arith
 -- ---- what each gives
 
 module _ {X : Type 0} (k : Kind X) (n : ℕ) (stage : Stage X) where
-  pub after_first_piece : (line : List ℕ) (rest : List (List ℕ)) (p : List ℕ) (ps : List (List ℕ)) → rest ≡ p ∷ ps → is_long line ≡ false
-      → after_pieces k n stage (line ∷ rest) ≡ and_then (λ next. after_pieces k (n + 1) next rest) (after_whole_line k n stage line)
+  pub after_first_piece : (line : List ℕ) (rest : List (List ℕ)) (p : List ℕ) (ps : List (List ℕ)) → rest ≡ p ∷ ps
+      → is_long line ≡ false
+      → after_pieces k n stage (line ∷ rest)
+      ≡ and_then (λ next. after_pieces k (n + 1) next rest) (after_whole_line k n stage line)
   unfolding after_pieces
-  after_first_piece line rest p ps h short = rw h (ap (λ b. if b then Err refusal.TooLong else and_then (λ next. after_pieces k (n + 1) next (p ∷ ps)) (after_whole_line k n stage line)) short)
+  after_first_piece line rest p ps h short =
+      rw h (ap (λ b. if b then Err refusal.TooLong
+      else and_then (λ next. after_pieces k (n + 1) next (p ∷ ps)) (after_whole_line k n stage line)) short)
 
-  pub text_whole : (old new line : List ℕ) → TakesLine old new Whole line → after_text k n stage old ≡ and_then (λ next. after_text k (n + 1) next new) (after_whole_line k n stage line)
+  pub text_whole : (old new line : List ℕ) → TakesLine old new Whole line
+      → after_text k n stage old ≡ and_then (λ next. after_text k (n + 1) next new) (after_whole_line k n stage line)
   text_whole old new line t =
       let f = whole_found (is_text_long old) (has_feed old) (length old == 0) t.kind in
       let is_line : line ≡ first_line old = t.bytes ∙ ap (λ b. if b then [] else first_line old) f.0 in
       let is_rest : new ≡ rest_of old = t.rest ∙ ap (λ b. if b then old else rest_of old) f.0 in
       let some = pieces_some (rest_of old) in
-      ap (after_pieces k n stage) (pieces_fed old f.1) ∙ after_first_piece (first_line old) (pieces (rest_of old)) some.0 some.1 some.2 f.0
-      ∙ ap (λ l. and_then (λ next. after_text k (n + 1) next (rest_of old)) (after_whole_line k n stage l)) (sym is_line)
+      ap (after_pieces k n stage) (pieces_fed old f.1)
+      ∙ after_first_piece (first_line old) (pieces (rest_of old)) some.0 some.1 some.2 f.0
+      ∙ ap (λ l. and_then (λ next. after_text k (n + 1) next (rest_of old)) (after_whole_line k n stage l))
+      (sym is_line)
       ∙ ap (λ r. and_then (λ next. after_text k (n + 1) next r) (after_whole_line k n stage line)) (sym is_rest)
 
-  pub long_piece : (line : List ℕ) (rest : List (List ℕ)) → is_long line ≡ true → after_pieces k n stage (line ∷ rest) ≡ Err refusal.TooLong
+  pub long_piece : (line : List ℕ) (rest : List (List ℕ)) → is_long line ≡ true → after_pieces k n stage (line ∷ rest)
+      ≡ Err refusal.TooLong
   unfolding after_pieces
   long_piece line rest h = grind arith
 
   pub text_long : (old new line : List ℕ) → TakesLine old new Long line → after_text k n stage old ≡ Err refusal.TooLong
   text_long old new line t = grind (arith, long_found, pieces_fed, long_piece, pieces_last, first_is_all)
 
-  cut_last : (text : List ℕ) → is_long text ≡ false → (length text == 0) ≡ false → after_last k n stage text ≡ at_cut k n stage
+  cut_last : (text : List ℕ) → is_long text ≡ false → (length text == 0) ≡ false
+      → after_last k n stage text ≡ at_cut k n stage
   cut_last text h some = grind arith
 
   pub last_piece : (text : List ℕ) → has_feed text ≡ false → after_text k n stage text ≡ after_last k n stage text

@@ -1,8 +1,12 @@
--- Files of calls and histories: what is read of a whole text, or the first refusal. Both are a shape line, the queues' lines, and then lines
--- of one kind, which differ in how a queue and such a line is read, and in what has to be inside the shape. Before the shape line a line may say
--- that the format is 2 or 3. A format may have a last line, which says how many lines of the kind stand before it.
+-- Files of calls and histories: what is read of a whole text, or the first refusal. Both are a shape line, the queues'
+-- lines, and then lines of one kind, which differ in how a queue and such a line is read, and in what has to be inside
+-- the shape. Before the shape line a line may say that the format is 2 or 3. A format may have a last line, which says
+-- how many lines of the kind stand before it.
 use Rattle.std.specs.Prelude.{◌≡◌, ◌⊎◌, ◌+◌, ◌≤◌, ◌&&◌, ◌==◌, if◌then◌else◌, ◌∷◌, ◌++◌}
-use Rattle.cmwq_base.specs.Common.{ℕ, Bool, true, false, not, IsTrue, List, [], length, Option, Some, None, Result, Ok, Err, nat_lt, nat_le, All, Counts, QueueShape, Layout, layout_of, is_layout, begins_queue, end_of, line_limit, room_limit, queue_limit, allows_numbers, counts_of_format, counts_in}
+use Rattle.cmwq_base.specs.Common.{ℕ, Bool, true, false, not, IsTrue, List, [], length, Option, Some, None, Result, Ok}
+use Rattle.cmwq_base.specs.Common.{Err, nat_lt, nat_le, All, Counts, QueueShape, Layout, layout_of, is_layout}
+use Rattle.cmwq_base.specs.Common.{begins_queue, end_of, line_limit, room_limit, queue_limit, allows_numbers}
+use Rattle.cmwq_base.specs.Common.{counts_of_format, counts_in}
 use Rattle.cmwq_base.specs.declared.refusal.Refusal.{Refusal}
 use Rattle.cmwq_base.specs.declared.refusal.Refusal.TheVariants as refusal
 use Rattle.cmwq_base.specs.Pieces.{pieces}
@@ -13,7 +17,8 @@ pub record File (X : Type 0) : Type 0 where
   pub layout : Layout
   pub items : List X
 
--- how far a file has been read: nothing, the line that says the format, the shape line and queues in a format, lines behind these, or the last line
+-- how far a file has been read: nothing, the line that says the format, the shape line and queues in a format, lines
+-- after these, or the last line
 pub data Stage (X : Type 0) : Type 0 where
   begin : Stage X
   opened : ℕ → Stage X
@@ -21,7 +26,8 @@ pub data Stage (X : Type 0) : Type 0 where
   body : ℕ → Layout → List X → Stage X
   ended : ℕ → Layout → List X → Stage X
 
--- how the lines of a kind of file are read: whether a first line says that the format is this one, and the others by the format
+-- how the lines of a kind of file are read: whether a first line says that the format is this one, and the others by
+-- the format
 pub record Kind (X : Type 0) : Type 0 where
   pub says_format : ℕ → List ℕ → Bool
   pub queue_of : ℕ → List ℕ → Option QueueShape
@@ -29,13 +35,22 @@ pub record Kind (X : Type 0) : Type 0 where
   pub fits_in : Layout → X → Bool
   -- whether the format has a last line
   pub needs_end : ℕ → Bool
-  -- Whether the text may be a front, behind which more was to be written: a rest without a line feed is left out then, as if the text ended
-  -- before it, and the last line may be missing. Of a whole text both are refused.
+  -- Whether the text may be a front, after which more was to be written: a rest without a line feed is left out then,
+  -- as if the text ended before it, and the last line may be missing. Of a whole text both are refused.
   pub is_front : Bool
 
 -- the kind whose texts are fronts, or whole
 abbrev pub as_front : {X : Type 0} → Bool → Kind X → Kind X
-as_front front k = record { says_format = k.says_format; queue_of = k.queue_of; item_of = k.item_of; fits_in = k.fits_in; needs_end = k.needs_end; is_front = front }
+as_front front k =
+    record {
+      says_format = k.says_format;
+      queue_of = k.queue_of;
+      item_of = k.item_of;
+      fits_in = k.fits_in;
+      needs_end =
+          k.needs_end;
+      is_front = front;
+    }
 
 -- 1 to 3: 1, or what a first line says
 abbrev pub IsVersionOf : {X : Type 0} → Kind X → ℕ → Type 0
@@ -81,15 +96,18 @@ module _ {X : Type 0} where
   with_queue n v counts queues None = Err (refusal.BadShape n)
 
   abbrev pub queue_line : Kind X → ℕ → ℕ → Counts → List QueueShape → List ℕ → Result (Stage X) Refusal
-  queue_line k n v counts queues line = if nat_le (queue_limit v) (length queues) then Err (refusal.BadShape n) else with_queue n v counts queues (k.queue_of v line)
+  queue_line k n v counts queues line = if nat_le (queue_limit v) (length queues) then Err (refusal.BadShape n)
+      else with_queue n v counts queues (k.queue_of v line)
 
   -- a line of the kind: one more than the format allows is too long whatever it is
   abbrev pub with_body_item : Kind X → ℕ → ℕ → Layout → List X → Option X → Result (Stage X) Refusal
-  with_body_item k n v s items (Some x) = if k.fits_in s x then Ok (body v s (items ++ x ∷ [])) else Err (refusal.NoSuchId n)
+  with_body_item k n v s items (Some x) = if k.fits_in s x then Ok (body v s (items ++ x ∷ []))
+      else Err (refusal.NoSuchId n)
   with_body_item k n v s items None = Err (refusal.BadLine n)
 
   unfoldable pub item_line : Kind X → ℕ → ℕ → Layout → List X → List ℕ → Result (Stage X) Refusal
-  item_line k n v s items line = if nat_le (line_limit v) (length items) then Err refusal.TooLong else with_body_item k n v s items (k.item_of v line)
+  item_line k n v s items line = if nat_le (line_limit v) (length items) then Err refusal.TooLong
+      else with_body_item k n v s items (k.item_of v line)
 
   -- how many lines the last line says that stand before it, of a line that is one in this format
   abbrev pub end_of_format : Kind X → ℕ → List ℕ → Option ℕ
@@ -110,7 +128,8 @@ module _ {X : Type 0} where
   first_body_line k n v None line = Err (refusal.BadShape n)
 
   unfoldable pub after_head : Kind X → ℕ → ℕ → Counts → List QueueShape → List ℕ → Result (Stage X) Refusal
-  after_head k n v counts queues line = if begins_queue line then queue_line k n v counts queues line else first_body_line k n v (shape_made counts queues) line
+  after_head k n v counts queues line = if begins_queue line then queue_line k n v counts queues line
+      else first_body_line k n v (shape_made counts queues) line
 
   -- one whole line, the n-th of the file
   unfoldable pub after_whole_line : Kind X → ℕ → Stage X → List ℕ → Result (Stage X) Refusal
@@ -143,7 +162,7 @@ module _ {X : Type 0} where
   at_end k n (body v s items) = without_end k n (record { version = v; layout = s; items = items })
   at_end k n (ended v s items) = Ok (record { version = v; layout = s; items = items })
 
-  -- a line without its line feed: of a front it is left out, but behind its last line nothing may stand
+  -- a line without its line feed: of a front it is left out, but after its last line nothing may stand
   abbrev pub is_file_ended : Stage X → Bool
   is_file_ended (ended v s items) = true
   is_file_ended stage = false
@@ -156,7 +175,8 @@ module _ {X : Type 0} where
   after_last k n stage [] = at_end k n stage
   after_last k n stage (b ∷ bs) = if is_long (b ∷ bs) then Err refusal.TooLong else at_cut k n stage
 
-  -- Lines are judged one after the other, and the first refused one decides. One of more than 120 bytes is too long wherever it stands.
+  -- Lines are judged one after the other, and the first refused one decides. One of more than 120 bytes is too long
+  -- wherever it stands.
   unfoldable pub after_pieces : Kind X → ℕ → Stage X → List (List ℕ) → Result (File X) Refusal
   after_pieces k n stage [] = at_end k n stage
   after_pieces k n stage (last ∷ []) = after_last k n stage last

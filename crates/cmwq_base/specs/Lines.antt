@@ -3,7 +3,7 @@ use Rattle.std.specs.Prelude.{◌≡◌, ◌<◌}
 use Rattle.cmwq_base.specs.Common.{ℕ, List, Some, line_limit}
 use Rattle.cmwq_base.specs.Files.{Kind}
 
--- a line says it in a format that allows one more behind the first n
+-- a line says it in a format that allows one more after the first n
 pub record IsNextLine {X : Type 0} (k : Kind X) (n : ℕ) (x : X) : Type 0 where
   pub version : ℕ
   pub line : List ℕ

@@ -2,11 +2,11 @@
 use Rattle.std.specs.Prelude.{◌∷◌, ◌++◌}
 use Rattle.cmwq_base.specs.Common.{ℕ, List, [], slice_split, is_feed}
 
--- the lines of a text, and behind them what stands after the last line feed
+-- the lines of a text, and after them what stands after the last line feed
 abbrev pub pieces : List ℕ → List (List ℕ)
 pieces text = slice_split is_feed text
 
--- all pieces but the last, each with a line feed behind it, and the last
+-- all pieces but the last, each with a line feed after it, and the last
 unfoldable pub lines_in : List (List ℕ) → List ℕ
 lines_in [] = []
 lines_in (last ∷ []) = []
@@ -17,7 +17,7 @@ last_in [] = []
 last_in (last ∷ []) = last
 last_in (line ∷ more ∷ rest) = last_in (more ∷ rest)
 
--- the whole lines of a text, and what stands behind them
+-- the whole lines of a text, and what stands after them
 abbrev pub whole_lines : List ℕ → List ℕ
 whole_lines text = lines_in (pieces text)
 

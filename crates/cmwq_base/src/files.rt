@@ -93,8 +93,8 @@ pub struct HistoryFile {
 
 ghost use Rattle.cmwq_base.specs.Views.{calls_in, file_of_history};
 
-/// Reads a file of calls to the end of the source. One whose first line is `calls 3` has the limits of format 3. After an error nothing is kept, and the source has been read up to a
-/// place that isn't said.
+/// Reads a file of calls to the end of the source. One whose first line is `calls 3` has the limits of format 3. After
+/// an error nothing is kept, and the source has been read up to a place that isn't said.
 ///
 /// # Errors
 /// The first refusal in the order of the bytes; `ReadFault` where the source fails, `NoMemory` where memory runs out.
@@ -115,8 +115,9 @@ pub fn read_calls<S: Source>(alloc: Global, source: &mut S) -> Result<CallFile, 
     })
 }
 
-/// Reads a history to the end of the source, as `read_calls` does. Format 2 is that of a history whose first line is `history 2`,
-/// and 3 that of one with `history 3`, whose last line says how many entries stand before it. Any reply may follow any call.
+/// Reads a history to the end of the source, as `read_calls` does. Format 2 is that of a history whose first line is
+/// `history 2`, and 3 that of one with `history 3`, whose last line says how many entries stand before it. Any reply
+/// may follow any call.
 ///
 /// # Errors
 /// As those of `read_calls`.

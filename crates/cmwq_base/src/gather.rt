@@ -4,7 +4,8 @@ use crate::stage::FileLine;
 use cmwq_model::{NoMemory, Shape};
 use std::alloc::Global;
 
-/// Takes what the lines of a file say, in the order in which they stand. Contracts see all that it took, whatever it keeps.
+/// Takes what the lines of a file say, in the order in which they stand. Contracts see all that it took, whatever it
+/// keeps.
 pub trait Gather: Sized {
     ghost use Rattle.std.specs.Prelude.{◌≡◌, ◌<◌, ◌++◌, ◌∷◌, [], List, length, IfOk, OnOk, IsTrue};
     ghost use Rattle.cmwq_model.specs.Prelude.{Layout};
@@ -17,7 +18,7 @@ pub trait Gather: Sized {
     /// The shape of the file.
     ghost layout: { Self → Layout };
 
-    /// What the lines behind the queues say so far.
+    /// What the lines after the queues say so far.
     ghost items: { Self → List Self.Item };
 
     /// Of a file of this shape nothing yet. The error says that memory ran out.

@@ -1,5 +1,7 @@
 //! What the texts of whole files keep, over every value.
-ghost use Rattle.cmwq_base.specs.FileLaws.{CallFilesSpelledSo, FrontsAreWholeLines, HistoriesHaveOneText, HistoriesAreOfTheirFormat, HistoriesReadAgain, OldHistoriesReadAgain, CallFilesReadAgain};
+ghost use Rattle.cmwq_base.specs.FileLaws.{CallFilesSpelledSo, FrontsAreWholeLines, HistoriesHaveOneText};
+ghost use Rattle.cmwq_base.specs.FileLaws.{HistoriesAreOfTheirFormat, HistoriesReadAgain, OldHistoriesReadAgain};
+ghost use Rattle.cmwq_base.specs.FileLaws.{CallFilesReadAgain};
 
 /// A history and its shape have one text in each format: what is read of a file is spelled so.
 pub fn histories_have_one_text()

@@ -16,15 +16,17 @@ use std::alloc::Global;
 /// and as many others as any format allows, and the last line.
 pub const TOO_MANY_LINES: u64 = 4_611_686_018_426_388_163;
 
-/// Reads a file of lines of this kind, to the end of the source, and hands on what each line says. Beside what gathers that it
-/// takes memory for one line and for what is read ahead. Where `is_front` says that more was to be written behind what is there, a rest
-/// without a line feed is left out, and the last line of the format may be missing; else these are refused.
+/// Reads a file of lines of this kind, to the end of the source, and hands on what each line says. Beside what gathers
+/// that it takes memory for one line and for what is read ahead. Where `is_front` says that more was to be written
+/// after what is there, a rest without a line feed is left out, and the last line of the format may be missing; else
+/// these are refused.
 pub fn read_file<G: Gather + Drop, S: Source>(
     alloc: Global,
     source: &mut S,
     is_front: bool,
 ) -> Result<Contents<G>, Refusal>
-    ensures exact { IfSome (S.left source.old) (λ text. Gives (contents_of G.layout G.items) result (file_of (as_front is_front G.Item.kind) text)) }
+    ensures exact { IfSome (S.left source.old)
+        (λ text. Gives (contents_of G.layout G.items) result (file_of (as_front is_front G.Item.kind) text)) }
     ensures version { IfOk result (λ file. IsVersionOf G.Item.kind file.version) }
     ensures sound { IfOk result (λ file. IsSound G.Item.kind (contents_of G.layout G.items file)) }
     ensures fault { IsErrOf result Refusal.ReadFault → Rises (S.troubles source.old) (S.troubles source.new) }

@@ -2,7 +2,8 @@
 
 ghost use Rattle.std.specs.Prelude.{◌≡◌, ◌&&◌, not};
 ghost use Rattle.cmwq_text.specs.Formats.{counts_of_format};
-ghost use Rattle.cmwq_base.specs.Files.{body, shape_made, after_shape_line, after_first_line, queue_line, item_line, end_of_format, body_line, first_body_line, after_head as after_head_by};
+ghost use Rattle.cmwq_base.specs.Files.{body, shape_made, after_shape_line, after_first_line, queue_line, item_line};
+ghost use Rattle.cmwq_base.specs.Files.{end_of_format, body_line, first_body_line, after_head as after_head_by};
 
 use crate::gather::Gather;
 use crate::refusal::Refusal;
@@ -54,7 +55,7 @@ pub enum Stage<G> {
         counts: Counts,
         queues: Vec<QueueShape>,
     },
-    /// The shape, and what the lines behind it say.
+    /// The shape, and what the lines after it say.
     Body {
         version: u8,
         all: G,
@@ -74,7 +75,8 @@ impl<G: Gather + Drop> Stage<G> {
     /// Takes one whole line, without its line feed, the `number`-th of the file.
     #[tactic(auto, unfolding(crate::specs::Files::after_whole_line))]
     pub fn take(self, alloc: Global, number: u64, line: &[u8]) -> Result<Stage<G>, Refusal>
-        ensures { GivesAs (stage_of G.layout G.items) result (after_whole_line G.Item.kind number (stage_of G.layout G.items self) line.now) }
+        ensures { GivesAs (stage_of G.layout G.items) result
+            (after_whole_line G.Item.kind number (stage_of G.layout G.items self) line.now) }
     {
         match self {
             Stage::Begin => first_line(alloc, number, line),
@@ -89,11 +91,13 @@ impl<G: Gather + Drop> Stage<G> {
         }
     }
 
-    /// Takes one whole line as `take` does, and leaves what gathers where it is, since that may be large. What is read after an error is not said.
+    /// Takes one whole line as `take` does, and leaves what gathers where it is, since that may be large. What is read
+    /// after an error is not said.
     #[tactic(auto, unfolding(crate::specs::Files::after_whole_line, crate::specs::Files::body_line))]
     #[inline]
     pub(crate) fn advance(&mut self, alloc: Global, number: u64, line: &[u8]) -> Result<(), Refusal>
-        ensures { GivesAs (λ _. stage_of G.layout G.items self.new) result (after_whole_line G.Item.kind number (stage_of G.layout G.items self.old) line.now) }
+        ensures { GivesAs (λ _. stage_of G.layout G.items self.new) result
+            (after_whole_line G.Item.kind number (stage_of G.layout G.items self.old) line.now) }
     {
         match self {
             Stage::Body { version, all } if end_in::<G::Item>(*version, line).is_none() => {
@@ -106,7 +110,7 @@ impl<G: Gather + Drop> Stage<G> {
         }
     }
 
-    /// Whether a rest without a line feed is left out here: of a front, but not behind the last line.
+    /// Whether a rest without a line feed is left out here: of a front, but not after the last line.
     pub fn leaves_cut(&self, is_front: bool) -> bool
         ensures { result ≡ (is_front && not (is_file_ended (stage_of G.layout G.items self.now))) }
     {
@@ -124,10 +128,12 @@ impl<G: Gather + Drop> Stage<G> {
         }
     }
 
-    /// The end of the file, where its `number`-th line would be. A last line that is missing is refused there, but in a front.
+    /// The end of the file, where its `number`-th line would be. A last line that is missing is refused there, but in a
+    /// front.
     #[tactic(auto, unfolding(crate::specs::Files::at_end))]
     pub fn finish(self, alloc: Global, number: u64, is_front: bool) -> Result<Contents<G>, Refusal>
-        ensures { GivesAs (contents_of G.layout G.items) result (at_end (as_front is_front G.Item.kind) number (stage_of G.layout G.items self)) }
+        ensures { GivesAs (contents_of G.layout G.items) result
+            (at_end (as_front is_front G.Item.kind) number (stage_of G.layout G.items self)) }
     {
         match self {
             Stage::Begin | Stage::Opened { .. } => Err(Refusal::BadShape(number)),
@@ -155,7 +161,7 @@ impl<G: Gather + Drop> Stage<G> {
     }
 }
 
-/// What a file says: its format, and what was gathered of its shape and of what the lines behind it say.
+/// What a file says: its format, and what was gathered of its shape and of what the lines after it say.
 #[derive(Drop)]
 pub struct Contents<G> {
     pub version: u8,
@@ -183,7 +189,8 @@ fn begun<G: Gather>(
     version: u8,
     line: &[u8],
 ) -> Result<Stage<G>, Refusal>
-    ensures { GivesAs (stage_of G.layout G.items) result (after_shape_line number version (counts_of_format version line.now)) }
+    ensures { GivesAs (stage_of G.layout G.items) result
+        (after_shape_line number version (counts_of_format version line.now)) }
 {
     match read_counts_of_format(version, line) {
         Some(counts) => Ok(Stage::Head {
@@ -202,7 +209,8 @@ fn with_queue<G: Gather>(
     mut queues: Vec<QueueShape>,
     line: &[u8],
 ) -> Result<Stage<G>, Refusal>
-    ensures { GivesAs (stage_of G.layout G.items) result (queue_line G.Item.kind number version counts queues.items line.now) }
+    ensures { GivesAs (stage_of G.layout G.items) result
+        (queue_line G.Item.kind number version counts queues.items line.now) }
 {
     if queues.len() >= queue_limit(version) {
         return Err(Refusal::BadShape(number));
@@ -224,7 +232,8 @@ fn with_queue<G: Gather>(
 #[tactic(auto, unfolding(crate::specs::Files::item_line))]
 #[inline]
 fn add_item<G: Gather>(number: u64, version: u8, all: &mut G, line: &[u8]) -> Result<(), Refusal>
-    ensures { GivesAs (λ _. body version (G.layout all.new) (G.items all.new)) result (item_line G.Item.kind number version (G.layout all.old) (G.items all.old) line.now) }
+    ensures { GivesAs (λ _. body version (G.layout all.new) (G.items all.new)) result
+        (item_line G.Item.kind number version (G.layout all.old) (G.items all.old) line.now) }
 {
     if all.len() >= line_limit(version) {
         return Err(Refusal::TooLong);
@@ -245,7 +254,8 @@ fn with_item<G: Gather + Drop>(
     mut all: G,
     line: &[u8],
 ) -> Result<Stage<G>, Refusal>
-    ensures { GivesAs (stage_of G.layout G.items) result (item_line G.Item.kind number version (G.layout all) (G.items all) line.now) }
+    ensures { GivesAs (stage_of G.layout G.items) result
+        (item_line G.Item.kind number version (G.layout all) (G.items all) line.now) }
 {
     add_item(number, version, &mut all, line)?;
     Ok(Stage::Body { version, all })
@@ -277,7 +287,8 @@ fn with_line<G: Gather + Drop>(
     all: G,
     line: &[u8],
 ) -> Result<Stage<G>, Refusal>
-    ensures { GivesAs (stage_of G.layout G.items) result (body_line G.Item.kind number version (G.layout all) (G.items all) line.now) }
+    ensures { GivesAs (stage_of G.layout G.items) result
+        (body_line G.Item.kind number version (G.layout all) (G.items all) line.now) }
 {
     match end_in::<G::Item>(version, line) {
         Some(entries) if entries == all.len() => Ok(Stage::Ended { version, all }),
@@ -294,7 +305,8 @@ fn first_item<G: Gather + Drop>(
     queues: Vec<QueueShape>,
     line: &[u8],
 ) -> Result<Stage<G>, Refusal>
-    ensures { GivesAs (stage_of G.layout G.items) result (first_body_line G.Item.kind number version (shape_made counts queues.items) line.now) }
+    ensures { GivesAs (stage_of G.layout G.items) result
+        (first_body_line G.Item.kind number version (shape_made counts queues.items) line.now) }
 {
     match shape_of(counts, queues) {
         Some(shape) => with_line(number, version, G::begin(alloc, shape)?, line),
@@ -318,7 +330,8 @@ fn after_head<G: Gather + Drop>(
     queues: Vec<QueueShape>,
     line: &[u8],
 ) -> Result<Stage<G>, Refusal>
-    ensures { GivesAs (stage_of G.layout G.items) result (after_head_by G.Item.kind number version counts queues.items line.now) }
+    ensures { GivesAs (stage_of G.layout G.items) result
+        (after_head_by G.Item.kind number version counts queues.items line.now) }
 {
     if begins_queue(line) {
         with_queue(number, version, counts, queues, line)

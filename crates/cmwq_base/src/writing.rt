@@ -48,8 +48,8 @@ pub fn write_entries<W: Sink>(sink: &mut W, entries: &[Entry]) -> Result<(), Ref
     Ok(())
 }
 
-/// Writes the head of a history of format 2 or 3: the line that says its format, the shape line and a line for each queue.
-/// Takes no memory.
+/// Writes the head of a history of format 2 or 3: the line that says its format, the shape line and a line for each
+/// queue. Takes no memory.
 ///
 /// # Errors
 /// `WriteFault` where the sink fails; a front of the lines has been written then.
@@ -67,7 +67,8 @@ pub fn write_shape<W: Sink>(sink: &mut W, version: u8, shape: &Shape) -> Result<
     Ok(())
 }
 
-/// Writes the last line of a history of this format with so many entries, and of a format without one nothing. Takes no memory.
+/// Writes the last line of a history of this format with so many entries, and of a format without one nothing. Takes no
+/// memory.
 ///
 /// # Errors
 /// `WriteFault` where the sink fails; a front of the line has been written then.

@@ -126,8 +126,8 @@ impl Service for Jobs {
     }
 }
 
-/// Runs the load that the words after `jobs` say, and prints how many runs a second there were: the kind, the rounds, how many workers a pool
-/// has, and whether the history is `dropped` or `kept`.
+/// Runs the load that the words after `jobs` say, and prints how many runs a second there were: the kind, the rounds,
+/// how many workers a pool has, and whether the history is `dropped` or `kept`.
 pub fn time<T: Threads + Wait + Clock + Sync>(
     rt: &HostRuntime,
     threads: &T,

@@ -1,6 +1,6 @@
-//! What `bench/run` times beside the words of `cmwq`. At a number from 1 to 4: so many callers, each on a thread of its own, that look at
-//! an item over and over, without a lock. At `ticks`, a number of callers and one of readers: so many callers that tick one hub, of
-//! which so many may look. At `steps`: the calls of a file, made in a Book.
+//! What `bench/run` times beside the words of `cmwq`. At a number from 1 to 4: so many callers, each on a thread of its
+//! own, that look at an item over and over, without a lock. At `ticks`, a number of callers and one of readers: so many
+//! callers that tick one hub, of which so many may look. At `steps`: the calls of a file, made in a Book.
 #![tactic(auto)]
 
 mod jobs;
@@ -39,7 +39,8 @@ const LOOKS: u32 = 2_000_000;
 /// How many entries the hub keeps.
 const ROOM: u32 = 1_000_000;
 
-/// How many ticks all callers make together, or a few less. Each is two entries: its own, and that of a fire which finds nothing due.
+/// How many ticks all callers make together, or a few less. Each is two entries: its own, and that of a fire which
+/// finds nothing due.
 const TICKS: u32 = 500_000;
 
 /// What each caller does over and over.

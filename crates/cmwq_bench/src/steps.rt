@@ -23,8 +23,8 @@ fn make_calls(book: &mut Book, calls: &[(Who, Call)]) -> u32
     made
 }
 
-/// Makes the first call once more, by `plan` and `commit`. So `step` isn't the only one here that uses what they share, as it isn't in `cmwq`:
-/// alone it would have all of that inlined into its loop, and take a third less.
+/// Makes the first call once more, by `plan` and `commit`. So `step` isn't the only one here that uses what they share,
+/// as it isn't in `cmwq`: alone it would have all of that inlined into its loop, and take a third less.
 fn make_another(book: &mut Book, calls: &[(Who, Call)])
     requires { All (λ x. IsTrue (fits book.old.layout x.0 x.1)) calls.now }
 {
@@ -35,7 +35,8 @@ fn make_another(book: &mut Book, calls: &[(Who, Call)])
     }
 }
 
-/// Makes the calls of a file in a Book. Answers how many had room, and how long it took, without the making of the Book.
+/// Makes the calls of a file in a Book. Answers how many had room, and how long it took, without the making of the
+/// Book.
 fn time_calls(rt: &HostRuntime, file: &CallFile) -> Result<(u32, Duration)>
     requires room { file.now.shape.room ≤ 1010000 }
     requires fitting { All (λ x. IsTrue (fits file.now.shape x.0 x.1)) file.now.calls.items }

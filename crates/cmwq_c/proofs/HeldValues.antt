@@ -1,5 +1,7 @@
 -- The machine values of a `Held`. Assumes `Logic`.
-use Rattle.cmwq_c.specs.Common.{◌++◌, refl, ap, ◌∙◌, Ura, ty_ptr, ty_struct, tcons, tnil, Val, vstruct, vcons, vnil, of_list, has_ty, WT, ent, emp, Logic, sem, RattleType, Ptr, block_ptr, null_ptr, ptr_val, Struct, shape}
+use Rattle.cmwq_c.specs.Common.{◌++◌, refl, ap, ◌∙◌, Ura, ty_ptr, ty_struct, tcons, tnil, Val, vstruct, vcons, vnil}
+use Rattle.cmwq_c.specs.Common.{of_list, has_ty, WT, ent, emp, Logic, sem, RattleType, Ptr, block_ptr, null_ptr}
+use Rattle.cmwq_c.specs.Common.{ptr_val, Struct, shape}
 use Rattle.std.proofs.Common.{T, ◌≡◌, List, [], ◌∷◌}
 use denote.Laws.{Is}
 use denote.Shadow.{makes_shadow}
@@ -18,5 +20,8 @@ Data = Struct (shape held.the_type)
 pub held_told : (p : Ptr) (vs : List Val) → Is Data (p, tt) vs → vs ≡ held_of p ∷ []
 held_told p vs is = is.1.0 ∙ ap (λ (ws : List Val). vstruct (of_list (ws ++ [])) ∷ []) is.1.1.0
 
-pub held_made : {M : Type 1} {𝓤 : Ura M} (𝓛 : Logic 𝓤) (p : Ptr) → ent 𝓤 (emp 𝓤) (sem 𝓛 (Data.own_val (p, tt) (held_of p ∷ [])))
-held_made 𝓛 p = makes_shadow 𝓛 (Data.own_val (p, tt) (held_of p ∷ [])) (λ vss. (tt, (tt, tt))) ((ptr_val p ∷ [], tt), (refl, (refl, tt)))
+pub held_made : {M : Type 1} {𝓤 : Ura M} (𝓛 : Logic 𝓤) (p : Ptr)
+    → ent 𝓤 (emp 𝓤) (sem 𝓛 (Data.own_val (p, tt) (held_of p ∷ [])))
+held_made 𝓛 p =
+    makes_shadow 𝓛 (Data.own_val (p, tt) (held_of p ∷ [])) (λ vss. (tt, (tt, tt)))
+    ((ptr_val p ∷ [], tt), (refl, (refl, tt)))

@@ -5,7 +5,8 @@ use Rattle.cmwq_model.specs.declared.call.Call.TheVariants as call
 use Rattle.cmwq_model.specs.declared.reply.Reply.TheVariants as reply
 use Rattle.cmwq_c.specs.declared.numbers.WhoNumbers.{WhoNumbers}
 use Rattle.cmwq_c.specs.declared.numbers.ReplyNumbers.{ReplyNumbers}
-use Rattle.cmwq_c.specs.Numbers.{who_of_numbers, call_of_numbers, who_numbers, call_numbers, reply_numbers, CallNumbersReadAgain, RepliesStandApart}
+use Rattle.cmwq_c.specs.Numbers.{who_of_numbers, call_of_numbers, who_numbers, call_numbers, reply_numbers}
+use Rattle.cmwq_c.specs.Numbers.{CallNumbersReadAgain, RepliesStandApart}
 
 call_again : (w : WhoNumbers) (c : Call) → call_of_numbers (call_numbers w c) ≡ Some c
 unfolding call_of_numbers call_numbers
@@ -65,7 +66,8 @@ who_again (Worker w) = by_pool w.pool.high refl
 
 pub calls_read_again : CallNumbersReadAgain
 unfolding call_of_numbers
-calls_read_again who c = rw (who_stays (who_numbers who) c) (rw (who_again who) (rw (call_again (who_numbers who) c) refl))
+calls_read_again who c =
+    rw (who_stays (who_numbers who) c) (rw (who_again who) (rw (call_again (who_numbers who) c) refl))
 
 -- the reply of some numbers
 reply_of : ReplyNumbers → Reply

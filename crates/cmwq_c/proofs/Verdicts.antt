@@ -5,7 +5,8 @@ use Rattle.cmwq_base.specs.declared.refusal.Refusal.{Refusal}
 use Rattle.cmwq_base.specs.declared.refusal.Refusal.TheVariants as refusal
 use Rattle.cmwq_c.specs.Verdicts.{Judges}
 
-pub legal_end : (text line : List ℕ) (ended : Result (Option Illegal) Refusal) → CheckEnds text (Some []) (Some line) ended → 0 ≡ check_status ended → Judges text None line
+pub legal_end : (text line : List ℕ) (ended : Result (Option Illegal) Refusal)
+    → CheckEnds text (Some []) (Some line) ended → 0 ≡ check_status ended → Judges text None line
 legal_end text line (Ok None) ends is = ends
 legal_end text line (Ok (Some i)) ends is = absurd (omega (arith, is))
 legal_end text line (Err refusal.NoMemory) ends is = absurd (omega (arith, is))
@@ -16,7 +17,8 @@ legal_end text line (Err (refusal.BadLine n)) ends is = absurd (omega (arith, is
 legal_end text line (Err (refusal.BadShape n)) ends is = absurd (omega (arith, is))
 legal_end text line (Err (refusal.NoSuchId n)) ends is = absurd (omega (arith, is))
 
-pub illegal_end : (text line : List ℕ) (ended : Result (Option Illegal) Refusal) → CheckEnds text (Some []) (Some line) ended → 3 ≡ check_status ended → (i : Illegal) × Judges text (Some i) line
+pub illegal_end : (text line : List ℕ) (ended : Result (Option Illegal) Refusal)
+    → CheckEnds text (Some []) (Some line) ended → 3 ≡ check_status ended → (i : Illegal) × Judges text (Some i) line
 illegal_end text line (Ok None) ends is = absurd (omega (arith, is))
 illegal_end text line (Ok (Some i)) ends is = (i, ends)
 illegal_end text line (Err refusal.NoMemory) ends is = absurd (omega (arith, is))
@@ -27,7 +29,9 @@ illegal_end text line (Err (refusal.BadLine n)) ends is = absurd (omega (arith, 
 illegal_end text line (Err (refusal.BadShape n)) ends is = absurd (omega (arith, is))
 illegal_end text line (Err (refusal.NoSuchId n)) ends is = absurd (omega (arith, is))
 
-pub refused_end : (text line : List ℕ) (ended : Result (Option Illegal) Refusal) → CheckEnds text (Some []) (Some line) ended → 1 ≡ check_status ended → (e : Refusal) × (history_file_of text ≡ Err e)
+pub refused_end : (text line : List ℕ) (ended : Result (Option Illegal) Refusal)
+    → CheckEnds text (Some []) (Some line) ended → 1 ≡ check_status ended
+    → (e : Refusal) × (history_file_of text ≡ Err e)
 refused_end text line (Ok None) ends is = absurd (omega (arith, is))
 refused_end text line (Ok (Some i)) ends is = absurd (omega (arith, is))
 refused_end text line (Err refusal.NoMemory) ends is = absurd (omega (arith, is))

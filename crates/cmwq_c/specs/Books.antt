@@ -12,7 +12,8 @@ refused_by unmade.Full = Full
 
 -- why a call isn't made: it doesn't fit the shape, no entry more can be kept, or there is no room
 abbrev pub refusal_of : Lasting → Who → Call → Option Refusal
-refusal_of l who call = if fits l.history.layout who call then option_map refused_by (unmade_by l who call) else Some Unfit
+refusal_of l who call = if fits l.history.layout who call then option_map refused_by (unmade_by l who call)
+    else Some Unfit
 
 -- the shape has this caller or worker
 abbrev pub is_inside : Layout → Who → Bool

@@ -1,4 +1,5 @@
--- What the numbers that cross to C mean: each field of a call and of a reply, and the kinds by their numbers. cmwq.h has the same tables.
+-- What the numbers that cross to C mean: each field of a call and of a reply, and the kinds by their numbers. cmwq.h
+-- has the same tables.
 use Rattle.cmwq_c.specs.Common.{not, Who, Caller, Worker, Call, Reply, Entry, Layout, layout_of}
 use Rattle.std.specs.Prelude.{◌≡◌, ℕ, Bool, true, false, ◌==◌, if◌then◌else◌, List, map, Option, None, Some}
 use Rattle.cmwq_model.specs.declared.id.CpuId.{CpuId}
@@ -17,7 +18,14 @@ use Rattle.cmwq_c.specs.declared.numbers.EntryNumbers.{EntryNumbers}
 
 -- a flag is set where it isn't 0
 abbrev pub queue_of_numbers : QueueNumbers → QueueShape
-queue_of_numbers n = record { max_active = n.max_active; high = not (n.high == 0); intensive = not (n.intensive == 0); freezable = not (n.freezable == 0) }
+queue_of_numbers n =
+    record {
+      max_active = n.max_active;
+      high = not (n.high == 0);
+      intensive = not (n.intensive == 0);
+      freezable =
+          not (n.freezable == 0);
+    }
 
 abbrev pub counts_of_numbers : ShapeNumbers → Counts
 counts_of_numbers n = record { cpus = n.cpus; workers = n.workers; callers = n.callers; items = n.items; room = n.room }
@@ -27,10 +35,13 @@ shape_of n queues = layout_of (counts_of_numbers n) (map queue_of_numbers queues
 
 -- 0 a caller, 1 a worker of a CPU's normal pool, 2 one of its high pool
 abbrev pub worker_of_numbers : Bool → WhoNumbers → Who
-worker_of_numbers high n = Worker (record { pool = record { cpu = record { 0 = n.cpu }; high = high }; index = n.index })
+worker_of_numbers high n =
+    Worker (record { pool = record { cpu = record { 0 = n.cpu }; high = high }; index = n.index })
 
 abbrev pub who_of_numbers : WhoNumbers → Option Who
-who_of_numbers n = if n.kind == 0 then Some (Caller (record { 0 = n.index })) else (if n.kind == 1 then Some (worker_of_numbers false n) else (if n.kind == 2 then Some (worker_of_numbers true n) else None))
+who_of_numbers n = if n.kind == 0 then Some (Caller (record { 0 = n.index }))
+    else (if n.kind == 1 then Some (worker_of_numbers false n)
+    else (if n.kind == 2 then Some (worker_of_numbers true n) else None))
 
 abbrev item_of_call : CallNumbers → ItemId
 item_of_call n = record { 0 = n.item }
@@ -75,7 +86,8 @@ both who call = None
 abbrev pub asked_of : CallNumbers → Option (Who × Call)
 asked_of n = both (who_of_numbers n.who) (call_of_numbers n)
 
--- the numbers of each reply: k and n are its number and other, a tick and a max_active its number; what it doesn't have is 0
+-- the numbers of each reply: k and n are its number and other, a tick and a max_active its number; what it doesn't have
+-- is 0
 abbrev pub plain : ℕ → ReplyNumbers
 plain kind = record { number = 0; other = 0; item = 0; kind = kind }
 
@@ -137,7 +149,8 @@ abbrev pub of_queue : WhoNumbers → ℕ → QueueId → CallNumbers
 of_queue who kind q = record (bare who kind) { queue = q.0 }
 
 abbrev pub of_place : WhoNumbers → ℕ → ItemId → QueueId → CpuId → ℕ → CallNumbers
-of_place who kind i q c ticks = record { ticket = 0; number = ticks; item = i.0; kind = kind; queue = q.0; cpu = c.0; who = who }
+of_place who kind i q c ticks =
+    record { ticket = 0; number = ticks; item = i.0; kind = kind; queue = q.0; cpu = c.0; who = who }
 
 unfoldable pub call_numbers : WhoNumbers → Call → CallNumbers
 call_numbers who (call.Queue i q c) = of_place who 0 i q c 0
@@ -163,7 +176,8 @@ call_numbers who call.Thaw = bare who 19
 call_numbers who (call.Destroy q) = of_queue who 20 q
 
 abbrev pub entry_numbers : Entry → EntryNumbers
-entry_numbers e = record { serial = e.serial; call = call_numbers (who_numbers e.who) e.call; reply = reply_numbers e.reply }
+entry_numbers e =
+    record { serial = e.serial; call = call_numbers (who_numbers e.who) e.call; reply = reply_numbers e.reply }
 
 -- The numbers of a call are read again as it, so no two calls have the same.
 abbrev pub CallNumbersReadAgain : Type 0

@@ -29,7 +29,9 @@ unless status next = if status == 0 then next else status
 
 abbrev pub line_status : Lasting → Option (Who × Call) → ℕ → ℕ
 line_status l None room = 1
-line_status l (Some asked) room = unless (status_of (refusal_of l asked.0 asked.1)) (space_status room (entry_text (next_entry l.history asked.0 asked.1)))
+line_status l (Some asked) room =
+    unless (status_of (refusal_of l asked.0 asked.1))
+    (space_status room (entry_text (next_entry l.history asked.0 asked.1)))
 
 -- of an entry by its number: 1 where it isn't kept
 abbrev pub entry_status : Option Entry → ℕ

@@ -21,7 +21,8 @@ const LINE: usize = 256;
 
 /// How `check` of the text ended, and what it wrote, `room` bytes at most. The error says that memory ran out.
 fn judged(alloc: Global, text: &[u8], room: usize) -> Result<(u8, Memory<Vec<u8>>), NoMemory>
-    ensures { IfOk result (λ r. (ended : Result (Option Illegal) Refusal) × (r.0 ≡ check_status ended) × CheckEnds text.now (Some []) (Some (bytes_of r.1).items) ended) }
+    ensures { IfOk result (λ r. (ended : Result (Option Illegal) Refusal) × (r.0 ≡ check_status ended)
+        × CheckEnds text.now (Some []) (Some (bytes_of r.1).items) ended) }
 {
     let mut output = Memory::writer(alloc, room)?;
     let mut errors = Memory::writer(alloc, LINE)?;
@@ -33,8 +34,10 @@ fn judged(alloc: Global, text: &[u8], room: usize) -> Result<(u8, Memory<Vec<u8>
 /// Judges the history that the text says, and writes the line of its verdict.
 #[tactic(auto, using(crate::proofs::Verdicts::legal_end, crate::proofs::Verdicts::illegal_end, crate::proofs::Verdicts::refused_end))]
 pub fn judge(alloc: Global, text: &[u8], out: &mut [u8], written: &mut usize) -> u32
-    ensures legal { result ≡ 0 → (line : List ℕ) × Judges text.now None line × IsTextWritten line written.new out.old out.new }
-    ensures illegal { result ≡ 7 → (line : List ℕ) × ((i : Illegal) × Judges text.now (Some i) line) × IsTextWritten line written.new out.old out.new }
+    ensures legal { result ≡ 0 → (line : List ℕ) × Judges text.now None line
+        × IsTextWritten line written.new out.old out.new }
+    ensures illegal { result ≡ 7 → (line : List ℕ) × ((i : Illegal) × Judges text.now (Some i) line)
+        × IsTextWritten line written.new out.old out.new }
     ensures refused { result ≡ 1 → (e : Refusal) × (history_file_of text.now ≡ Err e) }
     ensures kept { result ≢ 0 → result ≢ 7 → (out.new ≡ out.old) × (written.new ≡ written.old) }
 {

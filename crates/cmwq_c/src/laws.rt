@@ -23,8 +23,8 @@ pub fn replies_stand_apart()
     ensures { RepliesStandApart }
 {}
 
-/// Where the fields of each struct that C sees lie, in the order in which they are written. `tools/c` reads this table, and the header is held
-/// against it.
+/// Where the fields of each struct that C sees lie, in the order in which they are written. `tools/c` reads this table,
+/// and the header is held against it.
 pub fn fields_lie_as_told()
     ensures book { FieldsLieAt Handle (0 ∷ 8 ∷ []) }
     ensures pointer { FieldsLieAt Held (0 ∷ []) }

@@ -1,7 +1,8 @@
 //! The Book for C: a runtime of one thread behind a handle, by numbers or by lines of text.
 #![tactic(auto)]
 
-ghost use Rattle.std.specs.Prelude.{◌≡◌, ◌≢◌, ◌⊎◌, ◌+◌, ℕ, true, false, List, length, count_by, Some, None, Err, IfSome, nat_lt};
+ghost use Rattle.std.specs.Prelude.{◌≡◌, ◌≢◌, ◌⊎◌, ◌+◌, ℕ, true, false, List, length, count_by, Some, None, Err};
+ghost use Rattle.std.specs.Prelude.{IfSome, nat_lt};
 ghost use Rattle.cmwq_model.specs.declared.verdict.Illegal.{Illegal};
 ghost use Rattle.cmwq_model.specs.Prelude.{is_layout, still_open, is_active};
 ghost use Rattle.cmwq_model.specs.Calls as calls;
@@ -14,7 +15,8 @@ ghost use Rattle.cmwq_c.specs.Numbers.{shape_of, who_of_numbers, asked_of, reply
 ghost use Rattle.cmwq_base.specs.declared.refusal.Refusal.{Refusal};
 ghost use Rattle.cmwq_base.specs.Kinds.{history_file_of};
 ghost use Rattle.cmwq_c.specs.Verdicts.{Judges};
-ghost use Rattle.cmwq_c.specs.Statuses.{call_status, line_status, entry_status, entry_line_status, found_status, serial_status, if_live, IsTextWritten};
+ghost use Rattle.cmwq_c.specs.Statuses.{call_status, line_status, entry_status, entry_line_status, found_status};
+ghost use Rattle.cmwq_c.specs.Statuses.{serial_status, if_live, IsTextWritten};
 
 mod apart;
 mod handle;
@@ -38,8 +40,8 @@ pub use laws::{calls_read_again, fields_lie_as_told, replies_stand_apart};
 use std::alloc::Global;
 use std::mem;
 
-/// Opens a book with no entries. A book that the handle had is closed. 0 done, 1 a shape outside the limits, 4 no memory; then the handle
-/// is as it was.
+/// Opens a book with no entries. A book that the handle had is closed. 0 done, 1 a shape outside the limits, 4 no
+/// memory; then the handle is as it was.
 #[unsafe(no_mangle)]
 pub extern "C" fn cmwq_open(
     alloc: Global,
@@ -50,7 +52,8 @@ pub extern "C" fn cmwq_open(
     ensures live { result ≡ 0 → book.new.live ≡ true }
     ensures book { result ≡ 0 → book.new.held.book ≡ lasting_at_first (shape_of shape.now queues.now) shape.now.keep }
     ensures inside { result ≡ 0 → is_layout (shape_of shape.now queues.now) ≡ true }
-    ensures status { (result ≡ 0) ⊎ ((result ≡ 1) × (is_layout (shape_of shape.now queues.now) ≡ false)) ⊎ (result ≡ 4) }
+    ensures status { (result ≡ 0) ⊎ ((result ≡ 1) × (is_layout (shape_of shape.now queues.now) ≡ false))
+        ⊎ (result ≡ 4) }
     ensures kept { result ≢ 0 → book.new ≡ book.old }
 {
     match book_of(alloc, shape, queues) {
@@ -71,8 +74,8 @@ pub extern "C" fn cmwq_close(alloc: Global, book: &mut Handle)
     mem::replace(book, Handle::none()).into_box(alloc);
 }
 
-/// Makes the call of these numbers, and says its reply. 0 done, 1 no call or one outside the shape, 2 closed, 3 no room, 6 no entry more
-/// can be kept.
+/// Makes the call of these numbers, and says its reply. 0 done, 1 no call or one outside the shape, 2 closed, 3 no
+/// room, 6 no entry more can be kept.
 #[unsafe(no_mangle)]
 pub extern "C" fn cmwq_step(
     alloc: Global,
@@ -82,8 +85,12 @@ pub extern "C" fn cmwq_step(
 ) -> u32
     ensures status { result ≡ if_live book.old.live (call_status book.old.held.book (asked_of call.now)) }
     ensures live { book.new.live ≡ book.old.live }
-    ensures made { result ≡ 0 → IfSome (asked_of call.now) (λ a. book.new.held.book ≡ with_made book.old.held.book (next_entry book.old.held.book.history a.0 a.1)) }
-    ensures reply { result ≡ 0 → IfSome (asked_of call.now) (λ a. reply.new ≡ reply_numbers (next_entry book.old.held.book.history a.0 a.1).reply) }
+    ensures made { result ≡ 0
+        → IfSome (asked_of call.now)
+        (λ a. book.new.held.book ≡ with_made book.old.held.book (next_entry book.old.held.book.history a.0 a.1)) }
+    ensures reply { result ≡ 0
+        → IfSome (asked_of call.now)
+        (λ a. reply.new ≡ reply_numbers (next_entry book.old.held.book.history a.0 a.1).reply) }
     ensures kept { result ≢ 0 → reply.new ≡ reply.old }
     ensures same { result ≢ 0 → book.old.live ≡ true → book.new.held.book ≡ book.old.held.book }
 {
@@ -97,8 +104,8 @@ pub extern "C" fn cmwq_step(
     }
 }
 
-/// Makes the call of a line, and writes the line of its entry, with its line feed. 0 done, 1 no line of a call or a call outside the
-/// shape, 2 closed, 3 no room, 5 the buffer doesn't hold the line, 6 no entry more can be kept.
+/// Makes the call of a line, and writes the line of its entry, with its line feed. 0 done, 1 no line of a call or a
+/// call outside the shape, 2 closed, 3 no room, 5 the buffer doesn't hold the line, 6 no entry more can be kept.
 #[unsafe(no_mangle)]
 pub extern "C" fn cmwq_step_line(
     alloc: Global,
@@ -109,8 +116,12 @@ pub extern "C" fn cmwq_step_line(
 ) -> u32
     ensures status { result ≡ if_live book.old.live (line_status book.old.held.book (call_read line.now) (length out.old)) }
     ensures live { book.new.live ≡ book.old.live }
-    ensures made { result ≡ 0 → IfSome (call_read line.now) (λ a. book.new.held.book ≡ with_made book.old.held.book (next_entry book.old.held.book.history a.0 a.1)) }
-    ensures text { result ≡ 0 → IfSome (call_read line.now) (λ a. IsTextWritten (entry_text (next_entry book.old.held.book.history a.0 a.1)) written.new out.old out.new) }
+    ensures made { result ≡ 0
+        → IfSome (call_read line.now)
+        (λ a. book.new.held.book ≡ with_made book.old.held.book (next_entry book.old.held.book.history a.0 a.1)) }
+    ensures text { result ≡ 0
+        → IfSome (call_read line.now)
+        (λ a. IsTextWritten (entry_text (next_entry book.old.held.book.history a.0 a.1)) written.new out.old out.new) }
     ensures kept { result ≢ 0 → (out.new ≡ out.old) × (written.new ≡ written.old) }
     ensures same { result ≢ 0 → book.old.live ≡ true → book.new.held.book ≡ book.old.held.book }
 {
@@ -135,7 +146,9 @@ pub extern "C" fn cmwq_would(
     ensures status { result ≡ if_live book.old.live (call_status book.old.held.book (asked_of call.now)) }
     ensures live { book.new.live ≡ book.old.live }
     ensures same { book.old.live ≡ true → book.new.held.book ≡ book.old.held.book }
-    ensures reply { result ≡ 0 → IfSome (asked_of call.now) (λ a. reply.new ≡ reply_numbers (next_entry book.old.held.book.history a.0 a.1).reply) }
+    ensures reply { result ≡ 0
+        → IfSome (asked_of call.now)
+        (λ a. reply.new ≡ reply_numbers (next_entry book.old.held.book.history a.0 a.1).reply) }
     ensures kept { result ≢ 0 → reply.new ≡ reply.old }
 {
     match mem::replace(book, Handle::none()).into_box(alloc) {
@@ -148,8 +161,8 @@ pub extern "C" fn cmwq_would(
     }
 }
 
-/// Whether the ticket with this number stands and waits for nothing, so that its end would be answered done. False where the handle is
-/// closed.
+/// Whether the ticket with this number stands and waits for nothing, so that its end would be answered done. False
+/// where the handle is closed.
 #[unsafe(no_mangle)]
 pub extern "C" fn cmwq_ready(alloc: Global, book: &mut Handle, ticket: u64) -> bool
     ensures live { book.new.live ≡ book.old.live }
@@ -192,7 +205,8 @@ pub extern "C" fn cmwq_bits(alloc: Global, book: &mut Handle, item: u16, bits: &
     }
 }
 
-/// Says how many entries a caller or worker has, which is the serial of its next. 0 done, 1 no such caller or worker, 2 closed.
+/// Says how many entries a caller or worker has, which is the serial of its next. 0 done, 1 no such caller or worker, 2
+/// closed.
 #[unsafe(no_mangle)]
 pub extern "C" fn cmwq_serial(
     alloc: Global,
@@ -203,7 +217,8 @@ pub extern "C" fn cmwq_serial(
     ensures status { result ≡ if_live book.old.live (serial_status book.old.held.book.history.layout (who_of_numbers who.now)) }
     ensures live { book.new.live ≡ book.old.live }
     ensures same { book.old.live ≡ true → book.new.held.book ≡ book.old.held.book }
-    ensures serial { result ≡ 0 → IfSome (who_of_numbers who.now) (λ w. serial.new ≡ calls.serial_of (past_in book.old.held.book.history) w) }
+    ensures serial { result ≡ 0
+        → IfSome (who_of_numbers who.now) (λ w. serial.new ≡ calls.serial_of (past_in book.old.held.book.history) w) }
     ensures kept { result ≢ 0 → serial.new ≡ serial.old }
 {
     match mem::replace(book, Handle::none()).into_box(alloc) {
@@ -239,7 +254,8 @@ pub extern "C" fn cmwq_len(alloc: Global, book: &mut Handle) -> u64
 pub extern "C" fn cmwq_room_left(alloc: Global, book: &mut Handle) -> u64
     ensures live { book.new.live ≡ book.old.live }
     ensures same { book.old.live ≡ true → book.new.held.book ≡ book.old.held.book }
-    ensures count { book.old.live ≡ true → result + length book.old.held.book.history.entries ≡ book.old.held.book.history.room }
+    ensures count { book.old.live ≡ true → result + length book.old.held.book.history.entries
+        ≡ book.old.held.book.history.room }
     ensures closed { book.old.live ≡ false → result ≡ 0 }
 {
     match mem::replace(book, Handle::none()).into_box(alloc) {
@@ -293,7 +309,9 @@ pub extern "C" fn cmwq_open_count(alloc: Global, book: &mut Handle) -> u32
 pub extern "C" fn cmwq_active_count(alloc: Global, book: &mut Handle) -> u32
     ensures live { book.new.live ≡ book.old.live }
     ensures same { book.old.live ≡ true → book.new.held.book ≡ book.old.held.book }
-    ensures count { book.old.live ≡ true → result ≡ count_by (is_active book.old.held.book.history.layout (past_in book.old.held.book.history)) (still_open (past_in book.old.held.book.history)) }
+    ensures count { book.old.live ≡ true
+        → result ≡ count_by (is_active book.old.held.book.history.layout (past_in book.old.held.book.history))
+        (still_open (past_in book.old.held.book.history)) }
     ensures closed { book.old.live ≡ false → result ≡ 0 }
 {
     match mem::replace(book, Handle::none()).into_box(alloc) {
@@ -330,7 +348,8 @@ pub extern "C" fn cmwq_entry(
     }
 }
 
-/// Writes the line of the entry with this number. 0 done, 1 it isn't kept, 2 closed, 5 the buffer doesn't hold the line.
+/// Writes the line of the entry with this number. 0 done, 1 it isn't kept, 2 closed, 5 the buffer doesn't hold the
+/// line.
 #[unsafe(no_mangle)]
 pub extern "C" fn cmwq_entry_line(
     alloc: Global,
@@ -339,10 +358,13 @@ pub extern "C" fn cmwq_entry_line(
     out: &mut [u8],
     written: &mut usize,
 ) -> u32
-    ensures status { result ≡ if_live book.old.live (entry_line_status (lasting_entry book.old.held.book number) (length out.old)) }
+    ensures status { result ≡ if_live book.old.live
+        (entry_line_status (lasting_entry book.old.held.book number) (length out.old)) }
     ensures live { book.new.live ≡ book.old.live }
     ensures same { book.old.live ≡ true → book.new.held.book ≡ book.old.held.book }
-    ensures text { result ≡ 0 → IfSome (lasting_entry book.old.held.book number) (λ e. IsTextWritten (entry_text e) written.new out.old out.new) }
+    ensures text { result ≡ 0
+        → IfSome (lasting_entry book.old.held.book number)
+        (λ e. IsTextWritten (entry_text e) written.new out.old out.new) }
     ensures kept { result ≢ 0 → (out.new ≡ out.old) × (written.new ≡ written.old) }
 {
     match mem::replace(book, Handle::none()).into_box(alloc) {
@@ -372,13 +394,14 @@ pub extern "C" fn cmwq_forget(alloc: Global, book: &mut Handle) -> u32
     }
 }
 
-/// Judges a whole history file, of any format, as `check` does, and writes the line of its verdict. 0 legal, 1 no history, 4 no memory, 5
-/// the buffer doesn't hold
-/// the line, 7 not legal.
+/// Judges a whole history file, of any format, as `check` does, and writes the line of its verdict. 0 legal, 1 no
+/// history, 4 no memory, 5 the buffer doesn't hold the line, 7 not legal.
 #[unsafe(no_mangle)]
 pub extern "C" fn cmwq_check(alloc: Global, text: &[u8], out: &mut [u8], written: &mut usize) -> u32
-    ensures legal { result ≡ 0 → (line : List ℕ) × Judges text.now None line × IsTextWritten line written.new out.old out.new }
-    ensures illegal { result ≡ 7 → (line : List ℕ) × ((i : Illegal) × Judges text.now (Some i) line) × IsTextWritten line written.new out.old out.new }
+    ensures legal { result ≡ 0 → (line : List ℕ) × Judges text.now None line
+        × IsTextWritten line written.new out.old out.new }
+    ensures illegal { result ≡ 7 → (line : List ℕ) × ((i : Illegal) × Judges text.now (Some i) line)
+        × IsTextWritten line written.new out.old out.new }
     ensures refused { result ≡ 1 → (e : Refusal) × (history_file_of text.now ≡ Err e) }
     ensures kept { result ≢ 0 → result ≢ 7 → (out.new ≡ out.old) × (written.new ≡ written.old) }
 {

@@ -1,6 +1,7 @@
 //! Shapes, callers, calls, replies and entries as C writes them.
 ghost use Rattle.std.specs.Prelude.{◌≡◌, map, IfOk};
-ghost use Rattle.cmwq_c.specs.Numbers.{counts_of_numbers, queue_of_numbers, worker_of_numbers, who_of_numbers, call_of_numbers, asked_of};
+ghost use Rattle.cmwq_c.specs.Numbers.{counts_of_numbers, queue_of_numbers, worker_of_numbers, who_of_numbers};
+ghost use Rattle.cmwq_c.specs.Numbers.{call_of_numbers, asked_of};
 
 use cmwq_model::{
     Call, CallerId, Counts, CpuId, ItemId, NoMemory, PoolId, QueueId, QueueShape, Who, WorkerId,

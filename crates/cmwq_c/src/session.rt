@@ -1,5 +1,6 @@
 //! A book with its shape, so that each call of C is tried before it is made.
-ghost use Rattle.std.specs.Prelude.{◌≡◌, ◌+◌, ◌<◌, true, length, count_by, None, Some, IfOk, IfErr, OnErr, IfSome, is_some, nat_lt};
+ghost use Rattle.std.specs.Prelude.{◌≡◌, ◌+◌, ◌<◌, true, length, count_by, None, Some, IfOk, IfErr, OnErr, IfSome};
+ghost use Rattle.std.specs.Prelude.{is_some, nat_lt};
 ghost use Rattle.cmwq_model.specs.Prelude.{fits, serial_of, still_open, is_active};
 ghost use Rattle.cmwq_model.specs.Legal as legal;
 ghost use Rattle.cmwq_core.specs.History.{next_entry, past_in, is_ready};
@@ -189,7 +190,8 @@ impl Session {
 
     /// How many of them are active.
     pub fn active_count(&self) -> u32
-        ensures { result ≡ count_by (is_active self.now.history.layout (past_in self.now.history)) (still_open (past_in self.now.history)) }
+        ensures { result ≡ count_by (is_active self.now.history.layout (past_in self.now.history))
+            (still_open (past_in self.now.history)) }
     {
         self.book.active_count()
     }

@@ -1,5 +1,6 @@
 //! What the calls of C do, on a book.
-ghost use Rattle.std.specs.Prelude.{◌≡◌, ◌≢◌, ◌⊎◌, ◌≤◌, true, false, length, IfSome, IfNone, IfOk, IfErr, None, Some, ◌<◌};
+ghost use Rattle.std.specs.Prelude.{◌≡◌, ◌≢◌, ◌⊎◌, ◌≤◌, true, false, length, IfSome, IfNone, IfOk, IfErr, None, Some};
+ghost use Rattle.std.specs.Prelude.{◌<◌};
 ghost use Rattle.cmwq_model.specs.Prelude.{is_layout};
 ghost use Rattle.cmwq_model.specs.Calls as calls;
 ghost use Rattle.cmwq_text.specs.CallText.{call_read};
@@ -8,7 +9,8 @@ ghost use Rattle.cmwq_core.specs.History.{next_entry, past_in};
 ghost use Rattle.cmwq_core.specs.Plans.{IsPlan};
 ghost use Rattle.cmwq_core.specs.Lasting.{lasting_at_first, with_made, lasting_entry, has_space};
 ghost use Rattle.cmwq_c.specs.Numbers.{shape_of, who_of_numbers, asked_of, reply_numbers, entry_numbers};
-ghost use Rattle.cmwq_c.specs.Statuses.{call_status, line_status, space_status, entry_status, entry_line_status, serial_status, IsTextWritten};
+ghost use Rattle.cmwq_c.specs.Statuses.{call_status, line_status, space_status, entry_status, entry_line_status};
+ghost use Rattle.cmwq_c.specs.Statuses.{serial_status, IsTextWritten};
 
 use crate::numbers::{
     CallNumbers, EntryNumbers, QueueNumbers, ReplyNumbers, ShapeNumbers, WhoNumbers, queues_of,
@@ -49,8 +51,11 @@ pub fn book_of(
 /// Makes the call of these numbers.
 pub fn number_step(session: &mut Session, call: &CallNumbers, reply: &mut ReplyNumbers) -> u32
     ensures status { result ≡ call_status session.old (asked_of call.now) }
-    ensures made { result ≡ 0 → IfSome (asked_of call.now) (λ a. session.new ≡ with_made session.old (next_entry session.old.history a.0 a.1)) }
-    ensures reply { result ≡ 0 → IfSome (asked_of call.now) (λ a. reply.new ≡ reply_numbers (next_entry session.old.history a.0 a.1).reply) }
+    ensures made { result ≡ 0
+        → IfSome (asked_of call.now)
+        (λ a. session.new ≡ with_made session.old (next_entry session.old.history a.0 a.1)) }
+    ensures reply { result ≡ 0
+        → IfSome (asked_of call.now) (λ a. reply.new ≡ reply_numbers (next_entry session.old.history a.0 a.1).reply) }
     ensures kept { result ≢ 0 → (session.new ≡ session.old) × (reply.new ≡ reply.old) }
 {
     let Some((who, call)) = call.asked() else {
@@ -68,7 +73,8 @@ pub fn number_step(session: &mut Session, call: &CallNumbers, reply: &mut ReplyN
 /// Says what the call of these numbers would be answered.
 pub fn foretell(session: &Session, call: &CallNumbers, reply: &mut ReplyNumbers) -> u32
     ensures status { result ≡ call_status session.now (asked_of call.now) }
-    ensures reply { result ≡ 0 → IfSome (asked_of call.now) (λ a. reply.new ≡ reply_numbers (next_entry session.now.history a.0 a.1).reply) }
+    ensures reply { result ≡ 0
+        → IfSome (asked_of call.now) (λ a. reply.new ≡ reply_numbers (next_entry session.now.history a.0 a.1).reply) }
     ensures kept { result ≢ 0 → reply.new ≡ reply.old }
 {
     let Some((who, call)) = call.asked() else {
@@ -101,8 +107,12 @@ pub fn put(text: &[u8], out: &mut [u8]) -> Option<usize>
 /// Makes the call of this line, and writes the line of its entry.
 pub fn line_step(session: &mut Session, line: &[u8], out: &mut [u8], written: &mut usize) -> u32
     ensures status { result ≡ line_status session.old (call_read line.now) (length out.old) }
-    ensures made { result ≡ 0 → IfSome (call_read line.now) (λ a. session.new ≡ with_made session.old (next_entry session.old.history a.0 a.1)) }
-    ensures text { result ≡ 0 → IfSome (call_read line.now) (λ a. IsTextWritten (entry_text (next_entry session.old.history a.0 a.1)) written.new out.old out.new) }
+    ensures made { result ≡ 0
+        → IfSome (call_read line.now)
+        (λ a. session.new ≡ with_made session.old (next_entry session.old.history a.0 a.1)) }
+    ensures text { result ≡ 0
+        → IfSome (call_read line.now)
+        (λ a. IsTextWritten (entry_text (next_entry session.old.history a.0 a.1)) written.new out.old out.new) }
     ensures kept { result ≢ 0 → (session.new ≡ session.old) × (out.new ≡ out.old) × (written.new ≡ written.old) }
 {
     let Some((who, call)) = read_call(line) else {
@@ -151,7 +161,8 @@ pub fn entry_of(session: &Session, number: Number, entry: &mut EntryNumbers) -> 
 /// Writes the line of the entry with this number.
 pub fn line_of(session: &Session, number: Number, out: &mut [u8], written: &mut usize) -> u32
     ensures status { result ≡ entry_line_status (lasting_entry session.now number) (length out.old) }
-    ensures text { result ≡ 0 → IfSome (lasting_entry session.now number) (λ e. IsTextWritten (entry_text e) written.new out.old out.new) }
+    ensures text { result ≡ 0
+        → IfSome (lasting_entry session.now number) (λ e. IsTextWritten (entry_text e) written.new out.old out.new) }
     ensures kept { result ≢ 0 → (out.new ≡ out.old) × (written.new ≡ written.old) }
 {
     let Some(entry) = session.entry(number) else {
@@ -169,7 +180,8 @@ pub fn line_of(session: &Session, number: Number, out: &mut [u8], written: &mut 
 /// Says how many entries this caller or worker has.
 pub fn serial_of(session: &Session, who: &WhoNumbers, serial: &mut u64) -> u32
     ensures status { result ≡ serial_status session.now.history.layout (who_of_numbers who.now) }
-    ensures serial { result ≡ 0 → IfSome (who_of_numbers who.now) (λ w. serial.new ≡ calls.serial_of (past_in session.now.history) w) }
+    ensures serial { result ≡ 0
+        → IfSome (who_of_numbers who.now) (λ w. serial.new ≡ calls.serial_of (past_in session.now.history) w) }
     ensures kept { result ≢ 0 → serial.new ≡ serial.old }
 {
     let Some(who) = who.who() else {

@@ -1,6 +1,7 @@
 //! Replies, calls and entries, written for C.
 ghost use Rattle.std.specs.Prelude.{◌≡◌};
-ghost use Rattle.cmwq_c.specs.Numbers.{plain, with_number, with_two, reply_numbers, who_numbers, bare, numbers_of_item, of_queue, of_place, call_numbers, entry_numbers};
+ghost use Rattle.cmwq_c.specs.Numbers.{plain, with_number, with_two, reply_numbers, who_numbers, bare, numbers_of_item};
+ghost use Rattle.cmwq_c.specs.Numbers.{of_queue, of_place, call_numbers, entry_numbers};
 
 use crate::numbers::{CallNumbers, EntryNumbers, ReplyNumbers, WhoNumbers};
 use cmwq_model::{Call, CpuId, Entry, ItemId, QueueId, Reply, Who};

@@ -1,5 +1,6 @@
 -- Bars: the runs of a history, each from the entry that started it to the one that finished it.
-use Rattle.std.specs.Prelude.{◌≡◌, ◌<◌, ℕ, if◌then◌else◌, List, [], ◌∷◌, ◌++◌, length, Option, Some, None, option_map, option_and_then, option_to_list, slice_get}
+use Rattle.std.specs.Prelude.{◌≡◌, ◌<◌, ℕ, if◌then◌else◌, List, [], ◌∷◌, ◌++◌, length, Option, Some, None, option_map}
+use Rattle.std.specs.Prelude.{option_and_then, option_to_list, slice_get}
 use Rattle.std.specs.Option.{option_or}
 use Rattle.cmwq_model.specs.declared.entry.Entry.{Entry}
 use Rattle.cmwq_model.specs.declared.record.Start.{Start}
@@ -13,11 +14,21 @@ finish_place (e ∷ past) n = option_or (finish_place past n) (if finishes n e t
 
 -- the bar of a run of item i that begins at a place: it ends where the whole history finishes it, if it does
 abbrev pub bar_from : List Entry → ℕ → Start → ℕ → Bar
-bar_from whole place start i = record { worker = start.worker; item = record { 0 = i }; number = start.number; from = place; to = finish_place whole start.number }
+bar_from whole place start i =
+    record {
+      worker = start.worker;
+      item = record { 0 = i };
+      number = start.number;
+      from = place;
+      to =
+          finish_place whole start.number;
+    }
 
--- the bar that an entry behind past begins, in the whole history
+-- the bar that an entry after past begins, in the whole history
 abbrev pub bar_of : List Entry → List Entry → Entry → Option Bar
-bar_of whole past e = option_and_then (λ (start : Start). option_map (bar_from whole (length past) start) (item_at past start.number)) (start_in e)
+bar_of whole past e =
+    option_and_then (λ (start : Start). option_map (bar_from whole (length past) start) (item_at past start.number))
+    (start_in e)
 
 unfoldable pub bars_in : List Entry → List Entry → List Bar
 bars_in whole [] = []
@@ -31,4 +42,8 @@ abbrev pub AreFinishes : List Entry → ℕ → List (Option ℕ) → Type 0
 AreFinishes past n table = (length table ≡ n) × ((k : ℕ) → k < n → slice_get table k ≡ Some (finish_place past k))
 
 abbrev pub FinishIsKept : List (Option ℕ) → List (Option ℕ) → Entry → ℕ → Type 0
-FinishIsKept old new e place = (length new ≡ length old) × ((k : ℕ) → k < length old → slice_get new k ≡ option_map (λ before. option_or before (if finishes k e then Some place else None)) (slice_get old k))
+FinishIsKept old new e place =
+    (length new ≡ length old)
+    × ((k : ℕ) → k < length old
+    → slice_get new k ≡ option_map (λ before. option_or before (if finishes k e then Some place else None))
+    (slice_get old k))

@@ -1,5 +1,8 @@
--- Waits of callers: from the entry that gives a ticket to the one by which its end is answered done. Waits of a caller that overlap stand in rows of their own: each in the first that is free where it begins.
-use Rattle.std.specs.Prelude.{ℕ, ◌+◌, Bool, true, false, if◌then◌else◌, List, [], ◌∷◌, ◌++◌, length, map, filter, flat_map, min, Option, Some, None, option_map, option_and_then, option_to_list, nat_lt, slice_get, slice_set}
+-- Waits of callers: from the entry that gives a ticket to the one by which its end is answered done. Waits of a caller
+-- that overlap stand in rows of their own: each in the first that is free where it begins.
+use Rattle.std.specs.Prelude.{ℕ, ◌+◌, Bool, true, false, if◌then◌else◌, List, [], ◌∷◌, ◌++◌, length, map, filter}
+use Rattle.std.specs.Prelude.{flat_map, min, Option, Some, None, option_map, option_and_then, option_to_list, nat_lt}
+use Rattle.std.specs.Prelude.{slice_get, slice_set}
 use Rattle.std.specs.Option.{option_map_or}
 use Rattle.std.specs.List.{range_with_len, list_any}
 use Rattle.cmwq_model.specs.declared.call.Call.{Call}
@@ -32,7 +35,8 @@ abbrev pub ticket_in_row : List (Option ℕ) → ℕ → Option ℕ
 ticket_in_row rows row = option_and_then (λ r. r) (slice_get rows row)
 
 abbrev pub begun_in_row : List (Option ℕ) → ℕ → List (Option ℕ)
-begun_in_row rows n = if nat_lt (free_row rows) (length rows) then slice_set rows (free_row rows) (Some n) else rows ++ Some n ∷ []
+begun_in_row rows n = if nat_lt (free_row rows) (length rows) then slice_set rows (free_row rows) (Some n) else rows
+    ++ Some n ∷ []
 
 abbrev pub left_row : List (Option ℕ) → ℕ → List (Option ℕ)
 left_row rows row = if nat_lt row (length rows) then slice_set rows row None else rows
@@ -48,7 +52,8 @@ number_done e = if is_done e.reply then end_asked e.call else None
 
 -- what an entry of the caller, whose number is n, makes of its rows
 abbrev pub rows_after : Entry → ℕ → List (Option ℕ) → List (Option ℕ)
-rows_after e n rows = if gives_ticket e.reply then begun_in_row rows n else option_map_or (λ t. left_row rows (ticket_row rows t)) (number_done e) rows
+rows_after e n rows = if gives_ticket e.reply then begun_in_row rows n
+    else option_map_or (λ t. left_row rows (ticket_row rows t)) (number_done e) rows
 
 unfoldable pub wait_rows : List Entry → CallerId → List (Option ℕ)
 wait_rows [] c = []
@@ -59,7 +64,7 @@ wait_rows (e ∷ past) c = if is_by (Caller c) e then rows_after e (length past)
 abbrev pub wait_in : CallerId → ℕ → Option ℕ → ℕ → CallerWait
 wait_in c row to from = record { caller = c; row = row; from = from; to = to }
 
--- the wait in a row that an entry behind n others ends
+-- the wait in a row that an entry after n others ends
 abbrev pub wait_over : List (Option ℕ) → CallerId → ℕ → ℕ → Option CallerWait
 wait_over rows c n row = option_map (wait_in c row (Some n)) (ticket_in_row rows row)
 
@@ -94,10 +99,13 @@ is_end_answer (reply.Waiting n) = true
 is_end_answer r = false
 
 abbrev pub sign_on : List (Option ℕ) → Entry → CallerId → ℕ → ℕ → Option WaitSign
-sign_on rows e c n row = option_map (λ (t : ℕ). record { caller = c; row = row; at = n; is_done = is_done e.reply }) (ticket_in_row rows row)
+sign_on rows e c n row =
+    option_map (λ (t : ℕ). record { caller = c; row = row; at = n; is_done = is_done e.reply }) (ticket_in_row rows row)
 
 abbrev pub wait_sign_in : List (Option ℕ) → Entry → CallerId → ℕ → Option WaitSign
-wait_sign_in rows e c n = if is_end_answer e.reply then option_and_then (λ t. sign_on rows e c n (ticket_row rows t)) (end_asked e.call) else None
+wait_sign_in rows e c n =
+    if is_end_answer e.reply then option_and_then (λ t. sign_on rows e c n (ticket_row rows t)) (end_asked e.call)
+    else None
 
 abbrev pub wait_sign_of : List Entry → Entry → CallerId → Option WaitSign
 wait_sign_of past e c = if is_by (Caller c) e then wait_sign_in (wait_rows past c) e c (length past) else None

@@ -1,5 +1,6 @@
 -- Lanes: a row for each worker that has an entry, by CPU, pool and index.
-use Rattle.std.specs.Prelude.{ℕ, ◌+◌, ◌*◌, Bool, ◌&&◌, List, filter, if◌then◌else◌, Option, Some, None, option_and_then, nat_lt}
+use Rattle.std.specs.Prelude.{ℕ, ◌+◌, ◌*◌, Bool, ◌&&◌, List, filter, if◌then◌else◌, Option, Some, None, option_and_then}
+use Rattle.std.specs.Prelude.{nat_lt}
 use Rattle.std.specs.List.{list_any}
 use Rattle.cmwq_model.specs.declared.entry.Entry.{Entry}
 use Rattle.cmwq_model.specs.declared.id.WorkerId.{WorkerId}

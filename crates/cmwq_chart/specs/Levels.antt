@@ -1,5 +1,7 @@
--- Levels: how many queueings of a queue are open on a CPU, how many of them are active, and how wide the queue is, after each entry.
-use Rattle.std.specs.Prelude.{ℕ, ◌+◌, ◌-◌, ◌*◌, ◌<◌, ◌==◌, ◌&&◌, Bool, not, if◌then◌else◌, List, [], ◌∷◌, ◌++◌, length, map, filter, count_by, flat_map, Option, Some, None, option_to_list, nat_lt}
+-- Levels: how many queueings of a queue are open on a CPU, how many of them are active, and how wide the queue is,
+-- after each entry.
+use Rattle.std.specs.Prelude.{ℕ, ◌+◌, ◌-◌, ◌*◌, ◌<◌, ◌==◌, ◌&&◌, Bool, not, if◌then◌else◌, List, [], ◌∷◌, ◌++◌, length}
+use Rattle.std.specs.Prelude.{map, filter, count_by, flat_map, Option, Some, None, option_to_list, nat_lt}
 use Rattle.std.specs.List.{range_with_len, list_any}
 use Rattle.cmwq_model.specs.declared.entry.Entry.{Entry}
 use Rattle.cmwq_model.specs.declared.record.Place.{Place}
@@ -33,7 +35,8 @@ abbrev pub most_places : ℕ
 most_places = most_cpus * most_queues
 
 unfoldable pub places_of : Layout → List Queueing → List Place
-places_of s queueings = filter (has_queueings queueings) (flat_map (places_of_queue s) (range_with_len 0 (length s.queues)))
+places_of s queueings =
+    filter (has_queueings queueings) (flat_map (places_of_queue s) (range_with_len 0 (length s.queues)))
 
 -- the layout has this queue, and may have this CPU
 abbrev pub IsPlaceOf : Layout → Place → Type 0
@@ -50,12 +53,13 @@ abbrev pub active_at : Layout → List Entry → Place → ℕ
 active_at s past p = count_by (is_active_at s past p) (still_open past)
 
 abbrev pub height_at : Layout → List Entry → Place → Height
-height_at s past p = record { open_count = open_at past p; active_count = active_at s past p; width = width s past p.queue.0 }
+height_at s past p =
+    record { open_count = open_at past p; active_count = active_at s past p; width = width s past p.queue.0 }
 
 abbrev pub is_same_height : Height → Height → Bool
 is_same_height h g = (h.open_count == g.open_count) && (h.active_count == g.active_count) && (h.width == g.width)
 
--- behind so many entries another height is another level; before the first entry none is shown
+-- after so many entries another height is another level; before the first entry none is shown
 abbrev pub is_changed : ℕ → Height → Height → Bool
 is_changed n before after = nat_lt 0 n && not (is_same_height before after)
 
@@ -70,7 +74,7 @@ level_from s (e ∷ past) p = if changes_level s past e p then length past else 
 abbrev pub level_until : Layout → List Entry → Option ℕ → Place → Level
 level_until s past to p = record { place = p; height = height_at s past p; from = level_from s past p; to = to }
 
--- the level that an entry behind past ends
+-- the level that an entry after past ends
 abbrev pub level_ended : Layout → List Entry → Entry → Place → Option Level
 level_ended s past e p = if changes_level s past e p then Some (level_until s past (Some (length past - 1)) p) else None
 

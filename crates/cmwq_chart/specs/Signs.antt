@@ -6,7 +6,8 @@ use Rattle.cmwq_model.specs.declared.reply.Reply.TheVariants as reply
 use Rattle.cmwq_model.specs.Prelude.{item_of}
 use Rattle.cmwq_chart.specs.declared.signs.Sign.{Sign}
 use Rattle.cmwq_chart.specs.declared.signs.SignKind.{SignKind}
-use Rattle.cmwq_chart.specs.declared.signs.SignKind.TheVariants.{Queued, Delayed, Fired, Cancelled, Waits, Tick, Changed, Refused}
+use Rattle.cmwq_chart.specs.declared.signs.SignKind.TheVariants.{Queued, Delayed, Fired, Cancelled, Waits, Tick}
+use Rattle.cmwq_chart.specs.declared.signs.SignKind.TheVariants.{Changed, Refused}
 
 -- by the answer: what a bar shows are starts and finishes, and what a sleep shows is that a run slept and woke
 abbrev pub sign_kind : Reply → Option SignKind
@@ -39,7 +40,7 @@ sign_kind r = Some Refused
 abbrev pub sign_at : Entry → ℕ → SignKind → Sign
 sign_at e n kind = record { who = e.who; kind = kind; item = item_of e; at = n }
 
--- the sign of an entry behind n others
+-- the sign of an entry after n others
 abbrev pub sign_of : Entry → ℕ → Option Sign
 sign_of e n = option_map (sign_at e n) (sign_kind e.reply)
 

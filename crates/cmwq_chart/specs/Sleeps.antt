@@ -1,5 +1,6 @@
 -- Sleeps: from the entry by which a worker's run sleeps to the one by which it goes on.
-use Rattle.std.specs.Prelude.{◌≡◌, ◌<◌, ◌+◌, ◌*◌, ℕ, ◌&&◌, Bool, true, false, if◌then◌else◌, List, [], ◌∷◌, ◌++◌, length, flat_map, Option, Some, None, option_map, option_to_list, slice_index_or}
+use Rattle.std.specs.Prelude.{◌≡◌, ◌<◌, ◌+◌, ◌*◌, ℕ, ◌&&◌, Bool, true, false, if◌then◌else◌, List, [], ◌∷◌, ◌++◌}
+use Rattle.std.specs.Prelude.{length, flat_map, Option, Some, None, option_map, option_to_list, slice_index_or}
 use Rattle.cmwq_model.specs.declared.entry.Entry.{Entry}
 use Rattle.cmwq_model.specs.declared.id.WorkerId.{WorkerId}
 use Rattle.cmwq_model.specs.declared.id.Who.TheVariants.{Worker}
@@ -9,7 +10,7 @@ use Rattle.cmwq_model.specs.Prelude.{is_by}
 use Rattle.cmwq_chart.specs.declared.sleeps.Sleep.{Sleep}
 use Rattle.cmwq_chart.specs.declared.sleeps.WorkerSleeps.{WorkerSleeps}
 
--- the place of the entry by which a worker sleeps, behind an entry of its own
+-- the place of the entry by which a worker sleeps, after an entry of its own
 abbrev pub since_after : Reply → ℕ → Option ℕ → Option ℕ
 since_after (reply.Started n) place since = None
 since_after (reply.StartedEnlist n x) place since = None
@@ -20,7 +21,8 @@ since_after r place since = since
 -- since where the worker sleeps, if it does
 unfoldable pub asleep_since : List Entry → WorkerId → Option ℕ
 asleep_since [] w = None
-asleep_since (e ∷ past) w = if is_by (Worker w) e then since_after e.reply (length past) (asleep_since past w) else asleep_since past w
+asleep_since (e ∷ past) w = if is_by (Worker w) e then since_after e.reply (length past) (asleep_since past w)
+    else asleep_since past w
 
 abbrev pub sleep_from : WorkerId → Option ℕ → ℕ → Sleep
 sleep_from w to from = record { worker = w; from = from; to = to }
@@ -29,9 +31,10 @@ abbrev pub ends_sleep : Reply → Bool
 ends_sleep reply.Woke = true
 ends_sleep r = false
 
--- the sleep that an entry behind past ends
+-- the sleep that an entry after past ends
 abbrev pub sleep_ended : List Entry → Entry → WorkerId → Option Sleep
-sleep_ended past e w = if is_by (Worker w) e && ends_sleep e.reply then option_map (sleep_from w (Some (length past))) (asleep_since past w) else None
+sleep_ended past e w = if is_by (Worker w) e && ends_sleep e.reply
+    then option_map (sleep_from w (Some (length past))) (asleep_since past w) else None
 
 unfoldable pub sleeps_ended : List Entry → WorkerId → List Sleep
 sleeps_ended [] w = []
@@ -44,7 +47,7 @@ sleeps_by past w = sleeps_ended past w ++ option_to_list (option_map (sleep_from
 abbrev pub sleeps_of : List Entry → List WorkerId → List Sleep
 sleeps_of past lanes = flat_map (sleeps_by past) lanes
 
--- ---- what is known of each worker behind a past, in a table by the numbers of all workers that an entry can name
+-- ---- what is known of each worker after a past, in a table by the numbers of all workers that an entry can name
 abbrev pub table_number : WorkerId → ℕ
 table_number w = 512 * w.pool.cpu.0 + (if w.pool.high then 256 else 0) + w.index
 
@@ -56,4 +59,7 @@ pub record AreSleepsKnown (past : List Entry) (w : WorkerId) (known : WorkerSlee
   pub since : known.since ≡ asleep_since past w
 
 abbrev pub AreAllSleepsKnown : List Entry → List WorkerSleeps → Type 0
-AreAllSleepsKnown past table = (length table ≡ 131072) × ((w : WorkerId) (d : WorkerSleeps) → HasTableNumber w → AreSleepsKnown past w (slice_index_or table (table_number w) d))
+AreAllSleepsKnown past table =
+    (length table ≡ 131072)
+    × ((w : WorkerId) (d : WorkerSleeps) → HasTableNumber w
+    → AreSleepsKnown past w (slice_index_or table (table_number w) d))

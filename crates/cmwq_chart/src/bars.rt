@@ -7,7 +7,8 @@ use crate::entries::{entry_at, item_at, start_in};
 use cmwq_model::{Entry, ItemId, Number, Reply, WorkerId};
 use std::alloc::{AllocError, Global};
 
-/// A run: what was started by which worker, and the places of the entries that started and finished it. One that has not finished has only the first.
+/// A run: what was started by which worker, and the places of the entries that started and finished it. One that has
+/// not finished has only the first.
 #[derive(Clone, Copy)]
 pub struct Bar {
     pub worker: WorkerId,
@@ -41,7 +42,7 @@ fn finishes(alloc: Global, entries: &[Entry]) -> Result<Vec<Option<u32>>, AllocE
     Ok(finishes)
 }
 
-/// The bar that the entry behind these entries begins.
+/// The bar that the entry after these entries begins.
 #[tactic(auto, using(crate::proofs::Steps::length_past))]
 fn bar_from(
     entries: &[Entry],
@@ -65,7 +66,7 @@ fn bar_from(
     })
 }
 
-/// Puts a bar behind the others, where there is one.
+/// Adds a bar after the others, where there is one.
 fn keep(bars: &mut Vec<Bar>, bar: Option<Bar>) -> Result<(), AllocError>
     ensures { OnOk result (bars.new.items ≡ bars.old.items ++ option_to_list bar) }
 {

@@ -13,13 +13,14 @@ fn has_calls(entries: &[Entry], caller: CallerId) -> bool
     entries.iter().any(|entry| is_call_of(caller, *entry))
 }
 
-/// Puts a caller behind the others, if it has entries.
+/// Adds a caller after the others, if it has entries.
 fn push_used(
     callers: &mut Vec<CallerId>,
     entries: &[Entry],
     caller: CallerId,
 ) -> Result<(), AllocError>
-    ensures callers { OnOk result (callers.new.items ≡ callers.old.items ++ (if spec.has_calls entries.now caller then caller ∷ [] else [])) }
+    ensures callers { OnOk result
+        (callers.new.items ≡ callers.old.items ++ (if spec.has_calls entries.now caller then caller ∷ [] else [])) }
     ensures few { OnOk result (length callers.new.items ≤ length callers.old.items + 1) }
 {
     if has_calls(entries, caller) {

@@ -1,5 +1,6 @@
 //! Lanes: a row for each worker that has an entry.
-ghost use Rattle.std.specs.Prelude.{◌≡◌, ◌+◌, ◌*◌, ◌<◌, ◌≤◌, ◌∷◌, ◌++◌, [], if◌then◌else◌, length, filter, map, IfOk, OnOk};
+ghost use Rattle.std.specs.Prelude.{◌≡◌, ◌+◌, ◌*◌, ◌<◌, ◌≤◌, ◌∷◌, ◌++◌, [], if◌then◌else◌, length, filter, map, IfOk};
+ghost use Rattle.std.specs.Prelude.{OnOk};
 ghost use Rattle.std.specs.List.{range_with_len};
 ghost use Rattle.cmwq_model.specs.Prelude.{cpu_workers, most_cpus, most_workers, worker_at};
 ghost use Rattle.cmwq_chart.specs.Marks.{AreMarks};
@@ -53,7 +54,7 @@ fn has_entries(entries: &[Entry], marks: &[bool], worker: WorkerId) -> bool
     is_marked(marks, lane_number(worker))
 }
 
-/// Puts a worker behind the others, if it has entries.
+/// Adds a worker after the others, if it has entries.
 fn push_used(
     lanes: &mut Vec<WorkerId>,
     entries: &[Entry],
@@ -63,7 +64,8 @@ fn push_used(
     requires cpu { worker.pool.cpu.0 < most_cpus }
     requires index { worker.index < most_workers }
     requires marks { AreMarks spec.lane_number_by entries.now spec.most_lanes marks.now }
-    ensures lanes { OnOk result (lanes.new.items ≡ lanes.old.items ++ (if spec.has_entries entries.now worker then worker ∷ [] else [])) }
+    ensures lanes { OnOk result
+        (lanes.new.items ≡ lanes.old.items ++ (if spec.has_entries entries.now worker then worker ∷ [] else [])) }
     ensures few { OnOk result (length lanes.new.items ≤ length lanes.old.items + 1) }
 {
     if has_entries(entries, marks, worker) {
@@ -72,7 +74,7 @@ fn push_used(
     Ok(())
 }
 
-/// Puts those of a pool's workers that have entries behind the others.
+/// Adds those of a pool's workers that have entries after the others.
 fn push_pool(
     lanes: &mut Vec<WorkerId>,
     entries: &[Entry],
@@ -83,7 +85,9 @@ fn push_pool(
     requires cpu { pool.cpu.0 < most_cpus }
     requires workers { workers ≤ most_workers }
     requires marks { AreMarks spec.lane_number_by entries.now spec.most_lanes marks.now }
-    ensures lanes { OnOk result (lanes.new.items ≡ lanes.old.items ++ filter (spec.has_entries entries.now) (map (worker_at pool) (range_with_len 0 workers))) }
+    ensures lanes { OnOk result
+        (lanes.new.items ≡ lanes.old.items
+        ++ filter (spec.has_entries entries.now) (map (worker_at pool) (range_with_len 0 workers))) }
     ensures few { OnOk result (length lanes.new.items ≤ length lanes.old.items + workers) }
 {
     for index in 0..workers {
@@ -102,7 +106,8 @@ fn push_cpu(
 ) -> Result<(), AllocError>
     requires cpu { cpu.0 < most_cpus }
     requires marks { AreMarks spec.lane_number_by entries.now spec.most_lanes marks.now }
-    ensures lanes { OnOk result (lanes.new.items ≡ lanes.old.items ++ filter (spec.has_entries entries.now) (cpu_workers shape.now cpu.0)) }
+    ensures lanes { OnOk result
+        (lanes.new.items ≡ lanes.old.items ++ filter (spec.has_entries entries.now) (cpu_workers shape.now cpu.0)) }
     ensures few { OnOk result (length lanes.new.items ≤ length lanes.old.items + 2 * most_workers) }
 {
     let workers = shape.counts().workers;

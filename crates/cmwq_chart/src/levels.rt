@@ -10,8 +10,8 @@ pub struct Height {
     pub width: u32,
 }
 
-/// The height of a queue on a CPU, with the places of the first and the last entry after which it is so. A level that goes on at the end has
-/// only the first.
+/// The height of a queue on a CPU, with the places of the first and the last entry after which it is so. A level that
+/// goes on at the end has only the first.
 #[derive(Clone, Copy)]
 pub struct Level {
     pub place: Place,

@@ -48,7 +48,7 @@ fn has_queueings(queueings: &[Queueing], marks: &[bool], place: Place) -> bool
     is_marked(marks, level_number(place))
 }
 
-/// Puts a place behind the others, if there are queueings of it.
+/// Adds a place after the others, if there are queueings of it.
 fn push_place(
     places: &mut Vec<Place>,
     queueings: &[Queueing],
@@ -58,7 +58,8 @@ fn push_place(
     requires queue { place.queue.0 < most_queues }
     requires cpu { place.cpu.0 < most_cpus }
     requires marks { AreMarks spec.level_number_of queueings.now spec.most_places marks.now }
-    ensures places { OnOk result (places.new.items ≡ places.old.items ++ (if spec.has_queueings queueings.now place then place ∷ [] else [])) }
+    ensures places { OnOk result
+        (places.new.items ≡ places.old.items ++ (if spec.has_queueings queueings.now place then place ∷ [] else [])) }
     ensures few { OnOk result (length places.new.items ≤ length places.old.items + 1) }
 {
     if has_queueings(queueings, marks, place) {
@@ -67,7 +68,7 @@ fn push_place(
     Ok(())
 }
 
-/// Puts those of a queue's places of which there are queueings behind the others.
+/// Adds those of a queue's places of which there are queueings after the others.
 fn push_queue(
     places: &mut Vec<Place>,
     queueings: &[Queueing],
@@ -77,7 +78,9 @@ fn push_queue(
 ) -> Result<(), AllocError>
     requires queue { queue < most_queues }
     requires marks { AreMarks spec.level_number_of queueings.now spec.most_places marks.now }
-    ensures places { OnOk result (places.new.items ≡ places.old.items ++ filter (spec.has_queueings queueings.now) (spec.places_of_queue shape.now queue)) }
+    ensures places { OnOk result
+        (places.new.items ≡ places.old.items
+        ++ filter (spec.has_queueings queueings.now) (spec.places_of_queue shape.now queue)) }
     ensures few { OnOk result (length places.new.items ≤ length places.old.items + most_cpus) }
 {
     for cpu in 0..shape.counts().cpus {

@@ -7,8 +7,8 @@ use crate::sleeps::Sleep;
 use crate::waits::CallerShapes;
 use cmwq_model::{Place, WorkerId};
 
-/// All that is shown of a history: what its callers did, the workers that have entries, what they did, the queues on CPUs that had queueings,
-/// and how high these stood.
+/// All that is shown of a history: what its callers did, the workers that have entries, what they did, the queues on
+/// CPUs that had queueings, and how high these stood.
 #[derive(Drop)]
 pub struct Shapes {
     pub callers: CallerShapes,

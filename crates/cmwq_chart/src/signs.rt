@@ -85,7 +85,7 @@ fn sign_of(entry: Entry, place: u32) -> Option<Sign>
     })
 }
 
-/// Puts a sign behind the others, where there is one.
+/// Adds a sign after the others, where there is one.
 fn keep(signs: &mut Vec<Sign>, sign: Option<Sign>) -> Result<(), AllocError>
     ensures { OnOk result (signs.new.items ≡ signs.old.items ++ option_to_list sign) }
 {

@@ -1,5 +1,6 @@
 //! Sleeps: the parts of runs in which they wait.
-ghost use Rattle.std.specs.Prelude.{◌≡◌, ◌≤◌, ◌++◌, List, [], length, option_map, option_to_list, IfOk, OnOk, None, ◌∷◌};
+ghost use Rattle.std.specs.Prelude.{◌≡◌, ◌≤◌, ◌++◌, List, [], length, option_map, option_to_list, IfOk, OnOk, None};
+ghost use Rattle.std.specs.Prelude.{◌∷◌};
 ghost use Rattle.cmwq_model.specs.Prelude.{past_of};
 ghost use Rattle.cmwq_chart.specs.Sleeps as spec;
 
@@ -7,7 +8,8 @@ use crate::entries::{entry_at, is_by};
 use cmwq_model::{Entry, Reply, Who, WorkerId};
 use std::alloc::{AllocError, Global};
 
-/// A sleep of a worker's run: the places of the entries by which it sleeps and goes on. One that has not ended has only the first.
+/// A sleep of a worker's run: the places of the entries by which it sleeps and goes on. One that has not ended has only
+/// the first.
 #[derive(Clone, Copy)]
 pub struct Sleep {
     pub worker: WorkerId,
@@ -44,7 +46,7 @@ fn asleep_since(
     }
 }
 
-/// The sleep that the entry behind these ends.
+/// The sleep that the entry after these ends.
 #[tactic(auto, using(crate::proofs::Steps::length_past))]
 fn sleep_ended(
     entries: &[Entry],
@@ -83,7 +85,7 @@ fn sleep_left(worker: WorkerId, since: Option<u32>) -> Option<Sleep>
     }
 }
 
-/// Puts a sleep behind the others, where there is one.
+/// Adds a sleep after the others, where there is one.
 fn keep(sleeps: &mut Vec<Sleep>, sleep: Option<Sleep>) -> Result<(), AllocError>
     ensures { OnOk result (sleeps.new.items ≡ sleeps.old.items ++ option_to_list sleep) }
 {
@@ -96,7 +98,7 @@ fn keep(sleeps: &mut Vec<Sleep>, sleep: Option<Sleep>) -> Result<(), AllocError>
 /// How many numbers of workers there are.
 const WORKERS: usize = 131_072;
 
-/// What is known of a worker behind some entries: its sleeps that ended, and since where it sleeps.
+/// What is known of a worker after some entries: its sleeps that ended, and since where it sleeps.
 #[derive(Drop)]
 struct WorkerSleeps {
     ended: Vec<Sleep>,
@@ -126,7 +128,7 @@ fn none_known(alloc: Global) -> Result<Vec<WorkerSleeps>, AllocError>
     Ok(known)
 }
 
-/// Takes what is known of a worker beyond an entry behind these.
+/// Takes what is known of a worker beyond an entry after these.
 fn follow_worker(
     own: &mut WorkerSleeps,
     entries: &[Entry],
@@ -145,7 +147,7 @@ fn follow_worker(
     Ok(())
 }
 
-/// Takes what is known beyond an entry behind these, which tells of its own worker alone.
+/// Takes what is known beyond an entry after these, which tells of its own worker alone.
 fn follow(known: &mut Vec<WorkerSleeps>, entries: &[Entry], entry: Entry) -> Result<(), AllocError>
     requires short { length entries.now ≤ 1073741824 }
     requires known { spec.AreAllSleepsKnown (past_of entries.now) known.old.items }
@@ -158,7 +160,7 @@ fn follow(known: &mut Vec<WorkerSleeps>, entries: &[Entry], entry: Entry) -> Res
     Ok(())
 }
 
-/// What is known behind all entries.
+/// What is known after all entries.
 fn all_known(alloc: Global, entries: &[Entry]) -> Result<Vec<WorkerSleeps>, AllocError>
     requires { length entries.now ≤ 1073741824 }
     ensures { IfOk result (λ known. spec.AreAllSleepsKnown (past_of entries.now) known.items) }
@@ -170,14 +172,15 @@ fn all_known(alloc: Global, entries: &[Entry]) -> Result<Vec<WorkerSleeps>, Allo
     Ok(known)
 }
 
-/// Puts the sleeps of a worker behind the others.
+/// Adds the sleeps of a worker after the others.
 #[tactic(auto, unfolding(crate::specs::Sleeps::sleeps_by))]
 fn push_sleeps(
     sleeps: &mut Vec<Sleep>,
     own: &WorkerSleeps,
     worker: WorkerId,
 ) -> Result<(), AllocError>
-    ensures { (past : List Entry) → spec.AreSleepsKnown past worker own.now → OnOk result (sleeps.new.items ≡ sleeps.old.items ++ spec.sleeps_by past worker) }
+    ensures { (past : List Entry) → spec.AreSleepsKnown past worker own.now
+        → OnOk result (sleeps.new.items ≡ sleeps.old.items ++ spec.sleeps_by past worker) }
 {
     let since = own.since;
     sleeps.extend_from_slice(&own.ended)?;

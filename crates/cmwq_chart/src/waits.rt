@@ -7,8 +7,8 @@ use crate::entries::{entry_at, is_call_of};
 use cmwq_model::{Call, CallerId, Entry, Number, Reply};
 use std::alloc::{AllocError, Global};
 
-/// A wait of a caller, in a row of its own where several overlap: the places of the entries that gave its ticket and that ended it. One that
-/// has not ended has only the first.
+/// A wait of a caller, in a row of its own where several overlap: the places of the entries that gave its ticket and
+/// that ended it. One that has not ended has only the first.
 #[derive(Clone, Copy)]
 pub struct CallerWait {
     pub caller: CallerId,
@@ -261,7 +261,7 @@ fn wait_sign_of(
     }
 }
 
-/// Takes the rows of a caller beyond an entry behind these.
+/// Takes the rows of a caller beyond an entry after these.
 #[tactic(auto, unfolding(crate::specs::CallerWaits::wait_rows), using(crate::proofs::Steps::length_past))]
 fn follow_rows(
     rows: &mut Vec<Option<u32>>,
@@ -280,7 +280,7 @@ fn follow_rows(
     Ok(())
 }
 
-/// Puts a wait behind the others, where there is one.
+/// Adds a wait after the others, where there is one.
 fn keep_wait(waits: &mut Vec<CallerWait>, wait: Option<CallerWait>) -> Result<(), AllocError>
     ensures { OnOk result (waits.new.items ≡ waits.old.items ++ option_to_list wait) }
 {
@@ -290,7 +290,7 @@ fn keep_wait(waits: &mut Vec<CallerWait>, wait: Option<CallerWait>) -> Result<()
     Ok(())
 }
 
-/// Puts a sign behind the others, where there is one.
+/// Adds a sign after the others, where there is one.
 fn keep_sign(signs: &mut Vec<WaitSign>, sign: Option<WaitSign>) -> Result<(), AllocError>
     ensures { OnOk result (signs.new.items ≡ signs.old.items ++ option_to_list sign) }
 {
@@ -315,7 +315,7 @@ fn wait_left(rows: &[Option<u32>], caller: CallerId, row: usize) -> Option<Calle
     })
 }
 
-/// Puts the waits that go on at the end behind the others.
+/// Adds the waits that go on at the end after the others.
 fn push_left(
     waits: &mut Vec<CallerWait>,
     rows: &[Option<u32>],
@@ -330,7 +330,7 @@ fn push_left(
     Ok(())
 }
 
-/// Puts the waits and signs of a caller behind the others, and answers its lane.
+/// Adds the waits and signs of a caller after the others, and answers its lane.
 #[tactic(auto, unfolding(crate::specs::CallerWaits::waits_by))]
 fn push_waits(
     alloc: Global,
@@ -359,7 +359,8 @@ fn push_waits(
     })
 }
 
-/// What a history shows of its callers: a lane for each, their waits, one caller after the other, and where the ends of these were asked for.
+/// What a history shows of its callers: a lane for each, their waits, one caller after the other, and where the ends of
+/// these were asked for.
 #[derive(Drop)]
 pub struct CallerShapes {
     pub lanes: Vec<CallerLane>,

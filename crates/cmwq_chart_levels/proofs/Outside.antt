@@ -1,5 +1,7 @@
 -- Which places an entry affects: the height of the others stays, and so do their levels.
-use Rattle.std.proofs.Common.{◌≡◌, ℕ, ◌<◌, ◌≤◌, Bool, true, false, not, ◌||◌, ◌&&◌, ◌==◌, if◌then◌else◌, List, [], ◌∷◌, ◌++◌, length, map, take, drop, take-append-drop, append-nil, option_to_list, Some, None, refl, sym, ap, ap₂, ◌∙◌, arith}
+use Rattle.std.proofs.Common.{◌≡◌, ℕ, ◌<◌, ◌≤◌, Bool, true, false, not, ◌||◌, ◌&&◌, ◌==◌, if◌then◌else◌, List, [], ◌∷◌}
+use Rattle.std.proofs.Common.{◌++◌, length, map, take, drop, take-append-drop, append-nil, option_to_list, Some, None}
+use Rattle.std.proofs.Common.{refl, sym, ap, ap₂, ◌∙◌, arith}
 use Rattle.std.specs.Prelude.{flat_map}
 use Rattle.std.specs.Option.{option_map_or}
 use Rattle.std.specs.List.{All}
@@ -14,7 +16,8 @@ use Rattle.cmwq_model.specs.declared.record.Place.{Place}
 use Rattle.cmwq_model.specs.declared.record.Queueing.{Queueing}
 use Rattle.cmwq_model.specs.declared.reply.Reply.{Reply}
 use Rattle.cmwq_model.specs.declared.reply.Reply.TheVariants as reply
-use Rattle.cmwq_model.specs.Prelude.{Layout, most_cpus, same_place, width, max_active, is_frozen, frozen_after, is_freezable, sets_max, width_told}
+use Rattle.cmwq_model.specs.Prelude.{Layout, most_cpus, same_place, width, max_active, is_frozen, frozen_after}
+use Rattle.cmwq_model.specs.Prelude.{is_freezable, sets_max, width_told}
 use Rattle.cmwq_theory_steps.specs.Looks.{keeps_widths}
 use Rattle.cmwq_chart.specs.declared.levels.Level.{Level}
 use Rattle.cmwq_chart.specs.Levels.{height_at, level_number}
@@ -23,26 +26,31 @@ use Rattle.cmwq_chart_levels.specs.declared.affected.AffectedPlaces.{AffectedPla
 use Rattle.cmwq_chart_levels.specs.declared.affected.AffectedPlaces.TheVariants.{Nowhere, Within, Everywhere}
 use Rattle.cmwq_chart_levels.specs.declared.steps.Change.{Change}
 use Rattle.cmwq_chart_levels.specs.Turns.{is_one_of_place, IsFollowed, IsLevelAfter, ended_levels, level_after}
-use Rattle.cmwq_chart_levels.specs.Affected.{is_width, keeps_width, moves_at, affects, has_level_number, AreAffected, IsOnlyWithin}
+use Rattle.cmwq_chart_levels.specs.Affected.{is_width, keeps_width, moves_at, affects, has_level_number, AreAffected}
+use Rattle.cmwq_chart_levels.specs.Affected.{IsOnlyWithin}
 use Rattle.cmwq_chart_levels.proofs.Unmoved.{height_stays, none_left, stays_level}
 use Rattle.std.proofs.lemmas.Bool.{or_parts}
 
 -- ---- an entry that keeps the width of a queue
 
-frozen_kept : (r : Reply) (set frozen : Bool) → (keeps_widths r || (is_width r && not set)) ≡ true → frozen_after r frozen ≡ frozen
+frozen_kept : (r : Reply) (set frozen : Bool) → (keeps_widths r || (is_width r && not set)) ≡ true
+    → frozen_after r frozen ≡ frozen
 frozen_kept reply.Frozen set frozen h = cc
 frozen_kept reply.Thawed set frozen h = cc
 frozen_kept r set frozen h = refl
 
-told_kept : (r : Reply) (set : Bool) → (keeps_widths r || (is_width r && not set)) ≡ true → (if set then width_told r else None) ≡ None
+told_kept : (r : Reply) (set : Bool) → (keeps_widths r || (is_width r && not set)) ≡ true
+    → (if set then width_told r else None) ≡ None
 told_kept (reply.Width n) true h = cc
 told_kept r true h = refl
 told_kept r false h = refl
 
-width_kept : (s : Layout) (past : List Entry) (e : Entry) (q : ℕ) → keeps_width e q ≡ true → width s (e ∷ past) q ≡ width s past q
+width_kept : (s : Layout) (past : List Entry) (e : Entry) (q : ℕ) → keeps_width e q ≡ true
+    → width s (e ∷ past) q ≡ width s past q
 unfolding width is_frozen max_active
 width_kept s past e q h =
-    ap₂ (λ b n. if is_freezable s q && b then 0 else n) (frozen_kept e.reply (sets_max e.call q) (is_frozen past) h) (ap (λ o. option_map_or (λ n. n) o (max_active s past q)) (told_kept e.reply (sets_max e.call q) h))
+    ap₂ (λ b n. if is_freezable s q && b then 0 else n) (frozen_kept e.reply (sets_max e.call q) (is_frozen past) h)
+    (ap (λ o. option_map_or (λ n. n) o (max_active s past q)) (told_kept e.reply (sets_max e.call q) h))
 
 none_of : (k o c : Bool) → (not k || (o || c)) ≡ false → (k ≡ true) × (o ≡ false) × (c ≡ false)
 none_of true false false h = (refl, refl, refl)
@@ -50,14 +58,19 @@ none_of true false true h = cc
 none_of true true c h = cc
 none_of false o c h = cc
 
-pub unaffected : (h : _) (past : List Entry) (e : Entry) (change : Change) (p : Place) → IsFollowed h past e change → affects e change p ≡ false → height_at h.layout (e ∷ past) p ≡ height_at h.layout past p
+pub unaffected : (h : _) (past : List Entry) (e : Entry) (change : Change) (p : Place) → IsFollowed h past e change
+    → affects e change p ≡ false → height_at h.layout (e ∷ past) p ≡ height_at h.layout past p
 unaffected h past e change p followed none =
-    let all = none_of (keeps_width e p.queue.0) (is_one_of_place p change.opened) (is_one_of_place p change.ended) none in
-    height_stays h.layout past e p followed.legal (width_kept h.layout past e p.queue.0 all.0) (ap (is_one_of_place p) (sym followed.does.opened) ∙ all.1) (ap (is_one_of_place p) (sym followed.does.ended) ∙ all.2)
+    let all =
+    none_of (keeps_width e p.queue.0) (is_one_of_place p change.opened) (is_one_of_place p change.ended) none in
+    height_stays h.layout past e p followed.legal (width_kept h.layout past e p.queue.0 all.0)
+    (ap (is_one_of_place p) (sym followed.does.opened) ∙ all.1) (ap (is_one_of_place p) (sym followed.does.ended)
+    ∙ all.2)
 
 -- ---- fewer places are affected
 
-fewer : (f g : Place → Bool) → ((p : Place) → f p ≡ false → g p ≡ false) → (a : AffectedPlaces) → AreAffected f a → AreAffected g a
+fewer : (f g : Place → Bool) → ((p : Place) → f p ≡ false → g p ≡ false) → (a : AffectedPlaces) → AreAffected f a
+    → AreAffected g a
 fewer f g less Nowhere h = λ p here. less p (h p here)
 fewer f g less (Within first second) h = record {
   before = λ p here k. less p (h.before p here k);
@@ -70,7 +83,9 @@ fewer f g less Everywhere h = tt
 elsewhere : (p at : Place) → (level_number p == level_number at) ≡ false → same_place p at ≡ false
 elsewhere p at h = same_bools _ _ (λ k. grind (arith, nat_tests)) (λ k. cc)
 
-pub both_moved : (change : Change) (x y : Queueing) (a : AffectedPlaces) → (change.opened ≡ Some x) × (change.ended ≡ Some y) → AreAffected (has_level_number (level_number x.place) (level_number y.place)) a → AreAffected (moves_at change) a
+pub both_moved : (change : Change) (x y : Queueing) (a : AffectedPlaces)
+    → (change.opened ≡ Some x) × (change.ended ≡ Some y)
+    → AreAffected (has_level_number (level_number x.place) (level_number y.place)) a → AreAffected (moves_at change) a
 both_moved change x y a is h = fewer _ (moves_at change) (λ p none.
     let first : same_place p x.place ≡ false = elsewhere p x.place (or_parts _ _ none).0 in
     let second : same_place p y.place ≡ false = elsewhere p y.place (or_parts _ _ none).1 in
@@ -83,45 +98,68 @@ module _ (h : _) (past : List Entry) (e : Entry) (change : Change) (followed : I
   Stays l = affects e change l.place ≡ false
 
   -- where no place is
-  pub none_affected : (xs : List Level) → All (IsLevelAfter h.layout past) xs → ((p : Place) → p.cpu.0 < most_cpus → affects e change p ≡ false) → All Stays xs
+  pub none_affected : (xs : List Level) → All (IsLevelAfter h.layout past) xs
+      → ((p : Place) → p.cpu.0 < most_cpus → affects e change p ≡ false) → All Stays xs
   none_affected xs go none = λ k d less. none _ (go k d less).inside.1
 
-  pub all_stay : (xs : List Level) → All (IsLevelAfter h.layout past) xs → All Stays xs → map (level_after h.layout (e ∷ past)) xs ≡ xs
+  pub all_stay : (xs : List Level) → All (IsLevelAfter h.layout past) xs → All Stays xs
+      → map (level_after h.layout (e ∷ past)) xs ≡ xs
   all_stay [] go stay = refl
-  all_stay (x ∷ xs) go stay = ap₂ (λ y ys. y ∷ ys) (sym (stays_level h.layout past e x (go 0 x (omega arith)) (unaffected h past e change x.place followed (stay 0 x (omega arith)))))
+  all_stay (x ∷ xs) go stay =
+      ap₂ (λ y ys. y ∷ ys)
+      (sym (stays_level h.layout past e x (go 0 x (omega arith))
+      (unaffected h past e change x.place followed (stay 0 x (omega arith)))))
       (all_stay xs (All-tail (IsLevelAfter h.layout past) x xs go) (All-tail Stays x xs stay))
 
   pub none_end : (xs : List Level) → All Stays xs → flat_map (ended_levels h.layout past e) xs ≡ []
   none_end [] stay = refl
   none_end (x ∷ xs) stay = flat_map-cons (ended_levels h.layout past e) x xs
-      ∙ ap₂ (λ a b. a ++ b) (ap option_to_list (sym (none_left h.layout past e x.place (unaffected h past e change x.place followed (stay 0 x (omega arith)))))) (none_end xs (All-tail Stays x xs stay))
+      ∙ ap₂ (λ a b. a ++ b)
+      (ap option_to_list
+      (sym (none_left h.layout past e x.place
+      (unaffected h past e change x.place followed (stay 0 x (omega arith))))))
+      (none_end xs (All-tail Stays x xs stay))
 
   -- outside a range
-  pub low_stays : (xs : List Level) (range : PlaceRange) (i : ℕ) → All (IsOnlyWithin (affects e change) range) xs → All (λ l. level_number l.place < range.from) (take i xs) → All Stays (take i xs)
-  low_stays xs range i only below = λ k d less. ((All-take (IsOnlyWithin (affects e change) range) i xs only) k d less).before (below k d less)
+  pub low_stays : (xs : List Level) (range : PlaceRange) (i : ℕ) → All (IsOnlyWithin (affects e change) range) xs
+      → All (λ l. level_number l.place < range.from) (take i xs) → All Stays (take i xs)
+  low_stays xs range i only below =
+      λ k d less. ((All-take (IsOnlyWithin (affects e change) range) i xs only) k d less).before (below k d less)
 
-  pub high_stays : (xs : List Level) (range : PlaceRange) (i j : ℕ) → All (IsOnlyWithin (affects e change) range) xs → All (λ l. range.end ≤ level_number l.place) (drop j (drop i xs)) → All Stays (drop j (drop i xs))
-  high_stays xs range i j only from = λ k d less. ((All-drop (IsOnlyWithin (affects e change) range) j (drop i xs) (All-drop (IsOnlyWithin (affects e change) range) i xs only)) k d less).behind (from k d less)
+  pub high_stays : (xs : List Level) (range : PlaceRange) (i j : ℕ) → All (IsOnlyWithin (affects e change) range) xs
+      → All (λ l. range.end ≤ level_number l.place) (drop j (drop i xs)) → All Stays (drop j (drop i xs))
+  high_stays xs range i j only from =
+      λ k d less.
+      ((All-drop (IsOnlyWithin (affects e change) range) j (drop i xs)
+      (All-drop (IsOnlyWithin (affects e change) range) i xs only)) k d less).behind (from k d less)
 
   -- so it is enough to turn those inside
-  pub range_turned : (xs part : List Level) (i j : ℕ) → All (IsLevelAfter h.layout past) xs → All Stays (take i xs) → All Stays (drop j (drop i xs)) → part ≡ map (level_after h.layout (e ∷ past)) (take j (drop i xs))
+  pub range_turned : (xs part : List Level) (i j : ℕ) → All (IsLevelAfter h.layout past) xs → All Stays (take i xs)
+      → All Stays (drop j (drop i xs)) → part ≡ map (level_after h.layout (e ∷ past)) (take j (drop i xs))
       → take i xs ++ (part ++ drop j (drop i xs)) ≡ map (level_after h.layout (e ∷ past)) xs
   range_turned xs part i j go low high is =
       let f = level_after h.layout (e ∷ past) in
       let P = IsLevelAfter h.layout past in
       let rest = drop i xs in
       ap₂ (λ a b. a ++ b) (sym (all_stay (take i xs) (All-take P i xs go) low))
-      (ap₂ (λ a b. a ++ b) is (sym (all_stay (drop j rest) (All-drop P j rest (All-drop P i xs go)) high)) ∙ sym (map-append f (take j rest) (drop j rest)) ∙ ap (map f) (take-append-drop j rest))
+      (ap₂ (λ a b. a ++ b) is (sym (all_stay (drop j rest) (All-drop P j rest (All-drop P i xs go)) high))
+      ∙ sym (map-append f (take j rest) (drop j rest)) ∙ ap (map f) (take-append-drop j rest))
       ∙ sym (map-append f (take i xs) rest) ∙ ap (map f) (take-append-drop i xs)
 
-  pub range_ended : (xs : List Level) (i j : ℕ) → All Stays (take i xs) → All Stays (drop j (drop i xs)) → flat_map (ended_levels h.layout past e) (take j (drop i xs)) ≡ flat_map (ended_levels h.layout past e) xs
+  pub range_ended : (xs : List Level) (i j : ℕ) → All Stays (take i xs) → All Stays (drop j (drop i xs))
+      → flat_map (ended_levels h.layout past e) (take j (drop i xs)) ≡ flat_map (ended_levels h.layout past e) xs
   range_ended xs i j low high =
       let g = ended_levels h.layout past e in
       let rest = drop i xs in
-      sym (append-nil (flat_map g (take j rest))) ∙ ap (λ l. flat_map g (take j rest) ++ l) (sym (none_end (drop j rest) high)) ∙ sym (flat_map-append g (take j rest) (drop j rest)) ∙ ap (flat_map g) (take-append-drop j rest)
-      ∙ ap (λ l. l ++ flat_map g rest) (sym (none_end (take i xs) low)) ∙ sym (flat_map-append g (take i xs) rest) ∙ ap (flat_map g) (take-append-drop i xs)
+      sym (append-nil (flat_map g (take j rest)))
+      ∙ ap (λ l. flat_map g (take j rest) ++ l) (sym (none_end (drop j rest) high))
+      ∙ sym (flat_map-append g (take j rest) (drop j rest)) ∙ ap (flat_map g) (take-append-drop j rest)
+      ∙ ap (λ l. l ++ flat_map g rest) (sym (none_end (take i xs) low)) ∙ sym (flat_map-append g (take i xs) rest)
+      ∙ ap (flat_map g) (take-append-drop i xs)
 
 -- a list that is written whole over one as long
-pub all_written : {X : Type 0} (new old : List X) (n : ℕ) → n ≡ length old → length new ≡ length old → take n (new ++ drop (length new) old) ≡ new
+pub all_written : {X : Type 0} (new old : List X) (n : ℕ) → n ≡ length old → length new ≡ length old
+    → take n (new ++ drop (length new) old) ≡ new
 all_written new old n all same =
-    ap (take n) (ap (λ l. new ++ l) (drop_all (length new) old (omega (arith, same))) ∙ append-nil new) ∙ take_all n new (omega (arith, all, same))
+    ap (take n) (ap (λ l. new ++ l) (drop_all (length new) old (omega (arith, same))) ∙ append-nil new)
+    ∙ take_all n new (omega (arith, all, same))

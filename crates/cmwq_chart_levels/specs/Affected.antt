@@ -36,7 +36,8 @@ has_level_number n m p = (level_number p == n) || (level_number p == m)
 -- no place outside two ranges is affected
 pub record AreRanges (affected : Place → Bool) (first second : PlaceRange) : Type 0 where
   pub before : (p : Place) → p.cpu.0 < most_cpus → level_number p < first.from → affected p ≡ false
-  pub between : (p : Place) → p.cpu.0 < most_cpus → first.end ≤ level_number p → level_number p < second.from → affected p ≡ false
+  pub between : (p : Place) → p.cpu.0 < most_cpus → first.end ≤ level_number p → level_number p < second.from
+      → affected p ≡ false
   pub behind : (p : Place) → p.cpu.0 < most_cpus → second.end ≤ level_number p → affected p ≡ false
 
 abbrev pub AreAffected : (Place → Bool) → AffectedPlaces → Type 0

@@ -1,5 +1,6 @@
 -- What one entry does to the levels that go on before it.
-use Rattle.std.specs.Prelude.{◌≡◌, ◌-◌, ◌∷◌, ℕ, Bool, ◌||◌, not, false, if◌then◌else◌, List, Option, Some, None, option_to_list}
+use Rattle.std.specs.Prelude.{◌≡◌, ◌-◌, ◌∷◌, ℕ, Bool, ◌||◌, not, false, if◌then◌else◌, List, Option, Some, None}
+use Rattle.std.specs.Prelude.{option_to_list}
 use Rattle.std.specs.Option.{option_map_or}
 use Rattle.cmwq_model.specs.declared.entry.Entry.{Entry}
 use Rattle.cmwq_model.specs.declared.record.Place.{Place}
@@ -17,12 +18,12 @@ use Rattle.cmwq_chart_levels.specs.declared.steps.Change.{Change}
 abbrev pub is_one_of_place : Place → Option Queueing → Bool
 is_one_of_place p x = option_map_or (is_of_place p) x false
 
--- what an entry behind past opens and ends
+-- what an entry after past opens and ends
 pub record IsChangeOf (past : List Entry) (e : Entry) (change : Change) : Type 0 where
   pub opened : change.opened ≡ opening past e
   pub ended : change.ended ≡ ending past e
 
--- the history goes on behind past by an entry, which opens and ends this
+-- the history goes on after past by an entry, which opens and ends this
 pub record IsFollowed (h : History) (past : List Entry) (e : Entry) (change : Change) : Type 0 where
   pub legal : IsLegal h.layout (e ∷ past)
   pub followed : past_in h ≡ e ∷ past
@@ -47,7 +48,7 @@ pub record IsLevelAfter (s : Layout) (past : List Entry) (l : Level) : Type 0 wh
 abbrev pub ended_levels : Layout → List Entry → Entry → Level → List Level
 ended_levels s past e l = option_to_list (level_ended s past e l.place)
 
--- what an entry behind n others makes of a level, where it changes it or doesn't
+-- what an entry after n others makes of a level, where it changes it or doesn't
 abbrev pub ended_if : Level → Bool → ℕ → Option Level
 ended_if l changed n = if changed then Some (record l { to = Some (n - 1) }) else None
 

@@ -36,7 +36,7 @@ fn open_after(before: u32, is_opened: bool, is_ended: bool) -> u32
     }
 }
 
-/// How many queueings of this place are open after an entry behind these.
+/// How many queueings of this place are open after an entry after these.
 fn open_at(
     execution: &Execution,
     change: &Change,
@@ -66,7 +66,7 @@ fn active_at(execution: &Execution, place: Place) -> u32
     execution.active_counts()[cpus * usize::from(place.queue.0) + usize::from(place.cpu.0)]
 }
 
-/// The height of a place after an entry behind these, of which that before it is known.
+/// The height of a place after an entry after these, of which that before it is known.
 pub(crate) fn height_after(
     execution: &Execution,
     change: &Change,
@@ -96,7 +96,7 @@ pub(crate) fn may_change(change: &Change, reply: Reply, place: Place) -> bool
         || is_of_place(place, change.ended)
 }
 
-/// Whether behind so many entries the one height makes another level than the other.
+/// Whether after so many entries the one height makes another level than the other.
 pub(crate) fn is_changed(entries: usize, before: &Height, after: &Height) -> bool
     ensures { result ≡ spec.is_changed entries before.now after.now }
 {

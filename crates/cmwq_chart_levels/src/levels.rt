@@ -1,5 +1,6 @@
 //! The levels of the places of a history.
-ghost use Rattle.std.specs.Prelude.{◌≡◌, ◌<◌, ◌≤◌, ◌∷◌, ◌++◌, [], length, take, drop, flat_map, map, slice_index_or, IfOk, OnOk, option_to_list};
+ghost use Rattle.std.specs.Prelude.{◌≡◌, ◌<◌, ◌≤◌, ◌∷◌, ◌++◌, [], length, take, drop, flat_map, map, slice_index_or};
+ghost use Rattle.std.specs.Prelude.{IfOk, OnOk, option_to_list};
 ghost use Rattle.std.specs.List.{All};
 ghost use Rattle.std.specs.List.Sorted.{IsNonDecreasingBy};
 ghost use Rattle.cmwq_model.specs.Prelude.{IsLegal, past_of};
@@ -7,7 +8,8 @@ ghost use Rattle.cmwq_core.specs.History.{past_in};
 ghost use Rattle.cmwq_chart.specs.Levels as spec;
 ghost use Rattle.cmwq_chart.specs.Levels.{level_number};
 ghost use Rattle.cmwq_chart_levels.specs.Affected.{affects, AreLevelsInOrder, AreRanges, IsOnlyWithin};
-ghost use Rattle.cmwq_chart_levels.specs.Turns.{IsLevelAfter, after_if, ended_if, IsFollowed, ended_levels, level_after as level_then};
+ghost use Rattle.cmwq_chart_levels.specs.Turns.{IsLevelAfter, after_if, ended_if, IsFollowed, ended_levels};
+ghost use Rattle.cmwq_chart_levels.specs.Turns.{level_after as level_then};
 
 use crate::affected::{AffectedPlaces, PlaceRange, place_number, places_affected};
 use crate::heights::{height_after, is_changed, may_change};
@@ -17,7 +19,7 @@ use cmwq_core::Execution;
 use cmwq_model::{Entry, NoMemory, Place, Shape};
 use std::alloc::Global;
 
-/// The level that an entry behind so many ends, of that which went on before it.
+/// The level that an entry after so many ends, of that which went on before it.
 fn level_ended(before: &Level, is_changed: bool, entries: usize) -> Option<Level>
     requires { entries ≤ 1073741824 }
     ensures { result ≡ ended_if before.now is_changed entries }
@@ -48,7 +50,7 @@ fn level_after(before: &Level, is_changed: bool, height: Height, entries: usize)
     }
 }
 
-/// Puts a level behind the others.
+/// Adds a level after the others.
 fn push(levels: &mut Vec<Level>, level: Level) -> Result<(), NoMemory>
     ensures { OnOk result (levels.new.items ≡ levels.old.items ++ level ∷ []) }
 {
@@ -76,7 +78,8 @@ fn level_at(levels: &[Level], number: usize) -> Level
     levels[number]
 }
 
-/// Takes the levels that go on beyond an entry behind these, and puts those that it ends behind the others. It looks at each of them.
+/// Takes the levels that go on beyond an entry after these, and puts those that it ends after the others. It looks at
+/// each of them.
 fn turn(
     levels: &mut Vec<Level>,
     running: &mut [Level],
@@ -89,7 +92,9 @@ fn turn(
     requires followed { IsFollowed execution.now (past_of entries.now) entry change.now }
     requires running { All (IsLevelAfter execution.now.layout (past_of entries.now)) running.old }
     ensures running { OnOk result (running.new ≡ map (level_then execution.now.layout (entry ∷ past_of entries.now)) running.old) }
-    ensures levels { OnOk result (levels.new.items ≡ levels.old.items ++ flat_map (ended_levels execution.now.layout (past_of entries.now) entry) running.old) }
+    ensures levels { OnOk result
+        (levels.new.items ≡ levels.old.items ++ flat_map (ended_levels execution.now.layout (past_of entries.now) entry)
+        running.old) }
 {
     for k in 0..running.len() {
         let before = level_at(running, k);
@@ -130,7 +135,9 @@ fn turn_range(
     requires order { AreLevelsInOrder running.old }
     requires only { All (IsOnlyWithin (affects entry change.now) range) running.old }
     ensures running { OnOk result (running.new ≡ map (level_then execution.now.layout (entry ∷ past_of entries.now)) running.old) }
-    ensures levels { OnOk result (levels.new.items ≡ levels.old.items ++ flat_map (ended_levels execution.now.layout (past_of entries.now) entry) running.old) }
+    ensures levels { OnOk result
+        (levels.new.items ≡ levels.old.items ++ flat_map (ended_levels execution.now.layout (past_of entries.now) entry)
+        running.old) }
 {
     let from = count_below(running, range.from);
     let (_, rest) = running.split_at_mut(from);
@@ -157,7 +164,9 @@ fn turn_ranges(
     requires order { AreLevelsInOrder running.old }
     requires ranges { AreRanges (affects entry change.now) first second }
     ensures running { OnOk result (running.new ≡ map (level_then execution.now.layout (entry ∷ past_of entries.now)) running.old) }
-    ensures levels { OnOk result (levels.new.items ≡ levels.old.items ++ flat_map (ended_levels execution.now.layout (past_of entries.now) entry) running.old) }
+    ensures levels { OnOk result
+        (levels.new.items ≡ levels.old.items ++ flat_map (ended_levels execution.now.layout (past_of entries.now) entry)
+        running.old) }
 {
     let middle = count_below(running, second.from);
     let (low, high) = running.split_at_mut(middle);
@@ -180,7 +189,9 @@ fn turn_affected(
     requires running { All (IsLevelAfter execution.now.layout (past_of entries.now)) running.old }
     requires order { AreLevelsInOrder running.old }
     ensures running { OnOk result (running.new ≡ map (level_then execution.now.layout (entry ∷ past_of entries.now)) running.old) }
-    ensures levels { OnOk result (levels.new.items ≡ levels.old.items ++ flat_map (ended_levels execution.now.layout (past_of entries.now) entry) running.old) }
+    ensures levels { OnOk result
+        (levels.new.items ≡ levels.old.items ++ flat_map (ended_levels execution.now.layout (past_of entries.now) entry)
+        running.old) }
 {
     match places_affected(change, entry) {
         AffectedPlaces::Nowhere => Ok(()),
@@ -219,7 +230,8 @@ fn first_levels(
     Ok(levels)
 }
 
-/// The levels of these places in a legal history that an execution without entries makes. So the execution is let go at one place alone.
+/// The levels of these places in a legal history that an execution without entries makes. So the execution is let go at
+/// one place alone.
 fn levels_along(
     alloc: Global,
     execution: &mut Execution,
@@ -231,7 +243,8 @@ fn levels_along(
     requires legal { IsLegal execution.old.layout (past_of entries.now) }
     requires inside { All (spec.IsPlaceOf execution.old.layout) places.now }
     requires order { IsNonDecreasingBy level_number places.now }
-    ensures { IfOk result (λ levels. levels.items ≡ spec.levels_of execution.old.layout (past_of entries.now) places.now) }
+    ensures { IfOk result
+        (λ levels. levels.items ≡ spec.levels_of execution.old.layout (past_of entries.now) places.now) }
 {
     let mut running = first_levels(alloc, execution, places)?;
     let mut levels = Vec::new(alloc);
@@ -251,8 +264,8 @@ fn levels_along(
     Ok(levels)
 }
 
-/// The levels of these places in a legal history: those that an entry ends, in the order of these, and then those that go on at the end. The
-/// error says that memory ran out.
+/// The levels of these places in a legal history: those that an entry ends, in the order of these, and then those that
+/// go on at the end. The error says that memory ran out.
 pub(crate) fn levels_of(
     alloc: Global,
     shape: &Shape,

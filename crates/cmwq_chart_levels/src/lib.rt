@@ -1,4 +1,5 @@
-//! The shapes of a legal history; its levels, what is open and active of each queue on each CPU, are found by executing it again.
+//! The shapes of a legal history; its levels, what is open and active of each queue on each CPU, are found by executing
+//! it again.
 #![tactic(auto)]
 
 mod affected;

@@ -8,7 +8,7 @@ use cmwq_core::Execution;
 use cmwq_model::{Entry, NoMemory, Queueing, Shape};
 use std::alloc::Global;
 
-/// Puts a queueing behind the others, where there is one.
+/// Adds a queueing after the others, where there is one.
 fn keep(queueings: &mut Vec<Queueing>, queueing: Option<Queueing>) -> Result<(), NoMemory>
     ensures { OnOk result (queueings.new.items ≡ queueings.old.items ++ option_to_list queueing) }
 {
@@ -20,7 +20,8 @@ fn keep(queueings: &mut Vec<Queueing>, queueing: Option<Queueing>) -> Result<(),
     Ok(())
 }
 
-/// The queueings of a legal history that an execution without entries makes. So the execution is let go at one place alone.
+/// The queueings of a legal history that an execution without entries makes. So the execution is let go at one place
+/// alone.
 fn queueings_along(
     alloc: Global,
     execution: &mut Execution,

@@ -13,12 +13,15 @@ pub first_top : (contents : List Content) → 74 ≡ band_top contents 0
 unfolding band_top
 first_top bands = omega arith
 
-pub next_top : (contents : List Content) (k : ℕ) (d : Content) (top : ℕ) → k < length contents → top ≡ band_top contents k → top + band_height (get_or contents k d) ≡ band_top contents (k + 1)
+pub next_top : (contents : List Content) (k : ℕ) (d : Content) (top : ℕ) → k < length contents
+    → top ≡ band_top contents k → top + band_height (get_or contents k d) ≡ band_top contents (k + 1)
 unfolding band_top
 next_top contents k d top less is = omega (arith, is, sum_by_more band_height contents k d less)
 
-pub band_is : (p : Page) (entries : List Entry) (scale : ℕ) (contents : List Content) (k : ℕ) (d : Content) (top : ℕ) → k < length contents → top ≡ band_top contents k
+pub band_is : (p : Page) (entries : List Entry) (scale : ℕ) (contents : List Content) (k : ℕ) (d : Content) (top : ℕ)
+    → k < length contents → top ≡ band_top contents k
     → band_text p entries scale k top (get_or contents k d) ≡ band_at p entries scale contents k
 band_is p entries scale contents k d top less is =
     ap (λ t. band_text p entries scale k t (get_or contents k d)) is
-    ∙ sym (ap (λ (o : Option Content). option_map_or (band_text p entries scale k (band_top contents k)) o []) (slice_get-get_or contents k d less))
+    ∙ sym (ap (λ (o : Option Content). option_map_or (band_text p entries scale k (band_top contents k)) o [])
+    (slice_get-get_or contents k d less))

@@ -59,7 +59,8 @@ figure_in Captions p entries scale band top f = caption_in p band top f
 figure_in Levels p entries scale band top f = level_in p scale band top f
 
 abbrev pub figure_text : Layer → Page → List Entry → ℕ → ℕ → ℕ → PlacedFigure → List ℕ
-figure_text layer p entries scale band from placed = figure_in layer p entries scale band (from + placed.top) placed.figure
+figure_text layer p entries scale band from placed =
+    figure_in layer p entries scale band (from + placed.top) placed.figure
 
 abbrev pub figures_text : Layer → Page → List Entry → ℕ → ℕ → ℕ → List PlacedFigure → List ℕ
 figures_text layer p entries scale band from figures = flat_map (figure_text layer p entries scale band from) figures
@@ -67,6 +68,9 @@ figures_text layer p entries scale band from figures = flat_map (figure_text lay
 -- ---- a band, with its upper edge at a height
 unfoldable pub band_text : Page → List Entry → ℕ → ℕ → ℕ → Content → List ℕ
 band_text p entries scale band top content =
-    names_text Workers scale (top + 22) content.rows ++ (numbers_text p top (rows_height content.rows) band ++ (names_text Callers scale (top + 22) content.rows
-    ++ (figures_text Shapes p entries scale band (top + 22) content.figures ++ (figures_text Captions p entries scale band (top + 22) content.figures
-    ++ (names_text Places scale (top + 22) content.rows ++ figures_text Levels p entries scale band (top + 22) content.figures)))))
+    names_text Workers scale (top + 22) content.rows
+    ++ (numbers_text p top (rows_height content.rows) band ++ (names_text Callers scale (top + 22) content.rows
+    ++ (figures_text Shapes p entries scale band (top + 22) content.figures
+    ++ (figures_text Captions p entries scale band (top + 22) content.figures
+    ++ (names_text Places scale (top + 22) content.rows
+    ++ figures_text Levels p entries scale band (top + 22) content.figures)))))

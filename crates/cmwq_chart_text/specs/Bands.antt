@@ -1,5 +1,8 @@
--- What stands in each band: its rows are those that show something there, one below the other, and its shapes those that stand in them.
-use Rattle.std.specs.Prelude.{◌≡◌, ◌<◌, is_some, slice_index_or, slice_set, ℕ, ◌+◌, ◌-◌, Bool, not, ◌&&◌, ◌||◌, ◌==◌, if◌then◌else◌, List, [], ◌∷◌, length, take, filter, flat_map, map, nat_lt, nat_le, Option, Some, None, option_map, option_to_list, slice_get}
+-- What stands in each band: its rows are those that show something there, one below the other, and its shapes those
+-- that stand in them.
+use Rattle.std.specs.Prelude.{◌≡◌, ◌<◌, is_some, slice_index_or, slice_set, ℕ, ◌+◌, ◌-◌, Bool, not, ◌&&◌, ◌||◌, ◌==◌}
+use Rattle.std.specs.Prelude.{if◌then◌else◌, List, [], ◌∷◌, length, take, filter, flat_map, map, nat_lt, nat_le, Option}
+use Rattle.std.specs.Prelude.{Some, None, option_map, option_to_list, slice_get}
 use Rattle.std.specs.Option.{option_map_or}
 use Rattle.std.specs.List.{list_any, range_with_len, sum_by}
 use Rattle.cmwq_model.specs.Prelude.{is_at}
@@ -9,7 +12,8 @@ use Rattle.cmwq_chart_text.specs.declared.bands.PlacedRow.{PlacedRow}
 use Rattle.cmwq_chart_text.specs.declared.figures.Figure.{Figure}
 use Rattle.cmwq_chart_text.specs.declared.figures.Row.{Row}
 use Rattle.cmwq_chart_text.specs.declared.page.Page.{Page}
-use Rattle.cmwq_chart_text.specs.Figures.{figure_from, figure_row, figure_to, is_flat, most_rows, row_height, row_number}
+use Rattle.cmwq_chart_text.specs.Figures.{figure_from, figure_row, figure_to, is_flat, most_rows, row_height}
+use Rattle.cmwq_chart_text.specs.Figures.{row_number}
 use Rattle.cmwq_chart_text.specs.Pages.{bands}
 use Rattle.cmwq_chart_text.specs.Spans.{span_band, span_bands_end}
 
@@ -20,12 +24,13 @@ first_band p f = span_band p (figure_from f)
 abbrev pub bands_behind : Page → Figure → ℕ
 bands_behind p f = span_bands_end p (figure_from f) (figure_to f)
 
--- whether it stands in one of the bands from one up to an end. A level at which nothing is open stands in its first and its last alone, since
--- between them its row shows nothing.
+-- whether it stands in one of the bands from one up to an end. A level at which nothing is open stands in its first and
+-- its last alone, since between them its row shows nothing.
 abbrev pub stands_between : Page → ℕ → ℕ → Figure → Bool
 stands_between p from end f =
     nat_lt (first_band p f) (bands_behind p f)
-    && (if is_flat f then (nat_le from (first_band p f) && nat_lt (first_band p f) end) || (nat_lt from (bands_behind p f) && nat_le (bands_behind p f) end)
+    && (if is_flat f then (nat_le from (first_band p f) && nat_lt (first_band p f) end)
+    || (nat_lt from (bands_behind p f) && nat_le (bands_behind p f) end)
     else nat_lt from (bands_behind p f) && nat_lt (first_band p f) end)
 
 abbrev pub figures_in : Page → List Figure → ℕ → List Figure
@@ -40,7 +45,10 @@ shows figures row = list_any (λ f. is_at (row_shown f) (row_number row)) figure
 
 -- a table of marks, and that without the mark of a number
 abbrev pub IsUnmarked : List Bool → List Bool → Option ℕ → Type 0
-IsUnmarked old new number = (length new ≡ length old) × ((k : ℕ) → k < length old → slice_get new k ≡ option_map (λ before. before && not (is_at number k)) (slice_get old k))
+IsUnmarked old new number =
+    (length new ≡ length old)
+    × ((k : ℕ) → k < length old
+    → slice_get new k ≡ option_map (λ before. before && not (is_at number k)) (slice_get old k))
 
 -- one below the other, the first at a height
 unfoldable pub stacked_rows : ℕ → List Row → List PlacedRow
@@ -67,7 +75,8 @@ abbrev pub AreTops : List PlacedRow → List (Option ℕ) → Type 0
 AreTops rows tops = (length tops ≡ most_rows) × ((n : ℕ) → n < most_rows → slice_index_or tops n None ≡ row_top rows n)
 
 abbrev pub with_top : List (Option ℕ) → PlacedRow → List (Option ℕ)
-with_top tops placed = if is_some (slice_index_or tops (row_number placed.row) None) then tops else slice_set tops (row_number placed.row) (Some placed.top)
+with_top tops placed = if is_some (slice_index_or tops (row_number placed.row) None) then tops
+    else slice_set tops (row_number placed.row) (Some placed.top)
 
 abbrev pub placed_at : Figure → ℕ → PlacedFigure
 placed_at f top = record { figure = f; top = top }
@@ -85,7 +94,8 @@ pub record Content : Type 0 where
   pub figures : List PlacedFigure
 
 abbrev pub content_of : List Row → List Figure → Content
-content_of rows figures = record { rows = rows_in figures rows; figures = flat_map (in_its_row (rows_in figures rows)) figures }
+content_of rows figures =
+    record { rows = rows_in figures rows; figures = flat_map (in_its_row (rows_in figures rows)) figures }
 
 abbrev pub content_in : Page → List Row → List Figure → ℕ → Content
 content_in p rows figures band = content_of rows (figures_in p figures band)

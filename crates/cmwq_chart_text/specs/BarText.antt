@@ -7,8 +7,10 @@ use Rattle.cmwq_chart_text.specs.Pages.{worker_letter}
 use Rattle.cmwq_chart_text.specs.Spans.{span_end, span_left, span_width}
 
 unfoldable pub bar_template : Bool → List ℕ
-bar_template true = codes "<rect class=\"run k$\" data-item=\"$\" data-queueing=\"$\" data-worker=\"w$~$\" x=\"$\" y=\"$\" width=\"$\" height=\"14\"><title>item $, queueing $: entries $ to $</title></rect>\n"
-bar_template false = codes "<rect class=\"run k$\" data-item=\"$\" data-queueing=\"$\" data-worker=\"w$~$\" x=\"$\" y=\"$\" width=\"$\" height=\"14\"><title>item $, queueing $: entries $ to $, not finished</title></rect>\n"
+bar_template true =
+    codes "<rect class=\"run k$\" data-item=\"$\" data-queueing=\"$\" data-worker=\"w$~$\" x=\"$\" y=\"$\" width=\"$\" height=\"14\"><title>item $, queueing $: entries $ to $</title></rect>\n"
+bar_template false =
+    codes "<rect class=\"run k$\" data-item=\"$\" data-queueing=\"$\" data-worker=\"w$~$\" x=\"$\" y=\"$\" width=\"$\" height=\"14\"><title>item $, queueing $: entries $ to $, not finished</title></rect>\n"
 
 abbrev pub bar_numbers : Page → ℕ → Bar → ℕ → List ℕ
 bar_numbers p top bar band =

@@ -13,7 +13,8 @@ use Rattle.cmwq_chart.specs.declared.waits.CallerLane.{CallerLane}
 use Rattle.cmwq_chart.specs.declared.waits.CallerWait.{CallerWait}
 use Rattle.cmwq_chart.specs.declared.waits.WaitSign.{WaitSign as ASign}
 use Rattle.cmwq_chart_text.specs.declared.figures.Figure.{Figure}
-use Rattle.cmwq_chart_text.specs.declared.figures.Figure.TheVariants.{Wait, WaitSign, Bar as ABar, Sleep as ASleep, Sign as AMark, Level as ALevel}
+use Rattle.cmwq_chart_text.specs.declared.figures.Figure.TheVariants.{Wait, WaitSign, Bar as ABar, Sleep as ASleep}
+use Rattle.cmwq_chart_text.specs.declared.figures.Figure.TheVariants.{Sign as AMark, Level as ALevel}
 use Rattle.cmwq_chart_text.specs.declared.figures.Row.{Row}
 use Rattle.cmwq_chart_text.specs.declared.figures.Row.TheVariants.{Caller, Worker, Place as OfPlace}
 
@@ -84,4 +85,6 @@ is_flat f = false
 
 -- all of them, in the order in which they are drawn
 abbrev pub figures_of : List CallerWait → List ASign → List Bar → List Sleep → List Sign → List Level → List Figure
-figures_of waits wait_signs bars sleeps signs levels = map Wait waits ++ (map WaitSign wait_signs ++ (map ABar bars ++ (map ASleep sleeps ++ (map AMark signs ++ map ALevel levels))))
+figures_of waits wait_signs bars sleeps signs levels =
+    map Wait waits
+    ++ (map WaitSign wait_signs ++ (map ABar bars ++ (map ASleep sleeps ++ (map AMark signs ++ map ALevel levels))))

@@ -27,7 +27,8 @@ abbrev pub drawing_of : Window → ℕ → List Row → List Figure → Drawing
 drawing_of w n rows figures = drawing_on (page_of w n) rows figures
 
 abbrev pub band_at : Page → List Entry → ℕ → List Content → ℕ → List ℕ
-band_at p entries scale contents band = option_map_or (band_text p entries scale band (band_top contents band)) (slice_get contents band) []
+band_at p entries scale contents band =
+    option_map_or (band_text p entries scale band (band_top contents band)) (slice_get contents band) []
 
 abbrev pub bands_text : Page → List Entry → ℕ → List Content → ℕ → List ℕ
 bands_text p entries scale contents end = flat_map (band_at p entries scale contents) (range_with_len 0 end)
@@ -36,4 +37,5 @@ abbrev pub picture_height : List Content → ℕ
 picture_height contents = band_top contents (length contents) + 8
 
 unfoldable pub picture_text : Drawing → List Entry → List ℕ
-picture_text d entries = picture_head d.page (picture_height d.bands) ++ (bands_text d.page entries d.scale d.bands (length d.bands) ++ picture_end)
+picture_text d entries = picture_head d.page (picture_height d.bands)
+    ++ (bands_text d.page entries d.scale d.bands (length d.bands) ++ picture_end)

@@ -1,5 +1,6 @@
 -- The text of signs: a mark in the row of who did it, with the entry's line as its tooltip.
-use Rattle.std.specs.Prelude.{ℕ, ◌+◌, ◌%◌, ◌&&◌, Bool, true, false, if◌then◌else◌, List, [], ◌∷◌, ◌++◌, codes, Option, nat_le, nat_lt, slice_get}
+use Rattle.std.specs.Prelude.{ℕ, ◌+◌, ◌%◌, ◌&&◌, Bool, true, false, if◌then◌else◌, List, [], ◌∷◌, ◌++◌, codes, Option}
+use Rattle.std.specs.Prelude.{nat_le, nat_lt, slice_get}
 use Rattle.std.specs.Option.{option_map_or}
 use Rattle.cmwq_model.specs.declared.entry.Entry.{Entry}
 use Rattle.cmwq_text.specs.EntryText.{entry_text}
@@ -35,7 +36,8 @@ sign_template kind.Cancelled = codes "<path class=\"mark cancelled k$\" d=\"M$ $
 sign_template kind.Waits = codes "<path class=\"mark waits k$\" d=\"M$ $m-3 -4l6 4l-6 4z\"><title>"
 sign_template kind.Tick = codes "<path class=\"mark tick k$\" d=\"M$ $m0 -7v14\"><title>"
 sign_template kind.Changed = codes "<path class=\"mark changed k$\" d=\"M$ $m-3 -3h6v6h-6z\"><title>"
-sign_template kind.Refused = codes "<path class=\"mark refused k$\" d=\"M$ $m-1.5 0a1.5 1.5 0 1 0 3 0a1.5 1.5 0 1 0 -3 0\"><title>"
+sign_template kind.Refused =
+    codes "<path class=\"mark refused k$\" d=\"M$ $m-1.5 0a1.5 1.5 0 1 0 3 0a1.5 1.5 0 1 0 -3 0\"><title>"
 
 abbrev pub sign_numbers : Page → ℕ → Sign → List ℕ
 sign_numbers p top sign = item_shade sign.item ∷ middle_of p sign.at ∷ (top + 7) ∷ []
@@ -57,7 +59,9 @@ abbrev pub label_text : Page → ℕ → Sign → List ℕ
 label_text p top sign = if has_label p sign then filled_template label_template (label_numbers p top sign) else []
 
 unfoldable pub sign_text : Page → List Entry → ℕ → Sign → List ℕ
-sign_text p entries top sign = label_text p top sign ++ (filled_template (sign_template sign.kind) (sign_numbers p top sign) ++ told_text entries sign.at)
+sign_text p entries top sign =
+    label_text p top sign
+    ++ (filled_template (sign_template sign.kind) (sign_numbers p top sign) ++ told_text entries sign.at)
 
 -- ---- where the end of a wait was asked for: a ring while it goes on, a dot where it is done
 unfoldable pub wait_sign_template : Bool → List ℕ
@@ -68,4 +72,5 @@ abbrev pub wait_sign_numbers : Page → ℕ → WaitSign → List ℕ
 wait_sign_numbers p top sign = middle_of p sign.at ∷ (wait_top top sign.row + 7) ∷ []
 
 unfoldable pub wait_sign_text : Page → List Entry → ℕ → WaitSign → List ℕ
-wait_sign_text p entries top sign = filled_template (wait_sign_template sign.is_done) (wait_sign_numbers p top sign) ++ told_text entries sign.at
+wait_sign_text p entries top sign = filled_template (wait_sign_template sign.is_done) (wait_sign_numbers p top sign)
+    ++ told_text entries sign.at

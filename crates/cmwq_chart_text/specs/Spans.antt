@@ -1,4 +1,5 @@
--- Where a span of entries stands, as a bar or a sleep is one: from an entry up to and with another, or to the end of what is shown.
+-- Where a span of entries stands, as a bar or a sleep is one: from an entry up to and with another, or to the end of
+-- what is shown.
 use Rattle.std.specs.Prelude.{ℕ, ◌+◌, Option, max, min}
 use Rattle.std.specs.Option.{option_map_or}
 use Rattle.cmwq_chart_text.specs.declared.page.Page.{Page}

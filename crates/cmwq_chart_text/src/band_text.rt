@@ -67,7 +67,8 @@ fn write_names<W: Sink>(
 ) -> Result<(), WriteFault>
     requires { from ≤ 9000000000000000000 }
     ensures ok { OnOk result (Appends (W.written sink.old) (W.written sink.new) (spec.names_text names scale from rows.now)) }
-    ensures err { OnErr result (AppendsFront (W.written sink.old) (W.written sink.new) (spec.names_text names scale from rows.now)) }
+    ensures err { OnErr result
+        (AppendsFront (W.written sink.old) (W.written sink.new) (spec.names_text names scale from rows.now)) }
     ensures grown { W.troubles sink.old ≤ W.troubles sink.new }
     ensures fault { OnErr result (Rises (W.troubles sink.old) (W.troubles sink.new)) }
 {
@@ -89,8 +90,11 @@ fn write_shape<W: Sink>(
 ) -> Result<(), WriteFault>
     requires band { band ≤ 4294967296 }
     requires top { top ≤ 10000000000000000000 }
-    ensures ok { OnOk result (Appends (W.written sink.old) (W.written sink.new) (spec.shape_in page.now entries.now band top figure.now)) }
-    ensures err { OnErr result (AppendsFront (W.written sink.old) (W.written sink.new) (spec.shape_in page.now entries.now band top figure.now)) }
+    ensures ok { OnOk result
+        (Appends (W.written sink.old) (W.written sink.new) (spec.shape_in page.now entries.now band top figure.now)) }
+    ensures err { OnErr result
+        (AppendsFront (W.written sink.old) (W.written sink.new)
+        (spec.shape_in page.now entries.now band top figure.now)) }
     ensures grown { W.troubles sink.old ≤ W.troubles sink.new }
     ensures fault { OnErr result (Rises (W.troubles sink.old) (W.troubles sink.new)) }
 {
@@ -118,8 +122,12 @@ fn write_figure<W: Sink>(
     requires band { band ≤ 4294967296 }
     requires top { top ≤ 10000000000000000000 }
     requires scale { 0 < scale }
-    ensures ok { OnOk result (Appends (W.written sink.old) (W.written sink.new) (spec.figure_in layer page.now entries.now scale band top figure.now)) }
-    ensures err { OnErr result (AppendsFront (W.written sink.old) (W.written sink.new) (spec.figure_in layer page.now entries.now scale band top figure.now)) }
+    ensures ok { OnOk result
+        (Appends (W.written sink.old) (W.written sink.new)
+        (spec.figure_in layer page.now entries.now scale band top figure.now)) }
+    ensures err { OnErr result
+        (AppendsFront (W.written sink.old) (W.written sink.new)
+        (spec.figure_in layer page.now entries.now scale band top figure.now)) }
     ensures grown { W.troubles sink.old ≤ W.troubles sink.new }
     ensures fault { OnErr result (Rises (W.troubles sink.old) (W.troubles sink.new)) }
 {
@@ -145,8 +153,12 @@ fn write_figures<W: Sink>(
     requires band { band ≤ 4294967296 }
     requires from { from ≤ 9000000000000000000 }
     requires scale { 0 < scale }
-    ensures ok { OnOk result (Appends (W.written sink.old) (W.written sink.new) (spec.figures_text layer page.now entries.now scale band from figures.now)) }
-    ensures err { OnErr result (AppendsFront (W.written sink.old) (W.written sink.new) (spec.figures_text layer page.now entries.now scale band from figures.now)) }
+    ensures ok { OnOk result
+        (Appends (W.written sink.old) (W.written sink.new)
+        (spec.figures_text layer page.now entries.now scale band from figures.now)) }
+    ensures err { OnErr result
+        (AppendsFront (W.written sink.old) (W.written sink.new)
+        (spec.figures_text layer page.now entries.now scale band from figures.now)) }
     ensures grown { W.troubles sink.old ≤ W.troubles sink.new }
     ensures fault { OnErr result (Rises (W.troubles sink.old) (W.troubles sink.new)) }
 {
@@ -171,8 +183,12 @@ pub(crate) fn write_band<W: Sink>(
     requires number { number ≤ 4294967296 }
     requires top { top ≤ 8000000000000000000 }
     requires scale { 0 < scale }
-    ensures ok { OnOk result (Appends (W.written sink.old) (W.written sink.new) (spec.band_text page.now entries.now scale number top band.now)) }
-    ensures err { OnErr result (AppendsFront (W.written sink.old) (W.written sink.new) (spec.band_text page.now entries.now scale number top band.now)) }
+    ensures ok { OnOk result
+        (Appends (W.written sink.old) (W.written sink.new)
+        (spec.band_text page.now entries.now scale number top band.now)) }
+    ensures err { OnErr result
+        (AppendsFront (W.written sink.old) (W.written sink.new)
+        (spec.band_text page.now entries.now scale number top band.now)) }
     ensures grown { W.troubles sink.old ≤ W.troubles sink.new }
     ensures fault { OnErr result (Rises (W.troubles sink.old) (W.troubles sink.new)) }
 {

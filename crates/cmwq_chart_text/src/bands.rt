@@ -1,5 +1,6 @@
 //! What stands in each band.
-ghost use Rattle.std.specs.Prelude.{◌≡◌, List, ◌+◌, ◌<◌, ◌≤◌, ◌∷◌, ◌++◌, [], if◌then◌else◌, length, filter, flat_map, IfOk, OnOk, replicate, slice_set, None};
+ghost use Rattle.std.specs.Prelude.{◌≡◌, List, ◌+◌, ◌<◌, ◌≤◌, ◌∷◌, ◌++◌, [], if◌then◌else◌, length, filter, flat_map};
+ghost use Rattle.std.specs.Prelude.{IfOk, OnOk, replicate, slice_set, None};
 ghost use Rattle.cmwq_chart.specs.Marks.{AreMarks, IsMarked};
 ghost use Rattle.cmwq_chart_text.specs.Bands as spec;
 ghost use Rattle.cmwq_chart_text.specs.Figures.{most_rows, row_height, row_number};
@@ -54,7 +55,7 @@ fn stands_between(page: &Page, from: u64, end: u64, figure: Figure) -> bool
     from < behind && first < end
 }
 
-/// Puts a shape behind the others, if it is to be there.
+/// Adds a shape after the others, if it is to be there.
 fn keep(figures: &mut Vec<Figure>, figure: Figure, is_there: bool) -> Result<(), AllocError>
     ensures { OnOk result (figures.new.items ≡ figures.old.items ++ (if is_there then figure ∷ [] else [])) }
 {
@@ -151,7 +152,7 @@ fn is_shown(figures: &[Figure], marks: &[bool], row: Row) -> bool
     marks[row.number()]
 }
 
-/// Puts a row behind the others, if it is shown, and answers how high they are then.
+/// Adds a row after the others, if it is shown, and answers how high they are then.
 fn push_row(
     rows: &mut Vec<PlacedRow>,
     row: Row,
@@ -159,7 +160,8 @@ fn push_row(
     is_shown: bool,
 ) -> Result<u32, AllocError>
     requires { top ≤ 4000000000 }
-    ensures rows { OnOk result (rows.new.items ≡ rows.old.items ++ (if is_shown then record { row = row; top = top } ∷ [] else [])) }
+    ensures rows { OnOk result
+        (rows.new.items ≡ rows.old.items ++ (if is_shown then record { row = row; top = top } ∷ [] else [])) }
     ensures top { IfOk result (λ end. end ≡ top + (if is_shown then row_height row else 0)) }
     ensures few { IfOk result (λ end. end ≤ top + 4608) }
 {
@@ -189,7 +191,7 @@ fn rows_marked(
     Ok(placed)
 }
 
-/// The rows that these shapes show. The table has no marks before and behind it.
+/// The rows that these shapes show. The table has no marks before and after it.
 fn rows_in(
     alloc: Global,
     marks: &mut Vec<bool>,
@@ -245,7 +247,8 @@ fn no_tops(alloc: Global, numbers: usize) -> Result<Vec<Option<u32>>, AllocError
     vec![in alloc; None; numbers]
 }
 
-/// Notes the heights of a band's rows by their numbers in a table of no rows, so that a shape finds its row without a search.
+/// Notes the heights of a band's rows by their numbers in a table of no rows, so that a shape finds its row without a
+/// search.
 fn note_tops(tops: &mut Vec<Option<u32>>, rows: &[PlacedRow])
     requires { spec.AreTops [] tops.old.items }
     ensures { spec.AreTops rows.now tops.new.items }
@@ -275,14 +278,16 @@ fn forget_tops(tops: &mut Vec<Option<u32>>, rows: &[PlacedRow])
     }
 }
 
-/// Puts a shape behind the others, if its row is there.
+/// Adds a shape after the others, if its row is there.
 fn push_in_row(
     placed: &mut Vec<PlacedFigure>,
     tops: &[Option<u32>],
     figure: Figure,
 ) -> Result<(), AllocError>
     requires { length tops.now ≡ most_rows }
-    ensures { (rows : List PlacedRow) → OnOk result (spec.AreTops rows tops.now → placed.new.items ≡ placed.old.items ++ spec.in_its_row rows figure) }
+    ensures { (rows : List PlacedRow)
+        → OnOk result (spec.AreTops rows tops.now → placed.new.items ≡ placed.old.items
+        ++ spec.in_its_row rows figure) }
 {
     if let Some(top) = tops[figure.row()] {
         placed.push(PlacedFigure { figure, top })?;
@@ -297,7 +302,9 @@ fn figures_placed(
     figures: &[Figure],
 ) -> Result<Vec<PlacedFigure>, AllocError>
     requires { length tops.now ≡ most_rows }
-    ensures { (rows : List PlacedRow) → IfOk result (λ placed. spec.AreTops rows tops.now → placed.items ≡ flat_map (spec.in_its_row rows) figures.now) }
+    ensures { (rows : List PlacedRow)
+        → IfOk result (λ placed. spec.AreTops rows tops.now
+        → placed.items ≡ flat_map (spec.in_its_row rows) figures.now) }
 {
     let mut placed = Vec::new(alloc);
     for figure in figures {
@@ -368,8 +375,8 @@ impl Band {
     }
 }
 
-/// Puts the bands from one up to an end behind the others. The shapes are those that stand in one of them; each half goes to its own, so that
-/// each is looked at in few bands where it doesn't stand.
+/// Adds the bands from one up to an end after the others. The shapes are those that stand in one of them; each half
+/// goes to its own, so that each is looked at in few bands where it doesn't stand.
 fn push_bands(
     alloc: Global,
     tables: &mut RowTables,
@@ -383,7 +390,8 @@ fn push_bands(
     requires rows { length rows.now ≤ 30000 }
     requires end { end ≤ 4294967296 }
     requires tables { spec.AreEmpty tables.old.marks.items tables.old.tops.items }
-    ensures bands { OnOk result (bands.new.items ≡ bands.old.items ++ spec.band_contents_between page.now rows.now figures.now from end) }
+    ensures bands { OnOk result
+        (bands.new.items ≡ bands.old.items ++ spec.band_contents_between page.now rows.now figures.now from end) }
     ensures tables { OnOk result (spec.AreEmpty tables.new.marks.items tables.new.tops.items) }
 {
     if from >= end {

@@ -56,7 +56,8 @@ pub(crate) fn write_bar<W: Sink>(
 ) -> Result<(), WriteFault>
     requires { band ≤ 4294967296 }
     ensures ok { OnOk result (Appends (W.written sink.old) (W.written sink.new) (spec.bar_text page.now top bar.now band)) }
-    ensures err { OnErr result (AppendsFront (W.written sink.old) (W.written sink.new) (spec.bar_text page.now top bar.now band)) }
+    ensures err { OnErr result
+        (AppendsFront (W.written sink.old) (W.written sink.new) (spec.bar_text page.now top bar.now band)) }
     ensures grown { W.troubles sink.old ≤ W.troubles sink.new }
     ensures fault { OnErr result (Rises (W.troubles sink.old) (W.troubles sink.new)) }
 {

@@ -172,7 +172,9 @@ fn push_places(rows: &mut Vec<Row>, places: &[Place]) -> Result<(), AllocError>
 
 /// The rows of callers, workers and places.
 pub(crate) fn rows_of(alloc: Global, shapes: &Shapes) -> Result<Vec<Row>, AllocError>
-    ensures rows { IfOk result (λ rows. rows.items ≡ spec.drawn_rows shapes.now.callers.lanes.items shapes.now.lanes.items shapes.now.places.items) }
+    ensures rows { IfOk result
+        (λ rows. rows.items
+        ≡ spec.drawn_rows shapes.now.callers.lanes.items shapes.now.lanes.items shapes.now.places.items) }
 {
     let mut rows = Vec::new(alloc);
     push_callers(&mut rows, &shapes.callers.lanes)?;
@@ -237,7 +239,9 @@ fn push_levels(figures: &mut Vec<Figure>, levels: &[Level]) -> Result<(), AllocE
 
 /// All shapes, in the order in which they are drawn.
 pub(crate) fn figures_of(alloc: Global, shapes: &Shapes) -> Result<Vec<Figure>, AllocError>
-    ensures { IfOk result (λ figures. figures.items ≡ spec.figures_of shapes.now.callers.waits.items shapes.now.callers.signs.items shapes.now.bars.items shapes.now.sleeps.items shapes.now.signs.items shapes.now.levels.items) }
+    ensures { IfOk result
+        (λ figures. figures.items ≡ spec.figures_of shapes.now.callers.waits.items shapes.now.callers.signs.items
+        shapes.now.bars.items shapes.now.sleeps.items shapes.now.signs.items shapes.now.levels.items) }
 {
     let mut figures = Vec::new(alloc);
     push_waits(&mut figures, &shapes.callers.waits)?;

@@ -27,7 +27,7 @@ fn plain_length(template: &[u8]) -> usize
     template.len()
 }
 
-/// The number that is the next, or 0 behind the last.
+/// The number that is the next, or 0 after the last.
 fn number_at(numbers: &[u64], next: usize) -> u64
     ensures { result ≡ slice_index_or numbers.now next 0 }
 {
@@ -52,7 +52,7 @@ fn write_number<W: Sink>(sink: &mut W, hole: u8, number: u64) -> Result<(), Writ
     }
 }
 
-/// Writes a template whose first hole stands for the number at a place, and the others for those behind it.
+/// Writes a template whose first hole stands for the number at a place, and the others for those after it.
 fn write_from<W: Sink>(
     sink: &mut W,
     template: &[u8],
@@ -61,7 +61,8 @@ fn write_from<W: Sink>(
 ) -> Result<(), WriteFault>
     requires { next + length template.now ≤ 9223372036854775807 }
     ensures ok { OnOk result (Appends (W.written sink.old) (W.written sink.new) (filled_from template.now numbers.now next)) }
-    ensures err { OnErr result (AppendsFront (W.written sink.old) (W.written sink.new) (filled_from template.now numbers.now next)) }
+    ensures err { OnErr result
+        (AppendsFront (W.written sink.old) (W.written sink.new) (filled_from template.now numbers.now next)) }
     ensures grown { W.troubles sink.old ≤ W.troubles sink.new }
     ensures fault { OnErr result (Rises (W.troubles sink.old) (W.troubles sink.new)) }
 {
@@ -75,14 +76,16 @@ fn write_from<W: Sink>(
     Ok(())
 }
 
-/// Writes a template, in which each `$` stands for the next number, and each `~` for the character that the next number is.
+/// Writes a template, in which each `$` stands for the next number, and each `~` for the character that the next number
+/// is.
 pub(crate) fn write_filled<W: Sink>(
     sink: &mut W,
     template: &str,
     numbers: &[u64],
 ) -> Result<(), WriteFault>
     ensures ok { OnOk result (Appends (W.written sink.old) (W.written sink.new) (filled_template template.now numbers.now)) }
-    ensures err { OnErr result (AppendsFront (W.written sink.old) (W.written sink.new) (filled_template template.now numbers.now)) }
+    ensures err { OnErr result
+        (AppendsFront (W.written sink.old) (W.written sink.new) (filled_template template.now numbers.now)) }
     ensures grown { W.troubles sink.old ≤ W.troubles sink.new }
     ensures fault { OnErr result (Rises (W.troubles sink.old) (W.troubles sink.new)) }
 {

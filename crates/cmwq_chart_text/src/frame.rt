@@ -77,7 +77,8 @@ fn write_number<W: Sink>(
     requires top { top ≤ 10000000000000000000 }
     requires height { height ≤ 10000000000000000000 }
     ensures ok { OnOk result (Appends (W.written sink.old) (W.written sink.new) (spec.number_text page.now top height place)) }
-    ensures err { OnErr result (AppendsFront (W.written sink.old) (W.written sink.new) (spec.number_text page.now top height place)) }
+    ensures err { OnErr result
+        (AppendsFront (W.written sink.old) (W.written sink.new) (spec.number_text page.now top height place)) }
     ensures grown { W.troubles sink.old ≤ W.troubles sink.new }
     ensures fault { OnErr result (Rises (W.troubles sink.old) (W.troubles sink.new)) }
 {
@@ -104,8 +105,10 @@ fn write_numbers_between<W: Sink>(
     requires end { end ≤ 4294967296 }
     requires top { top ≤ 10000000000000000000 }
     requires height { height ≤ 10000000000000000000 }
-    ensures ok { OnOk result (Appends (W.written sink.old) (W.written sink.new) (spec.numbers_between page.now top height from end)) }
-    ensures err { OnErr result (AppendsFront (W.written sink.old) (W.written sink.new) (spec.numbers_between page.now top height from end)) }
+    ensures ok { OnOk result
+        (Appends (W.written sink.old) (W.written sink.new) (spec.numbers_between page.now top height from end)) }
+    ensures err { OnErr result
+        (AppendsFront (W.written sink.old) (W.written sink.new) (spec.numbers_between page.now top height from end)) }
     ensures grown { W.troubles sink.old ≤ W.troubles sink.new }
     ensures fault { OnErr result (Rises (W.troubles sink.old) (W.troubles sink.new)) }
 {
@@ -127,7 +130,8 @@ pub(crate) fn write_numbers<W: Sink>(
     requires top { top ≤ 10000000000000000000 }
     requires height { height ≤ 10000000000000000000 }
     ensures ok { OnOk result (Appends (W.written sink.old) (W.written sink.new) (spec.numbers_text page.now top height band)) }
-    ensures err { OnErr result (AppendsFront (W.written sink.old) (W.written sink.new) (spec.numbers_text page.now top height band)) }
+    ensures err { OnErr result
+        (AppendsFront (W.written sink.old) (W.written sink.new) (spec.numbers_text page.now top height band)) }
     ensures grown { W.troubles sink.old ≤ W.troubles sink.new }
     ensures fault { OnErr result (Rises (W.troubles sink.old) (W.troubles sink.new)) }
 {

@@ -133,8 +133,10 @@ pub(crate) fn write_level<W: Sink>(
     requires band { band ≤ 4294967296 }
     requires top { top ≤ 10000000000000000000 }
     requires scale { 0 < scale }
-    ensures ok { OnOk result (Appends (W.written sink.old) (W.written sink.new) (spec.level_text page.now scale top level.now band)) }
-    ensures err { OnErr result (AppendsFront (W.written sink.old) (W.written sink.new) (spec.level_text page.now scale top level.now band)) }
+    ensures ok { OnOk result
+        (Appends (W.written sink.old) (W.written sink.new) (spec.level_text page.now scale top level.now band)) }
+    ensures err { OnErr result
+        (AppendsFront (W.written sink.old) (W.written sink.new) (spec.level_text page.now scale top level.now band)) }
     ensures grown { W.troubles sink.old ≤ W.troubles sink.new }
     ensures fault { OnErr result (Rises (W.troubles sink.old) (W.troubles sink.new)) }
 {

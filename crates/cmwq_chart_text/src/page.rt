@@ -4,8 +4,8 @@ ghost use Rattle.cmwq_chart_text.specs.Pages as spec;
 
 use cmwq_model::WorkerId;
 
-/// The entries that are shown, from the first up to the end. Each is a column, and a band has as many as fit, so that long histories go on in
-/// further bands below.
+/// The entries that are shown, from the first up to the end. Each is a column, and a band has as many as fit, so that
+/// long histories go on in further bands below.
 #[derive(Clone, Copy)]
 pub struct Page {
     pub first: u32,

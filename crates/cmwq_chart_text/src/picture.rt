@@ -65,8 +65,12 @@ fn write_bands<W: Sink>(
 ) -> Result<(), WriteFault>
     requires few { length bands.now ≤ 1073741824 }
     requires scale { 0 < scale }
-    ensures ok { OnOk result (Appends (W.written sink.old) (W.written sink.new) (spec.bands_text page.now entries.now scale bands.now (length bands.now))) }
-    ensures err { OnErr result (AppendsFront (W.written sink.old) (W.written sink.new) (spec.bands_text page.now entries.now scale bands.now (length bands.now))) }
+    ensures ok { OnOk result
+        (Appends (W.written sink.old) (W.written sink.new)
+        (spec.bands_text page.now entries.now scale bands.now (length bands.now))) }
+    ensures err { OnErr result
+        (AppendsFront (W.written sink.old) (W.written sink.new)
+        (spec.bands_text page.now entries.now scale bands.now (length bands.now))) }
     ensures grown { W.troubles sink.old ≤ W.troubles sink.new }
     ensures fault { OnErr result (Rises (W.troubles sink.old) (W.troubles sink.new)) }
 {
@@ -90,8 +94,12 @@ fn write_picture<W: Sink>(
 ) -> Result<(), WriteFault>
     requires few { length bands.now ≤ 1073741824 }
     requires scale { 0 < scale }
-    ensures ok { OnOk result (Appends (W.written sink.old) (W.written sink.new) (spec.picture_text (record { page = page.now; scale = scale; bands = bands.now }) entries.now)) }
-    ensures err { OnErr result (AppendsFront (W.written sink.old) (W.written sink.new) (spec.picture_text (record { page = page.now; scale = scale; bands = bands.now }) entries.now)) }
+    ensures ok { OnOk result
+        (Appends (W.written sink.old) (W.written sink.new)
+        (spec.picture_text (record { page = page.now; scale = scale; bands = bands.now }) entries.now)) }
+    ensures err { OnErr result
+        (AppendsFront (W.written sink.old) (W.written sink.new)
+        (spec.picture_text (record { page = page.now; scale = scale; bands = bands.now }) entries.now)) }
     ensures flushed { OnOk result (W.held sink.new ≡ 0) }
     ensures fault { OnErr result (Rises (W.troubles sink.old) (W.troubles sink.new)) }
 {
@@ -103,7 +111,8 @@ fn write_picture<W: Sink>(
 }
 
 impl Picture {
-    /// The picture of what a window shows of a history, which has so many entries and these shapes. The error says that memory ran out.
+    /// The picture of what a window shows of a history, which has so many entries and these shapes. The error says that
+    /// memory ran out.
     pub fn new(
         alloc: Global,
         window: Window,
@@ -114,7 +123,10 @@ impl Picture {
         requires callers { length shapes.now.callers.lanes.items ≤ most_callers }
         requires lanes { length shapes.now.lanes.items ≤ most_lanes }
         requires places { length shapes.now.places.items ≤ most_places }
-        ensures { IfOk result (λ picture. picture ≡ spec.drawing_of window entries (drawn_rows shapes.now.callers.lanes.items shapes.now.lanes.items shapes.now.places.items)
+        ensures { IfOk result
+            (λ picture. picture
+            ≡ spec.drawing_of window entries
+            (drawn_rows shapes.now.callers.lanes.items shapes.now.lanes.items shapes.now.places.items)
             (all_figures shapes.now.callers.waits.items shapes.now.callers.signs.items shapes.now.bars.items shapes.now.sleeps.items shapes.now.signs.items shapes.now.levels.items)) }
     {
         let page = Page::new(window, entries);
@@ -134,7 +146,8 @@ impl Picture {
     /// `WriteFault` where the sink fails, also at the flush; a front of the picture has been written then.
     pub fn write<W: Sink>(&self, sink: &mut W, entries: &[Entry]) -> Result<(), WriteFault>
         ensures ok { OnOk result (Appends (W.written sink.old) (W.written sink.new) (spec.picture_text self.now entries.now)) }
-        ensures err { OnErr result (AppendsFront (W.written sink.old) (W.written sink.new) (spec.picture_text self.now entries.now)) }
+        ensures err { OnErr result
+            (AppendsFront (W.written sink.old) (W.written sink.new) (spec.picture_text self.now entries.now)) }
         ensures flushed { OnOk result (W.held sink.new ≡ 0) }
         ensures fault { OnErr result (Rises (W.troubles sink.old) (W.troubles sink.new)) }
     {

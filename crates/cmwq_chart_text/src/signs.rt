@@ -138,7 +138,8 @@ fn label_numbers(page: &Page, top: u64, sign: &Sign) -> [u64; 3]
 fn write_label<W: Sink>(sink: &mut W, page: &Page, top: u64, sign: &Sign) -> Result<(), WriteFault>
     requires { top ≤ 10000000000000000000 }
     ensures ok { OnOk result (Appends (W.written sink.old) (W.written sink.new) (spec.label_text page.now top sign.now)) }
-    ensures err { OnErr result (AppendsFront (W.written sink.old) (W.written sink.new) (spec.label_text page.now top sign.now)) }
+    ensures err { OnErr result
+        (AppendsFront (W.written sink.old) (W.written sink.new) (spec.label_text page.now top sign.now)) }
     ensures grown { W.troubles sink.old ≤ W.troubles sink.new }
     ensures fault { OnErr result (Rises (W.troubles sink.old) (W.troubles sink.new)) }
 {
@@ -160,8 +161,10 @@ pub(crate) fn write_sign<W: Sink>(
     sign: &Sign,
 ) -> Result<(), WriteFault>
     requires { top ≤ 10000000000000000000 }
-    ensures ok { OnOk result (Appends (W.written sink.old) (W.written sink.new) (spec.sign_text page.now entries.now top sign.now)) }
-    ensures err { OnErr result (AppendsFront (W.written sink.old) (W.written sink.new) (spec.sign_text page.now entries.now top sign.now)) }
+    ensures ok { OnOk result
+        (Appends (W.written sink.old) (W.written sink.new) (spec.sign_text page.now entries.now top sign.now)) }
+    ensures err { OnErr result
+        (AppendsFront (W.written sink.old) (W.written sink.new) (spec.sign_text page.now entries.now top sign.now)) }
     ensures grown { W.troubles sink.old ≤ W.troubles sink.new }
     ensures fault { OnErr result (Rises (W.troubles sink.old) (W.troubles sink.new)) }
 {
@@ -201,8 +204,11 @@ pub(crate) fn write_wait_sign<W: Sink>(
     sign: &WaitSign,
 ) -> Result<(), WriteFault>
     requires { top ≤ 10000000000000000000 }
-    ensures ok { OnOk result (Appends (W.written sink.old) (W.written sink.new) (spec.wait_sign_text page.now entries.now top sign.now)) }
-    ensures err { OnErr result (AppendsFront (W.written sink.old) (W.written sink.new) (spec.wait_sign_text page.now entries.now top sign.now)) }
+    ensures ok { OnOk result
+        (Appends (W.written sink.old) (W.written sink.new) (spec.wait_sign_text page.now entries.now top sign.now)) }
+    ensures err { OnErr result
+        (AppendsFront (W.written sink.old) (W.written sink.new)
+        (spec.wait_sign_text page.now entries.now top sign.now)) }
     ensures grown { W.troubles sink.old ≤ W.troubles sink.new }
     ensures fault { OnErr result (Rises (W.troubles sink.old) (W.troubles sink.new)) }
 {

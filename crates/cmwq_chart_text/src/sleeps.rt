@@ -41,8 +41,10 @@ pub(crate) fn write_sleep<W: Sink>(
     band: u64,
 ) -> Result<(), WriteFault>
     requires { band ≤ 4294967296 }
-    ensures ok { OnOk result (Appends (W.written sink.old) (W.written sink.new) (spec.sleep_text page.now top sleep.now band)) }
-    ensures err { OnErr result (AppendsFront (W.written sink.old) (W.written sink.new) (spec.sleep_text page.now top sleep.now band)) }
+    ensures ok { OnOk result
+        (Appends (W.written sink.old) (W.written sink.new) (spec.sleep_text page.now top sleep.now band)) }
+    ensures err { OnErr result
+        (AppendsFront (W.written sink.old) (W.written sink.new) (spec.sleep_text page.now top sleep.now band)) }
     ensures grown { W.troubles sink.old ≤ W.troubles sink.new }
     ensures fault { OnErr result (Rises (W.troubles sink.old) (W.troubles sink.new)) }
 {

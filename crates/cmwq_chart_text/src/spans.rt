@@ -4,7 +4,7 @@ ghost use Rattle.cmwq_chart_text.specs.Spans as spec;
 
 use crate::page::Page;
 
-/// Where a span ends on the page: behind its last entry, or at the end of what is shown.
+/// Where a span ends on the page: after its last entry, or at the end of what is shown.
 #[tactic(auto, unfolding(crate::specs::Spans::span_end))]
 pub(crate) fn span_end(page: &Page, to: Option<u32>) -> u64
     ensures end { result ≡ spec.span_end page.now to }

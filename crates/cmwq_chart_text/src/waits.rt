@@ -63,7 +63,8 @@ pub(crate) fn write_wait<W: Sink>(
     requires band { band ≤ 4294967296 }
     requires top { top ≤ 10000000000000000000 }
     ensures ok { OnOk result (Appends (W.written sink.old) (W.written sink.new) (spec.wait_text page.now top wait.now band)) }
-    ensures err { OnErr result (AppendsFront (W.written sink.old) (W.written sink.new) (spec.wait_text page.now top wait.now band)) }
+    ensures err { OnErr result
+        (AppendsFront (W.written sink.old) (W.written sink.new) (spec.wait_text page.now top wait.now band)) }
     ensures grown { W.troubles sink.old ≤ W.troubles sink.new }
     ensures fault { OnErr result (Rises (W.troubles sink.old) (W.troubles sink.new)) }
 {

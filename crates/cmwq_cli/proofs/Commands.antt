@@ -15,9 +15,18 @@ pub of_word : {E : Type 0} {old new : App} (program : App) (result : Result Comm
 of_word program result is h = subst (λ (a : App). IfOk result (λ c. app_of c ≡ with_command program a)) is h
 
 -- what is asked, of its parts
-pub asked : (name : Text) (rows : List Row) (w : Word) (e : Bool) (f : Option Text) → word_found (name, rows) ≡ Some w → e ≡ has_flag (codes "explain") rows
+pub asked : (name : Text) (rows : List Row) (w : Word) (e : Bool) (f : Option Text) → word_found (name, rows) ≡ Some w
+    → e ≡ has_flag (codes "explain") rows
     → f ≡ first_of (codes "FILE") rows → Some (record { word = w; explain = e; file = f }) ≡ asked_found (name, rows)
 asked name rows w e f is explains has_file =
-    let parts : Some (record { word = w; explain = e; file = f }) ≡ Some (record { word = w; explain = has_flag (codes "explain") rows; file = first_of (codes "FILE") rows }) =
+    let parts : Some (record { word = w; explain = e; file = f })
+    ≡ Some (record { word = w; explain = has_flag (codes "explain") rows; file = first_of (codes "FILE") rows }) =
     ap₂ (λ (x : Bool) (y : Option Text). Some (record { word = w; explain = x; file = y })) explains has_file in
-    parts ∙ ap (option_map (λ (v : Word). record { word = v; explain = has_flag (codes "explain") rows; file = first_of (codes "FILE") rows })) (sym is)
+    parts ∙ ap
+    (option_map
+    (λ (v : Word). record {
+      word = v;
+      explain = has_flag (codes "explain") rows;
+      file =
+          first_of (codes "FILE") rows;
+    })) (sym is)

@@ -18,7 +18,8 @@ pub truth_of_text : (E : Type 0) (found : Option (List ℕ)) (read : Option Bool
 truth_of_text E None read none some = rw (none refl) refl
 truth_of_text E (Some text) read none some = of_read read (some text refl)
   where
-    of_read : (r : Option Bool) → ReadsOne {T = Bool} {E = E} ParsesBool text r → unwrap_or r false ≡ bytes_eq text (codes "true")
+    of_read : (r : Option Bool) → ReadsOne {T = Bool} {E = E} ParsesBool text r
+        → unwrap_or r false ≡ bytes_eq text (codes "true")
     of_read (Some true) is = rw is refl
     of_read (Some false) is = rw is refl
     of_read None not = another_text text (bytes_eq text true_text) (bytes_eq-Decides text true_text) not.1.0

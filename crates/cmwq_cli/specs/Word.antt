@@ -1,10 +1,12 @@
 -- The command line: which words there are, and which one clap's matches hold.
-use Rattle.std.specs.Prelude.{ℕ, ◌-◌, ◌^◌, Bool, true, false, List, [], map, Option, Some, None, option_map, option_and_then, codes, if◌then◌else◌}
+use Rattle.std.specs.Prelude.{ℕ, ◌-◌, ◌^◌, Bool, true, false, List, [], map, Option, Some, None, option_map}
+use Rattle.std.specs.Prelude.{option_and_then, codes, if◌then◌else◌}
 use Rattle.std.specs.Option.{option_map_or}
 use Rattle.std.specs.Str.{bytes_eq}
 use Rattle.std.specs.Str.Parse.{digits_value, without_leading_plus}
 use Rattle.std.specs.Borrow.{Bor}
-use Rattle.clap.specs.Words.{App, Text, Row, Rule, new_app, new_rule, with_rule, with_subcommand, Shape, subcommand_of, one_of, first_of, takes}
+use Rattle.clap.specs.Words.{App, Text, Row, Rule, new_app, new_rule, with_rule, with_subcommand, Shape, subcommand_of}
+use Rattle.clap.specs.Words.{one_of, first_of, takes}
 use Rattle.clap.specs.ValueTests.{is_unsigned_in}
 use Rattle.clap.specs.declared.builder.action.ArgAction.TheVariants.{Set, SetTrue}
 use Rattle.clap.specs.declared.builder.value_parser.ValueParser.TheVariants.{Unsigned}
@@ -18,7 +20,8 @@ has_flag name rows = option_map_or (λ value. bytes_eq value (codes "true")) (on
 
 -- the number that the matches of a word have under this name
 abbrev pub number_of_text : List ℕ → Option ℕ
-number_of_text text = if is_unsigned_in 0 (2 ^ 64 - 1) text then Some (digits_value 10 (without_leading_plus text)) else None
+number_of_text text = if is_unsigned_in 0 (2 ^ 64 - 1) text then Some (digits_value 10 (without_leading_plus text))
+    else None
 
 abbrev pub number_found : List ℕ → List Row → Option ℕ
 number_found name rows = option_and_then number_of_text (one_of name rows)
@@ -30,7 +33,8 @@ word_found found =
     else if bytes_eq found.0 (codes "check") then Some (word.Check (has_flag (codes "front") found.1))
     else if bytes_eq found.0 (codes "upgrade") then Some word.Upgrade
     else if bytes_eq found.0 (codes "summary") then Some word.Summary
-    else if bytes_eq found.0 (codes "chart") then Some (word.Chart (number_found (codes "from") found.1) (number_found (codes "to") found.1))
+    else if bytes_eq found.0 (codes "chart")
+    then Some (word.Chart (number_found (codes "from") found.1) (number_found (codes "to") found.1))
     else if bytes_eq found.0 (codes "trace") then Some word.Trace
     else if bytes_eq found.0 (codes "replay") then Some word.Replay
     else if bytes_eq found.0 (codes "run") then Some word.Run
@@ -46,7 +50,10 @@ abbrev pub request : Asked → Request
 request a = record { word = a.word; explain = a.explain; file = option_map (λ s. s.now) a.file }
 
 abbrev pub asked_found : Text × List Row → Option Request
-asked_found found = option_map (λ w. record { word = w; explain = has_flag (codes "explain") found.1; file = first_of (codes "FILE") found.1 }) (word_found found)
+asked_found found =
+    option_map
+    (λ w. record { word = w; explain = has_flag (codes "explain") found.1; file = first_of (codes "FILE") found.1 })
+    (word_found found)
 
 -- what clap reads of the program's command line: a word is a subcommand, and there is one
 abbrev pub program : Shape
@@ -75,16 +82,30 @@ with_flagged a name flag_name = with_command a (with_rule (new_app name) (flag_r
 
 -- an option with a number: two dashes, its name and the number
 abbrev pub number_rule : List ℕ → Rule
-number_rule name = record (new_rule name) { long = Some name; action = Some Set; parser = Some (Unsigned 0 (2 ^ 64 - 1)); value_names = 1 }
+number_rule name =
+    record (new_rule name) {
+      long = Some name;
+      action = Some Set;
+      parser = Some (Unsigned 0 (2 ^ 64 - 1));
+      value_names =
+          1;
+    }
 
 -- a word with two such options too
 abbrev pub with_numbers : App → List ℕ → List ℕ → List ℕ → App
-with_numbers a name first second = with_command a (with_rule (with_rule (new_app name) (number_rule first)) (number_rule second))
+with_numbers a name first second =
+    with_command a (with_rule (with_rule (new_app name) (number_rule first)) (number_rule second))
 
--- the words whose inputs are lines, of which `step` also has `--live`, `check` `--front`, and `chart` `--from` and `--to`, and then those whose inputs are JSON
+-- the words whose inputs are lines, of which `step` also has `--live`, `check` `--front`, and `chart` `--from` and
+-- `--to`, and then those whose inputs are JSON
 abbrev pub with_lines : App
 with_lines =
-    with_word (with_numbers (with_word (with_word (with_flagged (with_flagged without_words (codes "step") (codes "live")) (codes "check") (codes "front")) (codes "upgrade")) (codes "summary"))
+    with_word
+    (with_numbers
+    (with_word
+    (with_word
+    (with_flagged (with_flagged without_words (codes "step") (codes "live")) (codes "check") (codes "front"))
+    (codes "upgrade")) (codes "summary"))
     (codes "chart") (codes "from") (codes "to")) (codes "trace")
 
 abbrev pub app : App

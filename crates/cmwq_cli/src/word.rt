@@ -1,7 +1,10 @@
 ghost use Rattle.std.specs.Prelude.{◌≡◌, codes, true, false, IfOk, IfErr, IsSome, Some, option_map};
 ghost use Rattle.clap.specs.Words.{kind_of, app_of, new_app, rule_of, found_of, rows_of, with_rule};
 ghost use Rattle.clap.specs.declared.builder.command.Command.TheViews.{out-Command as fields_of};
-ghost use Rattle.cmwq_cli.specs.Word.{Request, file_rule, request, with_command, without_words, with_word, with_flagged, with_lines, with_numbers, app, flag_rule, number_rule, number_found, has_flag, word_found, asked_found, texts, is_word_taken, word_matched};
+ghost use Rattle.cmwq_cli.specs.Word.{Request, file_rule, request, with_command, without_words, with_word};
+ghost use Rattle.cmwq_cli.specs.Word.{with_flagged, with_lines, with_numbers, app, flag_rule, number_rule};
+ghost use Rattle.cmwq_cli.specs.Word.{number_found, has_flag, word_found, asked_found, texts, is_word_taken};
+ghost use Rattle.cmwq_cli.specs.Word.{word_matched};
 
 use clap::builder::ValueParser;
 use clap::error::ErrorKind;
@@ -375,7 +378,9 @@ fn with_numbers<'a>(
     first: Flag<'a>,
     second: Flag<'a>,
 ) -> Result<Command<'a>, AllocError>
-    ensures { IfOk result (λ c. app_of c ≡ with_numbers (app_of program.entry) name.entry.now first.entry.name.now second.entry.name.now) }
+    ensures { IfOk result
+        (λ c. app_of c ≡ with_numbers (app_of program.entry) name.entry.now first.entry.name.now
+        second.entry.name.now) }
 {
     let word = bare_word(alloc, name, about, help).arg(number_rule(alloc, first))?;
     let word = word.arg(number_rule(alloc, second))?;

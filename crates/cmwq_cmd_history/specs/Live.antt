@@ -1,6 +1,10 @@
 -- What a live run of `step` reads, writes and answers: each call is answered before the next line is read.
 use Rattle.std.specs.Prelude.{◌≡◌, ◌⊎◌, ◌+◌, ◌≤◌, ◌==◌, if◌then◌else◌, ◌∷◌, ◌++◌}
-use Rattle.cmwq_cmd_history.specs.Common.{ℕ, List, [], length, take, fold, reverse, Result, Ok, Err, Option, None, Some, Appends, AppendsFront, Who, Call, Entry, Layout, entry_for, past_of, Steps, step, steps, none, has_room, History, past_in, entry_text, head_text, body_text, last_text, Refusal, pieces, Kind, Stage, begin, opened, head, body, ended, is_long, after_whole_line, calls_kind, call_file_of}
+use Rattle.cmwq_cmd_history.specs.Common.{ℕ, List, [], length, take, fold, reverse, Result, Ok, Err, Option, None, Some}
+use Rattle.cmwq_cmd_history.specs.Common.{Appends, AppendsFront, Who, Call, Entry, Layout, entry_for, past_of, Steps}
+use Rattle.cmwq_cmd_history.specs.Common.{step, steps, none, has_room, History, past_in, entry_text, head_text}
+use Rattle.cmwq_cmd_history.specs.Common.{body_text, last_text, Refusal, pieces, Kind, Stage, begin, opened, head, body}
+use Rattle.cmwq_cmd_history.specs.Common.{ended, is_long, after_whole_line, calls_kind, call_file_of}
 use Rattle.cmwq_base.specs.declared.refusal.Refusal.TheVariants as refusal
 use Rattle.cmwq_history.specs.Ends.{written_version, refusal_status}
 use Rattle.cmwq_cmd_history.specs.Step.{StepEnds}
@@ -10,11 +14,13 @@ abbrev pub or_stay : {X : Type 0} → Stage X → (Stage X → Stage X) → Resu
 or_stay stage f (Ok next) = f next
 or_stay stage f (Err e) = stage
 
--- the stage behind all whole lines, or behind those before the first that is refused
+-- the stage after all whole lines, or after those before the first that is refused
 unfoldable pub stage_reached : {X : Type 0} → Kind X → ℕ → Stage X → List (List ℕ) → Stage X
 stage_reached k n stage [] = stage
 stage_reached k n stage (last ∷ []) = stage
-stage_reached k n stage (line ∷ more ∷ rest) = if is_long line then stage else or_stay stage (λ next. stage_reached k (n + 1) next (more ∷ rest)) (after_whole_line k n stage line)
+stage_reached k n stage (line ∷ more ∷ rest) =
+    if is_long line then stage
+    else or_stay stage (λ next. stage_reached k (n + 1) next (more ∷ rest)) (after_whole_line k n stage line)
 
 -- that of the first m lines, and of all
 abbrev pub stage_after : ℕ → List ℕ → Stage (Who × Call)
@@ -23,8 +29,8 @@ stage_after m text = stage_reached calls_kind 1 begin (take (m + 1) (pieces text
 abbrev pub last_stage : List ℕ → Stage (Who × Call)
 last_stage text = stage_reached calls_kind 1 begin (pieces text)
 
--- what has been written by then: before the first call nothing, since more queues may come, and then the history of the calls so far, but for the
--- last line of its format (a file of calls has none, so that none of them ends there)
+-- what has been written by then: before the first call nothing, since more queues may come, and then the history of the
+-- calls so far, but for the last line of its format (a file of calls has none, so that none of them ends there)
 abbrev pub live_text : Stage (Who × Call) → List ℕ
 live_text begin = []
 live_text (opened v) = []
@@ -45,19 +51,26 @@ pub record IsFirstFull (text : List ℕ) (m : ℕ) : Type 0 where
   pub before : left_out_by (stage_after m text) ≡ 0
   pub behind : left_out_by (stage_after (m + 1) text) ≡ 1
 
--- A run that answers nothing has written what `step` writes, and all calls had room. One that answers a line ended there, at the first call without room: all
--- calls before it have been answered. Where the input is refused, all before the refused line have been. At another fault those before some line have
--- been, and at a fault of writing a front of that has been written.
+-- A run that answers nothing has written what `step` writes, and all calls had room. One that answers a line ended
+-- there, at the first call without room: all calls before it have been answered. Where the input is refused, all before
+-- the refused line have been. At another fault those before some line have been, and at a fault of writing a front of
+-- that has been written.
 abbrev pub LiveEnds : List ℕ → Option (List ℕ) → Option (List ℕ) → Result (Option ℕ) Refusal → Type 0
 LiveEnds text old new (Ok None) = StepEnds text old new (Ok 0)
-LiveEnds text old new (Ok (Some n)) = (m : ℕ) × (n ≡ m + 1) × IsFirstFull text m × Appends old new (live_text (stage_after m text))
+LiveEnds text old new (Ok (Some n)) = (m : ℕ) × (n ≡ m + 1) × IsFirstFull text m
+    × Appends old new (live_text (stage_after m text))
 LiveEnds text old new (Err refusal.NoMemory) = (m : ℕ) × Appends old new (live_text (stage_after m text))
 LiveEnds text old new (Err refusal.ReadFault) = (m : ℕ) × Appends old new (live_text (stage_after m text))
-LiveEnds text old new (Err refusal.WriteFault) = ((m : ℕ) × AppendsFront old new (live_text (stage_after m text))) ⊎ StepEnds text old new (Err refusal.WriteFault)
-LiveEnds text old new (Err refusal.TooLong) = (call_file_of text ≡ Err refusal.TooLong) × Appends old new (live_text (last_stage text))
-LiveEnds text old new (Err (refusal.BadLine n)) = (call_file_of text ≡ Err (refusal.BadLine n)) × Appends old new (live_text (last_stage text))
-LiveEnds text old new (Err (refusal.BadShape n)) = (call_file_of text ≡ Err (refusal.BadShape n)) × Appends old new (live_text (last_stage text))
-LiveEnds text old new (Err (refusal.NoSuchId n)) = (call_file_of text ≡ Err (refusal.NoSuchId n)) × Appends old new (live_text (last_stage text))
+LiveEnds text old new (Err refusal.WriteFault) = ((m : ℕ) × AppendsFront old new (live_text (stage_after m text)))
+    ⊎ StepEnds text old new (Err refusal.WriteFault)
+LiveEnds text old new (Err refusal.TooLong) = (call_file_of text ≡ Err refusal.TooLong)
+    × Appends old new (live_text (last_stage text))
+LiveEnds text old new (Err (refusal.BadLine n)) = (call_file_of text ≡ Err (refusal.BadLine n))
+    × Appends old new (live_text (last_stage text))
+LiveEnds text old new (Err (refusal.BadShape n)) = (call_file_of text ≡ Err (refusal.BadShape n))
+    × Appends old new (live_text (last_stage text))
+LiveEnds text old new (Err (refusal.NoSuchId n)) = (call_file_of text ≡ Err (refusal.NoSuchId n))
+    × Appends old new (live_text (last_stage text))
 
 -- the exit status: 0 done, 4 a call without room
 abbrev pub live_status : Result (Option ℕ) Refusal → ℕ
@@ -112,13 +125,14 @@ pub record Stepped : Type 0 where
   pub layout : Layout
   pub calls : List (Who × Call)
 
-pub record IsStepping (s : Layout) (calls : List (Who × Call)) (h : History) (n : ℕ) (last : Option Entry) : Type 0 where
-  pub layout : h.layout ≡ s
-  pub room : h.room ≡ s.room
-  pub past : past_in h ≡ (live_steps s calls).steps.past
-  pub left_out : n ≡ (live_steps s calls).steps.left_out
-  pub made : last ≡ (live_steps s calls).made
-  pub few : n ≤ length calls
+pub record IsStepping (s : Layout) (calls : List (Who × Call)) (h : History) (n : ℕ) (last : Option Entry) : Type 0
+  where
+    pub layout : h.layout ≡ s
+    pub room : h.room ≡ s.room
+    pub past : past_in h ≡ (live_steps s calls).steps.past
+    pub left_out : n ≡ (live_steps s calls).steps.left_out
+    pub made : last ≡ (live_steps s calls).made
+    pub few : n ≤ length calls
 
 -- the entries of the calls that had room are kept
 pub record AreRecorded (t : Stepped) (entries : List Entry) : Type 0 where

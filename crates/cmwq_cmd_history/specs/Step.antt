@@ -1,12 +1,14 @@
 -- What a run of `step` reads, writes and answers.
 use Rattle.std.specs.Prelude.{◌≡◌}
-use Rattle.cmwq_cmd_history.specs.Common.{ℕ, zero, suc, List, Result, Ok, Err, Option, reverse, Who, Call, Steps, steps, text_of_format, Refusal, File, call_file_of}
+use Rattle.cmwq_cmd_history.specs.Common.{ℕ, zero, suc, List, Result, Ok, Err, Option, reverse, Who, Call, Steps, steps}
+use Rattle.cmwq_cmd_history.specs.Common.{text_of_format, Refusal, File, call_file_of}
 use Rattle.cmwq_history.specs.Ends.{Word, RunEnds, written_version, refusal_status}
 
 abbrev pub steps_in : File (Who × Call) → Steps
 steps_in f = steps f.layout f.layout.room f.items
 
--- the text of the history that the calls of a file make, with its shape: of format 3 where the file is, and else of format 2
+-- the text of the history that the calls of a file make, with its shape: of format 3 where the file is, and else of
+-- format 2
 abbrev pub answer_text : File (Who × Call) → List ℕ
 answer_text f = text_of_format (written_version f.version) f.layout (reverse (steps_in f).past)
 

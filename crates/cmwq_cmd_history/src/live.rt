@@ -1,12 +1,14 @@
 //! The word `step`, live: each call is answered before the next line is read.
 
-ghost use Rattle.std.specs.Prelude.{◌≡◌, ◌≤◌, ◌⊎◌, ℕ, Option, Result, MatchBool, IfSome, IfOk, IfErr, OnOk, OnErr, IsErrOf};
+ghost use Rattle.std.specs.Prelude.{◌≡◌, ◌≤◌, ◌⊎◌, ℕ, Option, Result, MatchBool, IfSome, IfOk, IfErr, OnOk, OnErr};
+ghost use Rattle.std.specs.Prelude.{IsErrOf};
 ghost use Rattle.std.specs.Io.KnownBytes.{Appends};
 ghost use Rattle.cmwq_io.specs.Counts.{Rises};
 ghost use Rattle.cmwq_io.specs.Moves.{AppendsFront};
 ghost use Rattle.cmwq_base.specs.declared.refusal.Refusal.{Refusal as TheRefusal};
 ghost use Rattle.cmwq_base.specs.Stages.{stage_of};
-ghost use Rattle.cmwq_cmd_history.specs.Live.{LiveEnds, live_status, left_out_by, new_of, missing_head, rest_text, made_text, first_text, new_text};
+ghost use Rattle.cmwq_cmd_history.specs.Live.{LiveEnds, live_status, left_out_by, new_of, missing_head, rest_text};
+ghost use Rattle.cmwq_cmd_history.specs.Live.{made_text, first_text, new_text};
 
 use crate::stepping::Stepping;
 use cmwq_base::{
@@ -20,8 +22,11 @@ use std::mem::{drop, replace};
 
 fn write_first<O: Sink>(output: &mut O, version: u8, calls: &Stepping) -> Result<(), Refusal>
     requires { 2 ≤ version }
-    ensures ok { OnOk result (Appends (O.written output.old) (O.written output.new) (first_text version calls.now.layout calls.now.calls)) }
-    ensures err { OnErr result (AppendsFront (O.written output.old) (O.written output.new) (first_text version calls.now.layout calls.now.calls)) }
+    ensures ok { OnOk result
+        (Appends (O.written output.old) (O.written output.new) (first_text version calls.now.layout calls.now.calls)) }
+    ensures err { OnErr result
+        (AppendsFront (O.written output.old) (O.written output.new)
+        (first_text version calls.now.layout calls.now.calls)) }
     ensures only { IfErr result (λ e. e ≡ Refusal.WriteFault) }
     ensures grown { O.troubles output.old ≤ O.troubles output.new }
     ensures fault { OnErr result (Rises (O.troubles output.old) (O.troubles output.new)) }
@@ -49,8 +54,11 @@ fn write_made<O: Sink>(output: &mut O, made: Option<Entry>) -> Result<(), Refusa
 /// Writes the entry of the last call, if it had room, and before the first call's the head; and flushes.
 fn write_new<O: Sink>(output: &mut O, version: u8, calls: &Stepping) -> Result<(), Refusal>
     requires { 2 ≤ version }
-    ensures ok { OnOk result (Appends (O.written output.old) (O.written output.new) (new_text version calls.now.layout calls.now.calls)) }
-    ensures err { OnErr result (AppendsFront (O.written output.old) (O.written output.new) (new_text version calls.now.layout calls.now.calls)) }
+    ensures ok { OnOk result
+        (Appends (O.written output.old) (O.written output.new) (new_text version calls.now.layout calls.now.calls)) }
+    ensures err { OnErr result
+        (AppendsFront (O.written output.old) (O.written output.new)
+        (new_text version calls.now.layout calls.now.calls)) }
     ensures flushed { OnOk result (O.held output.new ≡ 0) }
     ensures only { IfErr result (λ e. e ≡ Refusal.WriteFault) }
     ensures grown { O.troubles output.old ≤ O.troubles output.new }
@@ -62,11 +70,20 @@ fn write_new<O: Sink>(output: &mut O, version: u8, calls: &Stepping) -> Result<(
     Ok(())
 }
 
-/// Answers the call of the line that was read last, if it is one. False where there is no room for it: nothing is written then.
+/// Answers the call of the line that was read last, if it is one. False where there is no room for it: nothing is
+/// written then.
 fn answer<O: Sink>(output: &mut O, stage: &Stage<Stepping>) -> Result<bool, Refusal>
-    ensures answered { IfOk result (λ has_room. MatchBool has_room (left_out_by (stage_of (λ s. s.layout) (λ s. s.calls) stage.now) ≡ 0) (1 ≤ left_out_by (stage_of (λ s. s.layout) (λ s. s.calls) stage.now))) }
-    ensures written { IfOk result (λ has_room. MatchBool has_room (Appends (O.written output.old) (O.written output.new) (new_of (stage_of (λ s. s.layout) (λ s. s.calls) stage.now))) (output.new ≡ output.old)) }
-    ensures err { OnErr result (AppendsFront (O.written output.old) (O.written output.new) (new_of (stage_of (λ s. s.layout) (λ s. s.calls) stage.now))) }
+    ensures answered { IfOk result
+        (λ has_room. MatchBool has_room (left_out_by (stage_of (λ s. s.layout) (λ s. s.calls) stage.now) ≡ 0)
+        (1 ≤ left_out_by (stage_of (λ s. s.layout) (λ s. s.calls) stage.now))) }
+    ensures written { IfOk result
+        (λ has_room.
+        MatchBool has_room
+        (Appends (O.written output.old) (O.written output.new)
+        (new_of (stage_of (λ s. s.layout) (λ s. s.calls) stage.now))) (output.new ≡ output.old)) }
+    ensures err { OnErr result
+        (AppendsFront (O.written output.old) (O.written output.new)
+        (new_of (stage_of (λ s. s.layout) (λ s. s.calls) stage.now))) }
     ensures flushed { OnOk result ((O.held output.new ≡ 0) ⊎ (output.new ≡ output.old)) }
     ensures only { IfErr result (λ e. e ≡ Refusal.WriteFault) }
     ensures grown { O.troubles output.old ≤ O.troubles output.new }
@@ -87,8 +104,12 @@ fn answer<O: Sink>(output: &mut O, stage: &Stage<Stepping>) -> Result<bool, Refu
 /// Writes the head where no call has.
 fn write_missing_head<O: Sink>(output: &mut O, version: u8, calls: &Stepping) -> Result<(), Refusal>
     requires { 2 ≤ version }
-    ensures ok { OnOk result (Appends (O.written output.old) (O.written output.new) (missing_head version calls.now.layout calls.now.calls)) }
-    ensures err { OnErr result (AppendsFront (O.written output.old) (O.written output.new) (missing_head version calls.now.layout calls.now.calls)) }
+    ensures ok { OnOk result
+        (Appends (O.written output.old) (O.written output.new)
+        (missing_head version calls.now.layout calls.now.calls)) }
+    ensures err { OnErr result
+        (AppendsFront (O.written output.old) (O.written output.new)
+        (missing_head version calls.now.layout calls.now.calls)) }
     ensures only { IfErr result (λ e. e ≡ Refusal.WriteFault) }
     ensures grown { O.troubles output.old ≤ O.troubles output.new }
     ensures fault { OnErr result (Rises (O.troubles output.old) (O.troubles output.new)) }
@@ -100,11 +121,14 @@ fn write_missing_head<O: Sink>(output: &mut O, version: u8, calls: &Stepping) ->
     }
 }
 
-/// Writes what stands behind the entries, and where there was no call the head before it; and flushes.
+/// Writes what stands after the entries, and where there was no call the head before it; and flushes.
 fn write_rest<O: Sink>(output: &mut O, version: u8, calls: &Stepping) -> Result<(), Refusal>
     requires { 2 ≤ version }
-    ensures ok { OnOk result (Appends (O.written output.old) (O.written output.new) (rest_text version calls.now.layout calls.now.calls)) }
-    ensures err { OnErr result (AppendsFront (O.written output.old) (O.written output.new) (rest_text version calls.now.layout calls.now.calls)) }
+    ensures ok { OnOk result
+        (Appends (O.written output.old) (O.written output.new) (rest_text version calls.now.layout calls.now.calls)) }
+    ensures err { OnErr result
+        (AppendsFront (O.written output.old) (O.written output.new)
+        (rest_text version calls.now.layout calls.now.calls)) }
     ensures flushed { OnOk result (O.held output.new ≡ 0) }
     ensures only { IfErr result (λ e. e ≡ Refusal.WriteFault) }
     ensures fault { OnErr result (Rises (O.troubles output.old) (O.troubles output.new)) }
@@ -115,8 +139,8 @@ fn write_rest<O: Sink>(output: &mut O, version: u8, calls: &Stepping) -> Result<
     Ok(())
 }
 
-/// Reads a file of calls line by line, and answers each call before it reads the next line. Answers the number of the line of the first
-/// call for which there was no room: it ends there.
+/// Reads a file of calls line by line, and answers each call before it reads the next line. Answers the number of the
+/// line of the first call for which there was no room: it ends there.
 fn live<S: Source, O: Sink>(
     alloc: Global,
     input: &mut S,
@@ -171,11 +195,12 @@ fn answer_lines<S: Source, O: Sink>(
     Err(Refusal::TooLong)
 }
 
-/// Reads a file of calls, and writes the history that they make with its shape as `run_step` does, but each entry before the next line is
-/// read, and flushed: so a program on the other side of a pipe may wait for an answer to each call. The head comes with the first
-/// call, as more queues may come before it. At the first call for which there is no room it ends, and tells the number of its line on `errors`, as it
-/// tells what else went wrong; that its own writes fail changes nothing. Answers the exit status: 0 done, 1 refused input, 4 no memory, or a
-/// call without room, 5 a fault of reading or writing. All calls before a refused line, a call without room or another fault have been
+/// Reads a file of calls, and writes the history that they make with its shape as `run_step` does, but each entry
+/// before the next line is read, and flushed: so a program on the other side of a pipe may wait for an answer to each
+/// call. The head comes with the first call, as more queues may come before it. At the first call for which there is no
+/// room it ends, and tells the number of its line on `errors`, as it tells what else went wrong; that its own writes
+/// fail changes nothing. Answers the exit status: 0 done, 1 refused input, 4 no memory, or a call without room, 5 a
+/// fault of reading or writing. All calls before a refused line, a call without room or another fault have been
 /// answered, but for a fault of writing, where a front of these answers has been written.
 pub fn run_step_live<S: Source, O: Sink, E: Sink>(
     alloc: Global,

@@ -12,8 +12,8 @@ use std::marker::Model;
 /// For so many entries memory is taken at first; for more, which only a file of calls of format 3 makes, as they come.
 const FIRST_ROOM: u64 = 1_000_000;
 
-/// Makes the steps of the calls of a file as they come, and keeps their entries. What makes them is boxed, since the reader hands what gathers on by
-/// value before and behind its lines.
+/// Makes the steps of the calls of a file as they come, and keeps their entries. What makes them is boxed, since the
+/// reader hands what gathers on by value before and after its lines.
 #[derive(Drop)]
 pub struct Recording {
     stepping: Box<Stepping>,

@@ -24,10 +24,11 @@ fn step<S: Source, O: Sink>(alloc: Global, input: &mut S, output: &mut O) -> Res
     Ok(steps.left_out())
 }
 
-/// Reads all of a file of calls, and then writes the history that they make with its shape, and nothing else: in format 3 where the file is of
-/// that, and else in format 2. What went wrong is told on `errors`, whose own failing changes nothing. Answers the exit status: 0 done, 1 refused input, 4 no
-/// memory, or calls left out for want of room, 5 a fault of reading or writing. At 1, at want of memory and at a fault of
-/// reading nothing is written to `output`; at a fault of writing a front of the text is.
+/// Reads all of a file of calls, and then writes the history that they make with its shape, and nothing else: in format
+/// 3 where the file is of that, and else in format 2. What went wrong is told on `errors`, whose own failing changes
+/// nothing. Answers the exit status: 0 done, 1 refused input, 4 no memory, or calls left out for want of room, 5 a
+/// fault of reading or writing. At 1, at want of memory and at a fault of reading nothing is written to `output`; at a
+/// fault of writing a front of the text is.
 pub fn run_step<S: Source, O: Sink, E: Sink>(
     alloc: Global,
     input: &mut S,

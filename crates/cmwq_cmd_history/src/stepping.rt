@@ -13,8 +13,8 @@ use cmwq_state::Trail;
 use std::alloc::Global;
 use std::marker::Model;
 
-/// Makes the steps of the calls of a file as they come, and keeps of all entries the last alone. The execution is boxed, since the reader hands
-/// what gathers on by value before and behind its lines.
+/// Makes the steps of the calls of a file as they come, and keeps of all entries the last alone. The execution is
+/// boxed, since the reader hands what gathers on by value before and after its lines.
 #[derive(Drop)]
 pub struct Stepping {
     shape: Shape,

@@ -1,5 +1,6 @@
 -- How a run ends, from what its parts promise.
-use Rattle.cmwq_cmd_run.specs.Common.{◌≡◌, refl, sym, subst, Keeps, MatchOption, IsLegal, past_of, RunFault, List, ℕ, Option, None, Some, Ok, Err, inr, IfSome, IsJson, Run, run_said}
+use Rattle.cmwq_cmd_run.specs.Common.{◌≡◌, refl, sym, subst, Keeps, MatchOption, IsLegal, past_of, RunFault, List, ℕ}
+use Rattle.cmwq_cmd_run.specs.Common.{Option, None, Some, Ok, Err, inr, IfSome, IsJson, Run, run_said}
 use Rattle.serde_json.specs.Data.{Data}
 use Rattle.cmwq_json.specs.declared.fault.Fault.TheVariants as fault
 use Rattle.cmwq_json.specs.declared.refused.Refused.{Refused}
@@ -15,7 +16,9 @@ use Rattle.cmwq_text.specs.HistoryText.{text_of_format}
 use Rattle.cmwq_json_script.specs.Tops.{AreJournalSettings}
 
 -- the run of the script that was read
-pub run_ends : (d : Data) (r : Run) → run_said d ≡ Ok r → (left old new : Option (List ℕ)) (ended : _) → IfSome left (λ text. IsJson text d) → ScriptEnds r old new ended → IfSome left (λ text. InputEnds text old new ended)
+pub run_ends : (d : Data) (r : Run) → run_said d ≡ Ok r → (left old new : Option (List ℕ)) (ended : _)
+    → IfSome left (λ text. IsJson text d) → ScriptEnds r old new ended
+    → IfSome left (λ text. InputEnds text old new ended)
 run_ends d r said None old new ended read ends = tt
 run_ends d r said (Some text) old new ended read ends = of ended (r, (d, read, said), ends)
   where
@@ -31,12 +34,15 @@ run_ends d r said (Some text) old new ended read ends = of ended (r, (d, read, s
     of (Err (failure.Gate name full)) x = x
 
 -- a member that is refused
-pub refused_ends : (d : Data) (m : Refused) → run_said d ≡ Err m → (left a : Option (List ℕ)) → IfSome left (λ text. IsJson text d) → IfSome left (λ text. InputEnds text a a (Err (failure.Input (fault.Member m))))
+pub refused_ends : (d : Data) (m : Refused) → run_said d ≡ Err m → (left a : Option (List ℕ))
+    → IfSome left (λ text. IsJson text d)
+    → IfSome left (λ text. InputEnds text a a (Err (failure.Input (fault.Member m))))
 refused_ends d m said None a read = tt
 refused_ends d m said (Some text) a read = ((d, read, said), Keeps-refl a)
 
 -- a fault of the hub stopped the run
-pub fault_ends : (r : Run) (old new : Option (List ℕ)) (f : RunFault) → FailsAs r.layout r.callers r.waits f → RunBreaksOff r old new → ScriptEnds r old new (Err (failed_run f))
+pub fault_ends : (r : Run) (old new : Option (List ℕ)) (f : RunFault) → FailsAs r.layout r.callers r.waits f
+    → RunBreaksOff r old new → ScriptEnds r old new (Err (failed_run f))
 fault_ends r old new (run_fault.NoMemory t) fails breaks = (record {}, breaks)
 fault_ends r old new run_fault.Full fails breaks = ((run_fault.Full, refl, fails), breaks)
 fault_ends r old new run_fault.Unfinished fails breaks = ((run_fault.Unfinished, refl, fails), breaks)
@@ -46,10 +52,14 @@ fault_ends r old new (run_fault.Stranger own book) fails breaks = ((run_fault.St
 fault_ends r old new run_fault.NoThread fails breaks = ((run_fault.NoThread, refl, fails), breaks)
 
 -- a journal writes in format 3
-pub breaks_off : (r : Run) (kept : ℕ) (old new : Option (List ℕ)) → r.journal ≡ Some kept → AreJournalSettings r.version r.journal
-    → (history : List Entry) × IsLegal r.layout (past_of history) × AppendsFront old new (text_of_format 3 r.layout history) → RunBreaksOff r old new
+pub breaks_off : (r : Run) (kept : ℕ) (old new : Option (List ℕ)) → r.journal ≡ Some kept
+    → AreJournalSettings r.version r.journal
+    → (history : List Entry) × IsLegal r.layout (past_of history)
+    × AppendsFront old new (text_of_format 3 r.layout history) → RunBreaksOff r old new
 breaks_off r kept old new is settings (history, legal, front) =
     let journaled = subst (λ j. AreJournalSettings r.version j) is settings in
-    let version : 3 ≡ r.version = (let least = journaled.least in let most = journaled.most in omega (arith, least, most)) in
-    subst (λ j. MatchOption j (Keeps old new) (λ kept. (history : List Entry) × IsLegal r.layout (past_of history) × AppendsFront old new (text_of_format r.version r.layout history))) (sym is)
+    let version : 3 ≡ r.version =
+    (let least = journaled.least in let most = journaled.most in omega (arith, least, most)) in
+    subst (λ j. MatchOption j (Keeps old new) (λ kept. (history : List Entry) × IsLegal r.layout (past_of history)
+    × AppendsFront old new (text_of_format r.version r.layout history))) (sym is)
     (history, legal, subst (λ (v : ℕ). AppendsFront old new (text_of_format v r.layout history)) version front)

@@ -1,5 +1,8 @@
 -- Actions, one after another.
-use Rattle.cmwq_cmd_run.specs.Common.{◌≡◌, ◌∙◌, ℕ, ◌+◌, ◌<◌, List, [], ◌∷◌, ◌++◌, length, take, get_or, refl, sym, subst, inl, inr, Result, Ok, Err, IfOk, IfErr, Option, None, true, false, is_own, is_workers, Call, Layout, View, Refused, RunFault, Full, fault_after, has_numbers, Action}
+use Rattle.cmwq_cmd_run.specs.Common.{◌≡◌, ◌∙◌, ℕ, ◌+◌, ◌<◌, List, [], ◌∷◌, ◌++◌, length, take, get_or, refl, sym}
+use Rattle.cmwq_cmd_run.specs.Common.{subst, inl, inr, Result, Ok, Err, IfOk, IfErr, Option, None, true, false, is_own}
+use Rattle.cmwq_cmd_run.specs.Common.{is_workers, Call, Layout, View, Refused, RunFault, Full, fault_after, has_numbers}
+use Rattle.cmwq_cmd_run.specs.Common.{Action}
 use Rattle.std.proofs.lemmas.List.{take_more}
 use Rattle.cmwq_model.specs.declared.reply.Reply.{Reply}
 use Rattle.cmwq_model.specs.declared.call.Call.TheVariants as call
@@ -13,39 +16,53 @@ use Rattle.cmwq_rt.specs.declared.wait_fault.WaitFault.TheVariants as waits
 use Rattle.cmwq_cmd_run.specs.Interpreted.{Acts, ActInTurn, MakesIfRoom, SleepsOnce, WaitsIfMay}
 
 -- one action more
-act_more : (s : Layout) (xs : List Action) (a : Action) (v m w : View) → ActInTurn s xs v m → Acts s a m w → ActInTurn s (xs ++ a ∷ []) v w
+act_more : (s : Layout) (xs : List Action) (a : Action) (v m w : View) → ActInTurn s xs v m → Acts s a m w
+    → ActInTurn s (xs ++ a ∷ []) v w
 act_more s [] a v m w same acts = (w, subst (λ u. Acts s a u w) same acts, refl)
 act_more s (b ∷ bs) a v m w (next, first, rest) acts = (next, first, act_more s bs a next m w rest acts)
 
-pub act_next : (s : Layout) (xs : List Action) (k : ℕ) (d : Action) (v m w : View) → k < length xs → ActInTurn s (take k xs) v m → Acts s (get_or xs k d) m w → ActInTurn s (take (k + 1) xs) v w
-act_next s xs k d v m w lt before acts = rw (take_more xs k d lt) (act_more s (take k xs) (get_or xs k d) v m w before acts)
+pub act_next : (s : Layout) (xs : List Action) (k : ℕ) (d : Action) (v m w : View) → k < length xs
+    → ActInTurn s (take k xs) v m → Acts s (get_or xs k d) m w → ActInTurn s (take (k + 1) xs) v w
+act_next s xs k d v m w lt before acts =
+    rw (take_more xs k d lt) (act_more s (take k xs) (get_or xs k d) v m w before acts)
 
 -- what answered, or had no room, made its entry if there was room
 made_if_room : (s : Layout) (c : Call) (v w : View) (answer : Result Reply RunFault)
-    → IfOk answer (λ r. Extends s v c r w) → IfErr answer (λ f. Refused s v c f w) → IfErr answer (λ f. f ≡ Full) → MakesIfRoom s v c w
+    → IfOk answer (λ r. Extends s v c r w) → IfErr answer (λ f. Refused s v c f w) → IfErr answer (λ f. f ≡ Full)
+    → MakesIfRoom s v c w
 made_if_room s c v w (Ok r) made refused full = inl (r, made)
 made_if_room s c v w (Err f) made refused full = inr (subst (λ e. Refused s v c e w) full refused)
 
 -- and the run has met no fault
-no_fault : (answer : Result Reply RunFault) (old : Option RunFault) → IfErr answer (λ f. f ≡ Full) → old ≡ None → fault_after answer old ≡ None
+no_fault : (answer : Result Reply RunFault) (old : Option RunFault) → IfErr answer (λ f. f ≡ Full) → old ≡ None
+    → fault_after answer old ≡ None
 no_fault (Ok r) old full none = none
 no_fault (Err f) old full none = subst (λ e. fault_after (Err e) old ≡ None) (sym full) none
 
 -- a sleep and a wake
 slept : (s : Layout) (v m w : View) (r : Reply) (answer : Result Reply RunFault) (before middle after : Option RunFault)
-    → Extends s v call.Sleep r m → IfOk answer (λ r. Extends s m call.Wake r w) → IfErr answer (λ f. Refused s m call.Wake f w) → IfErr answer (λ f. f ≡ Full)
+    → Extends s v call.Sleep r m → IfOk answer (λ r. Extends s m call.Wake r w)
+    → IfErr answer (λ f. Refused s m call.Wake f w) → IfErr answer (λ f. f ≡ Full)
     → before ≡ None → middle ≡ before → after ≡ fault_after answer middle → (after ≡ None) × SleepsOnce s v w
-slept s v m w r answer before middle after asleep made refused full none kept is = (is ∙ no_fault answer middle full (kept ∙ none), inl (m, (r, asleep), made_if_room s call.Wake m w answer made refused full))
+slept s v m w r answer before middle after asleep made refused full none kept is = (
+  is ∙ no_fault answer middle full (kept ∙ none),
+  inl (m, (r, asleep), made_if_room s call.Wake m w answer made refused full),
+)
 
-pub slept_if : (s : Layout) (v m w : View) (r : Reply) (answer : Result Reply RunFault) (passed : Result (Unit {0}) RunFault) (before middle after : Option RunFault)
-    → Extends s v call.Sleep r m → IfOk answer (λ r. Extends s m call.Wake r w) → IfErr answer (λ f. Refused s m call.Wake f w) → IfOk passed (λ _. IfErr answer (λ f. f ≡ Full))
-    → before ≡ None → middle ≡ before → after ≡ fault_after answer middle → IfOk passed (λ _. (after ≡ None) × SleepsOnce s v w)
-slept_if s v m w r answer (Ok u) before middle after asleep made refused full none kept is = slept s v m w r answer before middle after asleep made refused full none kept is
+pub slept_if : (s : Layout) (v m w : View) (r : Reply) (answer : Result Reply RunFault)
+    (passed : Result (Unit {0}) RunFault) (before middle after : Option RunFault)
+    → Extends s v call.Sleep r m → IfOk answer (λ r. Extends s m call.Wake r w)
+    → IfErr answer (λ f. Refused s m call.Wake f w) → IfOk passed (λ _. IfErr answer (λ f. f ≡ Full))
+    → before ≡ None → middle ≡ before → after ≡ fault_after answer middle
+    → IfOk passed (λ _. (after ≡ None) × SleepsOnce s v w)
+slept_if s v m w r answer (Ok u) before middle after asleep made refused full none kept is =
+    slept s v m w r answer before middle after asleep made refused full none kept is
 slept_if s v m w r answer (Err f) before middle after asleep made refused full none kept is = tt
 
 -- what is left of a wait that was made, was refused or had no room, and the run has met no fault
 left_out : (s : Layout) (c : Call) (v w : View) (f : WaitFault) (before after : Option RunFault)
-    → (is_refusal f ≡ true → (w ≡ v) ⊎ MakesOne s v call.Wake w) → (f ≡ waits.Run Full → HadNoRoom s v w) → (is_refusal f ≡ true) ⊎ (f ≡ waits.Run Full)
+    → (is_refusal f ≡ true → (w ≡ v) ⊎ MakesOne s v call.Wake w) → (f ≡ waits.Run Full → HadNoRoom s v w)
+    → (is_refusal f ≡ true) ⊎ (f ≡ waits.Run Full)
     → before ≡ None → after ≡ fault_after_wait (Err f) before → (after ≡ None) × WaitsIfMay s v c w
 left_out s c v w waits.Itself before after refused full passes none is = (is ∙ none, inr (inl (refused refl)))
 left_out s c v w waits.Deadlock before after refused full passes none is = (is ∙ none, inr (inl (refused refl)))
@@ -55,22 +72,30 @@ left_out s c v w (waits.Run f) before after refused full (inr same) none is =
     (subst (λ e. after ≡ fault_after_wait (Err e) before) same is ∙ none, inr (inr (full same)))
 
 waits_or_not : (s : Layout) (c : Call) (v w : View) (answer : Result Reply WaitFault) (before after : Option RunFault)
-    → IfOk answer (λ r. HasWaited s v c r w) → IfErr answer (λ f. is_refusal f ≡ true → (w ≡ v) ⊎ MakesOne s v call.Wake w)
-    → IfErr answer (λ f. f ≡ waits.Run Full → HadNoRoom s v w) → IfErr answer (λ f. (is_refusal f ≡ true) ⊎ (f ≡ waits.Run Full))
+    → IfOk answer (λ r. HasWaited s v c r w)
+    → IfErr answer (λ f. is_refusal f ≡ true → (w ≡ v) ⊎ MakesOne s v call.Wake w)
+    → IfErr answer (λ f. f ≡ waits.Run Full → HadNoRoom s v w)
+    → IfErr answer (λ f. (is_refusal f ≡ true) ⊎ (f ≡ waits.Run Full))
     → before ≡ None → after ≡ fault_after_wait answer before → (after ≡ None) × WaitsIfMay s v c w
 waits_or_not s c v w (Ok r) before after waited refused full passes none is = (is ∙ none, inl (r, waited))
-waits_or_not s c v w (Err f) before after waited refused full passes none is = left_out s c v w f before after refused full passes none is
+waits_or_not s c v w (Err f) before after waited refused full passes none is =
+    left_out s c v w f before after refused full passes none is
 
 -- an action that waits
-acts_by_wait : (s : Layout) (c : Call) (v w : View) → is_own c ≡ true → has_numbers s c ≡ true → is_workers c ≡ false → WaitsIfMay s v c w
+acts_by_wait : (s : Layout) (c : Call) (v w : View) → is_own c ≡ true → has_numbers s c ≡ true → is_workers c ≡ false
+    → WaitsIfMay s v c w
     → Acts s (action.Call c) v w
 acts_by_wait s c v w own numbers other left = rw own (rw numbers (rw other left))
 
-pub waits_if_may : (s : Layout) (c : Call) (v w : View) (answer : Result Reply WaitFault) (passed : Result (Unit {0}) RunFault)
+pub waits_if_may : (s : Layout) (c : Call) (v w : View) (answer : Result Reply WaitFault)
+    (passed : Result (Unit {0}) RunFault)
     (before after : Option RunFault) → is_own c ≡ true → has_numbers s c ≡ true → is_workers c ≡ false
-    → IfOk answer (λ r. HasWaited s v c r w) → IfErr answer (λ f. is_refusal f ≡ true → (w ≡ v) ⊎ MakesOne s v call.Wake w)
-    → IfErr answer (λ f. f ≡ waits.Run Full → HadNoRoom s v w) → IfOk passed (λ _. IfErr answer (λ f. (is_refusal f ≡ true) ⊎ (f ≡ waits.Run Full)))
-    → before ≡ None → after ≡ fault_after_wait answer before → IfOk passed (λ _. (after ≡ None) × Acts s (action.Call c) v w)
+    → IfOk answer (λ r. HasWaited s v c r w)
+    → IfErr answer (λ f. is_refusal f ≡ true → (w ≡ v) ⊎ MakesOne s v call.Wake w)
+    → IfErr answer (λ f. f ≡ waits.Run Full → HadNoRoom s v w)
+    → IfOk passed (λ _. IfErr answer (λ f. (is_refusal f ≡ true) ⊎ (f ≡ waits.Run Full)))
+    → before ≡ None → after ≡ fault_after_wait answer before
+    → IfOk passed (λ _. (after ≡ None) × Acts s (action.Call c) v w)
 waits_if_may s c v w answer (Ok u) before after own numbers other waited refused full passes none is =
     let left = waits_or_not s c v w answer before after waited refused full passes none is in
     (left.0, acts_by_wait s c v w own numbers other left.1)

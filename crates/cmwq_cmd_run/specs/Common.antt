@@ -1,5 +1,6 @@
 -- What the files of this crate name from outside it, in one import.
-pub use Rattle.std.proofs.Common.{Bool, Err, List, None, Ok, Option, Result, Some, [], ap, get_or, inl, inr, length, refl, subst, sym, take, true, false, ℕ, ◌++◌, ◌+◌, ◌<◌, ◌∙◌, ◌∷◌, ◌≡◌}
+pub use Rattle.std.proofs.Common.{Bool, Err, List, None, Ok, Option, Result, Some, [], ap, get_or, inl, inr, length}
+pub use Rattle.std.proofs.Common.{refl, subst, sym, take, true, false, ℕ, ◌++◌, ◌+◌, ◌<◌, ◌∙◌, ◌∷◌, ◌≡◌}
 pub use Rattle.std.specs.Io.KnownBytes.{Appends, Keeps}
 pub use Rattle.std.specs.Prelude.{IfErr, IfOk, IfSome, MatchBool, MatchOption, is_some, slice_get, suc, zero}
 pub use Rattle.cmwq_json.specs.Inputs.{IsJson, IsLong, IsNoJson, Says}

@@ -1,6 +1,7 @@
 -- What a run of an item makes: what its actions make, in their order.
 use Rattle.std.specs.Prelude.{◌≡◌, ◌⊎◌, ◌&&◌, ◌∷◌}
-use Rattle.cmwq_cmd_run.specs.Common.{List, [], MatchBool, MatchOption, slice_get, Call, Layout, has_numbers, is_workers, View, Refused, Full, Behavior, MakesOne, Action, is_own}
+use Rattle.cmwq_cmd_run.specs.Common.{List, [], MatchBool, MatchOption, slice_get, Call, Layout, has_numbers}
+use Rattle.cmwq_cmd_run.specs.Common.{is_workers, View, Refused, Full, Behavior, MakesOne, Action, is_own}
 use Rattle.cmwq_model.specs.declared.reply.Reply.{Reply}
 use Rattle.cmwq_rt.specs.Waiting.{HadNoRoom, HasWaited, IsAwake}
 use Rattle.cmwq_model.specs.declared.call.Call.TheVariants as call
@@ -12,9 +13,11 @@ MakesIfRoom s v c w = MakesOne s v c w ⊎ Refused s v c Full w
 
 -- It slept and woke, with a gate between; where there was no room for the sleep it made neither.
 abbrev pub SleepsOnce : Layout → View → View → Type 0
-SleepsOnce s v w = ((asleep : View) × MakesOne s v call.Sleep asleep × MakesIfRoom s asleep call.Wake w) ⊎ Refused s v call.Sleep Full w
+SleepsOnce s v w = ((asleep : View) × MakesOne s v call.Sleep asleep × MakesIfRoom s asleep call.Wake w)
+    ⊎ Refused s v call.Sleep Full w
 
--- A wait: by a caller that was lent to the run the call was made while it slept; or it was refused; or there was no room for it.
+-- A wait: by a caller that was lent to the run the call was made while it slept; or it was refused; or there was no
+-- room for it.
 abbrev pub WaitsIfMay : Layout → View → Call → View → Type 0
 WaitsIfMay s v c w = ((r : Reply) × HasWaited s v c r w) ⊎ IsAwake s v w ⊎ HadNoRoom s v w
 

@@ -1,6 +1,8 @@
 -- What `run` reads, writes and answers.
 use Rattle.std.specs.Prelude.{◌≡◌, ◌⊎◌}
-use Rattle.cmwq_cmd_run.specs.Common.{ℕ, zero, suc, Bool, true, false, IfSome, is_some, List, Result, Ok, Err, Option, Some, slice_get, MatchOption, Keeps, Appends, IsLegal, past_of, Says, IsNoJson, IsLong, RunFault, Run, run_said}
+use Rattle.cmwq_cmd_run.specs.Common.{ℕ, zero, suc, Bool, true, false, IfSome, is_some, List, Result, Ok, Err, Option}
+use Rattle.cmwq_cmd_run.specs.Common.{Some, slice_get, MatchOption, Keeps, Appends, IsLegal, past_of, Says, IsNoJson}
+use Rattle.cmwq_cmd_run.specs.Common.{IsLong, RunFault, Run, run_said}
 use Rattle.cmwq_io.specs.Moves.{AppendsFront}
 use Rattle.cmwq_model.specs.declared.entry.Entry.{Entry}
 use Rattle.cmwq_text.specs.HistoryText.{text_of_format}
@@ -14,8 +16,9 @@ use Rattle.cmwq_cmd_run.specs.declared.refusals.RefusedWaits.{RefusedWaits}
 use Rattle.cmwq_cmd_run.specs.declared.run.Done.{Done}
 use Rattle.cmwq_cmd_run.specs.declared.failure.Failure.TheVariants as failure
 
--- A history that the run may leave: it is legal, each caller's entries follow its script but for so many calls in all that had no room, each worker's
--- are runs in which items did their actions, nobody else has any, and nothing active is left behind.
+-- A history that the run may leave: it is legal, each caller's entries follow its script but for so many calls in all
+-- that had no room, each worker's are runs in which items did their actions, nobody else has any, and nothing active is
+-- left behind.
 abbrev pub RunLeaves : Run → ℕ → List Entry → Type 0
 RunLeaves r full history = IsLeft r.layout (plays r.does r.layout) r.callers r.waits full history
 
@@ -31,11 +34,15 @@ Writes r full old new = (history : List Entry) × RunLeaves r full history × Ap
 
 -- a front of it
 abbrev pub RunWritesFront : Run → Option (List ℕ) → Option (List ℕ) → Type 0
-RunWritesFront r old new = (full : ℕ) × (history : List Entry) × RunLeaves r full history × AppendsFront old new (text_of r history)
+RunWritesFront r old new = (full : ℕ) × (history : List Entry) × RunLeaves r full history
+    × AppendsFront old new (text_of r history)
 
--- Where it breaks off: nothing; but with a journal, which writes as it goes, a front of a legal history, which it need not leave.
+-- Where it breaks off: nothing; but with a journal, which writes as it goes, a front of a legal history, which it need
+-- not leave.
 abbrev pub RunBreaksOff : Run → Option (List ℕ) → Option (List ℕ) → Type 0
-RunBreaksOff r old new = MatchOption r.journal (Keeps old new) (λ kept. (history : List Entry) × IsLegal r.layout (past_of history) × AppendsFront old new (text_of r history))
+RunBreaksOff r old new =
+    MatchOption r.journal (Keeps old new) (λ kept. (history : List Entry) × IsLegal r.layout (past_of history)
+    × AppendsFront old new (text_of r history))
 
 -- ---- what is told of a run
 
@@ -68,11 +75,14 @@ FailsOn r (failure.Gate name full) = IsNamed r.gates name.bytes × ((history : L
 abbrev pub IsOf : Run → RefusedWaits → Type 0
 IsOf r waits = IsNamed r.names waits.item.bytes
 
--- How the run of a script ends: it writes a history, or a failure stopped it. A gate is told of a run that came to its end, whose history a journal has written.
+-- How the run of a script ends: it writes a history, or a failure stopped it. A gate is told of a run that came to its
+-- end, whose history a journal has written.
 abbrev pub ScriptEnds : Run → Option (List ℕ) → Option (List ℕ) → Result Done Failure → Type 0
 ScriptEnds r old new (Ok done) = Writes r done.full old new × IfSome done.refused (IsOf r)
-ScriptEnds r old new (Err (failure.Input fault.WriteFault)) = MatchOption r.journal (RunWritesFront r old new) (λ kept. RunBreaksOff r old new)
-ScriptEnds r old new (Err (failure.Gate name full)) = FailsOn r (failure.Gate name full) × MatchOption r.journal (Keeps old new) (λ kept. Writes r full old new)
+ScriptEnds r old new (Err (failure.Input fault.WriteFault)) =
+    MatchOption r.journal (RunWritesFront r old new) (λ kept. RunBreaksOff r old new)
+ScriptEnds r old new (Err (failure.Gate name full)) =
+    FailsOn r (failure.Gate name full) × MatchOption r.journal (Keeps old new) (λ kept. Writes r full old new)
 ScriptEnds r old new (Err f) = FailsOn r f × RunBreaksOff r old new
 
 -- the text says a script, whose run ends so
@@ -85,11 +95,12 @@ InputEnds text old new (Err (failure.Input (fault.Member r))) = Says run_said te
 InputEnds text old new (Err (failure.Input fault.NotJson)) = IsNoJson text × Keeps old new
 InputEnds text old new (Err (failure.Input fault.TooLong)) = IsLong text × Keeps old new
 InputEnds text old new (Err (failure.Input fault.ReadFault)) = Keeps old new
-InputEnds text old new (Err (failure.Input fault.NoMemory)) = Keeps old new ⊎ Runs text old new (Err (failure.Input fault.NoMemory))
+InputEnds text old new (Err (failure.Input fault.NoMemory)) =
+    Keeps old new ⊎ Runs text old new (Err (failure.Input fault.NoMemory))
 InputEnds text old new ended = Runs text old new ended
 
--- the exit status: 0 done, 1 refused input or a gate that was not opened, 4 no memory or calls that had no room, 5 a fault of reading, writing or
--- running, 6 waits that were refused
+-- the exit status: 0 done, 1 refused input or a gate that was not opened, 4 no memory or calls that had no room, 5 a
+-- fault of reading, writing or running, 6 waits that were refused
 abbrev pub failure_status : Failure → ℕ
 failure_status (failure.Input f) = fault_status f
 failure_status (failure.Run n) = 5

@@ -19,8 +19,8 @@ pub enum Failure {
     /// The input was refused, memory ran out, or reading or writing failed.
     #[error("{0}")]
     Input(Fault),
-    /// The run ended by the fault with this number: 2 full, 3 an active queueing was open after all threads had ended, 4 no place
-    /// for a caller, 5 closed, 6 a stranger, 7 no thread.
+    /// The run ended by the fault with this number: 2 full, 3 an active queueing was open after all threads had ended,
+    /// 4 no place for a caller, 5 closed, 6 a stranger, 7 no thread.
     #[error("run fault {number}")]
     Run { number: u8 },
     /// A run looked at this gate in vain, and so many calls were left out for want of room.

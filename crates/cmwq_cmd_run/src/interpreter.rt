@@ -112,7 +112,9 @@ impl<'a> Interpreter<'a> {
     ) -> Result<(), RunFault>
         requires { context.old.fault ≡ None }
         ensures later { Later context.old.participant context.new.participant }
-        ensures done { IfOk result (λ _. (context.new.fault ≡ None) × Acts N.layout (actions.Call call) context.old.participant context.new.participant) }
+        ensures done { IfOk result
+            (λ _. (context.new.fault ≡ None)
+            × Acts N.layout (actions.Call call) context.old.participant context.new.participant) }
         ensures broke { IfErr result (λ f. context.new.fault ≡ Some f) }
     {
         if !is_own(call) || !context.shape().has_numbers(call) {
@@ -133,7 +135,8 @@ impl<'a> Interpreter<'a> {
     ) -> Result<(), RunFault>
         requires { context.old.fault ≡ None }
         ensures later { Later context.old.participant context.new.participant }
-        ensures done { IfOk result (λ _. (context.new.fault ≡ None) × SleepsOnce N.layout context.old.participant context.new.participant) }
+        ensures done { IfOk result
+            (λ _. (context.new.fault ≡ None) × SleepsOnce N.layout context.old.participant context.new.participant) }
         ensures broke { IfErr result (λ f. context.new.fault ≡ Some f) }
     {
         let asleep = context.sleep();
@@ -152,7 +155,8 @@ impl<'a> Interpreter<'a> {
     ) -> Result<(), RunFault>
         requires { context.old.fault ≡ None }
         ensures later { Later context.old.participant context.new.participant }
-        ensures done { IfOk result (λ _. (context.new.fault ≡ None) × Acts N.layout action context.old.participant context.new.participant) }
+        ensures done { IfOk result
+            (λ _. (context.new.fault ≡ None) × Acts N.layout action context.old.participant context.new.participant) }
         ensures broke { IfErr result (λ f. context.new.fault ≡ Some f) }
     {
         match action {
@@ -174,7 +178,9 @@ impl<'a> Interpreter<'a> {
     ) -> Result<(), RunFault>
         requires { context.old.fault ≡ None }
         ensures later { Later context.old.participant context.new.participant }
-        ensures done { IfOk result (λ _. (context.new.fault ≡ None) × ActInTurn N.layout actions.now context.old.participant context.new.participant) }
+        ensures done { IfOk result
+            (λ _. (context.new.fault ≡ None)
+            × ActInTurn N.layout actions.now context.old.participant context.new.participant) }
         ensures broke { IfErr result (λ f. context.new.fault ≡ Some f) }
     {
         for k in 0..actions.len() {

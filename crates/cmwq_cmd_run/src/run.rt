@@ -1,5 +1,6 @@
 //! The word `run`.
-ghost use Rattle.std.specs.Prelude.{◌≡◌, ◌≤◌, is_some, Result, None, Some, length, map, string_bytes, IfSome, IfOk, IfErr, OnOk, IsErrOf};
+ghost use Rattle.std.specs.Prelude.{◌≡◌, ◌≤◌, is_some, Result, None, Some, length, map, string_bytes, IfSome, IfOk};
+ghost use Rattle.std.specs.Prelude.{IfErr, OnOk, IsErrOf};
 ghost use Rattle.cmwq_io.specs.Counts.{Rises};
 ghost use Rattle.cmwq_cmd_run.specs.declared.failure.Failure.{Failure as TheFailure};
 ghost use Rattle.cmwq_cmd_run.specs.declared.run.Done.{Done as TheDone};
@@ -82,7 +83,8 @@ fn run_and_write<O: Sink, R: Threads + Wait + Sync>(
     ensures ends { ScriptEnds (run_of script.now) (O.written output.old) (O.written output.new) result }
     ensures flushed { OnOk result (O.held output.new ≡ 0) }
     ensures read_fault { IsErrOf result (failure.Input fault.ReadFault) → ⊥ }
-    ensures write_fault { IsErrOf result (failure.Input fault.WriteFault) → Rises (O.troubles output.old) (O.troubles output.new) }
+    ensures write_fault { IsErrOf result (failure.Input fault.WriteFault)
+        → Rises (O.troubles output.old) (O.troubles output.new) }
 {
     let interpreter = Interpreter::new(&script.does);
     let report = match run_script(rt, alloc, script, &interpreter) {
@@ -111,7 +113,8 @@ fn run_with_journal<O: Sink, R: Threads + Wait + Clock + Sync>(
     ensures ends { ScriptEnds (run_of script.now) (O.written output.old) (O.written output.new) result }
     ensures flushed { OnOk result (O.held output.new ≡ 0) }
     ensures read_fault { IsErrOf result (failure.Input fault.ReadFault) → ⊥ }
-    ensures write_fault { IsErrOf result (failure.Input fault.WriteFault) → Rises (O.troubles output.old) (O.troubles output.new) }
+    ensures write_fault { IsErrOf result (failure.Input fault.WriteFault)
+        → Rises (O.troubles output.old) (O.troubles output.new) }
 {
     let interpreter = Interpreter::new(&script.does);
     let (shape, callers) = (&script.shape, &script.callers);
@@ -152,7 +155,8 @@ fn run_as_said<O: Sink, R: Threads + Wait + Clock + Sync>(
     ensures ends { ScriptEnds (run_of script.now) (O.written output.old) (O.written output.new) result }
     ensures flushed { OnOk result (O.held output.new ≡ 0) }
     ensures read_fault { IsErrOf result (failure.Input fault.ReadFault) → ⊥ }
-    ensures write_fault { IsErrOf result (failure.Input fault.WriteFault) → Rises (O.troubles output.old) (O.troubles output.new) }
+    ensures write_fault { IsErrOf result (failure.Input fault.WriteFault)
+        → Rises (O.troubles output.old) (O.troubles output.new) }
 {
     match script.journal {
         Some(kept) => run_with_journal(rt, alloc, script, kept, output),
@@ -169,8 +173,10 @@ fn run<S: Source, O: Sink, R: Threads + Wait + Clock + Sync>(
 ) -> Result<Done, Failure>
     ensures ends { IfSome (S.left input.old) (λ text. InputEnds text (O.written output.old) (O.written output.new) result) }
     ensures flushed { OnOk result (O.held output.new ≡ 0) }
-    ensures read_fault { IsErrOf result (failure.Input fault.ReadFault) → Rises (S.troubles input.old) (S.troubles input.new) }
-    ensures write_fault { IsErrOf result (failure.Input fault.WriteFault) → Rises (O.troubles output.old) (O.troubles output.new) }
+    ensures read_fault { IsErrOf result (failure.Input fault.ReadFault)
+        → Rises (S.troubles input.old) (S.troubles input.new) }
+    ensures write_fault { IsErrOf result (failure.Input fault.WriteFault)
+        → Rises (O.troubles output.old) (O.troubles output.new) }
 {
     let value = read_value(alloc, input)?;
     match read_script(alloc, &value)? {
@@ -179,13 +185,15 @@ fn run<S: Source, O: Sink, R: Threads + Wait + Clock + Sync>(
     }
 }
 
-/// Reads all of a script in JSON, runs it on threads, and writes the history that it leaves with its shape, and nothing else: when the run
-/// is over, or with a journal as it is made. What went wrong is told on `errors`, whose own failing changes nothing: of a run that came
-/// to its end the first of a fault of the hub, a gate that was not opened, calls left out for want of room, and waits of items that were
-/// refused. Answers the exit status: 0 done, 1 refused input or a gate, 4 no memory, or calls left out, 5 a fault of reading, writing or
-/// running, 6 waits that were refused. At calls left out and at refused waits the history is written all the same; at a fault of writing a front of it is; at all else nothing is. With a journal the history is whole
-/// at a gate too, and at want of memory and at a fault of the hub or of writing a front of a legal history is written. Where it is to explain, of a
-/// gate it is told too how many calls were left out for want of room, if any were.
+/// Reads all of a script in JSON, runs it on threads, and writes the history that it leaves with its shape, and nothing
+/// else: when the run is over, or with a journal as it is made. What went wrong is told on `errors`, whose own failing
+/// changes nothing: of a run that came to its end the first of a fault of the hub, a gate that was not opened, calls
+/// left out for want of room, and waits of items that were refused. Answers the exit status: 0 done, 1 refused input or
+/// a gate, 4 no memory, or calls left out, 5 a fault of reading, writing or running, 6 waits that were refused. At
+/// calls left out and at refused waits the history is written all the same; at a fault of writing a front of it is; at
+/// all else nothing is. With a journal the history is whole at a gate too, and at want of memory and at a fault of the
+/// hub or of writing a front of a legal history is written. Where it is to explain, of a gate it is told too how many
+/// calls were left out for want of room, if any were.
 pub fn run_run<S: Source, O: Sink, E: Sink, R: Threads + Wait + Clock + Sync>(
     rt: &R,
     alloc: Global,

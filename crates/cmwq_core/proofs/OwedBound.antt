@@ -1,5 +1,8 @@
 -- What a legal history owes is never more than a million entries, where the layout is inside the limits.
-use Rattle.cmwq_core.specs.Common.{◌≡◌, ◌≤◌, ℕ, Bool, true, false, List, [], ◌∷◌, length, length-append, ap, ◌∙◌, arith, ◌*◌, IsTrue, if◌then◌else◌, flat_map, length-map, PoolId, Entry, Layout, is_layout, indices, is_booked, has_run, runs_asleep, still_open, is_frozen, worker_at, IsLegal, owed, workers, cpu_workers, pool_workers, has_not_started}
+use Rattle.cmwq_core.specs.Common.{◌≡◌, ◌≤◌, ℕ, Bool, true, false, List, [], ◌∷◌, length, length-append, ap, ◌∙◌, arith}
+use Rattle.cmwq_core.specs.Common.{◌*◌, IsTrue, if◌then◌else◌, flat_map, length-map, PoolId, Entry, Layout, is_layout}
+use Rattle.cmwq_core.specs.Common.{indices, is_booked, has_run, runs_asleep, still_open, is_frozen, worker_at, IsLegal}
+use Rattle.cmwq_core.specs.Common.{owed, workers, cpu_workers, pool_workers, has_not_started}
 use Rattle.cmwq_core.specs.Common.{◌+◌, Call, Who, has_time, le-leb}
 use Rattle.cmwq_core.specs.History.{History, next_entry, past_in, takes}
 use Rattle.std.proofs.lemmas.List.{length-reverse}
@@ -14,7 +17,8 @@ use Rattle.cmwq_refinement.proofs.TicketLimits.{unended_few}
 
 -- ---- the workers
 
-few_in_all : {X : Type 0} (f : ℕ → List X) → ((i : ℕ) → length (f i) ≤ 2 * most_workers) → (is : List ℕ) → length (flat_map f is) ≤ 2 * most_workers * length is
+few_in_all : {X : Type 0} (f : ℕ → List X) → ((i : ℕ) → length (f i) ≤ 2 * most_workers) → (is : List ℕ)
+    → length (flat_map f is) ≤ 2 * most_workers * length is
 few_in_all f few [] = omega arith
 few_in_all f few (i ∷ is) =
     let parts = ap length (flat_map-cons f i is) ∙ length-append (f i) (flat_map f is) in
@@ -37,7 +41,8 @@ on_cpu s few c =
 workers_few : (s : Layout) → IsTrue (is_layout s) → length (workers s) ≤ 2 * most_workers * most_cpus
 workers_few s inside =
     let cpus = (limits_of s inside).cpus.1 in
-    let all : length (workers s) ≤ 2 * most_workers * length (range_with_len 0 s.cpus) = few_in_all (cpu_workers s) (on_cpu s (limits_of s inside).workers.1) (range_with_len 0 s.cpus) in
+    let all : length (workers s) ≤ 2 * most_workers * length (range_with_len 0 s.cpus) =
+    few_in_all (cpu_workers s) (on_cpu s (limits_of s inside).workers.1) (range_with_len 0 s.cpus) in
     let many = length-range_with_len 0 s.cpus in
     omega arith
 
@@ -64,7 +69,8 @@ owed_few s past inside legal =
     omega arith
 
 -- so where there is room for so many beyond the entries, a call whose time has room is taken
-pub taken : (h : History) (who : Who) (call : Call) → IsTrue (is_layout h.layout) → length h.entries + 1000000 + 1 ≤ h.room → has_time (past_in h) call ≡ true
+pub taken : (h : History) (who : Who) (call : Call) → IsTrue (is_layout h.layout)
+    → length h.entries + 1000000 + 1 ≤ h.room → has_time (past_in h) call ≡ true
     → IsLegal h.layout (next_entry h who call ∷ past_in h) → takes h who call ≡ true
 taken h who call inside room time legal =
     let few = owed_few h.layout (next_entry h who call ∷ past_in h) inside legal in

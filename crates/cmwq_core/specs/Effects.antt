@@ -1,6 +1,8 @@
 -- What an entry does, in the pieces in which it is found.
 use Rattle.std.specs.Prelude.{◌≡◌, ◌+◌, ◌*◌, ◌<◌}
-use Rattle.cmwq_core.specs.Common.{ℕ, Bool, false, is_some, List, Option, Some, None, Who, Caller, Worker, Reply, Queueing, Entry, next, number_started, number_finished, gives_ticket, is_done, Layout, item_of, one, is_slept, is_woke, is_frozen_now, is_thawed_now}
+use Rattle.cmwq_core.specs.Common.{ℕ, Bool, false, is_some, List, Option, Some, None, Who, Caller, Worker, Reply}
+use Rattle.cmwq_core.specs.Common.{Queueing, Entry, next, number_started, number_finished, gives_ticket, is_done}
+use Rattle.cmwq_core.specs.Common.{Layout, item_of, one, is_slept, is_woke, is_frozen_now, is_thawed_now}
 use Rattle.cmwq_model.specs.declared.reply.Reply.TheVariants as reply
 
 -- of what the caller runs and the item's unstarted queueing, the one that the reply ends
@@ -33,7 +35,9 @@ ends_early r o = is_some o
 
 -- what the reply alone pays off, and what it takes on
 abbrev pub paid_alone : Reply → ℕ
-paid_alone r = 2 * one (is_some (number_started r)) + one (is_some (number_finished r)) + one (is_woke r) + one (is_done r) + one (is_thawed_now r)
+paid_alone r =
+    2 * one (is_some (number_started r)) + one (is_some (number_finished r)) + one (is_woke r) + one (is_done r) + one
+    (is_thawed_now r)
 
 abbrev pub taken_alone : Reply → ℕ
 taken_alone r = one (is_some (number_started r)) + one (is_slept r) + one (gives_ticket r) + one (is_frozen_now r)

@@ -1,6 +1,8 @@
 -- What callers see of a book: its history with the shape and the room, and what one more call makes of it.
 use Rattle.std.specs.Prelude.{◌≡◌, if◌then◌else◌, ◌∷◌}
-use Rattle.cmwq_core.specs.Common.{ℕ, Bool, false, not, List, find, Option, Some, option_map, is_some, option_map_or, ItemId, Who, Call, Entry, Queueing, Ticket, is_at, number_started, queueing_at, unended_tickets, waits_for, entry_for, bits, has_room, item_marked}
+use Rattle.cmwq_core.specs.Common.{ℕ, Bool, false, not, List, find, Option, Some, option_map, is_some, option_map_or}
+use Rattle.cmwq_core.specs.Common.{ItemId, Who, Call, Entry, Queueing, Ticket, is_at, number_started, queueing_at}
+use Rattle.cmwq_core.specs.Common.{unended_tickets, waits_for, entry_for, bits, has_room, item_marked}
 use Rattle.cmwq_model.specs.declared.entry.Mark.{Mark}
 pub use Rattle.cmwq_state.specs.History.{History, past_in, with_entry, ticket_has_number}
 pub use Rattle.cmwq_state.specs.Tables.{IsThere}
@@ -22,7 +24,8 @@ pub record IsItemOf (past : List Entry) (n : ℕ) (item : Option ItemId) : Type 
   pub is_known : queueing_at past n ≡ Some queueing
   pub is_its : item ≡ Some queueing.item
 
--- It says the bits of each item after its entry: of the item that it names those that stand there, of each other item the old ones.
+-- It says the bits of each item after its entry: of the item that it names those that stand there, of each other item
+-- the old ones.
 abbrev pub mark_names : Mark → ℕ → Bool
 mark_names m i = is_at (item_named m) i
 

@@ -1,5 +1,7 @@
--- What callers see of a book that runs on: its whole history, how many of its entries were given away, and how many may be kept.
-use Rattle.std.specs.Prelude.{ℕ, ◌+◌, Bool, if◌then◌else◌, List, [], length, drop, slice_get, Option, None, Some, nat_lt}
+-- What callers see of a book that runs on: its whole history, how many of its entries were given away, and how many may
+-- be kept.
+use Rattle.std.specs.Prelude.{ℕ, ◌+◌, Bool, if◌then◌else◌, List, [], length, drop, slice_get, Option, None, Some}
+use Rattle.std.specs.Prelude.{nat_lt}
 use Rattle.cmwq_model.specs.declared.id.Who.{Who}
 use Rattle.cmwq_model.specs.declared.call.Call.{Call}
 use Rattle.cmwq_model.specs.declared.entry.Entry.{Entry}
@@ -16,7 +18,8 @@ pub record Lasting : Type 0 where
 
 -- with no entries yet
 abbrev pub lasting_at_first : Layout → ℕ → Lasting
-lasting_at_first s keep = record { history = record { layout = s; room = s.room; entries = [] }; given = 0; keep = keep }
+lasting_at_first s keep =
+    record { history = record { layout = s; room = s.room; entries = [] }; given = 0; keep = keep }
 
 abbrev pub with_made : Lasting → Entry → Lasting
 with_made l e = record l { history = with_entry l.history e }

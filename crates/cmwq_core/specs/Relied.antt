@@ -1,7 +1,8 @@
 -- What a user relies on, of the history of every book.
 use Rattle.std.specs.Prelude.{◌≡◌}
 use Rattle.cmwq_core.specs.Common.{ℕ, true, List, Entry, Layout, is_gone, IsLegal, OfEachEntry}
-use Rattle.cmwq_theory_laws.specs.Headline.{RunsInOneWorker, StartedOnce, StartsEarlier, WithinWidthAfter, StartsActive, RunsWithinActive, WaitsEndAfter, CancelsSettle}
+use Rattle.cmwq_theory_laws.specs.Headline.{RunsInOneWorker, StartedOnce, StartsEarlier, WithinWidthAfter, StartsActive}
+use Rattle.cmwq_theory_laws.specs.Headline.{RunsWithinActive, WaitsEndAfter, CancelsSettle}
 use Rattle.cmwq_theory_laws.specs.Gone.{NoneOpen, NoneBooked}
 
 pub record IsReliable (s : Layout) (past : List Entry) : Type 0 where

@@ -1,8 +1,11 @@
 //! The one answer to each call, read off a state.
 
 ghost use Rattle.std.specs.Prelude.{◌≡◌, ◌<◌, length};
-ghost use Rattle.cmwq_model.specs.Prelude.{past_of, ticket_of, answer, cancel_answer, cancel_sync_answer, destroy_answer, end_of_ticket, fired_answer, first_due, flush_delayed_answer};
-ghost use Rattle.cmwq_model.specs.Prelude.{flush_item_answer, is_held_back, modify_answer, queue_answer, set_max_answer, taken_back_answer, taken_back_for, wait_answer, waiting_for};
+ghost use Rattle.cmwq_model.specs.Prelude.{past_of, ticket_of, answer, cancel_answer, cancel_sync_answer};
+ghost use Rattle.cmwq_model.specs.Prelude.{destroy_answer, end_of_ticket, fired_answer, first_due};
+ghost use Rattle.cmwq_model.specs.Prelude.{flush_delayed_answer};
+ghost use Rattle.cmwq_model.specs.Prelude.{flush_item_answer, is_held_back, modify_answer, queue_answer};
+ghost use Rattle.cmwq_model.specs.Prelude.{set_max_answer, taken_back_answer, taken_back_for, wait_answer, waiting_for};
 ghost use Rattle.cmwq_state.specs.Tables as tables;
 ghost use Rattle.cmwq_core.specs.Book.{IsCallInside};
 

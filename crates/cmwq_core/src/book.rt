@@ -29,7 +29,8 @@ impl Model for Book {
 
     ghost view = { λ b. b.execution };
 
-    ghost invariant = { λ b. (b.entries.items ≡ b.execution.entries) × (b.execution.room ≤ vec_capacity b.entries) × (b.execution.room ≤ 1010000) };
+    ghost invariant = { λ b. (b.entries.items ≡ b.execution.entries) × (b.execution.room ≤ vec_capacity b.entries)
+        × (b.execution.room ≤ 1010000) };
 }
 
 impl Book {
@@ -71,7 +72,8 @@ impl Book {
         self.execution.reply(who, call)
     }
 
-    /// The entry that a step of this call would append, found with what it ends and opens, and with the bits that it leaves: `commit` makes it.
+    /// The entry that a step of this call would append, found with what it ends and opens, and with the bits that it
+    /// leaves: `commit` makes it.
     ///
     /// # Errors
     /// `Full` where there is no room for the entry and for what would be owed then, exactly as at `step`.
@@ -124,8 +126,8 @@ impl Book {
         Ok(entry.reply)
     }
 
-    /// Whether the ticket with this number stands and waits for nothing, so that its end would be answered done. False of any
-    /// other number.
+    /// Whether the ticket with this number stands and waits for nothing, so that its end would be answered done. False
+    /// of any other number.
     pub fn ready(&self, ticket: Number) -> bool
         ensures { result ≡ is_ready (past_in self.now) ticket }
     {

@@ -2,14 +2,16 @@
 
 ghost use Rattle.std.specs.Prelude.{◌≡◌, ◌<◌, ◌≤◌, ◌∷◌, false, length, true};
 ghost use Rattle.std.specs.Option.{option_map_or};
-ghost use Rattle.cmwq_model.specs.Prelude.{fits, owed, booking_of, is_booked, item_number, item_of, IsLegal, past_of, opening, place_wanted};
+ghost use Rattle.cmwq_model.specs.Prelude.{fits, owed, booking_of, is_booked, item_number, item_of, IsLegal, past_of};
+ghost use Rattle.cmwq_model.specs.Prelude.{opening, place_wanted};
 ghost use Rattle.cmwq_model.specs.Prelude.{queued_at, unstarted_queueing};
 ghost use Rattle.cmwq_theory_steps.specs.Endings.{ending};
 ghost use Rattle.cmwq_theory_steps.specs.Histories.{one};
 ghost use Rattle.cmwq_theory_steps.specs.RoomSteps.{settles_booked};
 ghost use Rattle.cmwq_theory_steps.specs.TicketSteps.{ticket_asked, ticket_ended};
 ghost use Rattle.cmwq_state.specs.Effects.{IsEffect, settled_by};
-ghost use Rattle.cmwq_core.specs.Effects.{IsInside, ended_from, ends_early, paid_alone, taken_alone, next_for, started_from};
+ghost use Rattle.cmwq_core.specs.Effects.{IsInside, ended_from, ends_early, paid_alone, taken_alone, next_for};
+ghost use Rattle.cmwq_core.specs.Effects.{started_from};
 ghost use Rattle.cmwq_core.specs.History.{next_entry};
 ghost use Rattle.std.specs.Prelude.{option_and_then};
 ghost use Rattle.cmwq_theory_steps.specs.ItemQueueings.{queueing_run};
@@ -107,7 +109,8 @@ fn unstarted_of(state: &State, entry: Entry) -> Option<Queueing>
 fn ended_from(state: &State, entry: Entry) -> Option<Queueing>
     requires there { tables.IsThere state.now.layout entry.who }
     requires inside { IsInside state.now.layout entry }
-    ensures { result ≡ ended_from entry.reply (queueing_run (past_of state.now.entries) entry.who) (option_and_then (unstarted_queueing (past_of state.now.entries)) (item_of entry)) }
+    ensures { result ≡ ended_from entry.reply (queueing_run (past_of state.now.entries) entry.who)
+        (option_and_then (unstarted_queueing (past_of state.now.entries)) (item_of entry)) }
 {
     match entry.reply {
         Reply::Finished(_) => run_of(state, entry.who),

@@ -33,8 +33,8 @@ fn make(state: &mut State, entry: &Entry) -> Result<Effect, Full>
     }
 }
 
-/// The same. What an entry does follows from its reply, so each of the replies that come most has code of its own, where the compiler knows what
-/// isn't done.
+/// The same. What an entry does follows from its reply, so each of the replies that come most has code of its own,
+/// where the compiler knows what isn't done.
 #[inline(always)]
 pub(crate) fn enter(state: &mut State, entry: &Entry) -> Result<Effect, Full>
     requires next { entry.now ≡ next_entry state.old entry.now.who entry.now.call }

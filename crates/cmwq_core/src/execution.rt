@@ -26,7 +26,8 @@ use std::marker::Model;
 #[derive(Clone, Copy, Debug, PartialEq, Eq)]
 pub struct Full;
 
-/// A runtime of one thread that runs on: it answers without looking back, and keeps none of its history, which contracts see whole.
+/// A runtime of one thread that runs on: it answers without looking back, and keeps none of its history, which
+/// contracts see whole.
 #[derive(Drop)]
 pub struct Execution {
     state: State,
@@ -170,8 +171,8 @@ impl Execution {
         Ok(entry)
     }
 
-    /// Whether the ticket with this number stands and waits for nothing, so that its end would be answered done. False of any
-    /// other number.
+    /// Whether the ticket with this number stands and waits for nothing, so that its end would be answered done. False
+    /// of any other number.
     pub fn ready(&self, ticket: Number) -> bool
         ensures { result ≡ is_ready (past_in self.now) ticket }
     {

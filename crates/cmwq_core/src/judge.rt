@@ -1,7 +1,9 @@
 //! The verdict of a history.
 
-ghost use Rattle.std.specs.Prelude.{◌≡◌, ◌<◌, ◌≤◌, ◌∷◌, false, [], length, None, IfOk, IfSome, OnOk, OnErr, IfErr, IsTrue, true};
-ghost use Rattle.cmwq_model.specs.Prelude.{fits, has_room, is_layout, IsLegal, most_room, most_time, now, past_of, still_open, width, AllFit, Wants, IsFirstWrong};
+ghost use Rattle.std.specs.Prelude.{◌≡◌, ◌<◌, ◌≤◌, ◌∷◌, false, [], length, None, IfOk, IfSome, OnOk, OnErr, IfErr};
+ghost use Rattle.std.specs.Prelude.{IsTrue, true};
+ghost use Rattle.cmwq_model.specs.Prelude.{fits, has_room, is_layout, IsLegal, most_room, most_time, now, past_of};
+ghost use Rattle.cmwq_model.specs.Prelude.{still_open, width, AllFit, Wants, IsFirstWrong};
 ghost use Rattle.cmwq_state.specs.Effects.{IsEffect};
 ghost use Rattle.cmwq_state.specs.Pwqs.{AreActiveCounts};
 ghost use Rattle.cmwq_core.specs.History.{next_entry as entry_due};
@@ -37,7 +39,8 @@ impl Model for Judge {
 }
 
 impl Judge {
-    /// A judge of a history of this shape, which has seen no entry. No later call takes memory; the error says that it ran out.
+    /// A judge of a history of this shape, which has seen no entry. No later call takes memory; the error says that it
+    /// ran out.
     pub fn new(alloc: Global, shape: &Shape) -> Result<Judge, NoMemory>
         ensures { IfOk result (λ judge. judge ≡ judged_none shape.now) }
     {
@@ -63,21 +66,26 @@ impl Judge {
         self.state.len()
     }
 
-    /// Judges one entry more. An entry that is the one that its call gets after those that were right is taken, and what it does is returned. Of
-    /// any other, what should stand there is: the serial, or if the serial is right the reply.
+    /// Judges one entry more. An entry that is the one that its call gets after those that were right is taken, and
+    /// what it does is returned. Of any other, what should stand there is: the serial, or if the serial is right the
+    /// reply.
     ///
     /// # Errors
-    /// `Full` for a right entry, if there would be more than 2^62 entries or ticks. The judge is then as it was, as after a wrong entry.
+    /// `Full` for a right entry, if there would be more than 2^62 entries or ticks. The judge is then as it was, as
+    /// after a wrong entry.
     pub fn next(&mut self, entry: Entry) -> Result<Result<Effect, Wanted>, Full>
         requires { fits self.old.layout entry.who entry.call ≡ true }
         ensures entry { IfOk result (λ verdict. IfOk verdict (λ effect. effect.entry ≡ entry)) }
         ensures effect { IfOk result (λ verdict. IfOk verdict (IsEffect self.old.layout (past_of self.old.entries))) }
-        ensures room { IfOk result (λ verdict. OnOk verdict (has_room self.old.layout most_room (past_of self.old.entries) entry.who entry.call ≡ true)) }
+        ensures room { IfOk result
+            (λ verdict. OnOk verdict (has_room self.old.layout most_room (past_of self.old.entries) entry.who entry.call
+            ≡ true)) }
         ensures seen { IfOk result (λ verdict. OnOk verdict (self.new ≡ seen_too self.old entry)) }
         ensures wrong { IfOk result (λ verdict. IfErr verdict (Wants self.old.layout (past_of self.old.entries) entry)) }
         ensures same { IfOk result (λ verdict. OnErr verdict (self.new ≡ self.old)) }
         ensures full { OnErr result (IsLegal self.old.layout (entry ∷ past_of self.old.entries)
-            × (has_room self.old.layout most_room (past_of self.old.entries) entry.who entry.call ≡ false) × (self.new ≡ self.old)) }
+            × (has_room self.old.layout most_room (past_of self.old.entries) entry.who entry.call ≡ false)
+            × (self.new ≡ self.old)) }
     {
         if let Some(wanted) = wanted(&self.state, &entry) {
             return Ok(Err(wanted));
@@ -137,8 +145,8 @@ fn wanted(state: &State, entry: &Entry) -> Option<Wanted>
     None
 }
 
-/// Judges a history: whether each of its entries is the one that its call gets at that point. Room isn't looked at. The outer error says that
-/// memory ran out.
+/// Judges a history: whether each of its entries is the one that its call gets at that point. Room isn't looked at. The
+/// outer error says that memory ran out.
 ///
 /// # Errors
 /// The first entry that isn't, with the serial that should stand there, or if the serial is right the reply.

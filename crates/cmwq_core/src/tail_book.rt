@@ -1,4 +1,5 @@
-ghost use Rattle.std.specs.Prelude.{◌≡◌, ◌≤◌, ◌<◌, ◌+◌, [], length, count_by, None, Some, IfOk, IfErr, OnErr, IsTrue, true};
+ghost use Rattle.std.specs.Prelude.{◌≡◌, ◌≤◌, ◌<◌, ◌+◌, [], length, count_by, None, Some, IfOk, IfErr, OnErr, IsTrue};
+ghost use Rattle.std.specs.Prelude.{true};
 ghost use Rattle.std.specs.Vec.{vec_capacity};
 ghost use Rattle.cmwq_model.specs.Prelude.{fits, IsLegal, still_open, is_active};
 ghost use Rattle.cmwq_model.specs.Calls as calls;
@@ -7,7 +8,8 @@ ghost use Rattle.cmwq_state.specs.Tables as tables;
 ghost use Rattle.cmwq_core.specs.History.{next_entry, past_in, is_ready};
 ghost use Rattle.cmwq_core.specs.Plans.{IsPlan};
 ghost use Rattle.cmwq_core.specs.Relied.{IsReliable};
-ghost use Rattle.cmwq_core.specs.Lasting.{lasting_at_first, with_made, with_none_kept, has_space, lasting_kept, lasting_entry, unmade_by};
+ghost use Rattle.cmwq_core.specs.Lasting.{lasting_at_first, with_made, with_none_kept, has_space, lasting_kept};
+ghost use Rattle.cmwq_core.specs.Lasting.{lasting_entry, unmade_by};
 
 use crate::execution::{Execution, Full};
 use crate::plan::Plan;
@@ -25,8 +27,8 @@ pub enum Unmade {
     Full,
 }
 
-/// The runtime of one thread that runs on. Contracts see its whole history, from the first entry on; memory holds what was not given
-/// away of it, at most as many entries as it was made for.
+/// The runtime of one thread that runs on. Contracts see its whole history, from the first entry on; memory holds what
+/// was not given away of it, at most as many entries as it was made for.
 #[derive(Drop)]
 pub struct TailBook {
     execution: Execution,
@@ -45,8 +47,8 @@ impl Model for TailBook {
 }
 
 impl TailBook {
-    /// A book with no entries, and the room of its shape, which keeps so many entries at a time. No later call takes memory; the error
-    /// says that it ran out.
+    /// A book with no entries, and the room of its shape, which keeps so many entries at a time. No later call takes
+    /// memory; the error says that it ran out.
     pub fn new(alloc: Global, shape: &Shape, keep: u32) -> Result<TailBook, NoMemory>
         ensures { IfOk result (λ book. book ≡ lasting_at_first shape.now keep) }
     {
@@ -166,8 +168,8 @@ impl TailBook {
         }
     }
 
-    /// Gives away all that is kept: `out` has it then, the oldest entry first, and the book keeps its entries in what `out` was, an empty
-    /// buffer that holds as many as may be kept. Nothing is copied, and no memory is taken.
+    /// Gives away all that is kept: `out` has it then, the oldest entry first, and the book keeps its entries in what
+    /// `out` was, an empty buffer that holds as many as may be kept. Nothing is copied, and no memory is taken.
     pub fn give(&mut self, out: &mut Vec<Entry>)
         requires empty { out.old.items ≡ [] }
         requires large { self.old.keep ≤ vec_capacity out.old }
@@ -217,7 +219,8 @@ impl TailBook {
 
     /// How many of them are active.
     pub fn active_count(&self) -> u32
-        ensures { result ≡ count_by (is_active self.now.history.layout (past_in self.now.history)) (still_open (past_in self.now.history)) }
+        ensures { result ≡ count_by (is_active self.now.history.layout (past_in self.now.history))
+            (still_open (past_in self.now.history)) }
     {
         self.execution.active_count()
     }

@@ -2,7 +2,8 @@
 
 ghost use Rattle.std.specs.Prelude.{◌≡◌, option_map};
 ghost use Rattle.cmwq_model.specs.declared.id.Who.TheVariants.{Worker};
-ghost use Rattle.cmwq_model.specs.Prelude.{own_answer, worker_answer, retire_answer, take_answer, start_of, finish_answer, past_of};
+ghost use Rattle.cmwq_model.specs.Prelude.{own_answer, worker_answer, retire_answer, take_answer, start_of};
+ghost use Rattle.cmwq_model.specs.Prelude.{finish_answer, past_of};
 ghost use Rattle.cmwq_model.specs.Active as active;
 ghost use Rattle.cmwq_refinement.specs.ByNumber.{number_of_queueing};
 ghost use Rattle.cmwq_state.specs.Tables as tables;
@@ -28,7 +29,9 @@ fn retire_answer(state: &State, worker: WorkerId) -> Reply
 fn start_answer(state: &State, worker: WorkerId, next: Option<Number>) -> Reply
     requires there { tables.IsThere state.now.layout (Worker worker) }
     requires is { next ≡ option_map number_of_queueing (active.next state.now.layout (past_of state.now.entries) worker.pool) }
-    ensures { result ≡ start_of state.now.layout (past_of state.now.entries) worker (active.next state.now.layout (past_of state.now.entries) worker.pool) }
+    ensures { result
+        ≡ start_of state.now.layout (past_of state.now.entries) worker
+        (active.next state.now.layout (past_of state.now.entries) worker.pool) }
 {
     match next {
         None => Reply::Nothing,

@@ -1,4 +1,5 @@
-//! A write-back cache over two devices, in the way of the kernel's: pages that are written to become dirty, and go to their device later.
+//! A write-back cache over two devices, in the way of the kernel's: pages that are written to become dirty, and go to
+//! their device later.
 //!
 //! Each device has a work item that writes its dirty pages back. A page that becomes dirty puts that off by some ticks,
 //! so that many pages go at once. A sync writes now and waits (`flush_delayed`). An unmount is an item too: its work
@@ -87,8 +88,8 @@ impl Cache {
         if item == DISK { &self.disk } else { &self.tape }
     }
 
-    /// Makes a page dirty. The write-back is put off anew (`modify` delays the item whether or not it is pending), but not if there are too
-    /// many dirty pages.
+    /// Makes a page dirty. The write-back is put off anew (`modify` delays the item whether or not it is pending), but
+    /// not if there are too many dirty pages.
     fn touch<C: Client>(&self, client: &mut C, item: ItemId) -> Result<(), Fault> {
         let before = self.device(item).dirty.fetch_add(1, Ordering::SeqCst);
         let ticks = if before >= MANY { 0 } else { QUIET };

@@ -1,9 +1,10 @@
-//! The log service of `cmwq_demo_log` by the hub itself, with its threads, and with the proof that all its numbers are inside the shape. Two
-//! writers gather lines on threads of their own; what is to be done with the lines is done later, by work items.
+//! The log service of `cmwq_demo_log` by the hub itself, with its threads, and with the proof that all its numbers are
+//! inside the shape. Two writers gather lines on threads of their own; what is to be done with the lines is done later,
+//! by work items.
 //!
-//! Each line puts off the item that writes the lines that wait to the open file, so that many are written at once. When the file is full,
-//! that item queues another one, which closes the file. At the end the queues are drained and destroyed. Printed is what holds of
-//! each run: all lines went through both items.
+//! Each line puts off the item that writes the lines that wait to the open file, so that many are written at once. When
+//! the file is full, that item queues another one, which closes the file. At the end the queues are drained and
+//! destroyed. Printed is what holds of each run: all lines went through both items.
 #![tactic(auto)]
 
 ghost use Rattle.std.specs.Prelude.{◌≡◌};
@@ -19,7 +20,8 @@ use std::sync::Wait;
 use std::sync::atomic::{AtomicU32, Ordering};
 use std::thread::{self, Scope, Threads};
 
-/// One CPU, whose two pools have two workers each; two writers and a keeper; two items; and room for a history of so many entries.
+/// One CPU, whose two pools have two workers each; two writers and a keeper; two items; and room for a history of so
+/// many entries.
 const COUNTS: Counts = Counts {
     cpus: 1,
     workers: 2,
@@ -72,7 +74,8 @@ fn move_lines(from: &AtomicU32, to: &AtomicU32) {
 }
 
 impl Work for Log {
-    // A worker calls this once for each start of an item. It may run on any hub, and so asks whether the numbers of its own call fit.
+    // A worker calls this once for each start of an item. It may run on any hub, and so asks whether the numbers of its
+    // own call fit.
     fn run<N: HubName, R: Wait>(&self, item: ItemId, context: &mut RunCtx<N, R>) {
         if item == ROTATE {
             return move_lines(&self.open, &self.closed);
@@ -88,7 +91,8 @@ impl Work for Log {
     }
 }
 
-/// What all threads share. The ghost field, which is no data, tells the proofs of all calls that the numbers above are inside the shape.
+/// What all threads share. The ghost field, which is no data, tells the proofs of all calls that the numbers above are
+/// inside the shape.
 struct Service<N: HubName> {
     hub: Hub<N>,
     log: Log,
@@ -96,8 +100,8 @@ struct Service<N: HubName> {
 }
 
 impl<N: HubName> Service<N> {
-    /// A writer's thread: each line puts the writing off. After each tenth comes a pause, unless `busy` sees, without a lock, that the
-    /// writing neither is pending nor runs.
+    /// A writer's thread: each line puts the writing off. After each tenth comes a pause, unless `busy` sees, without a
+    /// lock, that the writing neither is pending nor runs.
     fn gather<R: Wait>(&self, rt: &R, mut writer: Caller<N>) -> Result<(), RunFault> {
         for line in 1..=LINES {
             self.log.waiting.fetch_add(1, Ordering::SeqCst);
@@ -110,7 +114,8 @@ impl<N: HubName> Service<N> {
         Ok(())
     }
 
-    /// Ends the service, after its writers: the delay of the last writing goes by, its end is waited for, and the file is closed.
+    /// Ends the service, after its writers: the delay of the last writing goes by, its end is waited for, and the file
+    /// is closed.
     fn shut_down<R: Wait>(&self, rt: &R, mut keeper: Caller<N>) -> Result<(), RunFault> {
         keeper.tick(rt, &self.hub, QUIET)?;
         keeper.flush(rt, &self.hub, WRITING)?;
@@ -141,8 +146,8 @@ fn run_threads<'s, E, N: HubName + Send + Sync + 's, R: Threads + Wait + Sync>(
     service.shut_down(rt, participants.caller()?)
 }
 
-/// Runs all threads to their end. The scope waits for the workers, which go when the hub is closed and nothing is left to run. A worker's
-/// fault is told by the callers: the hub fails, and with it their calls.
+/// Runs all threads to their end. The scope waits for the workers, which go when the hub is closed and nothing is left
+/// to run. A worker's fault is told by the callers: the hub fails, and with it their calls.
 fn run<'x, N: HubName + Send + Sync + 'static, R: Threads + Wait + Sync>(
     rt: &'x R,
     service: &'x Service<N>,
@@ -175,7 +180,8 @@ fn serve<N: HubName + Send + Sync + 'static, R: Threads + Wait + Sync>(
     ended.map(|()| (log, rest.entries))
 }
 
-/// A fault is told on standard error, with status 1. What the name `Brand` stands for, the parts of this hub, is said to the proof alone.
+/// A fault is told on standard error, with status 1. What the name `Brand` stands for, the parts of this hub, is said
+/// to the proof alone.
 fn main(rt: HostRuntime) -> Result<()> {
     let alloc = rt.alloc();
     let mut queues = vec![in alloc; PLAIN, PLAIN]?;

@@ -1,8 +1,9 @@
 //! Jobs with retries: a job that fails is tried again later, with a limit.
 //!
-//! Each job is a work item. Its work function tries it; where that fails it delays its own item, longer each time, and after some tries
-//! gives up. One more item queues all jobs, as a batch comes in. The library hands in a tick each millisecond, so the delays go by by
-//! themselves. A caller queues the batch, and waits until each job is done or given up.
+//! Each job is a work item. Its work function tries it; where that fails it delays its own item, longer each time, and
+//! after some tries gives up. One more item queues all jobs, as a batch comes in. The library hands in a tick each
+//! millisecond, so the delays go by by themselves. A caller queues the batch, and waits until each job is done or given
+//! up.
 #![tactic(auto)]
 
 #[cfg(test)]
@@ -44,10 +45,11 @@ const MOST_TRIES: u32 = 4;
 /// The service stops by it if a job is left at the end.
 const UNSETTLED: Fault = Fault::Own(1);
 
-/// The item behind those of the jobs: it queues them all.
+/// The item after those of the jobs: it queues them all.
 const BATCH: ItemId = ItemId(COUNT);
 
-/// What all threads share: how often each job was tried, how many were done and given up, and what is completed once for each.
+/// What all threads share: how often each job was tried, how many were done and given up, and what is completed once
+/// for each.
 #[derive(Drop)]
 struct Jobs {
     tries: [AtomicU32; 6],
@@ -78,8 +80,8 @@ impl Jobs {
         done.saturating_add(self.given_up.load(Ordering::SeqCst))
     }
 
-    /// Tries a job. While it waits for an answer from elsewhere its run sleeps, so that another one may start on the same CPU. A delay of
-    /// the item that runs is allowed: it is queued again when the ticks have gone by.
+    /// Tries a job. While it waits for an answer from elsewhere its run sleeps, so that another one may start on the
+    /// same CPU. A delay of the item that runs is allowed: it is queued again when the ticks have gone by.
     fn attempt<R: Wait + Clock, C: Context>(
         &self,
         rt: &R,
@@ -107,7 +109,8 @@ impl Jobs {
 }
 
 impl Service for Jobs {
-    /// The work function of all items. It may make as many calls as it likes; one that isn't answered stops the service, by `?`.
+    /// The work function of all items. It may make as many calls as it likes; one that isn't answered stops the
+    /// service, by `?`.
     fn run<R: Wait + Clock, C: Context>(
         &self,
         rt: &R,

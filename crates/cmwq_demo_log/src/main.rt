@@ -1,8 +1,9 @@
-//! A log service. Two writers gather lines on threads of their own; what is to be done with the lines is done later, by work items.
+//! A log service. Two writers gather lines on threads of their own; what is to be done with the lines is done later, by
+//! work items.
 //!
-//! Each line puts off the item that writes the lines that wait to the open file, so that many are written at once. When the file is full,
-//! that item queues another one, which closes the file. At the end the queues are drained and destroyed. Printed is what holds of
-//! each run, whatever the threads' order: all lines went through both items.
+//! Each line puts off the item that writes the lines that wait to the open file, so that many are written at once. When
+//! the file is full, that item queues another one, which closes the file. At the end the queues are drained and
+//! destroyed. Printed is what holds of each run, whatever the threads' order: all lines went through both items.
 #![tactic(auto)]
 
 #[cfg(test)]
@@ -68,7 +69,8 @@ fn move_lines(from: &AtomicU32, to: &AtomicU32) {
 }
 
 impl Service for Log {
-    /// The work function: a worker calls it once for each start of an item. What it calls by its context is the worker's.
+    /// The work function: a worker calls it once for each start of an item. What it calls by its context is the
+    /// worker's.
     fn run<R: Wait + Clock, C: Context>(
         &self,
         _rt: &R,
@@ -87,9 +89,9 @@ impl Service for Log {
         Ok(())
     }
 
-    /// A writer's thread: each line puts the writing off (`modify` delays the item anew, whether or not it is pending). Time is what the
-    /// writers hand in, a tick for each line. After each tenth comes a pause, in which the lines are written, unless `busy` sees, without
-    /// a lock, that the writing neither is pending nor runs.
+    /// A writer's thread: each line puts the writing off (`modify` delays the item anew, whether or not it is pending).
+    /// Time is what the writers hand in, a tick for each line. After each tenth comes a pause, in which the lines are
+    /// written, unless `busy` sees, without a lock, that the writing neither is pending nor runs.
     fn call<R: Wait + Clock, C: Client>(
         &self,
         _rt: &R,
@@ -107,7 +109,8 @@ impl Service for Log {
         Ok(())
     }
 
-    /// What comes after the writers: the delay of the last writing goes by, its end is waited for, the file is closed, and both queues go.
+    /// What comes after the writers: the delay of the last writing goes by, its end is waited for, the file is closed,
+    /// and both queues go.
     fn end<R: Wait + Clock, C: Client>(&self, _rt: &R, client: &mut C) -> Result<(), Fault> {
         client.tick(QUIET)?;
         client.flush(WRITING)?;

@@ -1,26 +1,41 @@
 -- How a run ends.
 use Rattle.std.proofs.Common.{true≢false}
-use Rattle.cmwq_engine.specs.Common.{◌≡◌, sym, subst, true, length, Result, Ok, Err, IfOk, IfErr, Layout, Behavior, Conduct, Roster}
+use Rattle.cmwq_engine.specs.Common.{◌≡◌, sym, subst, true, length, Result, Ok, Err, IfOk, IfErr, Layout, Behavior}
+use Rattle.cmwq_engine.specs.Common.{Conduct, Roster}
 use Rattle.cmwq_engine.specs.Ended.{EndsAll, FailsAs, HaveEnded, HaveRun, is_silent}
 use Rattle.cmwq_engine.specs.declared.gather.Ends.{Ends}
 use Rattle.cmwq_monitor.specs.declared.fault.RunFault.{RunFault}
 use Rattle.cmwq_monitor.specs.declared.fault.RunFault.TheVariants.{Full, NoPlace, Unfinished}
 
-pub ends_all : {N : Type 0} (s : Layout) (does : Behavior) (calls : Conduct) (r : Roster) (o : Result (Ends N) RunFault) → IfOk o (λ e. HaveRun s does calls r e) → IfErr o (λ f. FailsAs s calls r f) → EndsAll s does calls r o
+pub ends_all : {N : Type 0} (s : Layout) (does : Behavior) (calls : Conduct) (r : Roster) (o : Result (Ends N) RunFault)
+    → IfOk o (λ e. HaveRun s does calls r e) → IfErr o (λ f. FailsAs s calls r f) → EndsAll s does calls r o
 ends_all s does calls r (Ok e) run fails = run
 ends_all s does calls r (Err f) run fails = fails
 
 -- a fault that says nothing of what callers and workers did may be told of any run
-pub fails_silently : (s : Layout) (calls : Conduct) (r : Roster) (f : RunFault) → is_silent f ≡ true → FailsAs s calls r f
+pub fails_silently : (s : Layout) (calls : Conduct) (r : Roster) (f : RunFault) → is_silent f ≡ true
+    → FailsAs s calls r f
 fails_silently s calls r Unfinished silent = absurd (true≢false (sym silent))
 fails_silently s calls r NoPlace silent = absurd (true≢false (sym silent))
 fails_silently s calls r Full silent = absurd (true≢false (sym silent))
 fails_silently s calls r f silent = record {}
 
 -- with the callers that were lent
-pub ends_with_lent : {N : Type 0} (s : Layout) (does : Behavior) (calls : Conduct) (r : Roster) (ends all : Ends N) (o : Result (Ends N) RunFault) → HaveEnded s does calls r ends
-    → all ≡ record ends { lent = all.lent } → IfOk o (λ e. (e ≡ all) × (length all.lent.items ≡ r.lent)) → IfErr o (λ f. is_silent f ≡ true) → EndsAll s does calls r o
+pub ends_with_lent : {N : Type 0} (s : Layout) (does : Behavior) (calls : Conduct) (r : Roster) (ends all : Ends N)
+    (o : Result (Ends N) RunFault) → HaveEnded s does calls r ends
+    → all ≡ record ends { lent = all.lent } → IfOk o (λ e. (e ≡ all) × (length all.lent.items ≡ r.lent))
+    → IfErr o (λ f. is_silent f ≡ true) → EndsAll s does calls r o
 ends_with_lent s does calls r ends all (Ok e) ended is back silent =
-    subst (λ x. HaveRun s does calls r x) (sym back.0)
-    (subst (λ x. HaveEnded s does calls r x) (sym is) (record { callers = ended.callers; workers = ended.workers; idle = ended.idle; parts = ended.parts; amount = ended.amount }), back.1)
+    subst (λ x. HaveRun s does calls r x) (sym back.0) (
+      subst (λ x. HaveEnded s does calls r x) (sym is)
+          (record {
+            callers = ended.callers;
+            workers = ended.workers;
+            idle = ended.idle;
+            parts = ended.parts;
+            amount =
+                ended.amount;
+          }),
+      back.1,
+    )
 ends_with_lent s does calls r ends all (Err f) ended is back silent = fails_silently s calls r f silent

@@ -1,5 +1,7 @@
 -- What the files of this crate name from outside it, in one import.
-pub use Rattle.std.proofs.Common.{Bool, Err, List, None, Ok, Option, Result, Some, [], ap, append-nil, arith, drop, false, get_or, inl, inr, length, length-append, refl, rules, subst, suc, sym, true, zero, ℕ, ⊎_elim, ◌++◌, ◌+◌, ◌-◌, ◌<◌, ◌∙◌, ◌∷◌, ◌≡◌, ◌≤◌, ◌⊎◌}
+pub use Rattle.std.proofs.Common.{Bool, Err, List, None, Ok, Option, Result, Some, [], ap, append-nil, arith, drop}
+pub use Rattle.std.proofs.Common.{false, get_or, inl, inr, length, length-append, refl, rules, subst, suc, sym, true}
+pub use Rattle.std.proofs.Common.{zero, ℕ, ⊎_elim, ◌++◌, ◌+◌, ◌-◌, ◌<◌, ◌∙◌, ◌∷◌, ◌≡◌, ◌≤◌, ◌⊎◌}
 pub use Rattle.std.proofs.lemmas.Option.{get_or_from_slice_get, slice_get-get_or, slice_get_within}
 pub use Rattle.std.specs.Prelude.{IfErr, IfOk, MatchOption, nat_lt, slice_get}
 pub use mathlib.Core.List.{IsPrefix}

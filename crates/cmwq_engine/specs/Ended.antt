@@ -1,7 +1,10 @@
 -- What the threads of callers and workers gave back, and what they leave in one history.
 use Rattle.cmwq_rt.specs.Places.{shares}
 use Rattle.std.specs.Prelude.{◌≡◌, ◌+◌, ◌<◌, ◌≤◌}
-use Rattle.cmwq_engine.specs.Common.{ℕ, zero, suc, List, [], length, drop, slice_get, Some, None, Bool, true, false, Result, Ok, Err, IfOk, IfErr, Worker, WorkerId, Entry, Layout, serial_of, past_of, IsLegal, View, newcomer, made_by, worker_by_number, Behavior, HasWorked, RunsInTurn, breaks_off, IsPrefix, Conduct, Roster, caller_numbered}
+use Rattle.cmwq_engine.specs.Common.{ℕ, zero, suc, List, [], length, drop, slice_get, Some, None, Bool, true, false}
+use Rattle.cmwq_engine.specs.Common.{Result, Ok, Err, IfOk, IfErr, Worker, WorkerId, Entry, Layout, serial_of, past_of}
+use Rattle.cmwq_engine.specs.Common.{IsLegal, View, newcomer, made_by, worker_by_number, Behavior, HasWorked}
+use Rattle.cmwq_engine.specs.Common.{RunsInTurn, breaks_off, IsPrefix, Conduct, Roster, caller_numbered}
 use Rattle.cmwq_monitor.specs.Held.{active_in}
 use Rattle.cmwq_monitor.specs.declared.fault.RunFault.{RunFault}
 use Rattle.cmwq_monitor.specs.declared.fault.RunFault.TheVariants.{Full, Unfinished, NoPlace}
@@ -17,7 +20,8 @@ CalledAt s calls k full v = (v.who ≡ caller_numbered k) × calls s k full v
 pub record HaveCalled {N : Type 0} (s : Layout) (calls : Conduct) (many : ℕ) (ends : List (CallerEnd N)) : Type 0 where
   pub all : length ends ≡ many
   pub faults : (k : ℕ) (e : CallerEnd N) → slice_get ends k ≡ Some e → IfErr e.outcome (λ f. breaks_off f ≡ true)
-  pub called : (k : ℕ) (e : CallerEnd N) → slice_get ends k ≡ Some e → IfOk e.outcome (λ full. CalledAt s calls k full e.caller)
+  pub called : (k : ℕ) (e : CallerEnd N) → slice_get ends k ≡ Some e
+      → IfOk e.outcome (λ full. CalledAt s calls k full e.caller)
 
 -- a caller has done in a history what it should, has left out so many calls, and has no other entries there
 pub record CalledIn (s : Layout) (calls : Conduct) (k full : ℕ) (history : List Entry) : Type 0 where
@@ -30,7 +34,8 @@ pub record CalledIn (s : Layout) (calls : Conduct) (k full : ℕ) (history : Lis
 -- so have this many callers, from this one on, and so many calls were left out in all
 abbrev pub AllCalled : Layout → Conduct → ℕ → ℕ → ℕ → List Entry → Type 0
 AllCalled s calls k zero full history = full ≡ 0
-AllCalled s calls k (suc many) full history = (n m : ℕ) × CalledIn s calls k n history × AllCalled s calls (suc k) many m history × (full ≡ n + m)
+AllCalled s calls k (suc many) full history = (n m : ℕ) × CalledIn s calls k n history
+    × AllCalled s calls (suc k) many m history × (full ≡ n + m)
 
 -- the callers from this one on, up to the last of the shape, who have done nothing
 pub record AreNewcomers (s : Layout) (first : ℕ) (callers : List View) : Type 0 where
@@ -72,10 +77,11 @@ IsUnfinished s calls many history = (full : ℕ) × AllCalled s calls 0 many ful
 abbrev pub used : Roster → ℕ
 used r = r.threads + r.lent
 
--- what a fault tells of a run: a legal history that is unfinished, or that more callers should be used than there are; calls without room are
--- left out
+-- what a fault tells of a run: a legal history that is unfinished, or that more callers should be used than there are;
+-- calls without room are left out
 abbrev pub FailsAs : Layout → Conduct → Roster → RunFault → Type 0
-FailsAs s calls r Unfinished = (history : List Entry) × IsLegal s (past_of history) × IsUnfinished s calls r.threads history
+FailsAs s calls r Unfinished = (history : List Entry) × IsLegal s (past_of history)
+    × IsUnfinished s calls r.threads history
 FailsAs s calls r NoPlace = s.callers < used r
 FailsAs s calls r Full = ⊥
 FailsAs s calls r f = Unit {0}
@@ -88,12 +94,14 @@ is_silent Full = false
 is_silent f = true
 
 -- all threads have ended, but for the callers that were lent
-pub record HaveEnded {N : Type 0} (s : Layout) (does : Behavior) (calls : Conduct) (r : Roster) (ends : Ends N) : Type 0 where
-  pub callers : HaveCalled s calls r.threads ends.callers.items
-  pub workers : HaveWorked s does ends.workers.items
-  pub idle : AreNewcomers s (used r) ends.idle.items
-  pub parts : ends.rest.parts + (length ends.callers.items + length ends.workers.items + length ends.idle.items + r.lent) ≡ shares
-  pub amount : ends.rest.amount ≡ 0
+pub record HaveEnded {N : Type 0} (s : Layout) (does : Behavior) (calls : Conduct) (r : Roster) (ends : Ends N) : Type 0
+  where
+    pub callers : HaveCalled s calls r.threads ends.callers.items
+    pub workers : HaveWorked s does ends.workers.items
+    pub idle : AreNewcomers s (used r) ends.idle.items
+    pub parts : ends.rest.parts + (length ends.callers.items + length ends.workers.items + length
+        ends.idle.items + r.lent) ≡ shares
+    pub amount : ends.rest.amount ≡ 0
 
 -- all have, and the callers that were lent are back
 abbrev pub HaveRun : {N : Type 0} → Layout → Behavior → Conduct → Roster → Ends N → Type 0
@@ -103,22 +111,26 @@ abbrev pub EndsAll : {N : Type 0} → Layout → Behavior → Conduct → Roster
 EndsAll s does calls r (Ok ends) = HaveRun s does calls r ends
 EndsAll s does calls r (Err f) = FailsAs s calls r f
 
--- A history that a run leaves: it is legal, each caller that has a thread did what it should, but for so many calls in all that had no room, each
--- worker's entries are runs of items, callers that aren't used have none, and nothing active is left.
-pub record IsLeft (s : Layout) (does : Behavior) (calls : Conduct) (r : Roster) (full : ℕ) (history : List Entry) : Type 0 where
+-- A history that a run leaves: it is legal, each caller that has a thread did what it should, but for so many calls in
+-- all that had no room, each worker's entries are runs of items, callers that aren't used have none, and nothing active
+-- is left.
+pub record IsLeft (s : Layout) (does : Behavior) (calls : Conduct) (r : Roster) (full : ℕ) (history : List Entry) : Type
+    0 where
   pub legal : IsLegal s (past_of history)
   pub called : AllCalled s calls 0 r.threads full history
   pub worked : AllWorked s does history
   pub silent : AreSilent s (used r) history
   pub finished : active_in s history ≡ 0
 
--- what a hub kept of a legal history, behind its first so many entries, and the same of one that a run leaves, of so many entries
+-- what a hub kept of a legal history, after its first so many entries, and the same of one that a run leaves, of so
+-- many entries
 pub record IsRest (s : Layout) (first : ℕ) (rest : List Entry) : Type 0 where
   pub history : List Entry
   pub legal : IsLegal s (past_of history)
   pub rest_is : rest ≡ drop first history
 
-pub record IsRestOfLeft (s : Layout) (does : Behavior) (calls : Conduct) (r : Roster) (entries full first : ℕ) (rest : List Entry) : Type 0 where
+pub record IsRestOfLeft (s : Layout) (does : Behavior) (calls : Conduct) (r : Roster) (entries full first : ℕ)
+    (rest : List Entry) : Type 0 where
   pub history : List Entry
   pub left : IsLeft s does calls r full history
   pub counted : entries ≡ length history

@@ -28,7 +28,8 @@ pub struct RunsAll<N: HubName, C, W> {
 impl<N: HubName, C: Crew, W: Work> Promise<Result<Ends<N>, RunFault>> for RunsAll<N, C, W> {
     ghost use Rattle.cmwq_engine.specs.Ended.{EndsAll};
 
-    ghost kept_by = { λ p r. EndsAll N.layout (W.does p.work.value N.layout) (C.calls p.crew.value) (C.roles p.crew.value N.layout) r };
+    ghost kept_by = { λ p r. EndsAll N.layout (W.does p.work.value N.layout) (C.calls p.crew.value) (C.roles p.crew.value N.layout)
+        r };
 }
 
 /// The thread that runs all others.
@@ -86,7 +87,8 @@ pub fn start_all<
         promise,
         move || -> Result<Ends<N>, RunFault>
             requires { (participants ≡ all_free) × C.fits crew.now N.layout }
-            ensures { EndsAll N.layout (W.does work.entry.now N.layout) (C.calls crew.entry.now) (C.roles crew.entry.now N.layout) result }
+            ensures { EndsAll N.layout (W.does work.entry.now N.layout) (C.calls crew.entry.now)
+                (C.roles crew.entry.now N.layout) result }
         { conduct(rt, alloc, hub, participants, crew, work) },
     );
     match started {
@@ -145,7 +147,9 @@ pub fn end_with<N: HubName, C: Crew, W: Work, R: Wait>(
 ) -> Result<Counted, RunFault>
     requires parts { N.parts ≡ shares }
     requires ends { HaveRun N.layout (W.does work.now N.layout) (C.calls crew.now) (C.roles crew.now N.layout) ends }
-    ensures left { IfOk result (λ c. IsLeft N.layout (W.does work.now N.layout) (C.calls crew.now) (C.roles crew.now N.layout) c.tally.full journal.old.seen) }
+    ensures left { IfOk result
+        (λ c. IsLeft N.layout (W.does work.now N.layout) (C.calls crew.now) (C.roles crew.now N.layout) c.tally.full
+        journal.old.seen) }
     ensures counted { IfOk result (λ c. c.tally.answered ≡ length journal.old.seen) }
     ensures same { OnOk result (journal.new.seen ≡ journal.old.seen) }
     ensures rest { IfOk result (λ c. c.rest.entries.items ≡ []) }

@@ -32,7 +32,8 @@ impl<N: HubName, C: Crew> Promise<CallerEnd<N>> for Calls<N, C> {
     ghost use Rattle.cmwq_rt.specs.Running.{breaks_off};
     ghost use Rattle.cmwq_engine.specs.Ended.{CalledAt};
 
-    ghost kept_by = { λ p r. IfOk r.outcome (λ full. CalledAt N.layout (C.calls p.crew.value) p.number full r.caller) × IfErr r.outcome (λ f. breaks_off f ≡ true) };
+    ghost kept_by = { λ p r. IfOk r.outcome (λ full. CalledAt N.layout (C.calls p.crew.value) p.number full r.caller)
+        × IfErr r.outcome (λ f. breaks_off f ≡ true) };
 }
 
 /// What a worker's thread promises: that this worker runs what it starts, as this work function says.
@@ -47,7 +48,8 @@ impl<N: HubName, W: Work> Promise<WorkerEnd<N>> for RunsWork<N, W> {
     ghost use Rattle.cmwq_rt.specs.Running.{breaks_off};
     ghost use Rattle.cmwq_engine.specs.Ended.{WorkedFrom};
 
-    ghost kept_by = { λ p r. IfOk r.outcome (λ _. WorkedFrom N.layout (W.does p.work.value N.layout) p.worker.value r.worker) × IfErr r.outcome (λ f. breaks_off f ≡ true) };
+    ghost kept_by = { λ p r. IfOk r.outcome (λ _. WorkedFrom N.layout (W.does p.work.value N.layout) p.worker.value r.worker)
+        × IfErr r.outcome (λ f. breaks_off f ≡ true) };
 }
 
 /// A worker whose loop has ended, with the entries that it made.

@@ -7,7 +7,9 @@ ghost use Rattle.cmwq_monitor.specs.Participants.{newcomer};
 ghost use Rattle.cmwq_monitor.specs.declared.fault.RunFault.TheVariants.{Unfinished};
 ghost use Rattle.cmwq_rt.specs.Places.{shares};
 ghost use Rattle.cmwq_rt.specs.Running.{breaks_off};
-ghost use Rattle.cmwq_engine.specs.Ended.{AllCalled, AllWorked, AreNewcomers, AreSilent, CalledAt, CalledIn, HaveCalled, HaveRun, HaveWorked, IsUnfinished, WorkedFrom, WorkedIn, is_silent, used};
+ghost use Rattle.cmwq_engine.specs.Ended.{AllCalled, AllWorked, AreNewcomers, AreSilent, CalledAt, CalledIn};
+ghost use Rattle.cmwq_engine.specs.Ended.{HaveCalled, HaveRun, HaveWorked, IsUnfinished, WorkedFrom, WorkedIn};
+ghost use Rattle.cmwq_engine.specs.Ended.{is_silent, used};
 
 use crate::crew::Crew;
 use crate::ends::{CallerEnd, WorkerEnd};
@@ -55,7 +57,8 @@ fn gather_caller<N: HubName, C: Crew>(
 ) -> Result<(u64, u64), RunFault>
     ensures share { IfOk result (λ t. (all.new.parts ≡ all.old.parts + 1) × (all.new.amount ≡ all.old.amount + t.0)) }
     ensures fault { IfErr end.outcome (λ f. breaks_off f ≡ true) → IfErr result (λ f. is_silent f ≡ true) }
-    ensures called { IfOk result (λ t. (k : ℕ) → IfOk end.outcome (λ full. CalledAt N.layout (C.calls crew.now) k full end.caller) → CalledIn N.layout (C.calls crew.now) k t.1 monitor.now.history) }
+    ensures called { IfOk result (λ t. (k : ℕ) → IfOk end.outcome (λ full. CalledAt N.layout (C.calls crew.now) k full end.caller)
+        → CalledIn N.layout (C.calls crew.now) k t.1 monitor.now.history) }
 {
     let _crew = crew;
     let CallerEnd { caller, outcome } = end;
@@ -79,9 +82,11 @@ fn gather_callers<N: HubName, C: Crew>(
     all: &mut Share<N>,
 ) -> Result<(u64, u64), RunFault>
     requires { HaveCalled N.layout (C.calls crew.now) (C.roles crew.now N.layout).threads callers.items }
-    ensures share { IfOk result (λ t. (all.new.parts ≡ all.old.parts + length callers.items) × (all.new.amount ≡ all.old.amount + t.0)) }
+    ensures share { IfOk result (λ t. (all.new.parts ≡ all.old.parts + length callers.items)
+        × (all.new.amount ≡ all.old.amount + t.0)) }
     ensures fault { IfErr result (λ f. is_silent f ≡ true) }
-    ensures called { IfOk result (λ t. AllCalled N.layout (C.calls crew.now) 0 (C.roles crew.now N.layout).threads t.1 monitor.now.history) }
+    ensures called { IfOk result
+        (λ t. AllCalled N.layout (C.calls crew.now) 0 (C.roles crew.now N.layout).threads t.1 monitor.now.history) }
 {
     let mut callers = callers;
     let mut answered = 0u64;
@@ -106,7 +111,9 @@ fn gather_worker<N: HubName, W: Work>(
 ) -> Result<u64, RunFault>
     ensures share { IfOk result (λ n. (all.new.parts ≡ all.old.parts + 1) × (all.new.amount ≡ all.old.amount + n)) }
     ensures fault { IfErr end.outcome (λ f. breaks_off f ≡ true) → IfErr result (λ f. is_silent f ≡ true) }
-    ensures worked { IfOk result (λ _. (x : ids.WorkerId) → IfOk end.outcome (λ _. WorkedFrom N.layout (W.does work.now N.layout) (newcomer (whos.Worker x)) end.worker) → WorkedIn N.layout (W.does work.now N.layout) x monitor.now.history) }
+    ensures worked { IfOk result (λ _. (x : ids.WorkerId)
+        → IfOk end.outcome (λ _. WorkedFrom N.layout (W.does work.now N.layout) (newcomer (whos.Worker x)) end.worker)
+        → WorkedIn N.layout (W.does work.now N.layout) x monitor.now.history) }
 {
     let _work = work;
     let WorkerEnd { worker, outcome } = end;
@@ -130,7 +137,8 @@ fn gather_workers<N: HubName, W: Work>(
     all: &mut Share<N>,
 ) -> Result<u64, RunFault>
     requires { HaveWorked N.layout (W.does work.now N.layout) workers.items }
-    ensures share { IfOk result (λ n. (all.new.parts ≡ all.old.parts + length workers.items) × (all.new.amount ≡ all.old.amount + n)) }
+    ensures share { IfOk result (λ n. (all.new.parts ≡ all.old.parts + length workers.items)
+        × (all.new.amount ≡ all.old.amount + n)) }
     ensures fault { IfErr result (λ f. is_silent f ≡ true) }
     ensures worked { IfOk result (λ _. AllWorked N.layout (W.does work.now N.layout) monitor.now.history) }
 {
@@ -152,7 +160,8 @@ fn gather_lent<N: HubName>(
     lent: Vec<Caller<N>>,
     all: &mut Share<N>,
 ) -> Result<u64, RunFault>
-    ensures share { IfOk result (λ n. (all.new.parts ≡ all.old.parts + length lent.items) × (all.new.amount ≡ all.old.amount + n)) }
+    ensures share { IfOk result (λ n. (all.new.parts ≡ all.old.parts + length lent.items)
+        × (all.new.amount ≡ all.old.amount + n)) }
     ensures fault { IfErr result (λ f. is_silent f ≡ true) }
 {
     let mut lent = lent;
@@ -205,11 +214,14 @@ pub(crate) fn gather<N: HubName, C: Crew, W: Work>(
     requires ends { HaveRun N.layout (W.does work.now N.layout) (C.calls crew.now) (C.roles crew.now N.layout) ends }
     ensures same { monitor.new ≡ monitor.old }
     ensures counted { IfOk result (λ t. t.answered ≡ length monitor.old.history) }
-    ensures called { IfOk result (λ t. AllCalled N.layout (C.calls crew.now) 0 (C.roles crew.now N.layout).threads t.full monitor.old.history) }
+    ensures called { IfOk result
+        (λ t. AllCalled N.layout (C.calls crew.now) 0 (C.roles crew.now N.layout).threads t.full monitor.old.history) }
     ensures worked { IfOk result (λ _. AllWorked N.layout (W.does work.now N.layout) monitor.old.history) }
     ensures silent { IfOk result (λ _. AreSilent N.layout (used (C.roles crew.now N.layout)) monitor.old.history) }
     ensures finished { IfOk result (λ _. active_in N.layout monitor.old.history ≡ 0) }
-    ensures fails { IfErr result (λ f. ((f ≡ Unfinished) × IsUnfinished N.layout (C.calls crew.now) (C.roles crew.now N.layout).threads monitor.old.history) ⊎ (is_silent f ≡ true)) }
+    ensures fails { IfErr result
+        (λ f. ((f ≡ Unfinished) × IsUnfinished N.layout (C.calls crew.now) (C.roles crew.now N.layout).threads
+        monitor.old.history) ⊎ (is_silent f ≡ true)) }
 {
     let Ends {
         callers,

@@ -46,7 +46,8 @@ fn run_all<
     requires fresh { participants ≡ all_free }
     requires fits { C.fits crew.now N.layout }
     requires roster { roster ≡ C.roles crew.now N.layout }
-    ensures run { IfOk result (λ ends. HaveEnded N.layout (W.does work.now N.layout) (C.calls crew.now) (C.roles crew.now N.layout) ends) }
+    ensures run { IfOk result
+        (λ ends. HaveEnded N.layout (W.does work.now N.layout) (C.calls crew.now) (C.roles crew.now N.layout) ends) }
     ensures fails { IfErr result (λ f. FailsAs N.layout (C.calls crew.now) (C.roles crew.now N.layout) f) }
 {
     let mut participants = participants;
@@ -104,7 +105,8 @@ fn run_or_stop<
     requires fresh { participants ≡ all_free }
     requires fits { C.fits crew.now N.layout }
     requires roster { roster ≡ C.roles crew.now N.layout }
-    ensures run { IfOk result (λ ends. HaveEnded N.layout (W.does work.now N.layout) (C.calls crew.now) (C.roles crew.now N.layout) ends) }
+    ensures run { IfOk result
+        (λ ends. HaveEnded N.layout (W.does work.now N.layout) (C.calls crew.now) (C.roles crew.now N.layout) ends) }
     ensures fails { IfErr result (λ f. FailsAs N.layout (C.calls crew.now) (C.roles crew.now N.layout) f) }
 {
     let ends = run_all(
@@ -143,7 +145,8 @@ fn run_in_scope<
     requires fresh { participants ≡ all_free }
     requires fits { C.fits crew.now N.layout }
     requires roster { roster ≡ C.roles crew.now N.layout }
-    ensures run { IfOk result (λ ends. HaveEnded N.layout (W.does work.now N.layout) (C.calls crew.now) (C.roles crew.now N.layout) ends) }
+    ensures run { IfOk result
+        (λ ends. HaveEnded N.layout (W.does work.now N.layout) (C.calls crew.now) (C.roles crew.now N.layout) ends) }
     ensures fails { IfErr result (λ f. FailsAs N.layout (C.calls crew.now) (C.roles crew.now N.layout) f) }
 {
     thread::scope(
@@ -151,7 +154,9 @@ fn run_in_scope<
         rt,
         |scope| -> Result<Ends<N>, RunFault>
             requires { (participants ≡ all_free) × C.fits crew.now N.layout × (roster ≡ C.roles crew.now N.layout) }
-            ensures { IfOk result (λ ends. HaveEnded N.layout (W.does work.entry.now N.layout) (C.calls crew.entry.now) (C.roles crew.entry.now N.layout) ends)
+            ensures { IfOk result
+                (λ ends. HaveEnded N.layout (W.does work.entry.now N.layout) (C.calls crew.entry.now)
+                (C.roles crew.entry.now N.layout) ends)
                 × IfErr result (λ f. FailsAs N.layout (C.calls crew.entry.now) (C.roles crew.entry.now N.layout) f) }
         {
             run_or_stop(
@@ -240,7 +245,9 @@ fn end_hub<N: HubName, C: Crew, W: Work, R: Wait>(
     requires parts { N.parts ≡ shares }
     requires ends { EndsAll N.layout (W.does work.now N.layout) (C.calls crew.now) (C.roles crew.now N.layout) ends }
     ensures rest { IsRest N.layout result.0.first result.0.entries.items }
-    ensures left { IfOk result.1 (λ t. IsRestOfLeft N.layout (W.does work.now N.layout) (C.calls crew.now) (C.roles crew.now N.layout) t.answered t.full result.0.first result.0.entries.items) }
+    ensures left { IfOk result.1
+        (λ t. IsRestOfLeft N.layout (W.does work.now N.layout) (C.calls crew.now) (C.roles crew.now N.layout) t.answered
+        t.full result.0.first result.0.entries.items) }
     ensures fails { IfErr result.1 (FailsAs N.layout (C.calls crew.now) (C.roles crew.now N.layout)) }
 {
     let mut monitor = into_monitor(hub);
@@ -272,7 +279,9 @@ fn run_parts<
     requires ledger { (parts.blank.name ≡ N.name) × (parts.blank.parts ≡ N.parts) }
     requires fits { C.fits crew.now N.layout }
     ensures rest { IsRest N.layout result.0.first result.0.entries.items }
-    ensures left { IfOk result.1 (λ t. IsRestOfLeft N.layout (W.does work.now N.layout) (C.calls crew.now) (C.roles crew.now N.layout) t.answered t.full result.0.first result.0.entries.items) }
+    ensures left { IfOk result.1
+        (λ t. IsRestOfLeft N.layout (W.does work.now N.layout) (C.calls crew.now) (C.roles crew.now N.layout) t.answered
+        t.full result.0.first result.0.entries.items) }
     ensures fails { IfErr result.1 (FailsAs N.layout (C.calls crew.now) (C.roles crew.now N.layout)) }
 {
     let (hub, participants) = Hub::<N>::open(parts);
@@ -297,7 +306,9 @@ pub fn run<'x, C: Crew + Sync, W: Work + Sync, R: Threads + Wait + Sync>(
 ) -> (Rest, Result<Tally, RunFault>)
     requires { C.fits crew.now parts.shape }
     ensures rest { IsRest parts.shape result.0.first result.0.entries.items }
-    ensures left { IfOk result.1 (λ t. IsRestOfLeft parts.shape (W.does work.now parts.shape) (C.calls crew.now) (C.roles crew.now parts.shape) t.answered t.full result.0.first result.0.entries.items) }
+    ensures left { IfOk result.1
+        (λ t. IsRestOfLeft parts.shape (W.does work.now parts.shape) (C.calls crew.now) (C.roles crew.now parts.shape)
+        t.answered t.full result.0.first result.0.entries.items) }
     ensures fails { IfErr result.1 (FailsAs parts.shape (C.calls crew.now) (C.roles crew.now parts.shape)) }
 {
     run_parts::<Brand, C, W, R>(rt, alloc, parts, crew, work)

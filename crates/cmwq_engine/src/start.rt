@@ -45,8 +45,10 @@ fn start_caller<'s, E, N: HubName + Send + Sync + 's, C: Crew + Sync, R: Wait + 
     let started = scope.spawn_with(
         promise,
         move || -> CallerEnd<N>
-            requires { C.fits crew.now N.layout × (number < (C.roles crew.now N.layout).threads) × (caller ≡ newcomer (caller_numbered number)) }
-            ensures { IfOk result.outcome (λ full. CalledAt N.layout (C.calls crew.entry.now) number full result.caller) × IfErr result.outcome (λ f. breaks_off f ≡ true) }
+            requires { C.fits crew.now N.layout × (number < (C.roles crew.now N.layout).threads)
+                × (caller ≡ newcomer (caller_numbered number)) }
+            ensures { IfOk result.outcome (λ full. CalledAt N.layout (C.calls crew.entry.now) number full result.caller)
+                × IfErr result.outcome (λ f. breaks_off f ≡ true) }
         { call_all(rt, hub, crew, caller, number) },
     );
     match started {
@@ -68,9 +70,11 @@ pub(crate) fn start_callers<'s, E, N: HubName + Send + Sync + 's, C: Crew + Sync
     requires fresh { participants.old.callers ≡ 0 }
     requires fits { C.fits crew.now N.layout }
     requires many { many ≡ (C.roles crew.now N.layout).threads }
-    ensures all { IfOk result (λ hs. (participants.new ≡ record participants.old { callers = length hs.items }) × (length hs.items ≡ many)) }
+    ensures all { IfOk result (λ hs. (participants.new ≡ record participants.old { callers = length hs.items })
+        × (length hs.items ≡ many)) }
     ensures fails { IfErr result (λ f. FailsAs N.layout (C.calls crew.now) (C.roles crew.now N.layout) f) }
-    ensures each { IfOk result (λ hs. (k : ℕ) (h : _) → slice_get hs.items k ≡ Some h → (h.promise.number ≡ k) × (h.promise.crew.value ≡ crew.now)) }
+    ensures each { IfOk result (λ hs. (k : ℕ) (h : _) → slice_get hs.items k ≡ Some h
+        → (h.promise.number ≡ k) × (h.promise.crew.value ≡ crew.now)) }
 {
     let mut threads = Vec::new(alloc);
     for number in 0..many {
@@ -139,7 +143,9 @@ fn start_worker<
     let started = scope.spawn_with(
         promise,
         move || -> WorkerEnd<N>
-            ensures { IfOk result.outcome (λ _. WorkedFrom N.layout (W.does work.entry.now N.layout) worker result.worker) × IfErr result.outcome (λ f. breaks_off f ≡ true) }
+            ensures { IfOk result.outcome
+                (λ _. WorkedFrom N.layout (W.does work.entry.now N.layout) worker result.worker)
+                × IfErr result.outcome (λ f. breaks_off f ≡ true) }
         { work_all(rt, hub, lent, crew, work, worker) },
     );
     match started {
@@ -168,8 +174,12 @@ pub(crate) fn start_workers<
 ) -> Result<Vec<WorkerThread<N, W>>, RunFault>
     requires fresh { participants.old.next ≡ Some first_worker }
     ensures fault { IfErr result (λ f. is_silent f ≡ true) }
-    ensures all { IfOk result (λ hs. (worker_by_number N.layout (length hs.items) ≡ None) × (participants.new.workers ≡ participants.old.workers + length hs.items) × (participants.new.callers ≡ participants.old.callers)) }
-    ensures each { IfOk result (λ hs. (k : ℕ) (h : _) → slice_get hs.items k ≡ Some h → (x : ids.WorkerId) → worker_by_number N.layout k ≡ Some x → (h.promise.worker.value ≡ newcomer (whos.Worker x)) × (h.promise.work.value ≡ work.now)) }
+    ensures all { IfOk result (λ hs. (worker_by_number N.layout (length hs.items) ≡ None)
+        × (participants.new.workers ≡ participants.old.workers + length hs.items)
+        × (participants.new.callers ≡ participants.old.callers)) }
+    ensures each { IfOk result (λ hs. (k : ℕ) (h : _) → slice_get hs.items k ≡ Some h → (x : ids.WorkerId)
+        → worker_by_number N.layout k ≡ Some x → (h.promise.worker.value ≡ newcomer (whos.Worker x))
+        × (h.promise.work.value ≡ work.now)) }
 {
     let mut threads = Vec::new(alloc);
     for _ in 0..=most_workers(hub.shape()) {
@@ -201,7 +211,8 @@ pub(crate) fn idle_callers<N: HubName>(
 ) -> Result<Vec<Caller<N>>, RunFault>
     ensures all { IfOk result (λ cs. AreNewcomers N.layout participants.old.callers cs.items) }
     ensures fault { IfErr result (λ f. is_silent f ≡ true) }
-    ensures participants { IfOk result (λ cs. (participants.new.callers ≡ participants.old.callers + length cs.items) × (participants.new.workers ≡ participants.old.workers)) }
+    ensures participants { IfOk result (λ cs. (participants.new.callers ≡ participants.old.callers + length cs.items)
+        × (participants.new.workers ≡ participants.old.workers)) }
 {
     let mut callers = Vec::new(alloc);
     for _ in 0..=shape.counts().callers {

@@ -14,6 +14,6 @@ is_copied k = k.is_whole
 abbrev pub bytes_copied : {S : Type 0} → Kept S → List ℕ
 bytes_copied k = k.bytes.items
 
--- where all is kept behind a read that gave these bytes, all was kept before it, and these are kept behind that
+-- where all is kept after a read that gave these bytes, all was kept before it, and these are kept after that
 abbrev pub KeepsToo : {S : Type 0} → Kept S → Kept S → List ℕ → Type 0
 KeepsToo old new bytes = is_copied new ≡ true → (is_copied old ≡ true) × (bytes_copied new ≡ bytes_copied old ++ bytes)

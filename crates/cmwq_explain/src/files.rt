@@ -32,8 +32,9 @@ const FULL: u8 = 4;
 /// The status of a fault of reading, writing or running.
 const FAULT: u8 = 5;
 
-/// Tells why a file of calls was refused by a word that ended with this status, or which of its calls had no room first, as one line. Where there
-/// is nothing to tell, as of want of memory, nothing is written. A failing sink changes nothing.
+/// Tells why a file of calls was refused by a word that ended with this status, or which of its calls had no room
+/// first, as one line. Where there is nothing to tell, as of want of memory, nothing is written. A failing sink changes
+/// nothing.
 pub fn explain_calls<E: Sink>(alloc: Global, word: &str, status: u8, bytes: &[u8], errors: &mut E)
     ensures { WritesLittle (E.written errors.old) (E.written errors.new) }
 {
@@ -55,8 +56,8 @@ pub fn explain_calls<E: Sink>(alloc: Global, word: &str, status: u8, bytes: &[u8
     tell_text(errors, &text);
 }
 
-/// Tells, where a word ended with this status, that its input was too long to be kept, so that nothing is told of it. At a fault, of which nothing
-/// would be told anyway, nothing is written.
+/// Tells, where a word ended with this status, that its input was too long to be kept, so that nothing is told of it.
+/// At a fault, of which nothing would be told anyway, nothing is written.
 pub fn explain_unkept<E: Sink>(status: u8, errors: &mut E)
     ensures { WritesLittle (E.written errors.old) (E.written errors.new) }
 {
@@ -69,7 +70,8 @@ pub fn explain_unkept<E: Sink>(status: u8, errors: &mut E)
     tell_text(errors, &text);
 }
 
-/// Tells the first call without room of those before a line that is refused or not there yet: it ended the word before it came to that.
+/// Tells the first call without room of those before a line that is refused or not there yet: it ended the word before
+/// it came to that.
 fn tell_front(alloc: Global, text: &mut Text, bytes: &[u8], refusal: Refusal) {
     if let Refusal::BadLine(number) | Refusal::NoSuchId(number) = refusal {
         if let Some(Stage::Body { version, all }) = stage_before::<(Who, Call)>(
@@ -80,9 +82,9 @@ fn tell_front(alloc: Global, text: &mut Text, bytes: &[u8], refusal: Refusal) {
     }
 }
 
-/// Tells why a history was refused by a word that ended with this status, or which entry it should have in the place of its first that is wrong, as
-/// one line; of a front where `is_front` says so. Where there is nothing to tell, as of want of memory, nothing is written. A failing sink changes
-/// nothing.
+/// Tells why a history was refused by a word that ended with this status, or which entry it should have in the place of
+/// its first that is wrong, as one line; of a front where `is_front` says so. Where there is nothing to tell, as of
+/// want of memory, nothing is written. A failing sink changes nothing.
 pub fn explain_history<E: Sink>(
     alloc: Global,
     word: &str,
@@ -164,7 +166,7 @@ fn tell_place<T: FileLine + Drop>(
     let Place { number, bytes, .. } = place;
     if let Stage::Ended { .. } = stage {
         text.place(number, 0);
-        text.say("nothing may stand behind the last line");
+        text.say("nothing may stand after the last line");
         return;
     }
     if tell_bytes(text, number, bytes) {
@@ -220,7 +222,7 @@ fn tell_queue(text: &mut Text, number: u64, line: &[u8], version: u8, input: Inp
     }
 }
 
-/// Tells what is wrong with a line behind the queues, where so many stand before it.
+/// Tells what is wrong with a line after the queues, where so many stand before it.
 fn tell_item(
     text: &mut Text,
     number: u64,
@@ -239,7 +241,7 @@ fn tell_item(
         tell_misfit(text, number, line, reader, sizes);
     } else if begins_queue(line) {
         text.place(number, 0);
-        text.say("a queue may not stand behind the first ");
+        text.say("a queue may not stand after the first ");
         text.say(if input == Input::Calls {
             "call"
         } else {
@@ -263,7 +265,7 @@ fn tell_last(text: &mut Text, version: u8, input: Input, before: u64) {
     } else {
         text.say("; expected is \"end ");
         text.number(before);
-        text.say("\", behind so many entries");
+        text.say("\", after so many entries");
     }
 }
 

@@ -10,7 +10,8 @@ const MOST_WORDS: usize = 12;
 /// The most samples of a family.
 pub const MOST_SAMPLES: usize = 35;
 
-/// Whether a word may stand for one of a sample: it is the same, or it is another who, number or flag that is read in its place.
+/// Whether a word may stand for one of a sample: it is the same, or it is another who, number or flag that is read in
+/// its place.
 fn may_stand(reader: Reader, sample: &[u8], index: usize, word: &[u8]) -> bool {
     match word_at(sample, index) {
         Some(wanted) if wanted == word => true,
@@ -50,7 +51,8 @@ pub fn common(reader: Reader, sample: &[u8], line: &[u8]) -> usize {
     MOST_WORDS
 }
 
-/// How far a line goes along the samples of a family that the format has: the most words of it that may stand for those of one.
+/// How far a line goes along the samples of a family that the format has: the most words of it that may stand for those
+/// of one.
 pub fn reach(reader: Reader, family: Family, line: &[u8]) -> usize {
     let mut most = 0;
     for number in 0..MOST_SAMPLES {

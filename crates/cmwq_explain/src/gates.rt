@@ -6,8 +6,8 @@ use crate::text::Text;
 use crate::told::tell_text;
 use cmwq_io::Sink;
 
-/// Tells of a gate that a run looked at in vain that so many calls of callers were left out for want of room, as one line. Where none were, nothing is written. A
-/// failing sink changes nothing.
+/// Tells of a gate that a run looked at in vain that so many calls of callers were left out for want of room, as one
+/// line. Where none were, nothing is written. A failing sink changes nothing.
 pub fn explain_gate<E: Sink>(gate: &str, left_out: u64, errors: &mut E)
     ensures { WritesLittle (E.written errors.old) (E.written errors.new) }
 {

@@ -13,7 +13,7 @@ pub enum Input {
 }
 
 impl Input {
-    /// The form of its lines behind the queues.
+    /// The form of its lines after the queues.
     pub fn lines(self) -> Form {
         match self {
             Input::Calls => Form::Call,

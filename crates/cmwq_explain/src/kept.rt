@@ -13,8 +13,8 @@ use std::alloc::Global;
 /// The most bytes that are kept.
 pub const MOST_KEPT: usize = 67_108_864;
 
-/// Passes the bytes of another source on, and keeps a copy of them, as long as they aren't too many and there is memory. Contracts see the
-/// other source, so that whatever is read through it is read of that.
+/// Passes the bytes of another source on, and keeps a copy of them, as long as they aren't too many and there is
+/// memory. Contracts see the other source, so that whatever is read through it is read of that.
 #[derive(Drop)]
 pub struct Kept<S> {
     inner: S,
@@ -53,7 +53,8 @@ impl<S> Kept<S> {
 
     /// All bytes that were read through it. None: some of them are not kept.
     pub fn bytes(&self) -> Option<&[u8]>
-        ensures { option_map (λ bytes. bytes.now) result ≡ (if is_copied self.now then Some (bytes_copied self.now) else None) }
+        ensures { option_map (λ bytes. bytes.now) result
+            ≡ (if is_copied self.now then Some (bytes_copied self.now) else None) }
     {
         if self.is_whole {
             Some(self.bytes.as_slice())

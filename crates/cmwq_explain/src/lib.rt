@@ -1,4 +1,5 @@
-//! What `--explain` tells behind a refusal: where in the input it is, what stands there, what was expected, and what was likely meant.
+//! What `--explain` tells after a refusal: where in the input it is, what stands there, what was expected, and what was
+//! likely meant.
 #![tactic(auto)]
 
 mod files;

@@ -2,7 +2,8 @@
 
 use crate::text::Text;
 
-/// Tells the first byte of a line that no line has, or a space that doesn't stand between two words. False: there is none.
+/// Tells the first byte of a line that no line has, or a space that doesn't stand between two words. False: there is
+/// none.
 pub fn tell_bytes(text: &mut Text, number: u64, line: &[u8]) -> bool {
     if line.is_empty() {
         text.place(number, 0);

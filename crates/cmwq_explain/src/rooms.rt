@@ -85,6 +85,6 @@ pub fn tell_long(text: &mut Text, bytes: &[u8]) {
         text.number(LINE_LIMIT as u64);
         text.say(" bytes");
     } else {
-        text.say("there are more lines behind the queues than the format has");
+        text.say("there are more lines after the queues than the format has");
     }
 }

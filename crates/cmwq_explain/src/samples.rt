@@ -1,5 +1,5 @@
-//! Sample lines: a call and a reply of each kind, spelled by their own speller. What stands at a word of a line is found by comparing it with
-//! these, and what a number is about is told by its value in them: see `kind.rt`.
+//! Sample lines: a call and a reply of each kind, spelled by their own speller. What stands at a word of a line is
+//! found by comparing it with these, and what a number is about is told by its value in them: see `kind.rt`.
 
 use crate::form::Form;
 use crate::words::{Built, front_of, put, span_of, word_at};
@@ -144,7 +144,7 @@ pub enum Family {
     Head,
     /// A call, in an entry with what stands before its reply.
     Calls,
-    /// A reply, behind the call that a line has.
+    /// A reply, after the call that a line has.
     Replies,
 }
 

@@ -7,7 +7,7 @@ use crate::text::Text;
 use arrayvec::ArrayString;
 use cmwq_io::{Sink, WriteFault, flush_all, write_all};
 
-/// The text as a line behind the program's name.
+/// The text as a line after the program's name.
 fn line_of(text: &Text) -> ArrayString<407> {
     let mut line = ArrayString::new();
     let _ = line.try_push_str("cmwq: ");
@@ -29,7 +29,8 @@ fn write_little<E: Sink>(errors: &mut E, bytes: &[u8])
     }
 }
 
-/// Writes an explanation as one line behind the program's name, if there is one. Takes no memory; a failing sink changes nothing.
+/// Writes an explanation as one line after the program's name, if there is one. Takes no memory; a failing sink changes
+/// nothing.
 pub fn tell_text<E: Sink>(errors: &mut E, text: &Text)
     ensures { WritesLittle (E.written errors.old) (E.written errors.new) }
 {

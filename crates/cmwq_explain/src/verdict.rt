@@ -23,7 +23,8 @@ fn mended_by(entry: Entry, wanted: Wanted) -> Entry
     }
 }
 
-/// The entry that should stand where one does in which its judge wants this: if it wants a serial, the reply may be wrong too.
+/// The entry that should stand where one does in which its judge wants this: if it wants a serial, the reply may be
+/// wrong too.
 fn mended(judge: &mut Judge, entry: Entry, wanted: Wanted) -> Entry
     requires { fits judge.old.layout entry.who entry.call ≡ true }
 {

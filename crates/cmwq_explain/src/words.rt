@@ -57,7 +57,7 @@ pub fn count_words(line: &[u8]) -> usize {
         .saturating_add(1)
 }
 
-/// Puts bytes behind those of a line that is made, if there is room.
+/// Puts bytes after those of a line that is made, if there is room.
 pub fn put(built: &mut Built, bytes: &[u8]) -> Option<()> {
     match built.try_extend_from_slice(bytes) {
         Ok(()) => Some(()),

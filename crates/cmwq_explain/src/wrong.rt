@@ -38,7 +38,8 @@ pub fn tell_line(text: &mut Text, number: u64, line: &[u8], reader: Reader) {
     }
 }
 
-/// How many words a line has with its call, and in an entry with the `=` behind that. None: it is no line with a call, or lacks it.
+/// How many words a line has with its call, and in an entry with the `=` after that. None: it is no line with a call,
+/// or lacks it.
 fn call_end(wrong: Wrong<'_>) -> Option<usize> {
     match wrong.reader.form {
         Form::Shape | Form::CallsQueue | Form::Queue => None,

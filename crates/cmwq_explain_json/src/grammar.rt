@@ -1,4 +1,5 @@
-//! The readers of JSON inputs, and a sample of each object that they take. What is right at a place is what a reader takes there in a sample.
+//! The readers of JSON inputs, and a sample of each object that they take. What is right at a place is what a reader
+//! takes there in a sample.
 
 use cmwq_json_script::read_script;
 use cmwq_replay::read_scenario;

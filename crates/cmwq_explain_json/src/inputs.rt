@@ -19,8 +19,8 @@ use std::fmt::Write;
 /// The status of a refused input.
 const REFUSED: u8 = 1;
 
-/// Tells why a scenario was refused, where the word ended with this status, as one line. Where there is nothing to tell, as of want of memory,
-/// nothing is written. A failing sink changes nothing.
+/// Tells why a scenario was refused, where the word ended with this status, as one line. Where there is nothing to
+/// tell, as of want of memory, nothing is written. A failing sink changes nothing.
 pub fn explain_scenario<E: Sink>(alloc: Global, status: u8, bytes: &[u8], errors: &mut E)
     ensures { WritesLittle (E.written errors.old) (E.written errors.new) }
 {

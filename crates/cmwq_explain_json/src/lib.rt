@@ -1,4 +1,5 @@
-//! What `--explain` tells behind a refused scenario or script: which member is wrong, what stands there, and what was expected.
+//! What `--explain` tells after a refused scenario or script: which member is wrong, what stands there, and what was
+//! expected.
 #![tactic(auto)]
 
 mod calls;

@@ -34,7 +34,8 @@ pub fn tell_list(
     }
 }
 
-/// Tells that an item of a scenario has too few or too many parts, or the first that is wrong. The count comes first, so that few are tried.
+/// Tells that an item of a scenario has too few or too many parts, or the first that is wrong. The count comes first,
+/// so that few are tried.
 fn tell_parts(
     text: &mut Text,
     world: World<'_>,
@@ -90,7 +91,8 @@ fn tell_length(
     Ok(true)
 }
 
-/// Tells that an item of a script has too many actions, or the first that is wrong. The count comes first, so that few are tried.
+/// Tells that an item of a script has too many actions, or the first that is wrong. The count comes first, so that few
+/// are tried.
 fn tell_actions(
     text: &mut Text,
     world: World<'_>,

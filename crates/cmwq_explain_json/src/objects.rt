@@ -14,8 +14,8 @@ pub struct World<'a> {
 }
 
 impl World<'_> {
-    /// Whether an object is taken at its place with this value at a key, and else with the values of a sample; of the top with the numbers of the
-    /// whole before the key.
+    /// Whether an object is taken at its place with this value at a key, and else with the values of a sample; of the
+    /// top with the numbers of the whole before the key.
     pub fn fits(self, place: Place, key: &str, value: &str) -> Result<bool, AllocError> {
         let mut json = Json::new(self.alloc);
         if place == Place::Top {
@@ -97,8 +97,8 @@ impl World<'_> {
         }
     }
 
-    /// Puts a sample with an object at its place, which has another value at one key, or lacks that where there is none; where its queue is
-    /// tried, with the queues of the whole.
+    /// Puts a sample with an object at its place, which has another value at one key, or lacks that where there is
+    /// none; where its queue is tried, with the queues of the whole.
     fn put_with_object(self, json: &mut Json, place: Place, key: &str, value: Option<&str>) {
         json.put("{");
         for (name, sample) in self.grammar.members(Place::Top) {

@@ -21,14 +21,14 @@ impl Json {
         }
     }
 
-    /// Puts a text behind it.
+    /// Puts a text after it.
     pub fn put(&mut self, text: &str) {
         if self.text.push_str(text).is_err() {
             self.is_cut = true;
         }
     }
 
-    /// Puts a value behind it.
+    /// Puts a value after it.
     pub fn put_value(&mut self, alloc: Global, value: &Value) {
         match value.to_string(alloc) {
             Ok(text) => self.put(text.as_str()),
@@ -36,7 +36,7 @@ impl Json {
         }
     }
 
-    /// Puts the key of a member of an object behind it, after a comma where there is one before it.
+    /// Puts the key of a member of an object after it, after a comma where there is one before it.
     pub fn put_key(&mut self, key: &str) {
         if !self.text.as_str().ends_with('{') {
             self.put(",");
@@ -46,13 +46,13 @@ impl Json {
         self.put("\":");
     }
 
-    /// Puts a member of an object behind it.
+    /// Puts a member of an object after it.
     pub fn put_member(&mut self, key: &str, value: &str) {
         self.put_key(key);
         self.put(value);
     }
 
-    /// Puts the object of these members behind it, with another value at one key, or without that where there is none.
+    /// Puts the object of these members after it, with another value at one key, or without that where there is none.
     pub fn put_object(&mut self, members: &[Member], key: &str, value: Option<&str>) {
         self.put("{");
         for (name, sample) in members {
@@ -65,7 +65,7 @@ impl Json {
         self.put("}");
     }
 
-    /// Puts so many times the same value behind it, with commas between.
+    /// Puts so many times the same value after it, with commas between.
     pub fn put_times(&mut self, value: &str, count: u64) {
         for number in 0..count {
             if self.is_cut {

@@ -1,6 +1,7 @@
 -- What holds of a flush book and its colours at every moment.
 use Rattle.std.specs.Prelude.{◌≡◌, ◌≢◌, ◌↔◌, ◌+◌, ◌<◌, ◌≤◌}
-use Rattle.cmwq_flush.specs.Common.{ℕ, Bool, List, length, take, All, AllPairs, IsTrue, slice_index, HoldsAt, IsNonDecreasingBy}
+use Rattle.cmwq_flush.specs.Common.{ℕ, Bool, List, length, take, All, AllPairs, IsTrue, slice_index, HoldsAt}
+use Rattle.cmwq_flush.specs.Common.{IsNonDecreasingBy}
 use Rattle.cmwq_flush.specs.declared.served.Served.{Served}
 use Rattle.cmwq_flush.specs.declared.openings.Row.{Row}
 use Rattle.cmwq_flush.specs.Numbers.{AreRising}
@@ -33,8 +34,8 @@ AreUnused rows colours = All (λ c. IsTrue (is_unused rows c)) colours
 abbrev pub WaitsForNothing : List Row → List Served → ℕ → Type 0
 WaitsForNothing rows served i = HoldsAt (λ s. All (λ r. s.bound ≤ r.number) rows) served i
 
--- By a colouring of the book: a served flush is told ready exactly where the counts of its colour and of all older ones are 0. The i-th of the
--- flushes has the i-th colour, so these are the colours up to its place.
+-- By a colouring of the book: a served flush is told ready exactly where the counts of its colour and of all older ones
+-- are 0. The i-th of the flushes has the i-th colour, so these are the colours up to its place.
 pub record IsToldByColours (b : FlushBook) (t : ℕ) (ready : Bool) : Type 0 where
   pub rows : List Row
   pub colours : List ℕ
@@ -60,4 +61,5 @@ pub record IsRight (b : FlushBook) (rows : List Row) (colours : List ℕ) : Type
   pub colouring : IsColouring colours b.served rows
 
 abbrev pub book_of : ℕ → ℕ → List Row → List Served → List ℕ → FlushBook
-book_of items next rows served overflow = record { items = items; next = next; opened = row_numbers rows; served = served; overflow = overflow }
+book_of items next rows served overflow =
+    record { items = items; next = next; opened = row_numbers rows; served = served; overflow = overflow }

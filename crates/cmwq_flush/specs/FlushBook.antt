@@ -1,5 +1,6 @@
 -- The flushes of a queue, as plain lists.
-use Rattle.std.specs.Prelude.{◌≡◌, ℕ, ◌+◌, ◌*◌, ◌<◌, ◌≤◌, if◌then◌else◌, List, [], ◌∷◌, ◌++◌, length, filter, find, All, Option, MatchOption, is_some, nat_lt}
+use Rattle.std.specs.Prelude.{◌≡◌, ℕ, ◌+◌, ◌*◌, ◌<◌, ◌≤◌, if◌then◌else◌, List, [], ◌∷◌, ◌++◌, length, filter, find, All}
+use Rattle.std.specs.Prelude.{Option, MatchOption, is_some, nat_lt}
 use Rattle.cmwq_flush.specs.declared.served.Served.{Served}
 use Rattle.cmwq_flush.specs.Numbers.{without}
 use Rattle.cmwq_flush.specs.Served.{tickets_of_served, has_ticket, is_other_flush}
@@ -46,7 +47,8 @@ abbrev pub flush_from : ℕ → ℕ → Served
 flush_from t bound = record { ticket = t; bound = bound }
 
 abbrev pub flushes_with_wait : FlushBook → ℕ → FlushBook
-flushes_with_wait b t = if nat_lt (length b.served) 15 then record b { served = b.served ++ flush_from t b.next ∷ [] } else record b { overflow = b.overflow ++ t ∷ [] }
+flushes_with_wait b t = if nat_lt (length b.served) 15 then record b { served = b.served ++ flush_from t b.next ∷ [] }
+    else record b { overflow = b.overflow ++ t ∷ [] }
 
 -- the end of one that is served serves the oldest of the overflow from that moment on
 abbrev pub served_with_oldest : List Served → List ℕ → ℕ → List Served
@@ -58,7 +60,9 @@ without_oldest [] = []
 without_oldest (t ∷ overflow) = overflow
 
 abbrev pub serve_oldest : FlushBook → List Served → FlushBook
-serve_oldest b served = record b { served = served_with_oldest served b.overflow b.next; overflow = without_oldest b.overflow }
+serve_oldest b served =
+    record b { served = served_with_oldest served b.overflow b.next; overflow = without_oldest b.overflow }
 
 abbrev pub flushes_without_wait : FlushBook → ℕ → FlushBook
-flushes_without_wait b t = if is_some (served_of b t) then serve_oldest b (filter (is_other_flush t) b.served) else record b { overflow = without t b.overflow }
+flushes_without_wait b t = if is_some (served_of b t) then serve_oldest b (filter (is_other_flush t) b.served)
+    else record b { overflow = without t b.overflow }

@@ -1,5 +1,6 @@
 -- How nodes in lists stand for open queueings: each item has two nodes, 2 * i and 2 * i + 1.
-use Rattle.std.specs.Prelude.{◌≡◌, ◌<◌, ◌*◌, ◌+◌, if◌then◌else◌, ◌&&◌, ◌==◌, true, ℕ, Bool, List, [], ◌∷◌, Option, Some, None, map, length, nat_lt, slice_index_or}
+use Rattle.std.specs.Prelude.{◌≡◌, ◌<◌, ◌*◌, ◌+◌, if◌then◌else◌, ◌&&◌, ◌==◌, true, ℕ, Bool, List, [], ◌∷◌, Option, Some}
+use Rattle.std.specs.Prelude.{None, map, length, nat_lt, slice_index_or}
 use Rattle.std.specs.List.{list_any, range_with_len}
 use Rattle.cmwq_list.specs.Lists.{Listed, has_item}
 use Rattle.cmwq_flush.specs.declared.openings.Open.{Open}
@@ -46,4 +47,5 @@ pub record AreOpenings (items : ℕ) (s : Listed) (rows : List Row) : Type 0 whe
   pub nodes : s.items ≡ 2 * items
   pub many : length rows ≡ 2 * items
   pub known : (v : ℕ) → is_node_listed s.lists v ≡ true → v < s.items
-  pub once : (v w : ℕ) → is_node_listed s.lists v ≡ true → is_node_listed s.lists w ≡ true → (node_row rows v).number ≡ (node_row rows w).number → v ≡ w
+  pub once : (v w : ℕ) → is_node_listed s.lists v ≡ true → is_node_listed s.lists w ≡ true
+      → (node_row rows v).number ≡ (node_row rows w).number → v ≡ w

@@ -1,5 +1,7 @@
--- How nodes in lists stand for flushes in overflow: list 0 has the nodes that are free, and list q + 1 those of queue q.
-use Rattle.std.specs.Prelude.{◌≡◌, ◌<◌, ℕ, Bool, true, List, [], ◌∷◌, Option, map, length, nat_le, find, slice_index, slice_index_or, slice_set}
+-- How nodes in lists stand for flushes in overflow: list 0 has the nodes that are free, and list q + 1 those of queue
+-- q.
+use Rattle.std.specs.Prelude.{◌≡◌, ◌<◌, ℕ, Bool, true, List, [], ◌∷◌, Option, map, length, nat_le, find, slice_index}
+use Rattle.std.specs.Prelude.{slice_index_or, slice_set}
 use Rattle.std.specs.List.{sum_by}
 use Rattle.cmwq_list.specs.Lists.{Listed, list_at}
 use Rattle.cmwq_flush.specs.Openings.{is_node_listed}

@@ -21,9 +21,12 @@ abbrev pub books_by : ℕ → List (List Row) → List (List ℕ) → List Flush
 books_by items rows overflow [] = []
 books_by items [] overflow (f ∷ fs) = []
 books_by items (rows ∷ others) [] (f ∷ fs) = []
-books_by items (rows ∷ others) (overflow ∷ rest) (f ∷ fs) = book_by items rows overflow f ∷ books_by items others rest fs
+books_by items (rows ∷ others) (overflow ∷ rest) (f ∷ fs) =
+    book_by items rows overflow f ∷ books_by items others rest fs
 
-pub record AreQueuesRight (items : ℕ) (rows : List (List Row)) (overflow : List (List ℕ)) (fs : List Flushes) : Type 0 where
-  pub many : length rows ≡ length fs
-  pub lists : length overflow ≡ length fs
-  pub each : (q : ℕ) (d : Flushes) → q < length fs → IsQueueRight items (rows_at rows q) (tickets_at overflow q) (get_or fs q d)
+pub record AreQueuesRight (items : ℕ) (rows : List (List Row)) (overflow : List (List ℕ)) (fs : List Flushes) : Type 0
+  where
+    pub many : length rows ≡ length fs
+    pub lists : length overflow ≡ length fs
+    pub each : (q : ℕ) (d : Flushes) → q < length fs
+        → IsQueueRight items (rows_at rows q) (tickets_at overflow q) (get_or fs q d)

@@ -41,10 +41,12 @@ abbrev pub rows_at : List (List Row) → ℕ → List Row
 rows_at rows q = slice_index_or rows q []
 
 abbrev pub open_rows_with : OpenRows → ℕ → ℕ → Row → OpenRows
-open_rows_with o q i r = record { rows = slice_set o.rows q (rows_at o.rows q ++ r ∷ []); opened = numbers_with o.opened i r.number }
+open_rows_with o q i r =
+    record { rows = slice_set o.rows q (rows_at o.rows q ++ r ∷ []); opened = numbers_with o.opened i r.number }
 
 abbrev pub open_rows_without : OpenRows → ℕ → ℕ → ℕ → OpenRows
-open_rows_without o q i n = record { rows = slice_set o.rows q (without_row n (rows_at o.rows q)); opened = numbers_without o.opened i n }
+open_rows_without o q i n =
+    record { rows = slice_set o.rows q (without_row n (rows_at o.rows q)); opened = numbers_without o.opened i n }
 
 -- by rising number, each with a colour below 16, and the count of each colour
 pub record IsTally (rows : List Row) (counts : List ℕ) : Type 0 where

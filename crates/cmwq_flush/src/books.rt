@@ -1,10 +1,12 @@
 ghost use Rattle.std.specs.List.{list_all};
-ghost use Rattle.std.specs.Prelude.{◌≡◌, [], ◌*◌, ◌<◌, ◌≤◌, nat_le, ◌↔◌, ℕ, All, Contains, IfOk, IfSome, IsTrue, length, replicate, slice_get};
+ghost use Rattle.std.specs.Prelude.{◌≡◌, [], ◌*◌, ◌<◌, ◌≤◌, nat_le, ◌↔◌, ℕ, All, Contains, IfOk, IfSome, IsTrue};
+ghost use Rattle.std.specs.Prelude.{length, replicate, slice_get};
 ghost use Rattle.cmwq_flush.specs.ItemNumbers.{IsItemReady, item_waits_for, numbers_open};
 ghost use Rattle.cmwq_flush.specs.Colouring.{IsToldByColours};
 ghost use Rattle.cmwq_flush.specs.FlushBook.{IsReady, flush_tickets, flushes_with_wait, flushes_without_wait, new_book};
 ghost use Rattle.cmwq_flush.specs.Queues.{AreQueuesRight, books_by};
-ghost use Rattle.cmwq_flush.specs.FlushBooks.{CanBegin, CanOpenOn, IsOpenOn, book_in, new_flush_state, with_book, with_open, without_open};
+ghost use Rattle.cmwq_flush.specs.FlushBooks.{CanBegin, CanOpenOn, IsOpenOn, book_in, new_flush_state, with_book};
+ghost use Rattle.cmwq_flush.specs.FlushBooks.{with_open, without_open};
 
 use crate::flushes::Flushes;
 use crate::limits::TICKETS_OF_CALLER;
@@ -14,7 +16,8 @@ use cmwq_model::{ItemId, NoMemory, Number, QueueId};
 use std::alloc::{AllocError, Global};
 use std::marker::Model;
 
-/// What flushes and drains of all queues wait for, and flushes of items: the open queueings, and the flush book of each queue.
+/// What flushes and drains of all queues wait for, and flushes of items: the open queueings, and the flush book of each
+/// queue.
 #[derive(Drop)]
 pub struct FlushBooks {
     openings: Openings,
@@ -29,14 +32,21 @@ impl Model for FlushBooks {
 
     ghost Value = { FlushState };
 
-    ghost view = { λ b. record { room = b.overflow.room; books = books_by (length b.openings.opened) b.openings.rows b.overflow.queues b.queues.items; opened = b.openings.opened } };
+    ghost view = { λ b. record {
+      room = b.overflow.room;
+      books =
+          books_by (length b.openings.opened) b.openings.rows b.overflow.queues b.queues.items;
+      opened =
+          b.openings.opened;
+    } };
 
-    ghost invariant = { λ b. AreQueuesRight (length b.openings.opened) b.openings.rows b.overflow.queues b.queues.items × (length b.openings.opened < 65536) };
+    ghost invariant = { λ b. AreQueuesRight (length b.openings.opened) b.openings.rows b.overflow.queues b.queues.items
+        × (length b.openings.opened < 65536) };
 }
 
 impl FlushBooks {
-    /// No open queueing and no flush, of so many queues and items, with room for 64 tickets for each of so many callers.
-    /// No later call takes memory; the error says that it ran out.
+    /// No open queueing and no flush, of so many queues and items, with room for 64 tickets for each of so many
+    /// callers. No later call takes memory; the error says that it ran out.
     pub fn new(alloc: Global, queues: usize, items: u16, callers: u8) -> Result<Self, NoMemory>
         requires { queues < 65535 }
         ensures { IfOk result (λ books. books ≡ new_flush_state queues items callers) }
@@ -86,8 +96,9 @@ impl FlushBooks {
         self.queues[usize::from(queue.0)].begin(&mut self.overflow, queue, ticket);
     }
 
-    /// Whether a flush may end: nothing is open that it waits for. Of a served one that is so exactly where the counts of its colour and of all
-    /// older ones are 0 (`nr_in_flight`, of which the kernel waits for one colour after the other).
+    /// Whether a flush may end: nothing is open that it waits for. Of a served one that is so exactly where the counts
+    /// of its colour and of all older ones are 0 (`nr_in_flight`, of which the kernel waits for one colour after the
+    /// other).
     pub fn ready(&self, queue: QueueId, ticket: Number) -> bool
         requires queue { queue.0 < length self.now.books }
         requires stands { Contains (flush_tickets (book_in self.now.books queue.0)) ticket }
@@ -109,7 +120,8 @@ impl FlushBooks {
         self.queues[usize::from(queue.0)].end(&mut self.overflow, queue, ticket);
     }
 
-    /// The least open number that a flush of the item with this ticket waits for: one up to the ticket (`insert_wq_barrier`).
+    /// The least open number that a flush of the item with this ticket waits for: one up to the ticket
+    /// (`insert_wq_barrier`).
     pub fn item_waits_for(&self, item: ItemId, ticket: Number) -> Option<Number>
         requires { item.0 < length self.now.opened }
         ensures value { result ≡ item_waits_for self.now.opened item.0 ticket }
@@ -121,7 +133,9 @@ impl FlushBooks {
 
 /// What is kept of each queue at first.
 fn new_queues(alloc: Global, queues: usize) -> Result<Vec<Flushes>, AllocError>
-    ensures { (items : ℕ) → IfOk result (λ made. AreQueuesRight items (replicate queues []) (replicate queues []) made.items × (books_by items (replicate queues []) (replicate queues []) made.items ≡ replicate queues (new_book items))) }
+    ensures { (items : ℕ)
+        → IfOk result (λ made. AreQueuesRight items (replicate queues []) (replicate queues []) made.items
+        × (books_by items (replicate queues []) (replicate queues []) made.items ≡ replicate queues (new_book items))) }
 {
     let mut made = Vec::with_capacity(alloc, queues)?;
     for index in 0..queues {

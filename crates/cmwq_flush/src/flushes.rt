@@ -1,8 +1,11 @@
-ghost use Rattle.std.specs.Prelude.{◌≡◌, ℕ, ◌+◌, List, ◌∷◌, ◌++◌, [], ◌<◌, ◌≤◌, ◌==◌, ◌↔◌, All, Contains, IfOk, IsTrue, length, slice_index, take, vec_capacity, vec_len};
+ghost use Rattle.std.specs.Prelude.{◌≡◌, ℕ, ◌+◌, List, ◌∷◌, ◌++◌, [], ◌<◌, ◌≤◌, ◌==◌, ◌↔◌, All, Contains, IfOk, IsTrue};
+ghost use Rattle.std.specs.Prelude.{length, slice_index, take, vec_capacity, vec_len};
 ghost use Rattle.std.specs.List.{list_all, remove, sum_by};
 ghost use Rattle.std.specs.List.Sorted.{IsNonDecreasingBy};
 ghost use Rattle.cmwq_flush.specs.declared.openings.Row.{Row};
-ghost use Rattle.cmwq_flush.specs.FlushBook.{CanOpen, IsLatestFlush, IsReady, flush_tickets, flushes_with_open, flushes_with_wait, flushes_without_open, flushes_without_wait, new_book, served_with_oldest, without_oldest};
+ghost use Rattle.cmwq_flush.specs.FlushBook.{CanOpen, IsLatestFlush, IsReady, flush_tickets, flushes_with_open};
+ghost use Rattle.cmwq_flush.specs.FlushBook.{flushes_with_wait, flushes_without_open, flushes_without_wait, new_book};
+ghost use Rattle.cmwq_flush.specs.FlushBook.{served_with_oldest, without_oldest};
 ghost use Rattle.cmwq_flush.specs.Colouring.{AreUnused, IsColouring, IsToldByColours, WaitsForNothing};
 ghost use Rattle.cmwq_flush.specs.Overflow.{tickets_at, with_tickets};
 ghost use Rattle.cmwq_flush.specs.Rows.{IsTally, without_row};
@@ -31,7 +34,8 @@ impl Flushes {
 
     /// No flush.
     pub(crate) fn new(alloc: Global) -> Result<Self, AllocError>
-        ensures { (items : ℕ) → IfOk result (λ f. IsQueueRight items [] [] f × (book_by items [] [] f ≡ new_book items)) }
+        ensures { (items : ℕ)
+            → IfOk result (λ f. IsQueueRight items [] [] f × (book_by items [] [] f ≡ new_book items)) }
     {
         Ok(Flushes {
             next: 0,
@@ -43,10 +47,13 @@ impl Flushes {
 
     /// A queueing of this number was opened. It has the current colour, which is answered.
     pub(crate) fn opened(&mut self, number: Number) -> Colour
-        requires { (items : ℕ) × (rows : List Row) × (overflow : List ℕ) × IsQueueRight items rows overflow self.old × CanOpen (book_by items rows overflow self.old) number × (items < 65536) × (number < 9223372036854775808) }
-        ensures { (items : ℕ) (rows : List Row) (overflow : List ℕ) → IsQueueRight items rows overflow self.old → CanOpen (book_by items rows overflow self.old) number
+        requires { (items : ℕ) × (rows : List Row) × (overflow : List ℕ) × IsQueueRight items rows overflow self.old
+            × CanOpen (book_by items rows overflow self.old) number × (items < 65536) × (number < 9223372036854775808) }
+        ensures { (items : ℕ) (rows : List Row) (overflow : List ℕ) → IsQueueRight items rows overflow self.old
+            → CanOpen (book_by items rows overflow self.old) number
             → IsQueueRight items (rows ++ (record { number = number; colour = result }) ∷ []) overflow self.new
-            × (book_by items (rows ++ (record { number = number; colour = result }) ∷ []) overflow self.new ≡ flushes_with_open (book_by items rows overflow self.old) number) }
+            × (book_by items (rows ++ (record { number = number; colour = result }) ∷ []) overflow self.new
+            ≡ flushes_with_open (book_by items rows overflow self.old) number) }
     {
         let colour = self.colours[self.served.len()];
         self.counts[usize::from(colour)] += 1;
@@ -56,9 +63,13 @@ impl Flushes {
 
     /// An open queueing of this colour has ended.
     pub(crate) fn ended(&mut self, colour: Colour)
-        requires { (items : ℕ) × (rows : List Row) × (overflow : List ℕ) × (n : ℕ) × IsQueueRight items rows overflow self.old × Contains rows (record { number = n; colour = colour }) }
-        ensures { (items : ℕ) (rows : List Row) (overflow : List ℕ) (n : ℕ) → IsQueueRight items rows overflow self.old → Contains rows (record { number = n; colour = colour })
-            → IsQueueRight items (without_row n rows) overflow self.new × (book_by items (without_row n rows) overflow self.new ≡ flushes_without_open (book_by items rows overflow self.old) n) }
+        requires { (items : ℕ) × (rows : List Row) × (overflow : List ℕ) × (n : ℕ)
+            × IsQueueRight items rows overflow self.old × Contains rows (record { number = n; colour = colour }) }
+        ensures { (items : ℕ) (rows : List Row) (overflow : List ℕ) (n : ℕ) → IsQueueRight items rows overflow self.old
+            → Contains rows (record { number = n; colour = colour })
+            → IsQueueRight items (without_row n rows) overflow self.new
+            × (book_by items (without_row n rows) overflow self.new
+            ≡ flushes_without_open (book_by items rows overflow self.old) n) }
     {
         self.counts[usize::from(colour)] -= 1;
     }
@@ -67,13 +78,16 @@ impl Flushes {
     pub(crate) fn begin(&mut self, overflow: &mut Overflow, queue: QueueId, ticket: Number)
         requires queue { queue.0 < length overflow.old.queues }
         requires room { sum_by length overflow.old.queues < overflow.old.room }
-        requires right { (items : ℕ) × (rows : List Row) × IsQueueRight items rows (tickets_at overflow.old.queues queue.0) self.old
+        requires right { (items : ℕ) × (rows : List Row)
+            × IsQueueRight items rows (tickets_at overflow.old.queues queue.0) self.old
             × IsLatestFlush (book_by items rows (tickets_at overflow.old.queues queue.0) self.old) ticket }
         ensures others { overflow.new ≡ with_tickets overflow.old queue.0 (tickets_at overflow.new.queues queue.0) }
-        ensures right { (items : ℕ) (rows : List Row) → IsQueueRight items rows (tickets_at overflow.old.queues queue.0) self.old
+        ensures right { (items : ℕ) (rows : List Row)
+            → IsQueueRight items rows (tickets_at overflow.old.queues queue.0) self.old
             → IsLatestFlush (book_by items rows (tickets_at overflow.old.queues queue.0) self.old) ticket
             → IsQueueRight items rows (tickets_at overflow.new.queues queue.0) self.new
-            × (book_by items rows (tickets_at overflow.new.queues queue.0) self.new ≡ flushes_with_wait (book_by items rows (tickets_at overflow.old.queues queue.0) self.old) ticket) }
+            × (book_by items rows (tickets_at overflow.new.queues queue.0) self.new
+            ≡ flushes_with_wait (book_by items rows (tickets_at overflow.old.queues queue.0) self.old) ticket) }
     {
         if self.served.len() < MOST_SERVED {
             self.served.push_reserved(Served {
@@ -87,10 +101,13 @@ impl Flushes {
 
     /// Whether a flush may end, where it is known whether nothing is open.
     pub(crate) fn ready(&self, ticket: Number, is_empty: bool) -> bool
-        requires { (items : ℕ) × (rows : List Row) × (overflow : List ℕ) × IsQueueRight items rows overflow self.now × Contains (flush_tickets (book_by items rows overflow self.now)) ticket }
-        ensures bound { (items : ℕ) (rows : List Row) (overflow : List ℕ) → IsQueueRight items rows overflow self.now → Contains (flush_tickets (book_by items rows overflow self.now)) ticket → IsTrue is_empty ↔ (rows ≡ [])
+        requires { (items : ℕ) × (rows : List Row) × (overflow : List ℕ) × IsQueueRight items rows overflow self.now
+            × Contains (flush_tickets (book_by items rows overflow self.now)) ticket }
+        ensures bound { (items : ℕ) (rows : List Row) (overflow : List ℕ) → IsQueueRight items rows overflow self.now
+            → Contains (flush_tickets (book_by items rows overflow self.now)) ticket → IsTrue is_empty ↔ (rows ≡ [])
             → IsTrue result ↔ IsReady (book_by items rows overflow self.now) ticket }
-        ensures colours { (items : ℕ) (rows : List Row) (overflow : List ℕ) → IsQueueRight items rows overflow self.now → IsToldByColours (book_by items rows overflow self.now) ticket result }
+        ensures colours { (items : ℕ) (rows : List Row) (overflow : List ℕ) → IsQueueRight items rows overflow self.now
+            → IsToldByColours (book_by items rows overflow self.now) ticket result }
     {
         match find_served(&self.served, ticket) {
             Some(place) => is_served_ready(&self.counts, &self.colours, &self.served, place),
@@ -101,13 +118,18 @@ impl Flushes {
     /// A flush of this queue that is ready ends. Where it was served, the oldest of the overflow is served from now on.
     pub(crate) fn end(&mut self, overflow: &mut Overflow, queue: QueueId, ticket: Number)
         requires queue { queue.0 < length overflow.old.queues }
-        requires right { (items : ℕ) × (rows : List Row) × IsQueueRight items rows (tickets_at overflow.old.queues queue.0) self.old
-            × Contains (flush_tickets (book_by items rows (tickets_at overflow.old.queues queue.0) self.old)) ticket × IsReady (book_by items rows (tickets_at overflow.old.queues queue.0) self.old) ticket }
+        requires right { (items : ℕ) × (rows : List Row)
+            × IsQueueRight items rows (tickets_at overflow.old.queues queue.0) self.old
+            × Contains (flush_tickets (book_by items rows (tickets_at overflow.old.queues queue.0) self.old)) ticket
+            × IsReady (book_by items rows (tickets_at overflow.old.queues queue.0) self.old) ticket }
         ensures others { overflow.new ≡ with_tickets overflow.old queue.0 (tickets_at overflow.new.queues queue.0) }
-        ensures right { (items : ℕ) (rows : List Row) → IsQueueRight items rows (tickets_at overflow.old.queues queue.0) self.old
-            → Contains (flush_tickets (book_by items rows (tickets_at overflow.old.queues queue.0) self.old)) ticket → IsReady (book_by items rows (tickets_at overflow.old.queues queue.0) self.old) ticket
+        ensures right { (items : ℕ) (rows : List Row)
+            → IsQueueRight items rows (tickets_at overflow.old.queues queue.0) self.old
+            → Contains (flush_tickets (book_by items rows (tickets_at overflow.old.queues queue.0) self.old)) ticket
+            → IsReady (book_by items rows (tickets_at overflow.old.queues queue.0) self.old) ticket
             → IsQueueRight items rows (tickets_at overflow.new.queues queue.0) self.new
-            × (book_by items rows (tickets_at overflow.new.queues queue.0) self.new ≡ flushes_without_wait (book_by items rows (tickets_at overflow.old.queues queue.0) self.old) ticket) }
+            × (book_by items rows (tickets_at overflow.new.queues queue.0) self.new
+            ≡ flushes_without_wait (book_by items rows (tickets_at overflow.old.queues queue.0) self.old) ticket) }
     {
         match find_served(&self.served, ticket) {
             Some(place) => {
@@ -136,7 +158,8 @@ fn is_clear(counts: &[u32; COLOURS], colour: Colour) -> bool
     counts[usize::from(colour)] == 0
 }
 
-/// Whether the served flush at this place may end: the counts of its colour and of all older ones are 0, so nothing is open below its bound.
+/// Whether the served flush at this place may end: the counts of its colour and of all older ones are 0, so nothing is
+/// open below its bound.
 fn is_served_ready(
     counts: &[u32; COLOURS],
     colours: &[Colour; COLOURS],
@@ -147,13 +170,15 @@ fn is_served_ready(
     requires few { length served.now ≤ MOST_SERVED }
     requires rise { IsNonDecreasingBy bound_of served.now }
     requires of { (rows : List Row) × IsTally rows counts.now × IsColouring colours.now served.now rows }
-    ensures colours { (rows : List Row) → IsTally rows counts.now → IsColouring colours.now served.now rows → IsTrue result ↔ AreUnused rows (take (place + 1) colours.now) }
-    ensures bound { (rows : List Row) → IsTally rows counts.now → IsColouring colours.now served.now rows → IsTrue result ↔ WaitsForNothing rows served.now place }
+    ensures colours { (rows : List Row) → IsTally rows counts.now → IsColouring colours.now served.now rows
+        → IsTrue result ↔ AreUnused rows (take (place + 1) colours.now) }
+    ensures bound { (rows : List Row) → IsTally rows counts.now → IsColouring colours.now served.now rows
+        → IsTrue result ↔ WaitsForNothing rows served.now place }
 {
     are_clear(counts, &colours[..place + 1])
 }
 
-/// Puts the colour at this place behind all others: it is free.
+/// Adds the colour at this place after all others: it is free.
 fn free_colour(colours: &mut [Colour; COLOURS], place: usize)
     requires { place < COLOURS }
     ensures { colours.new ≡ remove colours.old place ++ slice_index colours.old place ∷ [] }

@@ -6,8 +6,8 @@ use cmwq_model::Number;
 use std::alloc::{AllocError, Global};
 use std::marker::Model;
 
-/// Of each node the open queueing for which it stands, or the last for which it did. It takes nine bytes a node, where rows beside
-/// one another would take sixteen.
+/// Of each node the open queueing for which it stands, or the last for which it did. It takes nine bytes a node, where
+/// rows beside one another would take sixteen.
 #[derive(Drop)]
 pub(crate) struct NodeRows {
     numbers: Vec<Number>,

@@ -1,4 +1,5 @@
-ghost use Rattle.std.specs.Prelude.{◌≡◌, ℕ, ◌+◌, ◌*◌, ◌<◌, ◌↔◌, [], if◌then◌else◌, All, Contains, IfOk, IsTrue, find, length, replicate, slice_get};
+ghost use Rattle.std.specs.Prelude.{◌≡◌, ℕ, ◌+◌, ◌*◌, ◌<◌, ◌↔◌, [], if◌then◌else◌, All, Contains, IfOk, IsTrue, find};
+ghost use Rattle.std.specs.Prelude.{length, replicate, slice_get};
 ghost use Rattle.cmwq_flush.specs.ItemNumbers.{is_up_to, numbers_open};
 ghost use Rattle.cmwq_flush.specs.Numbers.{AreRising};
 ghost use Rattle.cmwq_flush.specs.Rows.{row_numbers, rows_at, open_rows_with, open_rows_without};
@@ -42,7 +43,8 @@ impl Open {
     }
 }
 
-/// The open queueings, in a list for each queue, by rising number. An item has two nodes, for its run and its unstarted queueing.
+/// The open queueings, in a list for each queue, by rising number. An item has two nodes, for its run and its unstarted
+/// queueing.
 #[derive(Drop)]
 pub(crate) struct Openings {
     items: u16,
@@ -65,7 +67,8 @@ impl Model for Openings {
 impl Openings {
     /// Nothing open of so many queues and items. No later call takes memory.
     pub(crate) fn new(alloc: Global, queues: u16, items: u16) -> Result<Self, AllocError>
-        ensures { IfOk result (λ openings. openings ≡ record { rows = replicate queues []; opened = replicate items [] }) }
+        ensures { IfOk result
+            (λ openings. openings ≡ record { rows = replicate queues []; opened = replicate items [] }) }
     {
         let nodes = 2 * u32::from(items);
         Ok(Openings {
@@ -91,8 +94,10 @@ impl Openings {
     /// The item's queueing of this number is open no more. Its colour is answered.
     pub(crate) fn close(&mut self, item: ItemId, number: Number) -> Colour
         requires { Contains (numbers_open self.old.opened item.0) number }
-        ensures closed { (q : ℕ) → Contains (row_numbers (rows_at self.old.rows q)) number → self.new ≡ open_rows_without self.old q item.0 number }
-        ensures colour { (q : ℕ) → Contains (row_numbers (rows_at self.old.rows q)) number → Contains (rows_at self.old.rows q) (record { number = number; colour = result }) }
+        ensures closed { (q : ℕ) → Contains (row_numbers (rows_at self.old.rows q)) number
+            → self.new ≡ open_rows_without self.old q item.0 number }
+        ensures colour { (q : ℕ) → Contains (row_numbers (rows_at self.old.rows q)) number
+            → Contains (rows_at self.old.rows q) (record { number = number; colour = result }) }
     {
         let node = node_of(&self.lists, &self.rows, item, number);
         self.lists.remove(node);
@@ -153,7 +158,8 @@ fn free_node(lists: &Lists, item: ItemId) -> u32
 fn node_of(lists: &Lists, rows: &NodeRows, item: ItemId, number: Number) -> u32
     requires there { 2 * item.0 < lists.now.items }
     requires many { length rows.now ≡ lists.now.items }
-    ensures { result ≡ (if node_has_number lists.now.lists rows.now (2 * item.0) number then 2 * item.0 else 2 * item.0 + 1) }
+    ensures { result
+        ≡ (if node_has_number lists.now.lists rows.now (2 * item.0) number then 2 * item.0 else 2 * item.0 + 1) }
 {
     let node = 2 * u32::from(item.0);
     if number_at(lists, rows, node) == Some(number) {

@@ -1,4 +1,5 @@
-ghost use Rattle.std.specs.Prelude.{◌≡◌, ◌+◌, ◌<◌, ◌^◌, ◌↔◌, ◌++◌, ◌∷◌, [], All, Contains, IfOk, IsTrue, length, replicate, slice_get};
+ghost use Rattle.std.specs.Prelude.{◌≡◌, ◌+◌, ◌<◌, ◌^◌, ◌↔◌, ◌++◌, ◌∷◌, [], All, Contains, IfOk, IsTrue, length};
+ghost use Rattle.std.specs.Prelude.{replicate, slice_get};
 ghost use Rattle.std.specs.List.{sum_by};
 ghost use Rattle.cmwq_list.specs.Lists.{AreListedOnce, lists_with, lists_without};
 ghost use Rattle.cmwq_flush.specs.FlushBook.{without_oldest};

@@ -1,5 +1,6 @@
--- The first wrong entry of a history stays that when more is read behind it.
-use Rattle.std.proofs.Common.{◌≡◌, ℕ, List, [], ◌∷◌, ◌++◌, length, Option, Result, Ok, Err, refl, ap, ◌∙◌, append_assoc, subst}
+-- The first wrong entry of a history stays that when more is read after it.
+use Rattle.std.proofs.Common.{◌≡◌, ℕ, List, [], ◌∷◌, ◌++◌, length, Option, Result, Ok, Err, refl, ap, ◌∙◌, append_assoc}
+use Rattle.std.proofs.Common.{subst}
 use Rattle.std.specs.Prelude.{OnOk, OnErr, IfErr}
 use Rattle.std.specs.Io.KnownBytes.{Appends}
 use Rattle.cmwq_io.specs.Moves.{AppendsFront}
@@ -16,7 +17,8 @@ use Rattle.cmwq_state.specs.declared.effect.Effect.{Effect}
 use Rattle.cmwq_history.specs.Steps.{IsStep}
 use Rattle.cmwq_model.specs.Prelude.{Layout, IsLegal, past_of, Wants, IsFirstWrong, is_layout, has_room, most_room}
 
-pub wrong_stays : (s : Layout) (entries : List Entry) (x : Entry) (i : Illegal) → IsFirstWrong s entries i → IsFirstWrong s (entries ++ x ∷ []) i
+pub wrong_stays : (s : Layout) (entries : List Entry) (x : Entry) (i : Illegal) → IsFirstWrong s entries i
+    → IsFirstWrong s (entries ++ x ∷ []) i
 wrong_stays s entries x i w = record {
   before = w.before;
   entry = w.entry;
@@ -27,14 +29,17 @@ wrong_stays s entries x i w = record {
   wants = w.wants;
 }
 
-pub wrong_now : (s : Layout) (entries : List Entry) (x : Entry) (i : Illegal) → i.at ≡ length entries → IsLegal s (past_of entries) → Wants s (past_of entries) x i.wanted → IsFirstWrong s (entries ++ x ∷ []) i
-wrong_now s entries x i at legal wants = record { before = entries; entry = x; rest = []; parts = refl; place = at; is_legal = legal; wants = wants }
+pub wrong_now : (s : Layout) (entries : List Entry) (x : Entry) (i : Illegal) → i.at ≡ length entries
+    → IsLegal s (past_of entries) → Wants s (past_of entries) x i.wanted → IsFirstWrong s (entries ++ x ∷ []) i
+wrong_now s entries x i at legal wants =
+    record { before = entries; entry = x; rest = []; parts = refl; place = at; is_legal = legal; wants = wants }
 
 -- an entry that is right is a step
 pub past_more : (entries : List Entry) (x : Entry) → past_of (entries ++ x ∷ []) ≡ x ∷ past_of entries
 past_more entries x = reverse-append entries (x ∷ [])
 
-pub step_made : (s : Layout) (entries : List Entry) (f : Effect) → is_layout s ≡ true → IsEffect s (past_of entries) f → has_room s most_room (past_of entries) f.entry.who f.entry.call ≡ true
+pub step_made : (s : Layout) (entries : List Entry) (f : Effect) → is_layout s ≡ true → IsEffect s (past_of entries) f
+    → has_room s most_room (past_of entries) f.entry.who f.entry.call ≡ true
     → IsStep (record { layout = s; entries = entries ++ f.entry ∷ [] }) f
 step_made s entries f inside effect few =
     let p = past_more entries f.entry in
@@ -45,6 +50,8 @@ pub same_entries : (xs ys : List Entry) → past_of xs ≡ past_of ys → xs ≡
 same_entries xs ys h = sym (reverse-reverse xs) ∙ ap reverse h ∙ reverse-reverse ys
 
 -- a text was written whole, or a front of it
-pub write_ends : (old new : Option (List ℕ)) (text : List ℕ) (r : Result (Unit {0}) Refusal) → OnOk r (Appends old new text) → OnErr r (AppendsFront old new text) → IfErr r (λ e. e ≡ refusal.WriteFault) → WriteEnds old new text r
+pub write_ends : (old new : Option (List ℕ)) (text : List ℕ) (r : Result (Unit {0}) Refusal)
+    → OnOk r (Appends old new text) → OnErr r (AppendsFront old new text) → IfErr r (λ e. e ≡ refusal.WriteFault)
+    → WriteEnds old new text r
 write_ends old new text (Ok u) whole front only = whole
 write_ends old new text (Err e) whole front only = subst (λ f. WriteEnds old new text (Err f)) (sym only) front

@@ -1,5 +1,6 @@
 -- What the proofs of this crate name from outside it, in one import.
-pub use Rattle.std.proofs.Common.{List, Some, None, Option, Ok, Err, Result, ap, arith, length, max, refl, reverse, subst, sym, take, true, ℕ, ◌+◌, ◌<◌, ◌∙◌, ◌∷◌, ◌≡◌, ◌≤◌, ◌++◌}
+pub use Rattle.std.proofs.Common.{List, Some, None, Option, Ok, Err, Result, ap, arith, length, max, refl, reverse}
+pub use Rattle.std.proofs.Common.{subst, sym, take, true, ℕ, ◌+◌, ◌<◌, ◌∙◌, ◌∷◌, ◌≡◌, ◌≤◌, ◌++◌}
 pub use Rattle.std.proofs.lemmas.List.{length-reverse, reverse-append, reverse-reverse}
 pub use Rattle.std.proofs.lemmas.Result.{err_from_is_err_and}
 pub use Rattle.std.proofs.KnownBytes.{Appends-trans}

@@ -1,4 +1,5 @@
--- How a run of one of the program's words ends: it has read all of its input, and then writes all of its answer, or a fault stopped it.
+-- How a run of one of the program's words ends: it has read all of its input, and then writes all of its answer, or a
+-- fault stopped it.
 use Rattle.std.specs.Prelude.{◌≡◌}
 use Rattle.std.specs.Prelude.{ℕ, max, List, Result, Ok, Err, Option}
 use Rattle.std.specs.Io.KnownBytes.{Appends, Keeps}
@@ -12,11 +13,13 @@ pub record Word (X R : Type 0) : Type 1 where
   pub text_of : X → R → List ℕ
 
 -- of a run that ended with an answer, or with a refusal: what it read, and what it wrote to its output
-abbrev pub RunEnds : {X R : Type 0} → Word X R → Result X Refusal → Option (List ℕ) → Option (List ℕ) → Result R Refusal → Type 0
+abbrev pub RunEnds : {X R : Type 0} → Word X R → Result X Refusal → Option (List ℕ) → Option (List ℕ) → Result R Refusal
+    → Type 0
 RunEnds {X} w file old new (Ok r) = (x : X) × (file ≡ Ok x) × w.Answers x r × Appends old new (w.text_of x r)
 RunEnds w file old new (Err refusal.NoMemory) = Keeps old new
 RunEnds w file old new (Err refusal.ReadFault) = Keeps old new
-RunEnds {X} {R} w file old new (Err refusal.WriteFault) = (x : X) × (r : R) × (file ≡ Ok x) × w.Answers x r × AppendsFront old new (w.text_of x r)
+RunEnds {X} {R} w file old new (Err refusal.WriteFault) = (x : X) × (r : R) × (file ≡ Ok x) × w.Answers x r
+    × AppendsFront old new (w.text_of x r)
 RunEnds w file old new (Err refusal.TooLong) = (file ≡ Err refusal.TooLong) × Keeps old new
 RunEnds w file old new (Err (refusal.BadLine n)) = (file ≡ Err (refusal.BadLine n)) × Keeps old new
 RunEnds w file old new (Err (refusal.BadShape n)) = (file ≡ Err (refusal.BadShape n)) × Keeps old new

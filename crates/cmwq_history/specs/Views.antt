@@ -22,7 +22,8 @@ text_or_none text_of f (Some i) = []
 abbrev pub view_word : (File Entry → List ℕ) → Word (File Entry) (Option Illegal)
 view_word text_of = record { Answers = IsVerdict; text_of = text_or_none text_of }
 
-abbrev pub ViewEnds : (File Entry → List ℕ) → List ℕ → Option (List ℕ) → Option (List ℕ) → Result (Option Illegal) Refusal → Type 0
+abbrev pub ViewEnds : (File Entry → List ℕ) → List ℕ → Option (List ℕ) → Option (List ℕ)
+    → Result (Option Illegal) Refusal → Type 0
 ViewEnds text_of text old new ended = RunEnds (view_word text_of) (history_file_of text) old new ended
 
 -- nothing of what was written is held back
@@ -41,7 +42,8 @@ abbrev pub file_in : ℕ → Judged → File Entry
 file_in version j = record { version = version; layout = j.layout; items = j.entries }
 
 -- what a judge has seen is a legal history of the shape, and this is made of it
-pub record IsMadeOf {F : Type 0} (is_of : Layout → List Entry → F → Type 0) (s : Layout) (j : Judged) (made : F) : Type 0 where
+pub record IsMadeOf {F : Type 0} (is_of : Layout → List Entry → F → Type 0) (s : Layout) (j : Judged) (made : F) : Type
+    0 where
   pub layout : s ≡ j.layout
   pub legal : IsLegal j.layout (past_of j.entries)
   pub made_is : is_of j.layout (past_of j.entries) made

@@ -24,8 +24,9 @@ pub(crate) enum Course {
     Failed,
 }
 
-/// Judges the entries of a history as they come, and has something made of them. Keeps none itself. After the first wrong one it takes the others
-/// without judging them. The judge and what is made are boxed, since the reader hands what gathers on by value before and after its lines.
+/// Judges the entries of a history as they come, and has something made of them. Keeps none itself. After the first
+/// wrong one it takes the others without judging them. The judge and what is made are boxed, since the reader hands
+/// what gathers on by value before and after its lines.
 #[derive(Drop)]
 pub struct Following<F: Fold + Drop> {
     shape: Shape,
@@ -55,11 +56,13 @@ pub struct Legal<'a, F> {
 }
 
 impl<F: Fold + Drop> Following<F> {
-    /// What is known of the entries, if they are legal, and else the first that is wrong. The outer error says that memory ran out.
+    /// What is known of the entries, if they are legal, and else the first that is wrong. The outer error says that
+    /// memory ran out.
     pub fn legal(&self) -> Result<Result<Legal<'_, F>, Illegal>, NoMemory>
         ensures shape { IfOk result (λ verdict. IfOk verdict (λ l. l.shape.now ≡ self.now.layout)) }
         ensures judge { IfOk result (λ verdict. IfOk verdict (λ l. l.judge.now ≡ judged_of self.now)) }
-        ensures made { IfOk result (λ verdict. IfOk verdict (λ l. F.is_of self.now.layout (past_of self.now.entries) l.made.now)) }
+        ensures made { IfOk result
+            (λ verdict. IfOk verdict (λ l. F.is_of self.now.layout (past_of self.now.entries) l.made.now)) }
         ensures legal { IfOk result (λ verdict. OnOk verdict (IsLegal self.now.layout (past_of self.now.entries))) }
         ensures wrong { IfOk result (λ verdict. IfErr verdict (IsFirstWrong self.now.layout self.now.entries)) }
     {

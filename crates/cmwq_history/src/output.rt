@@ -19,8 +19,10 @@ pub fn write_history<W: Sink>(
     entries: &[Entry],
 ) -> Result<(), Refusal>
     requires { 2 ≤ version }
-    ensures ok { OnOk result (Appends (W.written sink.old) (W.written sink.new) (text_of_format version shape.now entries.now)) }
-    ensures err { OnErr result (AppendsFront (W.written sink.old) (W.written sink.new) (text_of_format version shape.now entries.now)) }
+    ensures ok { OnOk result
+        (Appends (W.written sink.old) (W.written sink.new) (text_of_format version shape.now entries.now)) }
+    ensures err { OnErr result
+        (AppendsFront (W.written sink.old) (W.written sink.new) (text_of_format version shape.now entries.now)) }
     ensures flushed { OnOk result (W.held sink.new ≡ 0) }
     ensures only { IfErr result (λ e. e ≡ Refusal.WriteFault) }
     ensures fault { OnErr result (Rises (W.troubles sink.old) (W.troubles sink.new)) }

@@ -9,8 +9,8 @@ use cmwq_base::QueueId;
 use cmwq_core::{Effect, Judge};
 use std::marker::Model;
 
-/// The next entry of a legal history: what it does to what was there before it, and what can be read after it. Contracts see all entries before
-/// it.
+/// The next entry of a legal history: what it does to what was there before it, and what can be read after it.
+/// Contracts see all entries before it.
 #[derive(Drop)]
 pub struct Step<'a> {
     effect: Effect,
@@ -65,7 +65,8 @@ impl<'a> Step<'a> {
         self.judge.open_count()
     }
 
-    /// How many queueings of each queue are active on each CPU after it, with a number for each CPU that a shape may have.
+    /// How many queueings of each queue are active on each CPU after it, with a number for each CPU that a shape may
+    /// have.
     pub fn active_counts(&self) -> &[u32]
         ensures { AreActiveCounts self.now.layout (after self.now) result.now }
     {

@@ -36,8 +36,8 @@ impl<W: Sink> View<W> for Upgrade {
     }
 }
 
-/// Reads all of a history of any format, and writes a legal one in format 2, or in 3 if it is of that, with the same shape and entries, as
-/// `run_view` does a view.
+/// Reads all of a history of any format, and writes a legal one in format 2, or in 3 if it is of that, with the same
+/// shape and entries, as `run_view` does a view.
 pub fn run_upgrade<S: Source, O: Sink, E: Sink>(
     alloc: Global,
     input: &mut S,

@@ -29,11 +29,12 @@ pub trait View<W: Sink> {
     /// The text of a legal history that was read.
     ghost text_of: { Self → File Entry → List ℕ };
 
-    /// Writes the text of the history of which this was made, which a judge has seen, and flushes. All memory is taken before the first byte is
-    /// written.
+    /// Writes the text of the history of which this was made, which a judge has seen, and flushes. All memory is taken
+    /// before the first byte is written.
     ///
     /// # Errors
-    /// `NoMemory`, and then nothing was written; or `WriteFault` if the sink fails, also at the flush, and then a front of the text was written.
+    /// `NoMemory`, and then nothing was written; or `WriteFault` if the sink fails, also at the flush, and then a front
+    /// of the text was written.
     fn write(
         &self,
         alloc: Global,
@@ -45,7 +46,8 @@ pub trait View<W: Sink> {
     ) -> Result<(), Refusal>
         requires version { 1 ≤ version }
         requires made { IsMadeOf Self.Made.is_of shape.now judge.now made.now }
-        ensures ends { WriteEnds (W.written sink.old) (W.written sink.new) (text_of self.now (file_in version judge.now)) result }
+        ensures ends { WriteEnds (W.written sink.old) (W.written sink.new) (text_of self.now (file_in version judge.now))
+            result }
         ensures flushed { OnOk result (W.held sink.new ≡ 0) }
         ensures fault { IsErrOf result Refusal.WriteFault → Rises (W.troubles sink.old) (W.troubles sink.new) };
 }
@@ -57,7 +59,8 @@ fn write_view<S: Source, O: Sink, V: View<O>>(
     input: &mut S,
     output: &mut O,
 ) -> Result<Option<Illegal>, Refusal>
-    ensures ends { IfSome (S.left input.old) (λ text. ViewEnds (V.text_of view.now) text (O.written output.old) (O.written output.new) result) }
+    ensures ends { IfSome (S.left input.old)
+        (λ text. ViewEnds (V.text_of view.now) text (O.written output.old) (O.written output.new) result) }
     ensures flushed { IsFlushed result (O.held output.new) }
     ensures read_fault { IsErrOf result Refusal.ReadFault → Rises (S.troubles input.old) (S.troubles input.new) }
     ensures write_fault { IsErrOf result Refusal.WriteFault → Rises (O.troubles output.old) (O.troubles output.new) }
@@ -79,10 +82,11 @@ fn write_view<S: Source, O: Sink, V: View<O>>(
     }
 }
 
-/// Reads all of a history of any format, and writes the view of a legal one, and nothing else. For an illegal one nothing is written, and its
-/// verdict is told on `errors`, as the line that `run_check` writes. What went wrong is told there too; that its own writes fail changes nothing.
-/// Returns the exit status: 0 written, 1 refused input, 3 illegal, 4 no memory, 5 a fault of reading or writing. At a fault of writing a front
-/// of the text is written, and at each other status but 0 nothing.
+/// Reads all of a history of any format, and writes the view of a legal one, and nothing else. For an illegal one
+/// nothing is written, and its verdict is told on `errors`, as the line that `run_check` writes. What went wrong is
+/// told there too; that its own writes fail changes nothing. Returns the exit status: 0 written, 1 refused input, 3
+/// illegal, 4 no memory, 5 a fault of reading or writing. At a fault of writing a front of the text is written, and at
+/// each other status but 0 nothing.
 pub fn run_view<S: Source, O: Sink, E: Sink, V: View<O>>(
     alloc: Global,
     view: &V,
@@ -92,7 +96,8 @@ pub fn run_view<S: Source, O: Sink, E: Sink, V: View<O>>(
 ) -> u8
     ensures ends { (ended : Result (Option TheIllegal) TheRefusal)
         × (result ≡ check_status ended)
-        × IfSome (S.left input.old) (λ text. ViewEnds (V.text_of view.now) text (O.written output.old) (O.written output.new) ended)
+        × IfSome (S.left input.old)
+        (λ text. ViewEnds (V.text_of view.now) text (O.written output.old) (O.written output.new) ended)
         × IsFlushed ended (O.held output.new)
         × (IsErrOf ended Refusal.ReadFault → Rises (S.troubles input.old) (S.troubles input.new))
         × (IsErrOf ended Refusal.WriteFault → Rises (O.troubles output.old) (O.troubles output.new)) }

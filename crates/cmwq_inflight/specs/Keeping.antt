@@ -1,5 +1,6 @@
 -- How the rows and the slab of the queueings in flight hang together.
-use Rattle.std.specs.Prelude.{◌≡◌, ◌≢◌, ℕ, ◌+◌, ◌*◌, ◌^◌, ◌<◌, ◌≤◌, Bool, List, length, map, count_by, slice_index_or, Option, Some, None, is_some, option_and_then, IfSome, IsSomeAnd}
+use Rattle.std.specs.Prelude.{◌≡◌, ◌≢◌, ℕ, ◌+◌, ◌*◌, ◌^◌, ◌<◌, ◌≤◌, Bool, List, length, map, count_by, slice_index_or}
+use Rattle.std.specs.Prelude.{Option, Some, None, is_some, option_and_then, IfSome, IsSomeAnd}
 use Rattle.slab.specs.Slab.{Slab, get, slab_len}
 use Rattle.cmwq_model.specs.declared.record.Queueing.{Queueing}
 use Rattle.cmwq_inflight.specs.declared.flights.Keys.{Keys}
@@ -13,7 +14,8 @@ keys_at rows i = slice_index_or rows i no_keys
 
 -- the queueings that a row's keys name
 abbrev pub flight_by : Slab Queueing → Keys → Flight
-flight_by slab keys = record { run = option_and_then (get slab) keys.run; unstarted = option_and_then (get slab) keys.unstarted }
+flight_by slab keys =
+    record { run = option_and_then (get slab) keys.run; unstarted = option_and_then (get slab) keys.unstarted }
 
 abbrev pub flights_by : Slab Queueing → List Keys → List Flight
 flights_by slab rows = map (flight_by slab) rows
@@ -37,7 +39,8 @@ has_unstarted_key keys = is_some keys.unstarted
 abbrev pub key_count : List Keys → ℕ
 key_count rows = count_by has_run_key rows + count_by has_unstarted_key rows
 
--- each key names a queueing of its row's item, no two the same one, and as many are held as there are keys, so nothing else is
+-- each key names a queueing of its row's item, no two the same one, and as many are held as there are keys, so nothing
+-- else is
 pub record AreFlightsKept (slab : Slab Queueing) (rows : List Keys) : Type 0 where
   pub few : length rows < 2 ^ 16
   pub room : 2 * length rows ≤ slab.capacity

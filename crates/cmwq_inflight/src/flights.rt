@@ -1,5 +1,6 @@
 ghost use Rattle.std.specs.Prelude.{◌≡◌, ◌<◌, Some, None, IfOk, IfSome, IsSome, length, replicate};
-ghost use Rattle.cmwq_inflight.specs.Flights.{no_flight, flight_at, open_count, flights_with_open, flights_without_open, flights_with_run, flights_without_run};
+ghost use Rattle.cmwq_inflight.specs.Flights.{no_flight, flight_at, open_count, flights_with_open};
+ghost use Rattle.cmwq_inflight.specs.Flights.{flights_without_open, flights_with_run, flights_without_run};
 
 use crate::key::Key;
 use cmwq_model::{ItemId, NoMemory, Queueing};
@@ -7,8 +8,8 @@ use slab::Slab;
 use std::alloc::Global;
 use std::marker::Model;
 
-/// A slab that has room for more has keys past those of a row. One that is asked for room for two of each item never does,
-/// but says only that it has room for so many or more.
+/// A slab that has room for more has keys past those of a row. One that is asked for room for two of each item never
+/// does, but says only that it has room for so many or more.
 const MOST_KEYS: usize = u32::MAX as usize;
 
 /// Where an item's queueings stand: their keys in the slab.

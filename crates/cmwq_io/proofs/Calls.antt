@@ -1,5 +1,6 @@
--- How calls go on behind others.
-use Rattle.cmwq_io.specs.Common.{◌≡◌, ℕ, ◌≤◌, List, [], ◌∷◌, ◌++◌, Option, Some, None, refl, sym, ap, ◌∙◌, append_assoc, append-nil, inl, inr, zero, suc, arith, All}
+-- How calls go on after others.
+use Rattle.cmwq_io.specs.Common.{◌≡◌, ℕ, ◌≤◌, List, [], ◌∷◌, ◌++◌, Option, Some, None, refl, sym, ap, ◌∙◌, append_assoc}
+use Rattle.cmwq_io.specs.Common.{append-nil, inl, inr, zero, suc, arith, All}
 use Rattle.std.proofs.lemmas.List.Elements.{All-append}
 use Rattle.std.proofs.lemmas.Grind.{flat_map-append}
 use Rattle.cmwq_io.specs.declared.trouble.Trouble.{Trouble}
@@ -35,8 +36,13 @@ none_made a = ([], sym (append-nil a), no_call)
 ends_at : (calls : Calls) → IsGivenUp calls → EndsGivenUp calls
 ends_at calls h = record { made = []; given_up = calls; well = no_call; ends = h; calls = refl }
 
-pub failed : (a b c : Calls) (n : ℕ) (t : Trouble) → n ≤ 1000 → t ≡ Failed → b ≡ a ++ interruptions n → c ≡ b ++ Some t ∷ [] → GoesOnBy EndsGivenUp a c
-failed a b c n t few is p q = (interruptions n ++ Some t ∷ [], parts a b c _ _ p q, ends_at _ (inl (n, few, ap (λ x. interruptions n ++ Some x ∷ []) is)))
+pub failed : (a b c : Calls) (n : ℕ) (t : Trouble) → n ≤ 1000 → t ≡ Failed → b ≡ a ++ interruptions n
+    → c ≡ b ++ Some t ∷ [] → GoesOnBy EndsGivenUp a c
+failed a b c n t few is p q = (
+  interruptions n ++ Some t ∷ [],
+  parts a b c _ _ p q,
+  ends_at _ (inl (n, few, ap (λ x. interruptions n ++ Some x ∷ []) is)),
+)
 
 pub out_of_tries : (a b : Calls) (n : ℕ) → n ≡ 1001 → b ≡ a ++ interruptions n → GoesOnBy EndsGivenUp a b
 out_of_tries a b n all p = (interruptions n, p, ends_at _ (inr (n, all, refl)))

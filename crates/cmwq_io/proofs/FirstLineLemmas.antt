@@ -1,5 +1,8 @@
 -- The first line, found in the bytes read ahead, is that of the whole text.
-use Rattle.cmwq_io.specs.Common.{◌≡◌, ℕ, ◌+◌, ◌<◌, ◌≤◌, Bool, true, false, cond, not, ◌&&◌, eqb, ltb, leb, List, [], ◌++◌, length, take, drop, Option, Some, None, refl, sym, ap, ◌∙◌, arith, append_assoc, length-append, length-take, take-append-drop, is_some, position, position_or_len, take_all, take-append-le, drop-append-le, length-take-le}
+use Rattle.cmwq_io.specs.Common.{◌≡◌, ℕ, ◌+◌, ◌<◌, ◌≤◌, Bool, true, false, cond, not, ◌&&◌, eqb, ltb, leb, List, []}
+use Rattle.cmwq_io.specs.Common.{◌++◌, length, take, drop, Option, Some, None, refl, sym, ap, ◌∙◌, arith, append_assoc}
+use Rattle.cmwq_io.specs.Common.{length-append, length-take, take-append-drop, is_some, position, position_or_len}
+use Rattle.cmwq_io.specs.Common.{take_all, take-append-le, drop-append-le, length-take-le}
 use Rattle.std.proofs.lemmas.Bool.Decides.{nat_tests}
 use Rattle.std.proofs.lemmas.List.Sums.{prefix_len-le-length}
 use Rattle.std.proofs.lemmas.List.Folds.{prefix_len-append}
@@ -14,7 +17,8 @@ stop text = position_or_len is_feed text
 stop-within : (text : List ℕ) → stop text ≤ length text
 stop-within text = prefix_len-le-length _ text
 
-stop-append : (front rest : List ℕ) → stop (front ++ rest) ≡ cond (eqb (stop front) (length front)) (length front + stop rest) (stop front)
+stop-append : (front rest : List ℕ)
+    → stop (front ++ rest) ≡ cond (eqb (stop front) (length front)) (length front + stop rest) (stop front)
 stop-append front rest = prefix_len-append _ front rest
 
 stop-in : (front rest : List ℕ) → stop front < length front → stop (front ++ rest) ≡ stop front
@@ -31,7 +35,8 @@ no_place s n h = grind (arith, nat_tests)
 
 -- a text whose first 121 bytes are known
 parted : (ahead more : List ℕ) → ahead ++ more ≡ take 121 ahead ++ (drop 121 ahead ++ more)
-parted ahead more = ap (λ l. l ++ more) (sym (take-append-drop 121 ahead)) ∙ append_assoc (take 121 ahead) (drop 121 ahead) more
+parted ahead more = ap (λ l. l ++ more) (sym (take-append-drop 121 ahead))
+    ∙ append_assoc (take 121 ahead) (drop 121 ahead) more
 
 stop-near : (ahead more : List ℕ) (at : ℕ) → near_feed ahead ≡ Some at → stop (ahead ++ more) ≡ at
 stop-near ahead more at near =
@@ -64,8 +69,9 @@ feed_there text h = grind (arith, nat_tests)
 no_feed : (text : List ℕ) → length text ≤ stop text → has_feed text ≡ false
 no_feed text h = grind (arith, nat_tests)
 
--- what take_near does, and take_first behind it
-pub takes_whole : (ahead more : List ℕ) (at : ℕ) → near_feed ahead ≡ Some at → TakesLine (ahead ++ more) (drop (at + 1) ahead ++ more) Whole (take at ahead)
+-- what take_near does, and take_first after it
+pub takes_whole : (ahead more : List ℕ) (at : ℕ) → near_feed ahead ≡ Some at
+    → TakesLine (ahead ++ more) (drop (at + 1) ahead ++ more) Whole (take at ahead)
 takes_whole ahead more at near =
     let text = ahead ++ more in
     let ends = stop-near ahead more at near in
@@ -86,11 +92,13 @@ few_are_short ahead few far =
     let none = no_feed ahead past in
     grind (arith, nat_tests)
 
-many : (ahead : List ℕ) (b : Bool) → leb (length ahead) 120 ≡ b → near_feed ahead ≡ None → is_line_short ahead ≡ false → 120 < length ahead
+many : (ahead : List ℕ) (b : Bool) → leb (length ahead) 120 ≡ b → near_feed ahead ≡ None → is_line_short ahead ≡ false
+    → 120 < length ahead
 many ahead true few far open_end = let short = few_are_short ahead (grind (arith, nat_tests)) far in cc
 many ahead false few far open_end = grind (arith, nat_tests)
 
-pub takes_long : (ahead more : List ℕ) → near_feed ahead ≡ None → is_line_short ahead ≡ false → TakesLine (ahead ++ more) (ahead ++ more) Long []
+pub takes_long : (ahead more : List ℕ) → near_feed ahead ≡ None → is_line_short ahead ≡ false
+    → TakesLine (ahead ++ more) (ahead ++ more) Long []
 takes_long ahead more far open_end =
     let text = ahead ++ more in
     let past = stop-far ahead more far in
@@ -107,7 +115,8 @@ few_tested : (few feed b : Bool) → few ≡ true → feed ≡ not b → b ≡ f
 few_tested few feed true p q = cc
 few_tested few feed false p q = cc
 
-pub short_by_near : (ahead : List ℕ) (near : Option ℕ) (none : Bool) → length ahead ≤ 120 → near ≡ near_feed ahead → is_some near ≡ not none → none ≡ is_line_short ahead
+pub short_by_near : (ahead : List ℕ) (near : Option ℕ) (none : Bool) → length ahead ≤ 120 → near ≡ near_feed ahead
+    → is_some near ≡ not none → none ≡ is_line_short ahead
 short_by_near ahead near none few at b =
     let whole : take 121 ahead ≡ ahead = take_all 121 ahead (omega arith) in
     let feed = ap is_some (sym (at ∙ ap (position is_feed) whole)) ∙ b in

@@ -1,6 +1,8 @@
--- The first line of a text, and what stands after it. A line ends at a line feed, which isn't part of it, or at the end of the text.
+-- The first line of a text, and what stands after it. A line ends at a line feed, which isn't part of it, or at the end
+-- of the text.
 use Rattle.std.specs.Prelude.{◌≡◌, ◌==◌, ◌&&◌, if◌then◌else◌}
-use Rattle.cmwq_io.specs.Common.{ℕ, Bool, not, nat_le, List, [], length, nat_lt, Option, Some, None, ⊤, before_first, after_first}
+use Rattle.cmwq_io.specs.Common.{ℕ, Bool, not, nat_le, List, [], length, nat_lt, Option, Some, None, ⊤, before_first}
+use Rattle.cmwq_io.specs.Common.{after_first}
 use Rattle.cmwq_io.specs.Feeds.{is_feed, has_feed}
 use Rattle.cmwq_io.specs.declared.lines.Found.{Found}
 use Rattle.cmwq_io.specs.declared.lines.Found.TheVariants.{Whole, Cut, Long, End}

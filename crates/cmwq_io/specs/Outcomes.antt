@@ -1,5 +1,6 @@
 -- How calls of a source or a sink went, one after the other: None where a call went well, and else its trouble.
-use Rattle.std.specs.Prelude.{◌≡◌, ℕ, ◌≤◌, List, [], ◌∷◌, ◌++◌, replicate, flat_map, All, Option, Some, None, Result, Ok, Err, ◌⊎◌}
+use Rattle.std.specs.Prelude.{◌≡◌, ℕ, ◌≤◌, List, [], ◌∷◌, ◌++◌, replicate, flat_map, All, Option, Some, None, Result}
+use Rattle.std.specs.Prelude.{Ok, Err, ◌⊎◌}
 use Rattle.cmwq_io.specs.declared.trouble.Trouble.{Trouble}
 use Rattle.cmwq_io.specs.declared.trouble.Trouble.TheVariants.{Interrupted, Failed}
 
@@ -27,7 +28,7 @@ IsGivenUp outcomes =
     ((times : ℕ) × (times ≤ 1000) × (outcomes ≡ interruptions times ++ Some Failed ∷ []))
     ⊎ ((times : ℕ) × (times ≡ 1001) × (outcomes ≡ interruptions times))
 
--- calls that went well as above, and then one that was given up, behind which none was made
+-- calls that went well as above, and then one that was given up, after which none was made
 pub record EndsGivenUp (outcomes : List (Option Trouble)) : Type 0 where
   pub made : List (Option Trouble)
   pub given_up : List (Option Trouble)

@@ -1,5 +1,6 @@
 //! The lines of a source, one after the other.
-ghost use Rattle.std.specs.Prelude.{◌≡◌, ◌+◌, ◌-◌, ◌<◌, ◌≤◌, ℕ, List, [], ◌++◌, length, take, drop, slice_range, position, vec_len, true, false, MatchBool, None, IfSome, IfOk, OnErr};
+ghost use Rattle.std.specs.Prelude.{◌≡◌, ◌+◌, ◌-◌, ◌<◌, ◌≤◌, ℕ, List, [], ◌++◌, length, take, drop, slice_range};
+ghost use Rattle.std.specs.Prelude.{position, vec_len, true, false, MatchBool, None, IfSome, IfOk, OnErr};
 ghost use Rattle.std.specs.Io.KnownBytes.{Keeps, ReadConsumes, IsAtEnd, prepend_known};
 ghost use Rattle.cmwq_io.specs.Counts.{Rises};
 ghost use Rattle.cmwq_io.specs.Outcomes.{EndsAtFault};
@@ -116,7 +117,7 @@ impl Lines {
         })
     }
 
-    /// Takes the next line off what is left: the bytes read ahead and those of the source behind them, which
+    /// Takes the next line off what is left: the bytes read ahead and those of the source after them, which
     /// must be one and the same source at each call. `line` gets the line where it is `Whole` or `Cut`, and
     /// is empty otherwise. A `Long` line stays where it is. On `Err` nothing is lost, and the next call goes on
     /// where this one stood.
@@ -165,7 +166,9 @@ impl Lines {
 
     /// Takes the first line off the bytes read ahead, if it ends among them and is not too long.
     fn take_near(&mut self, line: &mut Line) -> bool
-        ensures { MatchBool result ((more : List ℕ) → TakesLine (self.old ++ more) (self.new ++ more) Found.Whole line.new) ((self.new ≡ self.old) × (near_feed self.old ≡ None)) }
+        ensures { MatchBool result ((more : List ℕ)
+            → TakesLine (self.old ++ more) (self.new ++ more) Found.Whole line.new)
+            ((self.new ≡ self.old) × (near_feed self.old ≡ None)) }
     {
         let ahead = self.ahead();
         match feed_in(ahead) {
@@ -201,7 +204,7 @@ impl Lines {
         ahead.len() <= LINE_LIMIT && feed_in(ahead).is_none()
     }
 
-    /// Reads more behind what was read ahead. False at the end of the source.
+    /// Reads more after what was read ahead. False at the end of the source.
     fn read_more<S: Source>(&mut self, source: &mut S) -> Result<bool, ReadFault>
         requires { length self.old ≤ 120 }
         ensures bytes { Keeps (prepend_known self.old (S.left source.old))
@@ -220,7 +223,7 @@ impl Lines {
         Ok(count > 0)
     }
 
-    /// Takes the first line off the bytes read ahead, whatever stands behind them.
+    /// Takes the first line off the bytes read ahead, whatever stands after them.
     fn take_first(&mut self, line: &mut Line) -> Found
         requires { is_line_short self.old ≡ false }
         ensures { (more : List ℕ) → TakesLine (self.old ++ more) (self.new ++ more) result line.new }
@@ -233,7 +236,7 @@ impl Lines {
         }
     }
 
-    /// Takes the bytes read ahead as the last line, behind which nothing stands.
+    /// Takes the bytes read ahead as the last line, after which nothing stands.
     fn take_last(&mut self, line: &mut Line) -> Found
         requires { is_line_short self.old ≡ true }
         ensures taken { TakesLine self.old [] result line.new }
@@ -247,7 +250,7 @@ impl Lines {
     }
 }
 
-/// Where the first line feed is, if it is not behind more bytes than a line may have.
+/// Where the first line feed is, if it is not after more bytes than a line may have.
 fn feed_in(bytes: &[u8]) -> Option<usize>
     ensures place { result ≡ near_feed bytes.now }
     ensures within { IfSome result (λ at. at < length bytes.now) }

@@ -1,5 +1,6 @@
 //! Bytes in memory as a source or a sink.
-ghost use Rattle.std.specs.Prelude.{◌≡◌, ◌↔◌, ◌<◌, ◌≤◌, [], ◌++◌, length, take, Some, IsErr, IfOk, OnErr, vec_len, vec_capacity};
+ghost use Rattle.std.specs.Prelude.{◌≡◌, ◌↔◌, ◌<◌, ◌≤◌, [], ◌++◌, length, take, Some, IsErr, IfOk, OnErr, vec_len};
+ghost use Rattle.std.specs.Prelude.{vec_capacity};
 ghost use Rattle.cmwq_io.specs.Moves.{TakesPart};
 
 use crate::outcomes::Outcomes;
@@ -110,7 +111,7 @@ impl Sink for Memory<Vec<u8>> {
     }
 }
 
-/// Puts as much of `bytes` behind those of `buffer` as it has room for, or answers `Failed` if it has none.
+/// Puts as much of `bytes` after those of `buffer` as it has room for, or answers `Failed` if it has none.
 pub(crate) fn fill(buffer: &mut Vec<u8>, bytes: &[u8]) -> Result<usize, Trouble>
     requires { 0 < length bytes.now }
     ensures bound { TakesPart result bytes.now }

@@ -15,7 +15,8 @@ fn spell<D: Display + Drop>(what: D) -> Result<Told, fmt::Error> {
     Ok(line)
 }
 
-/// Tells this behind the program's name, as one line of at most 128 bytes. Takes no memory; a failing sink changes nothing.
+/// Tells this after the program's name, as one line of at most 128 bytes. Takes no memory; a failing sink changes
+/// nothing.
 pub fn tell<E: Sink, D: Display + Drop>(errors: &mut E, what: D) {
     if let Ok(line) = spell(what) {
         let _ = write_all(errors, line.as_bytes());

@@ -1,5 +1,8 @@
 -- What the files of this crate name from outside it, in one import.
-pub use Rattle.std.proofs.Common.{Bool, Bor, Err, List, None, Ok, Option, Result, Some, [], add-one, ap, ap₂, arith, cond, drop, drop-cons, false, get_or, if◌then◌else◌, length, length-append, map, nat_eq, nat_le, nat_lt, not, position, refl, string_bytes, subst, suc, sym, true, zero, ℕ, ◌&&◌, ◌++◌, ◌+◌, ◌<◌, ◌==◌, ◌||◌, ◌∙◌, ◌∷◌, ◌≡◌, ◌≤◌}
+pub use Rattle.std.proofs.Common.{Bool, Bor, Err, List, None, Ok, Option, Result, Some, [], add-one, ap, ap₂, arith}
+pub use Rattle.std.proofs.Common.{cond, drop, drop-cons, false, get_or, if◌then◌else◌, length, length-append, map}
+pub use Rattle.std.proofs.Common.{nat_eq, nat_le, nat_lt, not, position, refl, string_bytes, subst, suc, sym, true}
+pub use Rattle.std.proofs.Common.{zero, ℕ, ◌&&◌, ◌++◌, ◌+◌, ◌<◌, ◌==◌, ◌||◌, ◌∙◌, ◌∷◌, ◌≡◌, ◌≤◌}
 pub use Rattle.std.proofs.lemmas.Bool.{and_parts, lt-ltb, ne_eqb}
 pub use Rattle.std.proofs.lemmas.List.{length-map, map-append}
 pub use Rattle.std.specs.List.{AllByRecursion, filter, list_all, list_any, position_or_len, prefix_len}

@@ -1,6 +1,7 @@
 -- Names, and members that each have one of their own.
 use Rattle.std.specs.Prelude.{◌&&◌, ◌||◌, ◌==◌, if◌then◌else◌, ◌∷◌, ◌++◌}
-use Rattle.cmwq_json.specs.Common.{ℕ, Bool, not, List, [], length, map, position, Option, Some, None, option_and_then, nat_le, nat_lt, bytes_eq, list_any, list_all, Data, as_str}
+use Rattle.cmwq_json.specs.Common.{ℕ, Bool, not, List, [], length, map, position, Option, Some, None, option_and_then}
+use Rattle.cmwq_json.specs.Common.{nat_le, nat_lt, bytes_eq, list_any, list_all, Data, as_str}
 
 abbrev pub is_in_range : ℕ → ℕ → ℕ → Bool
 is_in_range low high n = nat_le low n && nat_le n high
@@ -33,7 +34,8 @@ number_of_name names name = position (bytes_eq name) names
 -- one more, where there is room for it among so many and nobody before has its name
 abbrev pub add_named : {X : Type 0} → ℕ → Named X → List ℕ × X → Option (Named X)
 add_named most before x =
-    if nat_lt (length before.names) most && not (is_taken before.names x.0) then Some (record { names = before.names ++ x.0 ∷ []; values = before.values ++ x.1 ∷ [] })
+    if nat_lt (length before.names) most && not (is_taken before.names x.0)
+    then Some (record { names = before.names ++ x.0 ∷ []; values = before.values ++ x.1 ∷ [] })
     else None
 
 abbrev pub map_named : {X Y : Type 0} → (X → Y) → Named X → Named Y

@@ -5,7 +5,8 @@ use Rattle.cmwq_json.specs.Names.{is_in_range}
 
 -- a whole number from low to high
 abbrev pub number_between : ℕ → ℕ → Data → Option ℕ
-number_between low high d = option_and_then (λ n. if is_in_range low high n then Some n else None) (option_and_then as_u64 (as_number d))
+number_between low high d =
+    option_and_then (λ n. if is_in_range low high n then Some n else None) (option_and_then as_u64 (as_number d))
 
 -- max_active, where 0 stands for 256, and more than 512 for 512
 abbrev pub width_for : ℕ → ℕ

@@ -10,4 +10,6 @@ with_parts (Some name) None o = None
 with_parts None w o = None
 
 abbrev pub parts_said : Data → Option (List ℕ × ℕ × Bool)
-parts_said d = with_parts (option_and_then name_said (get (codes "name") d)) (option_and_then width_said (get (codes "max_active") d)) (option_and_then as_bool (get (codes "intensive") d))
+parts_said d =
+    with_parts (option_and_then name_said (get (codes "name") d))
+    (option_and_then width_said (get (codes "max_active") d)) (option_and_then as_bool (get (codes "intensive") d))

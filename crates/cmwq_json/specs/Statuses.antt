@@ -1,4 +1,5 @@
--- The exit status of a run over a JSON input that failed: 1 refused input, 4 no memory, 5 a fault of reading or writing.
+-- The exit status of a run over a JSON input that failed: 1 refused input, 4 no memory, 5 a fault of reading or
+-- writing.
 use Rattle.std.specs.Prelude.{ℕ}
 use Rattle.cmwq_json.specs.declared.fault.Fault.{Fault}
 use Rattle.cmwq_json.specs.declared.fault.Fault.TheVariants as fault

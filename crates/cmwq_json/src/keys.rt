@@ -57,14 +57,16 @@ fn has_count(value: &Value, count: usize) -> bool
 
 /// Whether a value is an object with each of these keys, and besides none but of the optional ones.
 pub fn has_keys_with_optional(value: &Value, keys: &[&str], optional: &[&str]) -> bool
-    ensures { result ≡ spec.has_keys_with_optional (map (λ key. key.now) keys.now) (map (λ key. key.now) optional.now) (view value.now) }
+    ensures { result ≡ spec.has_keys_with_optional (map (λ key. key.now) keys.now) (map (λ key. key.now) optional.now)
+        (view value.now) }
 {
     has_count(value, keys.len() + count_keys(value, optional)) && has_each(value, keys)
 }
 
 /// The array at a key.
 pub fn array_at<'v>(value: &'v Value, key: &str) -> Option<&'v Vec<Value>>
-    ensures { option_map (λ v. items_view v.now.items) result ≡ option_and_then as_array (get key.now (view value.now)) }
+    ensures { option_map (λ v. items_view v.now.items) result
+        ≡ option_and_then as_array (get key.now (view value.now)) }
 {
     value.get(key)?.as_array()
 }

@@ -1,5 +1,5 @@
-//! JSON inputs of the program: read whole into a value, the members that scenarios and scripts have in common (keys, names, numbers and
-//! queues), and why an input is refused or a run over it fails.
+//! JSON inputs of the program: read whole into a value, the members that scenarios and scripts have in common (keys,
+//! names, numbers and queues), and why an input is refused or a run over it fails.
 #![tactic(auto)]
 
 mod bytes;

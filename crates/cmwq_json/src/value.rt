@@ -27,8 +27,8 @@ fn fault_of(error: &Error) -> Fault
 /// The value that the bytes of a source are as a JSON text. Reads the source to its end first.
 ///
 /// # Errors
-/// `TooLong` at more than 1,048,576 bytes; `NotJson` at bytes that are no text, or no JSON; `ReadFault` where the source fails,
-/// `NoMemory` where memory runs out.
+/// `TooLong` at more than 1,048,576 bytes; `NotJson` at bytes that are no text, or no JSON; `ReadFault` where the
+/// source fails, `NoMemory` where memory runs out.
 pub fn read_value<S: Source>(alloc: Global, source: &mut S) -> Result<Value, Fault>
     ensures value { IfOk result (λ value. IfSome (S.left source.old) (λ text. IsJson text (view value))) }
     ensures long { IsErrOf result Fault.TooLong → IfSome (S.left source.old) IsLong }

@@ -1,12 +1,18 @@
 -- Gates that are named first.
-use Rattle.cmwq_json_script.specs.Common.{◌≡◌, ◌<◌, ◌≤◌, ◌+◌, suc, ℕ, ◌||◌, Bool, true, false, not, cond, List, [], ◌∷◌, ◌++◌, length, map, position, Some, None, refl, sym, ap, ap₂, nat_lt, ◌∙◌, string_bytes, if◌then◌else◌, arith, String, bytes_eq, list_any, prefix_len, Global, lt-ltb, ltb-false, length-map, map-append, insert_key, number_of_name, same, taken}
+use Rattle.cmwq_json_script.specs.Common.{◌≡◌, ◌<◌, ◌≤◌, ◌+◌, suc, ℕ, ◌||◌, Bool, true, false, not, cond, List, [], ◌∷◌}
+use Rattle.cmwq_json_script.specs.Common.{◌++◌, length, map, position, Some, None, refl, sym, ap, ap₂, nat_lt, ◌∙◌}
+use Rattle.cmwq_json_script.specs.Common.{string_bytes, if◌then◌else◌, arith, String, bytes_eq, list_any, prefix_len}
+use Rattle.cmwq_json_script.specs.Common.{Global, lt-ltb, ltb-false, length-map, map-append, insert_key, number_of_name}
+use Rattle.cmwq_json_script.specs.Common.{same, taken}
 use Rattle.cmwq_json_script.specs.Gates.{with_gate}
 
-none_before_end : {X : Type 0} (p : X → Bool) (xs : List X) → length xs ≤ prefix_len (λ x. not (p x)) xs → list_any p xs ≡ false
+none_before_end : {X : Type 0} (p : X → Bool) (xs : List X) → length xs ≤ prefix_len (λ x. not (p x)) xs
+    → list_any p xs ≡ false
 none_before_end p [] h = refl
 none_before_end p (x ∷ xs) h = at (p x) h (none_before_end p xs)
   where
-    at : (b : Bool) → suc (length xs) ≤ cond (not b) (1 + prefix_len (λ y. not (p y)) xs) 0 → (length xs ≤ prefix_len (λ y. not (p y)) xs → list_any p xs ≡ false) → (b || list_any p xs) ≡ false
+    at : (b : Bool) → suc (length xs) ≤ cond (not b) (1 + prefix_len (λ y. not (p y)) xs) 0
+        → (length xs ≤ prefix_len (λ y. not (p y)) xs → list_any p xs ≡ false) → (b || list_any p xs) ≡ false
     at true h rest = absurd (omega arith)
     at false h rest = rest (omega arith)
 
@@ -17,13 +23,21 @@ not_placed p xs h = none_before_end p xs (ltb-false _ _ (at (nat_lt (prefix_len 
     at true h = cc
     at false h = refl
 
-pub gate_made : (gates after : List (String Global)) (s : String Global) (name : List ℕ) (n : ℕ) → string_bytes s ≡ name → n ≡ length gates → length gates < 16 → after ≡ insert_key same gates s
-    → None ≡ number_of_name (map string_bytes gates) name → Some (n, map string_bytes after) ≡ with_gate (map string_bytes gates) name (number_of_name (map string_bytes gates) name)
+pub gate_made : (gates after : List (String Global)) (s : String Global) (name : List ℕ) (n : ℕ) → string_bytes s ≡ name
+    → n ≡ length gates → length gates < 16 → after ≡ insert_key same gates s
+    → None ≡ number_of_name (map string_bytes gates) name
+    → Some (n, map string_bytes after)
+    ≡ with_gate (map string_bytes gates) name (number_of_name (map string_bytes gates) name)
 gate_made gates after s name n is last room keys new =
-    let free : list_any (same s) gates ≡ false = sym (taken gates s name is) ∙ not_placed (bytes_eq name) (map string_bytes gates) new in
-    let more : map string_bytes after ≡ map string_bytes gates ++ name ∷ [] = ap (map string_bytes) (keys ∙ ap (λ t. if t then gates else gates ++ s ∷ []) free) ∙ map-append string_bytes gates (s ∷ []) ∙ ap (λ x. map string_bytes gates ++ x ∷ []) is in
+    let free : list_any (same s) gates ≡ false =
+    sym (taken gates s name is) ∙ not_placed (bytes_eq name) (map string_bytes gates) new in
+    let more : map string_bytes after ≡ map string_bytes gates ++ name ∷ [] =
+    ap (map string_bytes) (keys ∙ ap (λ t. if t then gates else gates ++ s ∷ []) free)
+    ∙ map-append string_bytes gates (s ∷ []) ∙ ap (λ x. map string_bytes gates ++ x ∷ []) is in
     let count : n ≡ length (map string_bytes gates) = last ∙ sym (length-map gates string_bytes) in
-    let few : nat_lt (length (map string_bytes gates)) 16 ≡ true = ap (λ k. nat_lt k 16) (length-map gates string_bytes) ∙ lt-ltb (length gates) 16 room in
+    let few : nat_lt (length (map string_bytes gates)) 16 ≡ true = ap (λ k. nat_lt k 16) (length-map gates string_bytes)
+    ∙ lt-ltb (length gates) 16 room in
     ap₂ (λ a b. Some (a, b)) count more
-    ∙ sym (ap (λ b. if b then Some (length (map string_bytes gates), map string_bytes gates ++ name ∷ []) else None) few)
+    ∙ sym (ap (λ b. if b then Some (length (map string_bytes gates), map string_bytes gates ++ name ∷ []) else None)
+    few)
     ∙ ap (with_gate (map string_bytes gates) name) new

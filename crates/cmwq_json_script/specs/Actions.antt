@@ -1,7 +1,8 @@
 -- What an item does: at most 64 actions, in turn. Each is a call, or opens a gate, or sleeps at one.
 use Rattle.cmwq_text.specs.Words.{◌>>=◌}
 use Rattle.std.specs.Prelude.{if◌then◌else◌, ◌∷◌, ◌++◌}
-use Rattle.cmwq_json_script.specs.Common.{ℕ, Bool, false, not, List, [], length, Option, Some, None, nat_lt, result_ok, is_workers, Data, Items, as_array, in_turn}
+use Rattle.cmwq_json_script.specs.Common.{ℕ, Bool, false, not, List, [], length, Option, Some, None, nat_lt, result_ok}
+use Rattle.cmwq_json_script.specs.Common.{is_workers, Data, Items, as_array, in_turn}
 use Rattle.cmwq_json_script.specs.declared.word.Word.{Word}
 use Rattle.cmwq_json_script.specs.declared.word.Word.TheVariants as word
 use Rattle.cmwq_json_script.specs.declared.action.Action.{Action}
@@ -50,7 +51,8 @@ pub record Does : Type 0 where
   pub gates : List (List ℕ)
 
 abbrev pub with_action : Does → Action × List (List ℕ) → Option Does
-with_action before x = if nat_lt (length before.actions) 64 then Some (record { actions = before.actions ++ x.0 ∷ []; gates = x.1 }) else None
+with_action before x = if nat_lt (length before.actions) 64
+    then Some (record { actions = before.actions ++ x.0 ∷ []; gates = x.1 }) else None
 
 abbrev pub add_action : Known → Does → Data → Option Does
 add_action known before d = do

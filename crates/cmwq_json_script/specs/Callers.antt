@@ -1,7 +1,8 @@
 -- Callers: each with a list of at most 1,000 calls.
 use Rattle.cmwq_text.specs.Words.{◌>>=◌}
 use Rattle.std.specs.Prelude.{if◌then◌else◌, ◌∷◌, ◌++◌}
-use Rattle.cmwq_json_script.specs.Common.{ℕ, List, [], length, Option, Some, None, nat_lt, result_ok, Data, as_array, Call, in_turn}
+use Rattle.cmwq_json_script.specs.Common.{ℕ, List, [], length, Option, Some, None, nat_lt, result_ok, Data, as_array}
+use Rattle.cmwq_json_script.specs.Common.{Call, in_turn}
 use Rattle.cmwq_json_script.specs.Known.{Known}
 use Rattle.cmwq_json_script.specs.Calls.{call_said}
 

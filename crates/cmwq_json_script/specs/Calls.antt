@@ -4,7 +4,8 @@ use Rattle.cmwq_json_script.specs.Common.{ℕ, Option, None, Data, Items, as_arr
 use Rattle.cmwq_model.specs.declared.call.Call.TheVariants as call
 use Rattle.cmwq_json_script.specs.declared.word.Word.{Word}
 use Rattle.cmwq_json_script.specs.declared.word.Word.TheVariants as word
-use Rattle.cmwq_json_script.specs.Lists.{whole, word_of_items, items_none, items_one, items_two, items_three, items_four}
+use Rattle.cmwq_json_script.specs.Lists.{whole, word_of_items, items_none, items_one, items_two, items_three}
+use Rattle.cmwq_json_script.specs.Lists.{items_four}
 use Rattle.cmwq_json_script.specs.Known.{Known, item_known, queue_known, cpu_said}
 
 abbrev pub ticks_said : Data → Option ℕ
@@ -16,8 +17,10 @@ width_in_call = number_between 1 4294967295
 -- the calls that items make too
 unfoldable pub own_call_after : Known → Word → Items → Option (Call × Items)
 own_call_after known word.Queue = items_three (item_known known) (queue_known known) (cpu_said known) call.Queue
-own_call_after known word.Delay = items_four (item_known known) (queue_known known) (cpu_said known) ticks_said call.Delay
-own_call_after known word.Modify = items_four (item_known known) (queue_known known) (cpu_said known) ticks_said call.Modify
+own_call_after known word.Delay =
+    items_four (item_known known) (queue_known known) (cpu_said known) ticks_said call.Delay
+own_call_after known word.Modify =
+    items_four (item_known known) (queue_known known) (cpu_said known) ticks_said call.Modify
 own_call_after known word.Cancel = items_one (item_known known) call.Cancel
 own_call_after known word.FlushItem = items_one (item_known known) call.FlushItem
 own_call_after known word.FlushDelayed = items_one (item_known known) call.FlushDelayed

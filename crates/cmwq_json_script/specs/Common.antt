@@ -1,5 +1,8 @@
 -- What the files of this crate name from outside it, in one import.
-pub use Rattle.std.proofs.Common.{Bool, Err, List, None, Ok, Option, Result, Some, [], add-one, ap, ap₂, arith, cond, drop, drop-cons, false, get_or, if◌then◌else◌, length, length-append, map, nat_le, nat_lt, not, position, refl, string_bytes, subst, suc, sym, true, ℕ, ◌&&◌, ◌++◌, ◌+◌, ◌-◌, ◌<◌, ◌==◌, ◌^◌, ◌||◌, ◌∙◌, ◌∷◌, ◌≡◌, ◌≤◌}
+pub use Rattle.std.proofs.Common.{Bool, Err, List, None, Ok, Option, Result, Some, [], add-one, ap, ap₂, arith, cond}
+pub use Rattle.std.proofs.Common.{drop, drop-cons, false, get_or, if◌then◌else◌, length, length-append, map, nat_le}
+pub use Rattle.std.proofs.Common.{nat_lt, not, position, refl, string_bytes, subst, suc, sym, true, ℕ, ◌&&◌, ◌++◌, ◌+◌}
+pub use Rattle.std.proofs.Common.{◌-◌, ◌<◌, ◌==◌, ◌^◌, ◌||◌, ◌∙◌, ◌∷◌, ◌≡◌, ◌≤◌}
 pub use Rattle.std.proofs.lemmas.Bool.{lt-ltb, ltb-false, ne_eqb}
 pub use Rattle.std.proofs.lemmas.Bool.Decides.{nat_tests}
 pub use Rattle.std.proofs.lemmas.List.{length-map, map-append}
@@ -27,7 +30,9 @@ pub use Rattle.cmwq_json.specs.Names.{Named, add_named, is_taken, map_named, nam
 pub use Rattle.cmwq_json.specs.Numbers.{number_between}
 pub use Rattle.cmwq_json.specs.Queues.{parts_said}
 pub use Rattle.cmwq_lemmas.proofs.Lists.{All_push}
-pub use Rattle.cmwq_model.specs.Prelude.{IsScripted, Layout, has_numbers, is_layout, is_queue, is_whole, is_workers, layout_of, most_callers, most_cpus, most_items, most_queues, most_room, most_workers}
+pub use Rattle.cmwq_model.specs.Prelude.{IsScripted, Layout, has_numbers, is_layout, is_queue, is_whole, is_workers}
+pub use Rattle.cmwq_model.specs.Prelude.{layout_of, most_callers, most_cpus, most_items, most_queues, most_room}
+pub use Rattle.cmwq_model.specs.Prelude.{most_workers}
 pub use Rattle.cmwq_model.specs.declared.call.Call.{Call}
 pub use Rattle.cmwq_model.specs.declared.id.CpuId.{CpuId}
 pub use Rattle.cmwq_model.specs.declared.id.ItemId.{ItemId}

@@ -1,7 +1,8 @@
 -- Gates, numbered in the order in which they are named first. There are at most 16.
 use Rattle.cmwq_text.specs.Words.{◌>>=◌}
 use Rattle.std.specs.Prelude.{if◌then◌else◌, ◌∷◌, ◌++◌}
-use Rattle.cmwq_json_script.specs.Common.{ℕ, List, [], length, Option, Some, None, nat_lt, Data, name_said, number_of_name}
+use Rattle.cmwq_json_script.specs.Common.{ℕ, List, [], length, Option, Some, None, nat_lt, Data, name_said}
+use Rattle.cmwq_json_script.specs.Common.{number_of_name}
 
 abbrev pub with_gate : List (List ℕ) → List ℕ → Option ℕ → Option (ℕ × List (List ℕ))
 with_gate gates name (Some gate) = Some (gate, gates)

@@ -1,7 +1,8 @@
 -- Items: each has a name of its own, and what it does.
 use Rattle.cmwq_text.specs.Words.{◌>>=◌}
 use Rattle.std.specs.Prelude.{if◌then◌else◌, ◌∷◌}
-use Rattle.cmwq_json_script.specs.Common.{ℕ, List, [], Option, Some, None, codes, Data, get, has_keys, Named, nobody, add_named}
+use Rattle.cmwq_json_script.specs.Common.{ℕ, List, [], Option, Some, None, codes, Data, get, has_keys, Named, nobody}
+use Rattle.cmwq_json_script.specs.Common.{add_named}
 use Rattle.cmwq_json_script.specs.declared.action.Action.{Action}
 use Rattle.cmwq_json_script.specs.Known.{Known, known_name}
 use Rattle.cmwq_json_script.specs.Actions.{Does, does_said}

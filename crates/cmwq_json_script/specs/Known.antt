@@ -1,15 +1,17 @@
 -- What calls may name: items and queues by their names, and CPUs by their numbers.
 use Rattle.cmwq_text.specs.Words.{◌>>=◌}
 use Rattle.std.specs.Prelude.{◌&&◌, if◌then◌else◌, ◌∷◌, ◌++◌}
-use Rattle.cmwq_json_script.specs.Common.{ℕ, not, List, [], length, Option, Some, None, codes, nat_lt, Data, Items, no_items, item, get, as_str, as_number, as_u64, ItemId, QueueId, CpuId, is_taken, name_said, number_of_name}
+use Rattle.cmwq_json_script.specs.Common.{ℕ, not, List, [], length, Option, Some, None, codes, nat_lt, Data, Items}
+use Rattle.cmwq_json_script.specs.Common.{no_items, item, get, as_str, as_number, as_u64, ItemId, QueueId, CpuId}
+use Rattle.cmwq_json_script.specs.Common.{is_taken, name_said, number_of_name}
 
 pub record Known : Type 0 where
   pub items : List (List ℕ)
   pub queues : List (List ℕ)
   pub cpus : ℕ
 
--- An item may name one that stands behind it. So what may be named are the names of all members of `items` that have one, each once, in
--- their order; the first so many as there may be items where there are more.
+-- An item may name one that stands after it. So what may be named are the names of all members of `items` that have
+-- one, each once, in their order; the first so many as there may be items where there are more.
 abbrev pub known_name : Data → Option (List ℕ)
 known_name d = do
   name ← get (codes "name") d
@@ -17,7 +19,8 @@ known_name d = do
 
 abbrev pub with_name : ℕ → List (List ℕ) → Option (List ℕ) → List (List ℕ)
 with_name most before None = before
-with_name most before (Some name) = if nat_lt (length before) most && not (is_taken before name) then before ++ name ∷ [] else before
+with_name most before (Some name) = if nat_lt (length before) most && not (is_taken before name) then before ++ name
+    ∷ [] else before
 
 abbrev pub names_after : ℕ → List (List ℕ) → Items → List (List ℕ)
 names_after most before no_items = before

@@ -1,4 +1,5 @@
--- The limits of a script, by the format of its history: in format 3 those of every shape, and before it those of a text of such a format.
+-- The limits of a script, by the format of its history: in format 3 those of every shape, and before it those of a text
+-- of such a format.
 use Rattle.std.specs.Prelude.{◌-◌, ◌==◌, if◌then◌else◌}
 use Rattle.cmwq_json_script.specs.Common.{ℕ, most_callers, most_cpus, most_items, most_queues, most_room, most_workers}
 use Rattle.cmwq_text.specs.Formats.{old_callers, old_cpus, old_items, old_queues, old_room, old_workers}

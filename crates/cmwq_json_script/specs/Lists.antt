@@ -34,7 +34,7 @@ word_said d = do
 abbrev pub word_of_items : Items → Option (Word × Items)
 word_of_items ds = part_in word_said ds
 
--- values that stand behind one another, and what is made of them
+-- values that stand after one another, and what is made of them
 abbrev pub items_none : {Y : Type 0} → Y → Items → Option (Y × Items)
 items_none y ds = Some (y, ds)
 
@@ -43,20 +43,23 @@ items_one says make ds = do
   a ← part_in says ds
   Some (make a.0, a.1)
 
-abbrev pub items_two : {A B Y : Type 0} → (Data → Option A) → (Data → Option B) → (A → B → Y) → Items → Option (Y × Items)
+abbrev pub items_two : {A B Y : Type 0} → (Data → Option A) → (Data → Option B) → (A → B → Y) → Items
+    → Option (Y × Items)
 items_two says_a says_b make ds = do
   a ← part_in says_a ds
   b ← part_in says_b a.1
   Some (make a.0 b.0, b.1)
 
-abbrev pub items_three : {A B C Y : Type 0} → (Data → Option A) → (Data → Option B) → (Data → Option C) → (A → B → C → Y) → Items → Option (Y × Items)
+abbrev pub items_three : {A B C Y : Type 0} → (Data → Option A) → (Data → Option B) → (Data → Option C)
+    → (A → B → C → Y) → Items → Option (Y × Items)
 items_three says_a says_b says_c make ds = do
   a ← part_in says_a ds
   b ← part_in says_b a.1
   c ← part_in says_c b.1
   Some (make a.0 b.0 c.0, c.1)
 
-abbrev pub items_four : {A B C D Y : Type 0} → (Data → Option A) → (Data → Option B) → (Data → Option C) → (Data → Option D) → (A → B → C → D → Y) → Items → Option (Y × Items)
+abbrev pub items_four : {A B C D Y : Type 0} → (Data → Option A) → (Data → Option B) → (Data → Option C)
+    → (Data → Option D) → (A → B → C → D → Y) → Items → Option (Y × Items)
 items_four says_a says_b says_c says_d make ds = do
   a ← part_in says_a ds
   b ← part_in says_b a.1

@@ -1,6 +1,8 @@
 -- What a JSON value says of a run, or which member of it is refused first.
 use Rattle.std.specs.Prelude.{◌+◌, ◌-◌, if◌then◌else◌}
-use Rattle.cmwq_json_script.specs.Common.{ℕ, List, [], length, Option, Some, None, Result, Ok, Err, nat_lt, list_any, option_map_or, Data, Call, QueueShape, Layout, Refused, in_turn, Named, nobody}
+use Rattle.cmwq_json_script.specs.Common.{ℕ, List, [], length, Option, Some, None, Result, Ok, Err, nat_lt, list_any}
+use Rattle.cmwq_json_script.specs.Common.{option_map_or, Data, Call, QueueShape, Layout, Refused, in_turn, Named}
+use Rattle.cmwq_json_script.specs.Common.{nobody}
 use Rattle.cmwq_json.specs.Parts.{top, queues, items, callers}
 use Rattle.cmwq_json_script.specs.declared.action.Action.{Action}
 use Rattle.cmwq_json_script.specs.Actions.{is_wait}
@@ -11,8 +13,8 @@ use Rattle.cmwq_json_script.specs.Items.{Work, no_work, add_item}
 use Rattle.cmwq_json_script.specs.Queues.{add_queue}
 use Rattle.cmwq_json_script.specs.Callers.{add_caller}
 
--- the layout, the items by name and what each does, the gates by name, the calls of each caller, how many runs may wait at once, and how the
--- history is written
+-- the layout, the items by name and what each does, the gates by name, the calls of each caller, how many runs may wait
+-- at once, and how the history is written
 pub record Run : Type 0 where
   pub layout : Layout
   pub names : List (List ℕ)
@@ -32,7 +34,8 @@ abbrev pub queues_said : Top → Result (Named QueueShape) Refused
 queues_said t = some_of queues (λ qs. length qs.values) (in_turn (add_queue (queues_in t.version)) 0 nobody t.queues)
 
 abbrev pub items_said : Known → Top → Result Work Refused
-items_said known t = some_of items (λ w. length w.items.values) (in_turn (add_item (items_in t.version) known) 0 no_work t.items)
+items_said known t =
+    some_of items (λ w. length w.items.values) (in_turn (add_item (items_in t.version) known) 0 no_work t.items)
 
 -- It is 1 where it is left out and an item waits.
 abbrev pub waits_of : Option ℕ → List (List Action) → ℕ
@@ -44,16 +47,35 @@ waits_in t w = waits_of t.waits w.items.values
 
 -- the callers of runs that wait are among those that there may be
 abbrev pub callers_said : Known → Top → Work → Result (List (List Call)) Refused
-callers_said known t w = some_of callers length (in_turn (add_caller (callers_in t.version - waits_in t w) known) 0 [] t.callers)
+callers_said known t w =
+    some_of callers length (in_turn (add_caller (callers_in t.version - waits_in t w) known) 0 [] t.callers)
 
 abbrev pub known_in : Top → Named QueueShape → Known
 known_in t qs = record { items = names_after (items_in t.version) [] t.items; queues = qs.names; cpus = t.cpus }
 
 abbrev pub layout_in : Top → List QueueShape → Work → List (List Call) → Layout
-layout_in t qs w cs = record { cpus = t.cpus; workers = t.workers; callers = length cs + waits_in t w; items = length w.items.values; room = t.room; queues = qs }
+layout_in t qs w cs =
+    record {
+      cpus = t.cpus;
+      workers = t.workers;
+      callers = length cs + waits_in t w;
+      items = length w.items.values;
+      room = t.room;
+      queues = qs;
+    }
 
 abbrev pub run_in : Top → List QueueShape → Work → List (List Call) → Run
-run_in t qs w cs = record { layout = layout_in t qs w cs; names = w.items.names; does = w.items.values; gates = w.gates; callers = cs; waits = waits_in t w; version = t.version; journal = t.journal }
+run_in t qs w cs =
+    record {
+      layout = layout_in t qs w cs;
+      names = w.items.names;
+      does = w.items.values;
+      gates = w.gates;
+      callers = cs;
+      waits = waits_in t w;
+      version = t.version;
+      journal = t.journal;
+    }
 
 abbrev pub with_callers : Top → Named QueueShape → Work → Result (List (List Call)) Refused → Result Run Refused
 with_callers t qs w (Err refused) = Err refused

@@ -1,6 +1,7 @@
 -- What the reader's scripts are as plain values, and what they keep to.
 use Rattle.std.specs.Prelude.{◌≡◌, ◌<◌, ◌≤◌, ◌^◌, ◌+◌}
-use Rattle.cmwq_json_script.specs.Common.{ℕ, Bool, true, false, length, List, map, string_bytes, All, AllByRecursion, Call, Layout, is_layout, most_callers, has_numbers, IsScripted}
+use Rattle.cmwq_json_script.specs.Common.{ℕ, Bool, true, false, length, List, map, string_bytes, All, AllByRecursion}
+use Rattle.cmwq_json_script.specs.Common.{Call, Layout, is_layout, most_callers, has_numbers, IsScripted}
 use Rattle.cmwq_model.specs.declared.call.Call.TheVariants as call
 use Rattle.cmwq_json_script.specs.declared.action.Action.{Action}
 use Rattle.cmwq_json_script.specs.declared.action.Action.TheVariants as action
@@ -11,7 +12,19 @@ use Rattle.cmwq_json_script.specs.Runs.{Run}
 use Rattle.cmwq_json_script.specs.Views.{calls_of}
 
 abbrev pub run_of : Script → Run
-run_of s = record { layout = s.shape; names = map string_bytes s.names.items; does = map (λ d. d.items) s.does.items; gates = map string_bytes s.gates.items; callers = calls_of s.callers; waits = s.waits; version = s.version; journal = s.journal }
+run_of s =
+    record {
+      layout = s.shape;
+      names = map string_bytes s.names.items;
+      does = map (λ d. d.items) s.does.items;
+      gates =
+          map string_bytes s.gates.items;
+      callers = calls_of s.callers;
+      waits = s.waits;
+      version = s.version;
+      journal =
+          s.journal;
+    }
 
 -- the calls that an item may make
 abbrev pub is_own : Call → Bool

@@ -65,7 +65,8 @@ fn only(parts: &[Value]) -> Option<&Value>
 
 /// The gate that the only part names.
 fn read_gate(alloc: Global, gates: &mut Gates, parts: &[Value]) -> Result<Option<u8>, AllocError>
-    ensures { IfOk result (λ r. option_map (λ gate. (gate, gates.new)) r ≡ spec.only_gate gates.old (items_view parts.now)) }
+    ensures { IfOk result
+        (λ r. option_map (λ gate. (gate, gates.new)) r ≡ spec.only_gate gates.old (items_view parts.now)) }
 {
     match only(parts) {
         Some(part) => gates.read(alloc, part),
@@ -89,7 +90,8 @@ fn action_after(
     word: Word,
     parts: &[Value],
 ) -> Result<Option<Action>, AllocError>
-    ensures { IfOk result (λ r. option_map (λ action. (action, gates.new)) r ≡ spec.action_after names.now word gates.old (items_view parts.now)) }
+    ensures { IfOk result (λ r. option_map (λ action. (action, gates.new)) r
+        ≡ spec.action_after names.now word gates.old (items_view parts.now)) }
 {
     match word {
         Word::Open => match read_gate(alloc, gates, parts)? {
@@ -113,7 +115,8 @@ fn read_action(
     gates: &mut Gates,
     value: &Value,
 ) -> Result<Option<Action>, AllocError>
-    ensures { IfOk result (λ r. option_map (λ action. (action, gates.new)) r ≡ spec.action_said names.now gates.old (view value.now)) }
+    ensures { IfOk result (λ r. option_map (λ action. (action, gates.new)) r
+        ≡ spec.action_said names.now gates.old (view value.now)) }
 {
     let Some(list) = value.as_array() else {
         return Ok(None);
@@ -131,7 +134,8 @@ fn add_action(
     actions: &mut Vec<Action>,
     value: &Value,
 ) -> Result<bool, AllocError>
-    ensures { IfOk result (λ added. spec.add_action names.now (record { actions = actions.old.items; gates = gates.old }) (view value.now)
+    ensures { IfOk result
+        (λ added. spec.add_action names.now (record { actions = actions.old.items; gates = gates.old }) (view value.now)
         ≡ (if added then Some (record { actions = actions.new.items; gates = gates.new }) else None)) }
 {
     let Some(action) = read_action(alloc, names, gates, value)? else {
@@ -151,7 +155,8 @@ pub fn read_actions(
     gates: &mut Gates,
     value: &Value,
 ) -> Result<Option<Vec<Action>>, AllocError>
-    ensures { IfOk result (λ r. option_map (λ actions. record { actions = actions.items; gates = gates.new }) r ≡ spec.does_said names.now gates.old (view value.now)) }
+    ensures { IfOk result (λ r. option_map (λ actions. record { actions = actions.items; gates = gates.new }) r
+        ≡ spec.does_said names.now gates.old (view value.now)) }
 {
     let Some(parts) = value.as_array() else {
         return Ok(None);

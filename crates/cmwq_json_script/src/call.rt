@@ -14,21 +14,24 @@ use cmwq_model::{Call, CpuId, ItemId, QueueId};
 use serde_json::Value;
 
 fn item_in<'v>(names: &Names, parts: &'v [Value]) -> Option<(ItemId, &'v [Value])>
-    ensures { option_map (λ r. (r.0, items_view r.1.now)) result ≡ part_in (known.item_known names.now) (items_view parts.now) }
+    ensures { option_map (λ r. (r.0, items_view r.1.now)) result
+        ≡ part_in (known.item_known names.now) (items_view parts.now) }
 {
     let (part, parts) = first_in(parts)?;
     Some((names.item(part)?, parts))
 }
 
 fn queue_in<'v>(names: &Names, parts: &'v [Value]) -> Option<(QueueId, &'v [Value])>
-    ensures { option_map (λ r. (r.0, items_view r.1.now)) result ≡ part_in (known.queue_known names.now) (items_view parts.now) }
+    ensures { option_map (λ r. (r.0, items_view r.1.now)) result
+        ≡ part_in (known.queue_known names.now) (items_view parts.now) }
 {
     let (part, parts) = first_in(parts)?;
     Some((names.queue(part)?, parts))
 }
 
 fn cpu_in<'v>(names: &Names, parts: &'v [Value]) -> Option<(CpuId, &'v [Value])>
-    ensures { option_map (λ r. (r.0, items_view r.1.now)) result ≡ part_in (known.cpu_said names.now) (items_view parts.now) }
+    ensures { option_map (λ r. (r.0, items_view r.1.now)) result
+        ≡ part_in (known.cpu_said names.now) (items_view parts.now) }
 {
     let (part, parts) = first_in(parts)?;
     Some((names.cpu(part)?, parts))
@@ -57,7 +60,8 @@ pub fn own_call_after<'v>(
     word: Word,
     parts: &'v [Value],
 ) -> Option<(Call, &'v [Value])>
-    ensures { option_map (λ r. (r.0, items_view r.1.now)) result ≡ spec.own_call_after names.now word (items_view parts.now) }
+    ensures { option_map (λ r. (r.0, items_view r.1.now)) result
+        ≡ spec.own_call_after names.now word (items_view parts.now) }
 {
     match word {
         Word::Queue => {
@@ -127,7 +131,8 @@ pub fn own_call_after<'v>(
 /// The call after its word.
 #[tactic(auto, unfolding(crate::specs::Calls::call_with_members))]
 fn call_after<'v>(names: &Names, word: Word, parts: &'v [Value]) -> Option<(Call, &'v [Value])>
-    ensures { option_map (λ r. (r.0, items_view r.1.now)) result ≡ spec.call_with_members names.now word (items_view parts.now) }
+    ensures { option_map (λ r. (r.0, items_view r.1.now)) result
+        ≡ spec.call_with_members names.now word (items_view parts.now) }
 {
     match word {
         Word::Tick => {

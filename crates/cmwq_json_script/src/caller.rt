@@ -20,7 +20,8 @@ use std::alloc::{AllocError, Global};
 const MOST_CALLS: usize = 1_000;
 
 fn add_call(names: &Names, calls: &mut Vec<Call>, value: &Value) -> Result<bool, AllocError>
-    ensures { IfOk result (λ added. spec.add_call names.now calls.old.items (view value.now) ≡ (if added then Some calls.new.items else None)) }
+    ensures { IfOk result (λ added. spec.add_call names.now calls.old.items (view value.now)
+        ≡ (if added then Some calls.new.items else None)) }
 {
     match read_call(names, value) {
         Some(call) if calls.len() < MOST_CALLS => {
@@ -55,7 +56,8 @@ fn add_caller(
     callers: &mut Vec<Vec<Call>>,
     value: &Value,
 ) -> Result<bool, AllocError>
-    ensures { IfOk result (λ added. spec.add_caller most names.now (calls_of callers.old) (view value.now) ≡ (if added then Some (calls_of callers.new) else None)) }
+    ensures { IfOk result (λ added. spec.add_caller most names.now (calls_of callers.old) (view value.now)
+        ≡ (if added then Some (calls_of callers.new) else None)) }
 {
     match read_calls(alloc, names, value)? {
         Some(calls) if callers.len() < most => {
@@ -73,7 +75,8 @@ fn read_in_turn(
     names: &Names,
     values: &[Value],
 ) -> Result<Result<Vec<Vec<Call>>, usize>, AllocError>
-    ensures { IfOk result (λ r. map_ok calls_of r ≡ in_turn (spec.add_caller most names.now) 0 [] (items_view values.now)) }
+    ensures { IfOk result
+        (λ r. map_ok calls_of r ≡ in_turn (spec.add_caller most names.now) 0 [] (items_view values.now)) }
 {
     let mut callers = Vec::new(alloc);
     for (index, value) in values.iter().enumerate() {
@@ -91,7 +94,9 @@ pub fn read_callers(
     names: &Names,
     values: &[Value],
 ) -> Result<Result<Vec<Vec<Call>>, Refused>, AllocError>
-    ensures { IfOk result (λ r. map_ok calls_of r ≡ some_of refused.callers length (in_turn (spec.add_caller most names.now) 0 [] (items_view values.now))) }
+    ensures { IfOk result
+        (λ r. map_ok calls_of r
+        ≡ some_of refused.callers length (in_turn (spec.add_caller most names.now) 0 [] (items_view values.now))) }
 {
     let refuse = |index| Refused {
         part: Part::Callers,

@@ -42,7 +42,8 @@ impl Gates {
 
     /// The number of the gate of this name, which is made if it is new. None: there would be one too many.
     fn number(&mut self, alloc: Global, name: &str) -> Result<Option<u8>, AllocError>
-        ensures { IfOk result (λ r. option_map (λ gate. (gate, self.new)) r ≡ with_gate self.old name.now (number_in self.old name.now)) }
+        ensures { IfOk result
+            (λ r. option_map (λ gate. (gate, self.new)) r ≡ with_gate self.old name.now (number_in self.old name.now)) }
     {
         if let Some(gate) = number_of(&self.names, name) {
             return Ok(Some(gate as u8));

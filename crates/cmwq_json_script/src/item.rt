@@ -69,7 +69,8 @@ fn read_in_turn(
     names: &Names,
     values: &[Value],
 ) -> Result<Result<Items, usize>, AllocError>
-    ensures { IfOk result (λ r. map_ok work_of r ≡ in_turn (spec.add_item most names.now) 0 spec.no_work (items_view values.now)) }
+    ensures { IfOk result
+        (λ r. map_ok work_of r ≡ in_turn (spec.add_item most names.now) 0 spec.no_work (items_view values.now)) }
 {
     let mut items = Items {
         members: Members::new(alloc),
@@ -90,7 +91,10 @@ pub fn read_items(
     names: &Names,
     values: &[Value],
 ) -> Result<Result<Items, Refused>, AllocError>
-    ensures { IfOk result (λ r. map_ok work_of r ≡ some_of refused.items (λ w. length w.items.values) (in_turn (spec.add_item most names.now) 0 spec.no_work (items_view values.now))) }
+    ensures { IfOk result
+        (λ r. map_ok work_of r
+        ≡ some_of refused.items (λ w. length w.items.values)
+        (in_turn (spec.add_item most names.now) 0 spec.no_work (items_view values.now))) }
 {
     let refuse = |index| Refused {
         part: Part::Items,

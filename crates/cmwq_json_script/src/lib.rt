@@ -1,5 +1,5 @@
-//! Reads what a JSON value says of a run on threads: its shape, what each item does and the scripts of its callers, or which member of it
-//! is refused first.
+//! Reads what a JSON value says of a run on threads: its shape, what each item does and the scripts of its callers, or
+//! which member of it is refused first.
 #![tactic(auto)]
 
 mod action;

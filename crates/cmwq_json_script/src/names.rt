@@ -25,7 +25,9 @@ fn add_name(
     names: &mut IndexSet<String>,
     value: &Value,
 ) -> Result<(), AllocError>
-    ensures { OnOk result (map string_bytes names.new.keys ≡ with_name most (map string_bytes names.old.keys) (known_name (view value.now))) }
+    ensures { OnOk result
+        (map string_bytes names.new.keys
+        ≡ with_name most (map string_bytes names.old.keys) (known_name (view value.now))) }
 {
     if let Some(name) = name_at(value) {
         if names.len() < most {
@@ -81,7 +83,14 @@ impl Names {
     ) -> Result<Names, AllocError>
         requires few { length queues.keys ≤ most_queues }
         requires most { most ≤ most_items }
-        ensures { IfOk result (λ names. names ≡ record { items = names_after most [] (items_view items.now); queues = map string_bytes queues.keys; cpus = cpus }) }
+        ensures { IfOk result
+            (λ names. names
+            ≡ record {
+              items = names_after most [] (items_view items.now);
+              queues = map string_bytes queues.keys;
+              cpus =
+                  cpus;
+            }) }
     {
         let items = names_of(alloc, most, items)?;
         Ok(Names {

@@ -62,7 +62,8 @@ fn add_queue(
     queues: &mut Members<QueueShape>,
     value: &Value,
 ) -> Result<bool, AllocError>
-    ensures { IfOk result (λ added. spec.add_queue most (named_of queues.old) (view value.now) ≡ (if added then Some (named_of queues.new) else None)) }
+    ensures { IfOk result (λ added. spec.add_queue most (named_of queues.old) (view value.now)
+        ≡ (if added then Some (named_of queues.new) else None)) }
 {
     match read_queue(value) {
         Some((name, queue)) => queues.add(alloc, most, name, queue),
@@ -93,7 +94,10 @@ pub fn read_queues(
     most: usize,
     values: &[Value],
 ) -> Result<Result<Members<QueueShape>, Refused>, AllocError>
-    ensures { IfOk result (λ r. map_ok named_of r ≡ some_of refused.queues (λ qs. length qs.values) (in_turn (spec.add_queue most) 0 nobody (items_view values.now))) }
+    ensures { IfOk result
+        (λ r. map_ok named_of r
+        ≡ some_of refused.queues (λ qs. length qs.values)
+        (in_turn (spec.add_queue most) 0 nobody (items_view values.now))) }
 {
     let refuse = |index| Refused {
         part: Part::Queues,

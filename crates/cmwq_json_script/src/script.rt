@@ -21,8 +21,8 @@ use cmwq_model::{Call, Counts, QueueShape, Shape};
 use serde_json::Value;
 use std::alloc::{AllocError, Global};
 
-/// What a run does: its shape, the names of the items and what the function of each does, the names of the gates, the calls of each caller,
-/// how many runs may wait at once, and how its history is written.
+/// What a run does: its shape, the names of the items and what the function of each does, the names of the gates, the
+/// calls of each caller, how many runs may wait at once, and how its history is written.
 #[derive(Drop)]
 pub struct Script {
     pub shape: Shape,
@@ -65,7 +65,8 @@ fn script_of(
 ) -> Result<Script, AllocError>
     requires within { IsRunWithin (spec.run_in (top_of top.now) queues.items (work_of items) (calls_of callers)) }
     requires waits { waits ≡ spec.waits_in (top_of top.now) (work_of items) }
-    ensures says { IfOk result (λ script. run_of script ≡ spec.run_in (top_of top.now) queues.items (work_of items) (calls_of callers)) }
+    ensures says { IfOk result
+        (λ script. run_of script ≡ spec.run_in (top_of top.now) queues.items (work_of items) (calls_of callers)) }
     ensures within { IfOk result MayRun }
 {
     let Items { members, gates } = items;
@@ -106,7 +107,9 @@ fn with_items(
     requires known { names.now ≡ spec.known_in (top_of top.now) (queues_of names.now queues) }
     requires queues { spec.queues_said (top_of top.now) ≡ Ok (queues_of names.now queues) }
     requires items { spec.items_said names.now (top_of top.now) ≡ Ok (work_of items) }
-    ensures says { IfOk result (λ r. map_ok run_of r ≡ spec.with_callers (top_of top.now) (queues_of names.now queues) (work_of items) (spec.callers_said names.now (top_of top.now) (work_of items))) }
+    ensures says { IfOk result
+        (λ r. map_ok run_of r ≡ spec.with_callers (top_of top.now) (queues_of names.now queues) (work_of items)
+        (spec.callers_said names.now (top_of top.now) (work_of items))) }
     ensures within { IfOk result (λ r. IfOk r MayRun) }
 {
     let waits = waits_in(top, &items);
@@ -164,8 +167,8 @@ fn read_lists(alloc: Global, top: &Top<'_>) -> Result<Result<Script, Refused>, A
     }
 }
 
-/// The script of a run that a value names, or the first member that is refused: first the keys, their types and the numbers of the top,
-/// then the queues in order, then the items, then the callers. An Err is want of memory.
+/// The script of a run that a value names, or the first member that is refused: first the keys, their types and the
+/// numbers of the top, then the queues in order, then the items, then the callers. An Err is want of memory.
 pub fn read_script(alloc: Global, value: &Value) -> Result<Result<Script, Refused>, AllocError>
     ensures says { IfOk result (λ r. map_ok run_of r ≡ spec.run_said (view value.now)) }
     ensures within { IfOk result (λ r. IfOk r MayRun) }

@@ -1,5 +1,6 @@
 -- Filtered lists.
-use Rattle.std.proofs.Common.{◌≤◌, ◌+◌, count_by, find, Some, None, option_to_list, arith, ◌≡◌, Bool, true, false, cond, ◌&&◌, List, [], ◌∷◌, filter, refl, sym, ap₂, ◌∙◌}
+use Rattle.std.proofs.Common.{◌≤◌, ◌+◌, count_by, find, Some, None, option_to_list, arith, ◌≡◌, Bool, true, false, cond}
+use Rattle.std.proofs.Common.{◌&&◌, List, [], ◌∷◌, filter, refl, sym, ap₂, ◌∙◌}
 use Rattle.std.specs.List.{AllByRecursion}
 use Rattle.cmwq_lemmas.proofs.Lists.{All_map, All_each, count_by-cons}
 
@@ -22,21 +23,34 @@ module _ {X : Type 0} where
   filter_none p [] h = refl
   filter_none p (x ∷ xs) h = ap₂ (λ b ys. cond b (x ∷ ys) ys) h.0 (filter_none p xs h.1)
 
-  pub count_by-same : (p q : X → Bool) (xs : List X) → AllByRecursion (λ x. p x ≡ q x) xs → count_by p xs ≡ count_by q xs
+  pub count_by-same : (p q : X → Bool) (xs : List X) → AllByRecursion (λ x. p x ≡ q x) xs
+      → count_by p xs ≡ count_by q xs
   count_by-same p q [] h = refl
-  count_by-same p q (x ∷ xs) h = count_by-cons p x xs ∙ ap₂ (λ b n. cond b 1 0 + n) h.0 (count_by-same p q xs h.1) ∙ sym (count_by-cons q x xs)
+  count_by-same p q (x ∷ xs) h = count_by-cons p x xs ∙ ap₂ (λ b n. cond b 1 0 + n) h.0 (count_by-same p q xs h.1)
+      ∙ sym (count_by-cons q x xs)
 
   -- a test that passes only what a wider one does passes no more
-  pub count_by-wider : (p q : X → Bool) (xs : List X) → AllByRecursion (λ x. p x ≡ true → q x ≡ true) xs → count_by p xs ≤ count_by q xs
+  pub count_by-wider : (p q : X → Bool) (xs : List X) → AllByRecursion (λ x. p x ≡ true → q x ≡ true) xs
+      → count_by p xs ≤ count_by q xs
   count_by-wider p q [] h = omega arith
-  count_by-wider p q (x ∷ xs) h = grind (arith, count_by-cons p x xs, count_by-cons q x xs, h.0, count_by-wider p q xs h.1)
+  count_by-wider p q (x ∷ xs) h =
+      grind (arith, count_by-cons p x xs, count_by-cons q x xs, h.0, count_by-wider p q xs h.1)
 
   -- and fewer, where an element passes the wider test alone
-  pub count_by-fewer : (xs : List X) → AllByRecursion (λ x. (p q : X → Bool) → ((y : X) → p y ≡ true → q y ≡ true) → p x ≡ false → q x ≡ true → count_by p xs + 1 ≤ count_by q xs) xs
+  pub count_by-fewer : (xs : List X)
+      → AllByRecursion (λ x. (p q : X → Bool) → ((y : X) → p y ≡ true → q y ≡ true) → p x ≡ false → q x ≡ true
+      → count_by p xs + 1 ≤ count_by q xs) xs
   count_by-fewer [] = tt
   count_by-fewer (x ∷ xs) = (
-    λ p q h fails passes. grind (arith, count_by-cons p x xs, count_by-cons q x xs, count_by-wider p q xs (All_each _ xs h)),
-    All_map _ _ xs (λ y earlier p q h fails passes. grind (arith, count_by-cons p x xs, count_by-cons q x xs, h x, earlier p q h fails passes)) (count_by-fewer xs),
+    λ p q h fails passes. grind (
+      arith,
+      count_by-cons p x xs,
+      count_by-cons q x xs,
+      count_by-wider p q xs (All_each _ xs h),
+    ),
+    All_map _ _ xs
+        (λ y earlier p q h fails passes.
+        grind (arith, count_by-cons p x xs, count_by-cons q x xs, h x, earlier p q h fails passes)) (count_by-fewer xs),
   )
 
   pub count_none : (p : X → Bool) (xs : List X) → count_by p xs ≡ 0 → AllByRecursion (λ x. p x ≡ false) xs
@@ -53,6 +67,7 @@ module _ {X : Type 0} where
   filter_one p (x ∷ xs) h = grind (arith, count_by-cons p x xs, filter_none p xs, count_none p xs, filter_one p xs)
 
   -- what is found, and passes a test, is found in what passes
-  pub find-filter : (p g : X → Bool) (x : X) (xs : List X) → find p xs ≡ Some x → g x ≡ true → find p (filter g xs) ≡ Some x
+  pub find-filter : (p g : X → Bool) (x : X) (xs : List X) → find p xs ≡ Some x → g x ≡ true
+      → find p (filter g xs) ≡ Some x
   find-filter p g x [] found passes = cc
   find-filter p g x (y ∷ xs) found passes = grind (arith, find-filter p g x xs)

@@ -1,5 +1,7 @@
 -- Elements of lists.
-use Rattle.std.proofs.Common.{◌≡◌, ◌<◌, ◌≤◌, ◌+◌, ℕ, map, sym, zero, suc, length, get_or, arith, Bool, true, List, [], ◌∷◌, ◌++◌, filter, find, Option, Some, None, option_to_list, refl, ap, subst, ◌⊎◌, inl, inr, ⊎_elim}
+use Rattle.std.proofs.Common.{◌≡◌, ◌<◌, ◌≤◌, ◌+◌, ℕ, map, sym, zero, suc, length, get_or, arith, Bool, true, List, []}
+use Rattle.std.proofs.Common.{◌∷◌, ◌++◌, filter, find, Option, Some, None, option_to_list, refl, ap, subst, ◌⊎◌, inl}
+use Rattle.std.proofs.Common.{inr, ⊎_elim}
 use Rattle.std.specs.Prelude.{Contains, flat_map}
 use Rattle.std.specs.List.{AllByRecursion, list_any, range_with_len}
 use Rattle.std.proofs.lemmas.Option.{same_Some}
@@ -29,7 +31,8 @@ module _ {X : Type 0} where
 
   pub in_append : (xs ys : List X) (x : X) → In x (xs ++ ys) → In x xs ⊎ In x ys
   in_append [] ys x h = inr h
-  in_append (z ∷ zs) ys x h = ⊎_elim (λ e. inl (inl e)) (λ i. ⊎_elim (λ a. inl (inr a)) (λ b. inr b) (in_append zs ys x i)) h
+  in_append (z ∷ zs) ys x h =
+      ⊎_elim (λ e. inl (inl e)) (λ i. ⊎_elim (λ a. inl (inr a)) (λ b. inr b) (in_append zs ys x i)) h
 
   pub in_option : (o : Option X) (x : X) → In x (option_to_list o) → o ≡ Some x
   in_option None x h = absurd h
@@ -73,11 +76,15 @@ module _ {X : Type 0} where
 
   pub in_contained : (xs : List X) (x : X) → In x xs → Contains xs x
   in_contained [] x h = absurd h
-  in_contained (y ∷ ys) x h = ⊎_elim (λ e. (0, omega arith, e)) (λ i. let c = in_contained ys x i in (suc c.0, (let less = c.1 in omega arith), c.2)) h
+  in_contained (y ∷ ys) x h =
+      ⊎_elim (λ e. (0, omega arith, e)) (λ i. let c = in_contained ys x i in
+      (suc c.0, (let less = c.1 in omega arith), c.2)) h
 
   -- what holds of each of a list, and of one more
-  pub all_more : (P : X → Type 0) (xs : List X) (o : Option X) → AllByRecursion P xs → ((x : X) → o ≡ Some x → P x) → AllByRecursion P (xs ++ option_to_list o)
-  all_more P xs o h k = All_append P xs (option_to_list o) h (all_in P (option_to_list o) (λ x i. k x (in_option o x i)))
+  pub all_more : (P : X → Type 0) (xs : List X) (o : Option X) → AllByRecursion P xs → ((x : X) → o ≡ Some x → P x)
+      → AllByRecursion P (xs ++ option_to_list o)
+  all_more P xs o h k =
+      All_append P xs (option_to_list o) h (all_in P (option_to_list o) (λ x i. k x (in_option o x i)))
 
   pub in_any : (p : X → Bool) (xs : List X) → list_any p xs ≡ true → (x : X) × In x xs × (p x ≡ true)
   in_any p [] h = cc
@@ -91,11 +98,13 @@ pub in_mapped : {X Y : Type 0} (f : X → Y) (xs : List X) (x : X) → In x xs �
 in_mapped f [] x h = h
 in_mapped f (y ∷ ys) x h = grind (arith, in_mapped f ys x)
 
-pub flat_in : {X Y : Type 0} (f : X → List Y) (xs : List X) (x : X) (y : Y) → In x xs → In y (f x) → In y (flat_map f xs)
+pub flat_in : {X Y : Type 0} (f : X → List Y) (xs : List X) (x : X) (y : Y) → In x xs → In y (f x)
+    → In y (flat_map f xs)
 flat_in f [] x y i k = absurd i
 flat_in f (z ∷ zs) x y i k =
     subst (In y) (sym (flat_map-cons f z zs))
-    (⊎_elim (λ e. in_left (f z) (flat_map f zs) y (subst (λ w. In y (f w)) (sym e) k)) (λ j. in_right (f z) (flat_map f zs) y (flat_in f zs x y j k)) i)
+    (⊎_elim (λ e. in_left (f z) (flat_map f zs) y (subst (λ w. In y (f w)) (sym e) k))
+    (λ j. in_right (f z) (flat_map f zs) y (flat_in f zs x y j k)) i)
 
 pub in_some : (ns : List ℕ) (n : ℕ) → In n ns → 0 < length ns
 in_some [] n h = absurd h

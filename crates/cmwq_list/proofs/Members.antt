@@ -1,5 +1,6 @@
 -- Which items a list has, which list has an item, and what is left of it without one.
-use Rattle.std.proofs.Common.{◌≡◌, ◌≢◌, ℕ, ◌+◌, ◌<◌, ◌≤◌, true, false, ◌&&◌, ◌||◌, not, List, [], ◌∷◌, ◌++◌, length, Some, refl, ap, ◌∙◌, arith}
+use Rattle.std.proofs.Common.{◌≡◌, ◌≢◌, ℕ, ◌+◌, ◌<◌, ◌≤◌, true, false, ◌&&◌, ◌||◌, not, List, [], ◌∷◌, ◌++◌, length}
+use Rattle.std.proofs.Common.{Some, refl, ap, ◌∙◌, arith}
 use Rattle.std.specs.Prelude.{nat_eq}
 use Rattle.std.specs.List.{IsDistinct, AllByRecursion}
 use Rattle.std.proofs.lemmas.Map.Keys.{IsDistinct-cons}
@@ -24,7 +25,9 @@ all_differ x [] h = tt
 all_differ x (y ∷ ys) h = let parts = or_parts (nat_eq x y) (has_item x ys) h in (parts.0, all_differ x ys parts.1)
 
 pub without_none : (i : ℕ) (xs : List ℕ) → has_item i xs ≡ false → without_item i xs ≡ xs
-without_none i xs h = filter_all (λ x. not (nat_eq i x)) xs (All_map (λ x. nat_eq i x ≡ false) (λ x. not (nat_eq i x) ≡ true) xs (λ x e. ap not e) (all_differ i xs h))
+without_none i xs h =
+    filter_all (λ x. not (nat_eq i x)) xs
+    (All_map (λ x. nat_eq i x ≡ false) (λ x. not (nat_eq i x) ≡ true) xs (λ x e. ap not e) (all_differ i xs h))
 
 pub has-without : (j i : ℕ) (xs : List ℕ) → has_item j (without_item i xs) ≡ (has_item j xs && not (nat_eq j i))
 has-without j i [] = refl
@@ -34,7 +37,8 @@ pub distinct-without : (i : ℕ) (xs : List ℕ) → AreDistinct xs → AreDisti
 distinct-without i [] d = tt
 distinct-without i (x ∷ xs) d = grind (arith, has-without, distinct-without i xs d.1, d.0)
 
-pub length-without : (i : ℕ) (xs : List ℕ) → AreDistinct xs → has_item i xs ≡ true → length (without_item i xs) + 1 ≡ length xs
+pub length-without : (i : ℕ) (xs : List ℕ) → AreDistinct xs → has_item i xs ≡ true
+    → length (without_item i xs) + 1 ≡ length xs
 length-without i [] d h = absurd (false≢true h)
 length-without i (x ∷ xs) d h = grind (arith, without_none, length-without i xs d.1, d.0)
 

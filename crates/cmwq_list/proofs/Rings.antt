@@ -1,5 +1,6 @@
 -- The rings after an item is put into one, or taken out.
-use Rattle.std.proofs.Common.{◌≡◌, ◌≢◌, ℕ, zero, suc, ◌+◌, ◌<◌, ◌≤◌, true, false, List, [], ◌∷◌, length, get_or, set, refl, sym, ap, ◌∙◌, arith, ⊎_elim}
+use Rattle.std.proofs.Common.{◌≡◌, ◌≢◌, ℕ, zero, suc, ◌+◌, ◌<◌, ◌≤◌, true, false, List, [], ◌∷◌, length, get_or, set}
+use Rattle.std.proofs.Common.{refl, sym, ap, ◌∙◌, arith, ⊎_elim}
 use Rattle.std.proofs.lemmas.Bool.{false≢true, eqb-true, eq-eqb, ne_eqb, cases_lt}
 use Rattle.std.proofs.lemmas.List.{get_or-set_same, get_or-set_other, get_or_past}
 use Rattle.cmwq_list.specs.Lists.{has_item}
@@ -7,7 +8,8 @@ use Rattle.cmwq_list.specs.Links.{walk, link_at, owner_at, IsRing, AreLinked, li
 use Rattle.cmwq_list.proofs.Members.{few_below}
 use Rattle.cmwq_list.proofs.Between.{Puts, walk_is}
 
-pub puts : (next prev : List ℕ) (p n : ℕ) → p < length next → n < length prev → Puts (link_at next) (link_at prev) (link_at (set next p n)) (link_at (set prev n p)) p n
+pub puts : (next prev : List ℕ) (p n : ℕ) → p < length next → n < length prev
+    → Puts (link_at next) (link_at prev) (link_at (set next p n)) (link_at (set prev n p)) p n
 puts next prev p n hp hn = record {
   there = get_or-set_same next p n 0 hp;
   back = get_or-set_same prev n p 0 hn;
@@ -19,10 +21,12 @@ pub length_from : (f : ℕ → ℕ) (s : ℕ) (ns : List ℕ) → length (lists_
 length_from f s [] = refl
 length_from f s (n ∷ ns) = ap suc (length_from f (s + 1) ns)
 
-pub from_at : (f : ℕ → ℕ) (s : ℕ) (ns : List ℕ) (m : ℕ) → m < length ns → get_or (lists_from f s ns) m [] ≡ walk f (s + m) (get_or ns m 0)
+pub from_at : (f : ℕ → ℕ) (s : ℕ) (ns : List ℕ) (m : ℕ) → m < length ns
+    → get_or (lists_from f s ns) m [] ≡ walk f (s + m) (get_or ns m 0)
 from_at f s [] m h = absurd (omega arith)
 from_at f s (n ∷ ns) zero h = let e : s + 0 ≡ s = omega arith in rw e refl
-from_at f s (n ∷ ns) (suc m) h = let e : s + 1 + m ≡ s + suc m = omega arith in from_at f (s + 1) ns m (omega arith) ∙ ap (λ k. walk f k (get_or ns m 0)) e
+from_at f s (n ∷ ns) (suc m) h = let e : s + 1 + m ≡ s + suc m = omega arith in from_at f (s + 1) ns m (omega arith)
+    ∙ ap (λ k. walk f k (get_or ns m 0)) e
 
 pub length_walk : (f : ℕ → ℕ) (a n : ℕ) → length (walk f a n) ≡ n
 length_walk f a zero = refl
@@ -30,14 +34,17 @@ length_walk f a (suc n) = ap suc (length_walk f (f a) n)
 
 -- what the lists are made of now
 pub record AreRings (next prev owners lens : List ℕ) (ys : ℕ → List ℕ) : Type 0 where
-  pub rings : (m : ℕ) → m < length lens → IsRing (link_at next) (link_at prev) (owner_at owners) (length owners + m) m (ys m)
+  pub rings : (m : ℕ) → m < length lens
+      → IsRing (link_at next) (link_at prev) (owner_at owners) (length owners + m) m (ys m)
   pub lengths : (m : ℕ) → m < length lens → get_or lens m 0 ≡ length (ys m)
 
 module _ (next prev owners lens : List ℕ) (ys : ℕ → List ℕ) (are : AreRings next prev owners lens ys) where
   pub walked : (m : ℕ) → m < length lens → walk (link_at next) (length owners + m) (get_or lens m 0) ≡ ys m
   walked m h = grind (arith, walk_is)
 
-  pub rings_walked : (m : ℕ) → m < length lens → IsRing (link_at next) (link_at prev) (owner_at owners) (length owners + m) m (walk (link_at next) (length owners + m) (get_or lens m 0))
+  pub rings_walked : (m : ℕ) → m < length lens
+      → IsRing (link_at next) (link_at prev) (owner_at owners) (length owners + m) m
+      (walk (link_at next) (length owners + m) (get_or lens m 0))
   rings_walked m h = rw (walked m h) (are.rings m h)
 
   pub listed : (m : ℕ) → m < length lens → get_or (lists_of next owners lens) m [] ≡ ys m
@@ -55,7 +62,9 @@ module _ (next prev owners lens : List ℕ) (is : AreLinked next prev owners len
   absent x m h none = grind arith
 
   pub known : (x m : ℕ) → m < length lens → has_item x (ring m) ≡ true → x < length owners
-  known x m h in_it = ⊎_elim (λ l. l) (λ g. absurd (false≢true (sym (absent x m h (get_or_past owners x 65535 g)) ∙ in_it))) (cases_lt x (length owners))
+  known x m h in_it =
+      ⊎_elim (λ l. l) (λ g. absurd (false≢true (sym (absent x m h (get_or_past owners x 65535 g)) ∙ in_it)))
+      (cases_lt x (length owners))
 
   pub owner_is : (x m : ℕ) → m < length lens → has_item x (ring m) ≡ true → owner_at owners x ≡ m
   owner_is x m h in_it = eqb-true (owner_at owners x) m (sym ((is.rings m h).owned x) ∙ in_it)
@@ -74,4 +83,5 @@ module _ (next prev owners lens : List ℕ) (is : AreLinked next prev owners len
   length_ring m h = sym (length_walk (link_at next) (length owners + m) (get_or lens m 0))
 
   pub few_items : (m : ℕ) → m < length lens → get_or lens m 0 ≤ length owners
-  few_items m h = let e = length_ring m h in let f = few_below (length owners) (ring m) (is.rings m h).distinct (λ i. known i m h) in omega arith
+  few_items m h = let e = length_ring m h in let f =
+      few_below (length owners) (ring m) (is.rings m h).distinct (λ i. known i m h) in omega arith

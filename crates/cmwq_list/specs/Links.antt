@@ -1,5 +1,7 @@
--- How links make lists. Each list is a ring, closed by its sentinel: a number past those of the items, which stands before its first item and behind its last.
-use Rattle.std.specs.Prelude.{◌≡◌, ◌⊎◌, ℕ, zero, suc, ◌+◌, ◌<◌, ◌^◌, List, [], ◌∷◌, All, length, nat_eq, slice_index, slice_index_or}
+-- How links make lists. Each list is a ring, closed by its sentinel: a number past those of the items, which stands
+-- before its first item and after its last.
+use Rattle.std.specs.Prelude.{◌≡◌, ◌⊎◌, ℕ, zero, suc, ◌+◌, ◌<◌, ◌^◌, List, [], ◌∷◌, All, length, nat_eq, slice_index}
+use Rattle.std.specs.Prelude.{slice_index_or}
 use Rattle.cmwq_list.specs.Lists.{has_item, AreDistinct}
 
 -- what follows a, so many of them
@@ -39,7 +41,9 @@ pub record AreLinked (next prev owners lens : List ℕ) : Type 0 where
   pub nexts : All (λ x. x < length next) next
   pub prevs : All (λ x. x < length next) prev
   pub settled : (i : ℕ) → (slice_index_or owners i 65535 ≡ 65535) ⊎ (slice_index_or owners i 65535 < length lens)
-  pub rings : (l : ℕ) → l < length lens → IsRing (link_at next) (link_at prev) (owner_at owners) (length owners + l) l (walk (link_at next) (length owners + l) (slice_index lens l))
+  pub rings : (l : ℕ) → l < length lens
+      → IsRing (link_at next) (link_at prev) (owner_at owners) (length owners + l) l
+      (walk (link_at next) (length owners + l) (slice_index lens l))
 
 -- no list owns item i
 abbrev pub IsUnlisted : List ℕ → ℕ → Type 0

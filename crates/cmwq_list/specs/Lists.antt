@@ -1,5 +1,6 @@
 -- Lists of items, by their numbers, as contracts see them.
-use Rattle.std.specs.Prelude.{◌≡◌, ℕ, ◌<◌, Bool, true, false, not, List, [], ◌∷◌, ◌++◌, Option, map, filter, position, nat_eq, slice_index_or, slice_set}
+use Rattle.std.specs.Prelude.{◌≡◌, ℕ, ◌<◌, Bool, true, false, not, List, [], ◌∷◌, ◌++◌, Option, map, filter, position}
+use Rattle.std.specs.Prelude.{nat_eq, slice_index_or, slice_set}
 use Rattle.std.specs.List.{list_any}
 
 -- the lists, and how many items there are, whose numbers are below that
@@ -25,7 +26,7 @@ list_of lists i = position (has_item i) lists
 abbrev pub without_item : ℕ → List ℕ → List ℕ
 without_item i xs = filter (λ x. not (nat_eq i x)) xs
 
--- item i behind all others of list l
+-- item i after all others of list l
 abbrev pub lists_with : Listed → ℕ → ℕ → Listed
 lists_with s l i = record s { lists = slice_set s.lists l (list_at s.lists l ++ i ∷ []) }
 

@@ -1,5 +1,5 @@
-//! The links to the next and the previous item. Each list is a ring, which its sentinel closes: the sentinel stands before
-//! the first item and behind the last, so that neither an empty list nor its ends need a case of their own.
+//! The links to the next and the previous item. Each list is a ring, which its sentinel closes: the sentinel stands
+//! before the first item and after the last, so that neither an empty list nor its ends need a case of their own.
 
 ghost use Rattle.std.specs.Prelude.{◌≡◌, ◌++◌, ◌∷◌, [], ◌<◌, length, map, slice_set};
 ghost use Rattle.cmwq_list.specs.Lists.{list_at, without_item};
@@ -19,7 +19,7 @@ pub(crate) fn link(next: &mut [u32], prev: &mut [u32], before: u32, behind: u32)
     prev[behind as usize] = before;
 }
 
-/// Links an item that is in no list behind the last of a list (the kernel's `list_add_tail`).
+/// Links an item that is in no list after the last of a list (the kernel's `list_add_tail`).
 pub(crate) fn link_back(
     next: &mut [u32],
     prev: &mut [u32],
@@ -33,7 +33,8 @@ pub(crate) fn link_back(
     requires item { item < length owners.old }
     requires free { IsUnlisted owners.old item }
     ensures linked { AreLinked next.new prev.new owners.new lens.new }
-    ensures lists { let lists = lists_of next.old owners.old lens.old in lists_of next.new owners.new lens.new ≡ slice_set lists list (list_at lists list ++ item ∷ []) }
+    ensures lists { let lists = lists_of next.old owners.old lens.old in lists_of next.new owners.new lens.new
+        ≡ slice_set lists list (list_at lists list ++ item ∷ []) }
 {
     let sentinel = owners.len() as u32 + u32::from(list);
     let last = prev[sentinel as usize];

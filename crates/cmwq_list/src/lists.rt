@@ -5,8 +5,8 @@ use crate::links::{NONE, link, link_back, unlink};
 use std::alloc::{AllocError, Global};
 use std::marker::Model;
 
-/// Lists of items, by their numbers. An item is in one of them at most. Only `new` takes memory: 10 bytes an item, and 12 a
-/// list.
+/// Lists of items, by their numbers. An item is in one of them at most. Only `new` takes memory: 10 bytes an item, and
+/// 12 a list.
 #[derive(Drop)]
 pub struct Lists {
     /// What follows each item, and then what follows the sentinel of each list.
@@ -86,7 +86,8 @@ impl Lists {
     /// What follows an item in the list that it is in. Of an item that is in none, any item or none.
     pub fn next(&self, item: u32) -> Option<u32>
         requires { item < self.now.items }
-        ensures { (l k : ℕ) → slice_get (list_at self.now.lists l) k ≡ Some item → result ≡ slice_get (list_at self.now.lists l) (k + 1) }
+        ensures { (l k : ℕ) → slice_get (list_at self.now.lists l) k ≡ Some item
+            → result ≡ slice_get (list_at self.now.lists l) (k + 1) }
     {
         let behind = self.next[item as usize];
         if (behind as usize) < self.owners.len() {
@@ -96,7 +97,7 @@ impl Lists {
         }
     }
 
-    /// Puts an item that is in no list behind all others of a list.
+    /// Adds an item that is in no list after all others of a list.
     pub fn push_back(&mut self, list: u16, item: u32)
         requires list { list < length self.old.lists }
         requires item { item < self.old.items }
@@ -113,7 +114,8 @@ impl Lists {
         );
     }
 
-    /// Takes an item out of the list that it is in. One that is in none stays so. No item was twice in a list, or in two.
+    /// Takes an item out of the list that it is in. One that is in none stays so. No item was twice in a list, or in
+    /// two.
     pub fn remove(&mut self, item: u32)
         requires { item < self.old.items }
         ensures rest { self.new ≡ lists_without self.old item }

@@ -1,7 +1,8 @@
 -- What it says of a layout that it is inside the limits.
 use Rattle.std.proofs.Common.{◌≡◌, ◌<◌, ◌≤◌, ℕ, true, length}
 use Rattle.std.proofs.lemmas.Bool.{and_parts, leb-true}
-use Rattle.cmwq_model.specs.Layout.{Layout, is_layout, is_between, most_cpus, most_workers, most_callers, most_items, most_queues, most_room}
+use Rattle.cmwq_model.specs.Layout.{Layout, is_layout, is_between, most_cpus, most_workers, most_callers, most_items}
+use Rattle.cmwq_model.specs.Layout.{most_queues, most_room}
 
 pub record Limits (s : Layout) : Type 0 where
   pub cpus : (0 < s.cpus) × (s.cpus ≤ most_cpus)

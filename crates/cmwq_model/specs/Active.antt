@@ -1,5 +1,6 @@
 -- Active queueings, and the order in which a pool starts them.
-use Rattle.std.specs.Prelude.{Bool, false, ◌&&◌, ◌||◌, not, ◌==◌, List, [], ◌∷◌, ◌++◌, filter, find, count_by, Option, nat_lt}
+use Rattle.std.specs.Prelude.{Bool, false, ◌&&◌, ◌||◌, not, ◌==◌, List, [], ◌∷◌, ◌++◌, filter, find, count_by, Option}
+use Rattle.std.specs.Prelude.{nat_lt}
 use Rattle.cmwq_model.specs.declared.id.PoolId.{PoolId}
 use Rattle.cmwq_model.specs.declared.entry.Entry.{Entry}
 use Rattle.cmwq_model.specs.declared.record.Place.{Place}
@@ -22,7 +23,8 @@ is_ahead x y = same_place y.place x.place && nat_lt y.number x.number
 abbrev pub is_below_max_active : Layout → List Entry → Queueing → Bool
 is_below_max_active s past x = nat_lt (count_by (is_ahead x) (still_open past)) (width s past x.place.queue.0)
 
--- active: open, and active before the last entry or below max_active now; so what has become active stays so while it is open
+-- active: open, and active before the last entry or below max_active now; so what has become active stays so while it
+-- is open
 unfoldable pub is_active : Layout → List Entry → Queueing → Bool
 is_active s [] x = false
 is_active s (e ∷ past) x = is_live (e ∷ past) x && (is_active s past x || is_below_max_active s (e ∷ past) x)

@@ -1,5 +1,6 @@
 -- The one answer to each call: the first case that applies, in the order in which the cases stand.
-use Rattle.std.specs.Prelude.{ℕ, ◌+◌, Bool, true, false, ◌&&◌, ◌||◌, not, ◌==◌, if◌then◌else◌, List, length, filter, find, Option, Some, None, min, nat_lt, nat_le}
+use Rattle.std.specs.Prelude.{ℕ, ◌+◌, Bool, true, false, ◌&&◌, ◌||◌, not, ◌==◌, if◌then◌else◌, List, length, filter}
+use Rattle.std.specs.Prelude.{find, Option, Some, None, min, nat_lt, nat_le}
 use Rattle.std.specs.List.{list_any}
 use Rattle.std.specs.Option.{option_map_or}
 use Rattle.cmwq_model.specs.declared.id.WorkerId.{WorkerId}
@@ -152,7 +153,8 @@ started_answer n (Some x) = reply.StartedEnlist n x
 
 abbrev pub start_of : Layout → List Entry → WorkerId → Option Queueing → Reply
 start_of s past w None = reply.Nothing
-start_of s past w (Some x) = if nat_lt 0 (runnable s past w.pool) then reply.Held else started_answer x.number (enlisted_by s past w)
+start_of s past w (Some x) = if nat_lt 0 (runnable s past w.pool) then reply.Held
+    else started_answer x.number (enlisted_by s past w)
 
 unfoldable pub take_answer : Layout → List Entry → WorkerId → Reply
 take_answer s past w =

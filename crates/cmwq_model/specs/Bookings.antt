@@ -1,5 +1,6 @@
 -- Delayed items: which are booked on a timer, for when, and which is due first.
-use Rattle.std.specs.Prelude.{ℕ, Bool, true, false, ◌&&◌, if◌then◌else◌, List, [], ◌∷◌, ◌++◌, length, filter, Option, Some, None, option_map, option_and_then, option_to_list, is_some}
+use Rattle.std.specs.Prelude.{ℕ, Bool, true, false, ◌&&◌, if◌then◌else◌, List, [], ◌∷◌, ◌++◌, length, filter, Option}
+use Rattle.std.specs.Prelude.{Some, None, option_map, option_and_then, option_to_list, is_some}
 use Rattle.cmwq_model.specs.declared.call.Call.{Call}
 use Rattle.cmwq_model.specs.declared.call.Call.TheVariants as call
 use Rattle.cmwq_model.specs.declared.reply.Reply.{Reply}
@@ -27,8 +28,10 @@ due_in r = None
 
 -- the booking that a call makes whose entry has number n and answers that it is due then
 abbrev pub booked_by : Call → ℕ → ℕ → Option Booking
-booked_by (call.Delay i q c t) n due = Some (record { item = i; place = record { queue = q; cpu = c }; due = due; number = n })
-booked_by (call.Modify i q c t) n due = Some (record { item = i; place = record { queue = q; cpu = c }; due = due; number = n })
+booked_by (call.Delay i q c t) n due =
+    Some (record { item = i; place = record { queue = q; cpu = c }; due = due; number = n })
+booked_by (call.Modify i q c t) n due =
+    Some (record { item = i; place = record { queue = q; cpu = c }; due = due; number = n })
 booked_by c n due = None
 
 abbrev pub booking_of : Entry → ℕ → Option Booking

@@ -1,6 +1,7 @@
--- What single entries say: by whom they are, of which item, and which entry has a number.
--- A history is a list of entries with the newest first, called past. So the number of the entry before which past lies is the length of past.
-use Rattle.std.specs.Prelude.{ℕ, suc, ◌+◌, ◌-◌, Bool, false, ◌&&◌, ◌==◌, if◌then◌else◌, List, [], ◌∷◌, length, slice_get, count_by, Option, Some, None, option_and_then, nat_lt}
+-- What single entries say: by whom they are, of which item, and which entry has a number. A history is a list of
+-- entries with the newest first, called past. So the number of the entry before which past lies is the length of past.
+use Rattle.std.specs.Prelude.{ℕ, suc, ◌+◌, ◌-◌, Bool, false, ◌&&◌, ◌==◌, if◌then◌else◌, List, [], ◌∷◌, length}
+use Rattle.std.specs.Prelude.{slice_get, count_by, Option, Some, None, option_and_then, nat_lt}
 use Rattle.std.specs.Option.{option_or}
 use mathlib.Core.Bool.{beq}
 use Rattle.cmwq_model.specs.declared.id.ItemId.{ItemId}

@@ -44,7 +44,8 @@ is_finished past n = list_any (finishes n) past
 -- of a queueing of item i: cancelled by its number, or replaced before it had started
 unfoldable pub is_cancelled : List Entry → ℕ → ℕ → Bool
 is_cancelled [] i n = false
-is_cancelled (e ∷ past) i n = is_cancelled past i n || takes_back n e || (replaces e.reply && is_of_item i e && nat_lt n (length past) && not (is_started past n))
+is_cancelled (e ∷ past) i n = is_cancelled past i n || takes_back n e
+    || (replaces e.reply && is_of_item i e && nat_lt n (length past) && not (is_started past n))
 
 -- of a queueing of item i: neither finished nor cancelled
 abbrev pub is_open : List Entry → ℕ → ℕ → Bool

@@ -23,10 +23,11 @@ pub record Layout : Type 0 where
   pub queues : List QueueShape
 
 abbrev pub layout_of : Counts → List QueueShape → Layout
-layout_of n queues = record { cpus = n.cpus; workers = n.workers; callers = n.callers; items = n.items; room = n.room; queues = queues }
+layout_of n queues =
+    record { cpus = n.cpus; workers = n.workers; callers = n.callers; items = n.items; room = n.room; queues = queues }
 
--- the limits of every shape: how many CPUs, workers of a pool, callers, items and queues it may have, and how great a queue's max_active and
--- the room, which is 2 ^ 62 at most
+-- the limits of every shape: how many CPUs, workers of a pool, callers, items and queues it may have, and how great a
+-- queue's max_active and the room, which is 2 ^ 62 at most
 abbrev pub most_cpus : ℕ
 most_cpus = 64
 
@@ -52,7 +53,8 @@ abbrev pub is_between : ℕ → ℕ → ℕ → Bool
 is_between low high n = nat_le low n && nat_le n high
 
 abbrev pub are_counts : ℕ → ℕ → ℕ → ℕ → ℕ → Bool
-are_counts cpus workers callers items room = is_between 1 most_cpus cpus && is_between 1 most_workers workers && is_between 1 most_callers callers && is_between 1 most_items items && nat_le room most_room
+are_counts cpus workers callers items room = is_between 1 most_cpus cpus && is_between 1 most_workers workers
+    && is_between 1 most_callers callers && is_between 1 most_items items && nat_le room most_room
 
 abbrev pub is_queue : QueueShape → Bool
 is_queue q = is_between 1 most_active q.max_active

@@ -14,7 +14,8 @@ abbrev pub past_of : List Entry → List Entry
 past_of entries = reverse entries
 
 abbrev pub entry_for : Layout → List Entry → Who → Call → Entry
-entry_for s past who call = record { who = who; serial = serial_of past who; call = call; reply = answer s past who call }
+entry_for s past who call =
+    record { who = who; serial = serial_of past who; call = call; reply = answer s past who call }
 
 unfoldable pub IsLegal : Layout → List Entry → Type 0
 IsLegal s [] = Unit {0}

@@ -1,5 +1,6 @@
 -- Queueings: what each entry opens, which are open, and which items are pending.
-use Rattle.std.specs.Prelude.{ℕ, Bool, true, false, ◌&&◌, ◌||◌, not, ◌==◌, if◌then◌else◌, List, [], ◌∷◌, ◌++◌, length, filter, find, Option, Some, None, option_map, option_and_then, option_to_list, is_some}
+use Rattle.std.specs.Prelude.{ℕ, Bool, true, false, ◌&&◌, ◌||◌, not, ◌==◌, if◌then◌else◌, List, [], ◌∷◌, ◌++◌, length}
+use Rattle.std.specs.Prelude.{filter, find, Option, Some, None, option_map, option_and_then, option_to_list, is_some}
 use Rattle.std.specs.Option.{option_or, option_map_or}
 use Rattle.cmwq_model.specs.declared.id.CpuId.{CpuId}
 use Rattle.cmwq_model.specs.declared.id.WorkerId.{WorkerId}
@@ -43,11 +44,19 @@ abbrev pub cpu_for : List Entry → ℕ → CpuId → CpuId
 cpu_for past i cpu = option_map_or (λ (start : Start). start.worker.pool.cpu) (item_run past i) cpu
 
 abbrev pub queued_at : List Entry → ℕ → Place → Queueing
-queued_at past i p = record { item = record { 0 = i }; place = record { queue = p.queue; cpu = cpu_for past i p.cpu }; number = length past }
+queued_at past i p =
+    record {
+      item = record { 0 = i };
+      place = record { queue = p.queue; cpu = cpu_for past i p.cpu };
+      number =
+          length past;
+    }
 
 -- what an entry opens
 abbrev pub opening : List Entry → Entry → Option Queueing
-opening past e = if opens e.reply then option_and_then (λ i. option_map (queued_at past i) (place_wanted past e.call i)) (item_of e) else None
+opening past e =
+    if opens e.reply then option_and_then (λ i. option_map (queued_at past i) (place_wanted past e.call i)) (item_of e)
+    else None
 
 -- all queueings that there ever were, by their numbers, and those that are open
 unfoldable pub queueings : List Entry → List Queueing
@@ -84,7 +93,8 @@ abbrev pub run_queue : List Entry → WorkerId → Option ℕ
 run_queue past w = option_and_then (queue_of past) (run past w)
 
 abbrev pub runs_elsewhere : List Entry → ℕ → ℕ → Bool
-runs_elsewhere past i q = option_map_or (λ (start : Start). not (is_at (queue_of past start.number) q)) (item_run past i) false
+runs_elsewhere past i q =
+    option_map_or (λ (start : Start). not (is_at (queue_of past start.number) q)) (item_run past i) false
 
 -- the item has an open queueing, started or not
 abbrev pub is_of : ℕ → Queueing → Bool

@@ -8,7 +8,8 @@ use Rattle.cmwq_model.specs.declared.reply.Reply.{Reply}
 use Rattle.cmwq_model.specs.declared.reply.Reply.TheVariants as reply
 use Rattle.cmwq_model.specs.declared.entry.Entry.{Entry}
 
--- the greatest numbers of the types: of callers, workers, CPUs and queues, of items, of ticks and widths, and of entries and the time
+-- the greatest numbers of the types: of callers, workers, CPUs and queues, of items, of ticks and widths, and of
+-- entries and the time
 abbrev pub greatest_byte : ℕ
 greatest_byte = 255
 
@@ -28,7 +29,8 @@ IsWho (Worker w) = (w.pool.cpu.0 ≤ greatest_byte) × (w.index ≤ greatest_byt
 abbrev pub IsPlace : ℕ → ℕ → ℕ → Type 0
 IsPlace i q c = (i ≤ greatest_short) × (q ≤ greatest_byte) × (c ≤ greatest_byte)
 
--- the numbers of entries, their serials and tickets are at most so great: greatest where a format's words hold no more, else greatest_long
+-- the numbers of entries, their serials and tickets are at most so great: greatest where a format's words hold no more,
+-- else greatest_long
 abbrev pub IsCall : ℕ → Call → Type 0
 IsCall most (call.Queue i q c) = IsPlace i.0 q.0 c.0
 IsCall most (call.Delay i q c ticks) = IsPlace i.0 q.0 c.0 × (ticks ≤ greatest)

@@ -1,5 +1,6 @@
 -- Room: what a history still owes, which calls are refused for want of room, and the steps of a list of calls.
-use Rattle.std.specs.Prelude.{ℕ, ◌+◌, ◌*◌, Bool, true, false, not, ◌&&◌, if◌then◌else◌, List, [], ◌∷◌, ◌++◌, length, map, fold, count_by, flat_map, nat_le}
+use Rattle.std.specs.Prelude.{ℕ, ◌+◌, ◌*◌, Bool, true, false, not, ◌&&◌, if◌then◌else◌, List, [], ◌∷◌, ◌++◌, length}
+use Rattle.std.specs.Prelude.{map, fold, count_by, flat_map, nat_le}
 use Rattle.std.specs.List.{range_with_len}
 use Rattle.cmwq_model.specs.declared.id.PoolId.{PoolId}
 use Rattle.cmwq_model.specs.declared.id.WorkerId.{WorkerId}
@@ -24,7 +25,8 @@ abbrev pub pool_workers : Layout → PoolId → List WorkerId
 pool_workers s p = map (worker_at p) (indices s)
 
 abbrev pub cpu_workers : Layout → ℕ → List WorkerId
-cpu_workers s c = pool_workers s (record { cpu = record { 0 = c }; high = false }) ++ pool_workers s (record { cpu = record { 0 = c }; high = true })
+cpu_workers s c = pool_workers s (record { cpu = record { 0 = c }; high = false })
+    ++ pool_workers s (record { cpu = record { 0 = c }; high = true })
 
 abbrev pub workers : Layout → List WorkerId
 workers s = flat_map (cpu_workers s) (range_with_len 0 s.cpus)
@@ -36,8 +38,10 @@ has_not_started past x = not (is_started past x.number)
 
 unfoldable pub owed : Layout → List Entry → ℕ
 owed s past =
-    2 * count_by (has_not_started past) (still_open past) + count_by (has_run past) (workers s) + count_by (runs_asleep past) (workers s)
-    + 3 * count_by (is_booked past) (range_with_len 0 s.items) + length (unended_tickets past) + (if is_frozen past then 1 else 0)
+    2 * count_by (has_not_started past) (still_open past) + count_by (has_run past) (workers s) + count_by
+    (runs_asleep past) (workers s)
+    + 3 * count_by (is_booked past) (range_with_len 0 s.items) + length
+    (unended_tickets past) + (if is_frozen past then 1 else 0)
 
 abbrev pub room_needed : Layout → List Entry → ℕ
 room_needed s past = length past + owed s past
@@ -50,7 +54,8 @@ abbrev pub has_time : List Entry → Call → Bool
 has_time past (call.Tick ticks) = nat_le (now past + ticks) most_time
 has_time past c = true
 
--- a call has room where the history with its entry, and what that owes, is within the room; the program's is that of the layout
+-- a call has room where the history with its entry, and what that owes, is within the room; the program's is that of
+-- the layout
 abbrev pub has_room : Layout → ℕ → List Entry → Who → Call → Bool
 has_room s room past who call = has_time past call && nat_le (room_needed s (entry_for s past who call ∷ past)) room
 
@@ -60,7 +65,9 @@ pub record Steps : Type 0 where
   pub left_out : ℕ
 
 abbrev pub step : Layout → ℕ → Steps → Who × Call → Steps
-step s room t c = if has_room s room t.past c.0 c.1 then record { past = entry_for s t.past c.0 c.1 ∷ t.past; left_out = t.left_out } else record { past = t.past; left_out = t.left_out + 1 }
+step s room t c =
+    if has_room s room t.past c.0 c.1 then record { past = entry_for s t.past c.0 c.1 ∷ t.past; left_out = t.left_out }
+    else record { past = t.past; left_out = t.left_out + 1 }
 
 abbrev pub none : Steps
 none = record { past = []; left_out = 0 }

@@ -1,5 +1,6 @@
 -- Runs: what each worker runs, whether that sleeps, and the run of an item.
-use Rattle.std.specs.Prelude.{ℕ, Bool, true, false, ◌&&◌, not, if◌then◌else◌, List, [], ◌∷◌, Option, Some, None, option_map, option_and_then, is_some}
+use Rattle.std.specs.Prelude.{ℕ, Bool, true, false, ◌&&◌, not, if◌then◌else◌, List, [], ◌∷◌, Option, Some, None}
+use Rattle.std.specs.Prelude.{option_map, option_and_then, is_some}
 use Rattle.std.specs.Option.{option_map_or}
 use Rattle.cmwq_model.specs.declared.id.WorkerId.{WorkerId}
 use Rattle.cmwq_model.specs.declared.id.Who.TheVariants.{Worker}
@@ -17,7 +18,8 @@ is_number_open past n = option_map_or (λ i. is_open past i n) (item_at past n) 
 -- what the worker started last
 unfoldable pub last_start : List Entry → WorkerId → Option ℕ
 last_start [] w = None
-last_start (e ∷ past) w = if is_by (Worker w) e && is_some (number_started e.reply) then number_started e.reply else last_start past w
+last_start (e ∷ past) w = if is_by (Worker w) e && is_some (number_started e.reply) then number_started e.reply
+    else last_start past w
 
 -- the worker's run: what it started last, while that is open
 abbrev pub run : List Entry → WorkerId → Option ℕ
@@ -47,7 +49,9 @@ runs_asleep past w = has_run past w && is_asleep past w
 
 -- the item's last start, and its run: that start, while the queueing is open
 abbrev pub start_in : Entry → Option Start
-start_in e = option_and_then (λ w. option_map (λ n. record { worker = w; number = n }) (number_started e.reply)) (worker_of e.who)
+start_in e =
+    option_and_then (λ w. option_map (λ n. record { worker = w; number = n }) (number_started e.reply))
+    (worker_of e.who)
 
 abbrev pub starts_item : List Entry → Entry → ℕ → Bool
 starts_item past e i = option_map_or (λ (start : Start). is_at (item_at past start.number) i) (start_in e) false
@@ -57,7 +61,8 @@ item_start [] i = None
 item_start (e ∷ past) i = if starts_item past e i then start_in e else item_start past i
 
 abbrev pub item_run : List Entry → ℕ → Option Start
-item_run past i = option_and_then (λ (start : Start). if is_open past i start.number then Some start else None) (item_start past i)
+item_run past i =
+    option_and_then (λ (start : Start). if is_open past i start.number then Some start else None) (item_start past i)
 
 abbrev pub item_runs : List Entry → ℕ → Bool
 item_runs past i = is_some (item_run past i)

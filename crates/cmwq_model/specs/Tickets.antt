@@ -1,5 +1,6 @@
 -- Tickets: the waits that callers began, and which of them are unended.
-use Rattle.std.specs.Prelude.{ℕ, Bool, true, false, ◌&&◌, ◌||◌, not, ◌==◌, if◌then◌else◌, List, [], ◌∷◌, ◌++◌, length, filter, find, count_by, Option, Some, None, option_to_list, nat_le}
+use Rattle.std.specs.Prelude.{ℕ, Bool, true, false, ◌&&◌, ◌||◌, not, ◌==◌, if◌then◌else◌, List, [], ◌∷◌, ◌++◌, length}
+use Rattle.std.specs.Prelude.{filter, find, count_by, Option, Some, None, option_to_list, nat_le}
 use Rattle.std.specs.List.{list_any}
 use Rattle.std.specs.Option.{option_map_or}
 use Rattle.cmwq_model.specs.declared.id.Who.{Who}
@@ -51,7 +52,8 @@ is_unended past t = not (list_any (ends t) past)
 abbrev pub unended_tickets : List Entry → List Ticket
 unended_tickets past = filter (is_unended past) (tickets past)
 
--- while a cancel_sync of an item is unended the item is being cancelled, and likewise a queue is draining, by a drain or a destroy
+-- while a cancel_sync of an item is unended the item is being cancelled, and likewise a queue is draining, by a drain
+-- or a destroy
 abbrev pub cancels_sync : ℕ → Call → Bool
 cancels_sync i (call.CancelSync j) = j.0 == i
 cancels_sync i c = false

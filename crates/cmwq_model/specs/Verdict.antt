@@ -1,4 +1,5 @@
--- The verdict of a history: which is the first entry that isn't the one that its call gets at that point, and what should stand there.
+-- The verdict of a history: which is the first entry that isn't the one that its call gets at that point, and what
+-- should stand there.
 use Rattle.std.specs.Prelude.{◌≡◌, List, ◌∷◌, ◌++◌, length, IsTrue}
 use Rattle.std.specs.List.{All}
 use Rattle.cmwq_model.specs.declared.entry.Entry.{Entry}
@@ -17,7 +18,8 @@ AllFit s entries = All (λ e. IsTrue (fits s e.who e.call)) entries
 -- what should stand in an entry after past where something else stands: the serial, or where that is right the reply
 abbrev pub Wants : Layout → List Entry → Entry → Wanted → Type 0
 Wants s past e (wanted.Serial n) = (n ≡ serial_of past e.who) × (e.serial ≡ n → ⊥)
-Wants s past e (wanted.Reply r) = (e.serial ≡ serial_of past e.who) × (r ≡ answer s past e.who e.call) × (e.reply ≡ r → ⊥)
+Wants s past e (wanted.Reply r) = (e.serial ≡ serial_of past e.who) × (r ≡ answer s past e.who e.call)
+    × (e.reply ≡ r → ⊥)
 
 -- the entries before it are a legal history, and it isn't the entry that its call gets after them
 pub record IsFirstWrong (s : Layout) (entries : List Entry) (i : Illegal) : Type 0 where

@@ -1,5 +1,6 @@
 -- What an unended ticket waits for. It is ready where that is nothing.
-use Rattle.std.specs.Prelude.{ℕ, Bool, true, false, ◌&&◌, ◌==◌, if◌then◌else◌, List, [], ◌∷◌, length, find, count_by, Option, Some, None, option_map, nat_lt, nat_le}
+use Rattle.std.specs.Prelude.{ℕ, Bool, true, false, ◌&&◌, ◌==◌, if◌then◌else◌, List, [], ◌∷◌, length, find, count_by}
+use Rattle.std.specs.Prelude.{Option, Some, None, option_map, nat_lt, nat_le}
 use Rattle.std.specs.Option.{option_or, option_map_or}
 use Rattle.cmwq_model.specs.declared.call.Call.{Call}
 use Rattle.cmwq_model.specs.declared.call.Call.TheVariants as call
@@ -21,10 +22,13 @@ is_served_after past q n = nat_lt (count_by (is_older_flush q n) (unended_ticket
 
 unfoldable pub serving_from : List Entry → ℕ → ℕ → Option ℕ
 serving_from [] q n = None
-serving_from (e ∷ past) q n = option_or (serving_from past q n) (if nat_le n (length past) && is_served_after (e ∷ past) q n then Some (length past) else None)
+serving_from (e ∷ past) q n =
+    option_or (serving_from past q n) (if nat_le n (length past) && is_served_after (e ∷ past) q n
+    then Some (length past) else None)
 
 -- A served flush waits for the queueings of its queue up to the position from which it is served, one in overflow for
--- all of them, a flush of an item for the item's queueings up to its own position, a drain and a destroy for all of its queue.
+-- all of them, a flush of an item for the item's queueings up to its own position, a drain and a destroy for all of its
+-- queue.
 abbrev pub is_within : Option ℕ → ℕ → Bool
 is_within bound n = option_map_or (nat_le n) bound true
 

@@ -1,5 +1,6 @@
 -- A pool's workers: which are enlisted, which hold the pool, and who comes and goes.
-use Rattle.std.specs.Prelude.{ℕ, ◌-◌, ◌*◌, Bool, true, false, ◌&&◌, ◌||◌, not, ◌==◌, if◌then◌else◌, List, [], ◌∷◌, find, count_by, Option, Some, None, nat_lt, nat_le}
+use Rattle.std.specs.Prelude.{ℕ, ◌-◌, ◌*◌, Bool, true, false, ◌&&◌, ◌||◌, not, ◌==◌, if◌then◌else◌, List, [], ◌∷◌, find}
+use Rattle.std.specs.Prelude.{count_by, Option, Some, None, nat_lt, nat_le}
 use Rattle.std.specs.List.{list_any}
 use Rattle.std.specs.Option.{option_map_or}
 use Rattle.cmwq_model.specs.declared.id.PoolId.{PoolId}
@@ -49,19 +50,23 @@ is_reserve past p x = not (is_enlisted past (worker_at p x))
 
 -- the concurrency rule: runs that are awake hold the pool, except those of a CPU-intensive queue
 abbrev pub is_holding : Layout → List Entry → PoolId → ℕ → Bool
-is_holding s past p x = runs_awake past (worker_at p x) && not (option_map_or (is_intensive s) (run_queue past (worker_at p x)) false)
+is_holding s past p x =
+    runs_awake past (worker_at p x) && not (option_map_or (is_intensive s) (run_queue past (worker_at p x)) false)
 
 unfoldable pub runnable : Layout → List Entry → PoolId → ℕ
 runnable s past p = count_by (is_holding s past p) (indices s)
 
--- A worker that starts, and leaves no other idle one behind, enlists the reserve worker of the least index, if there is one.
+-- A worker that starts, and leaves no other idle one behind, enlists the reserve worker of the least index, if there is
+-- one.
 abbrev pub is_other_idle : List Entry → WorkerId → ℕ → Bool
 is_other_idle past w x = not (x == w.index) && is_idle past w.pool x
 
 unfoldable pub enlisted_by : Layout → List Entry → WorkerId → Option ℕ
-enlisted_by s past w = if list_any (is_other_idle past w) (indices s) then None else find (is_reserve past w.pool) (indices s)
+enlisted_by s past w = if list_any (is_other_idle past w) (indices s) then None
+    else find (is_reserve past w.pool) (indices s)
 
--- An idle worker may retire while more than two are idle, and the idle ones past two are a quarter of the occupied ones or more.
+-- An idle worker may retire while more than two are idle, and the idle ones past two are a quarter of the occupied ones
+-- or more.
 abbrev pub has_spare : ℕ → ℕ → Bool
 has_spare idle occupied = nat_lt 2 idle && nat_le occupied ((idle - 2) * 4)
 

@@ -157,7 +157,8 @@ impl Call {
         }
     }
 
-    /// Whether a script may hold such a call: callers make it, and it neither ends a wait nor fires a timer, which a whole call does itself.
+    /// Whether a script may hold such a call: callers make it, and it neither ends a wait nor fires a timer, which a
+    /// whole call does itself.
     pub fn is_whole(&self) -> bool
         ensures { result ≡ is_whole self.now }
     {

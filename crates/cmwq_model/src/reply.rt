@@ -83,7 +83,8 @@ impl Reply {
     ghost use Rattle.cmwq_model.specs.Queueings.{opens};
     ghost use Rattle.cmwq_model.specs.Tickets.{gives_ticket};
     ghost use Rattle.cmwq_model.specs.Fate.{number_started, number_finished};
-    ghost use Rattle.cmwq_model.specs.Kernel.{queue_returns, modify_returns, cancel_returns, cancel_sync_returns, flush_item_returns, kernel_returns};
+    ghost use Rattle.cmwq_model.specs.Kernel.{queue_returns, modify_returns, cancel_returns, cancel_sync_returns};
+    ghost use Rattle.cmwq_model.specs.Kernel.{flush_item_returns, kernel_returns};
 
     /// Whether the entry's item is booked anew, or no more, after it.
     pub fn settles(self) -> bool
@@ -144,8 +145,8 @@ impl Reply {
     }
 
     /// What the kernel's function returns where this is the reply to the call: for queue and delay whether the item was
-    /// not pending, for modify, cancel and cancel_sync whether it was, for flush_item and flush_delayed whether there was
-    /// something to wait for. None of all other calls and replies.
+    /// not pending, for modify, cancel and cancel_sync whether it was, for flush_item and flush_delayed whether there
+    /// was something to wait for. None of all other calls and replies.
     pub fn kernel(&self, call: Call) -> Option<bool>
         ensures { result ≡ kernel_returns call self.now }
     {

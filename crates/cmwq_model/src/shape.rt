@@ -1,6 +1,7 @@
 ghost use Rattle.std.specs.Prelude.{◌≡◌, length, nat_lt, IfOk, IfSome, IsTrue, is_some};
 ghost use Rattle.std.specs.List.{list_all};
-ghost use Rattle.cmwq_model.specs.Layout.{Layout, are_counts, is_queue, are_queues, is_layout, has_numbers, may_make, fits};
+ghost use Rattle.cmwq_model.specs.Layout.{Layout, are_counts, is_queue, are_queues, is_layout, has_numbers, may_make};
+ghost use Rattle.cmwq_model.specs.Layout.{fits};
 
 use crate::call::Call;
 use crate::error::NoMemory;
@@ -108,8 +109,8 @@ impl Model for Shape {
 impl Shape {
     ghost use Rattle.cmwq_model.specs.Layout.{layout_of};
 
-    /// The shape of these counts and queues, if they are inside the limits: the counts', 1 to `MOST_QUEUES` queues, and each
-    /// queue's.
+    /// The shape of these counts and queues, if they are inside the limits: the counts', 1 to `MOST_QUEUES` queues, and
+    /// each queue's.
     pub fn new(counts: Counts, queues: Vec<QueueShape>) -> Option<Shape>
         ensures allowed { is_some result ≡ is_layout (layout_of counts queues.items) }
         ensures made { IfSome result (λ shape. shape ≡ layout_of counts queues.items) }

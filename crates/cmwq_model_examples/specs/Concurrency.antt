@@ -1,7 +1,8 @@
 -- Which queueings are active, and who may start the next one.
 use Rattle.std.specs.Prelude.{true, false, [], ◌∷◌}
 use Rattle.cmwq_model.specs.declared.reply.Reply.TheVariants as reply
-use Rattle.cmwq_model_examples.specs.Words.{Example, example, caller, normal, high, queue, modify, cancel, take, finish, sleep, wake, retire, entry, system, wq}
+use Rattle.cmwq_model_examples.specs.Words.{Example, example, caller, normal, high, queue, modify, cancel, take, finish}
+use Rattle.cmwq_model_examples.specs.Words.{sleep, wake, retire, entry, system, wq}
 
 -- Above max_active a queueing waits; one that is cancelled frees no place that it did not have.
 abbrev pub inactive_and_cancelled : Example

@@ -1,7 +1,9 @@
 -- Delayed items.
 use Rattle.std.specs.Prelude.{false, [], ◌∷◌}
 use Rattle.cmwq_model.specs.declared.reply.Reply.TheVariants as reply
-use Rattle.cmwq_model_examples.specs.Words.{Example, example, caller, normal, queue, delay, modify, cancel, tick, fire, flush, drain, flush_delayed, end, take, finish, entry, system, wq, reply_fired}
+use Rattle.cmwq_model_examples.specs.Words.{Example, example, caller, normal, queue, delay, modify, cancel, tick, fire}
+use Rattle.cmwq_model_examples.specs.Words.{flush, drain, flush_delayed, end, take, finish, entry, system, wq}
+use Rattle.cmwq_model_examples.specs.Words.{reply_fired}
 
 -- A delayed item is queued at the tick when it is due, and a flush does not wait for it before.
 abbrev pub timer_at_its_tick : Example

@@ -1,7 +1,8 @@
 -- More flushes than are served at once.
 use Rattle.std.specs.Prelude.{false, [], ◌∷◌}
 use Rattle.cmwq_model.specs.declared.reply.Reply.TheVariants as reply
-use Rattle.cmwq_model_examples.specs.Words.{Example, example, caller, normal, queue, flush, end, take, finish, entry, system, wq}
+use Rattle.cmwq_model_examples.specs.Words.{Example, example, caller, normal, queue, flush, end, take, finish, entry}
+use Rattle.cmwq_model_examples.specs.Words.{system, wq}
 
 -- The sixteenth flush waits in overflow until an older one has ended.
 abbrev pub sixteen_flushes : Example

@@ -1,7 +1,8 @@
 -- Queueing and starting.
 use Rattle.std.specs.Prelude.{false, [], ◌∷◌}
 use Rattle.cmwq_model.specs.declared.reply.Reply.TheVariants as reply
-use Rattle.cmwq_model_examples.specs.Words.{Example, example, caller, normal, queue, modify, take, finish, sleep, wake, entry, system, wq}
+use Rattle.cmwq_model_examples.specs.Words.{Example, example, caller, normal, queue, modify, take, finish, sleep, wake}
+use Rattle.cmwq_model_examples.specs.Words.{entry, system, wq}
 
 -- An item is queued, started and finished.
 abbrev pub first_run : Example

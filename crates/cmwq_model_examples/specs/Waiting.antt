@@ -1,7 +1,9 @@
 -- Flush, cancel_sync and drain.
 use Rattle.std.specs.Prelude.{false, [], ◌∷◌}
 use Rattle.cmwq_model.specs.declared.reply.Reply.TheVariants as reply
-use Rattle.cmwq_model_examples.specs.Words.{Example, example, caller, normal, queue, delay, cancel, flush, drain, flush_item, flush_delayed, cancel_sync, end, take, finish, entry, system, wq}
+use Rattle.cmwq_model_examples.specs.Words.{Example, example, caller, normal, queue, delay, cancel, flush, drain}
+use Rattle.cmwq_model_examples.specs.Words.{flush_item, flush_delayed, cancel_sync, end, take, finish, entry, system}
+use Rattle.cmwq_model_examples.specs.Words.{wq}
 
 -- A flush waits for what was queued before it, and not for what came later.
 abbrev pub flush_waits_for_older : Example

@@ -1,7 +1,9 @@
 -- Widths that change, and queues that go.
 use Rattle.std.specs.Prelude.{false, [], ◌∷◌}
 use Rattle.cmwq_model.specs.declared.reply.Reply.TheVariants as reply
-use Rattle.cmwq_model_examples.specs.Words.{Example, example, caller, cancel, delay, destroy, end, finish, flush, freeze, normal, queue, set_max, sleep, take, thaw, wake, entry, system, wq, wqf}
+use Rattle.cmwq_model_examples.specs.Words.{Example, example, caller, cancel, delay, destroy, end, finish, flush}
+use Rattle.cmwq_model_examples.specs.Words.{freeze, normal, queue, set_max, sleep, take, thaw, wake, entry, system, wq}
+use Rattle.cmwq_model_examples.specs.Words.{wqf}
 
 -- What is active stays so where the width falls, and no more becomes active before fewer than that are left.
 abbrev pub width_goes_up_and_down : Example

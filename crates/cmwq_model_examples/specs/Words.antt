@@ -102,7 +102,8 @@ wqf max_active = record { max_active = max_active; high = false; intensive = fal
 
 -- CPUs, workers in each pool, callers, items, room, queues
 abbrev pub system : ℕ → ℕ → ℕ → ℕ → ℕ → List QueueShape → Layout
-system cpus workers callers items room queues = record { cpus = cpus; workers = workers; callers = callers; items = items; room = room; queues = queues }
+system cpus workers callers items room queues =
+    record { cpus = cpus; workers = workers; callers = callers; items = items; room = room; queues = queues }
 
 -- calls, the history that they must give, and how many of them are left out of it for want of room
 pub record Example : Type 0 where

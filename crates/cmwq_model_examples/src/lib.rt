@@ -3,9 +3,11 @@
 
 ghost use Rattle.cmwq_model_examples.specs.Words.{Holds};
 ghost use Rattle.cmwq_model_examples.specs.Starting.{first_run, no_calls, pending_item, queued_while_it_runs, foreign};
-ghost use Rattle.cmwq_model_examples.specs.Concurrency.{inactive_and_cancelled, two_made_active_at_once, held_by_a_run, cpu_intensive, lanes, retire_while_enough_idle};
+ghost use Rattle.cmwq_model_examples.specs.Concurrency.{inactive_and_cancelled, two_made_active_at_once, held_by_a_run};
+ghost use Rattle.cmwq_model_examples.specs.Concurrency.{cpu_intensive, lanes, retire_while_enough_idle};
 ghost use Rattle.cmwq_model_examples.specs.Delays.{timer_at_its_tick, modify_replaces, timer_held_back};
-ghost use Rattle.cmwq_model_examples.specs.Waiting.{flush_waits_for_older, cancel_sync_of_self_queueing, drain_refuses_others, flush_delayed_and_cancel_sync};
+ghost use Rattle.cmwq_model_examples.specs.Waiting.{flush_waits_for_older, cancel_sync_of_self_queueing};
+ghost use Rattle.cmwq_model_examples.specs.Waiting.{drain_refuses_others, flush_delayed_and_cancel_sync};
 ghost use Rattle.cmwq_model_examples.specs.Overflow.{sixteen_flushes};
 ghost use Rattle.cmwq_model_examples.specs.NoRoom.{no_room};
 ghost use Rattle.cmwq_model_examples.specs.Widths.{width_goes_up_and_down, frozen_and_thawed, queue_destroyed};

@@ -1,5 +1,8 @@
 -- The entries of one who.
-use Rattle.cmwq_monitor.specs.Common.{◌≡◌, ℕ, ◌≤◌, List, [], ◌∷◌, ◌++◌, length, reverse, Bool, true, false, cond, refl, ap, sym, ◌∙◌, subst, arith, length-append, append-nil, append_assoc, count_by, reverse-append, nil_from_length, filter-append, Who, Entry, is_by, serial_of, past_of, serials_rise, IsPrefix}
+use Rattle.cmwq_monitor.specs.Common.{◌≡◌, ℕ, ◌≤◌, List, [], ◌∷◌, ◌++◌, length, reverse, Bool, true, false, cond, refl}
+use Rattle.cmwq_monitor.specs.Common.{ap, sym, ◌∙◌, subst, arith, length-append, append-nil, append_assoc, count_by}
+use Rattle.cmwq_monitor.specs.Common.{reverse-append, nil_from_length, filter-append, Who, Entry, is_by, serial_of}
+use Rattle.cmwq_monitor.specs.Common.{past_of, serials_rise, IsPrefix}
 use Rattle.std.proofs.lemmas.List.Sums.{length-filter}
 use Rattle.cmwq_lemmas.proofs.Lists.{count_by-cons, count_append}
 use Rattle.cmwq_pwq.proofs.Passes.{count_by-one}
@@ -16,10 +19,14 @@ pub made_length : (who : Who) (xs : List Entry) → length (made_by who xs) ≡ 
 made_length who xs = length-filter (is_by who) xs ∙ sym (count_reverse (is_by who) xs)
 
 -- a longer history with no more entries of one who has the same
-pub made_same : (who : Who) (xs ys : List Entry) → IsPrefix xs ys → length (made_by who ys) ≤ length (made_by who xs) → made_by who ys ≡ made_by who xs
+pub made_same : (who : Who) (xs ys : List Entry) → IsPrefix xs ys → length (made_by who ys) ≤ length (made_by who xs)
+    → made_by who ys ≡ made_by who xs
 made_same who xs ys p le =
-    let all : made_by who ys ≡ made_by who xs ++ made_by who p.0 = ap (made_by who) (sym p.1) ∙ filter-append (is_by who) xs p.0 in
-    let none : made_by who p.0 ≡ [] = nil_from_length (made_by who p.0) (let a = ap length all in let b = length-append (made_by who xs) (made_by who p.0) in omega arith) in
+    let all : made_by who ys ≡ made_by who xs ++ made_by who p.0 =
+    ap (made_by who) (sym p.1) ∙ filter-append (is_by who) xs p.0 in
+    let none : made_by who p.0 ≡ [] =
+    nil_from_length (made_by who p.0) (let a = ap length all in let b =
+    length-append (made_by who xs) (made_by who p.0) in omega arith) in
     all ∙ ap (λ zs. made_by who xs ++ zs) none ∙ append-nil (made_by who xs)
 
 one_is_true : (b : Bool) → ◌≡◌ {A = ℕ} (cond b 1 0) 1 → b ≡ true
@@ -34,7 +41,14 @@ made_own who e same = let by : is_by who e ≡ true = subst (λ w. is_by w e ≡
 
 -- what was gained in two steps
 pub gains_none : (v : View) → Gains v [] v
-gains_none v = record { same = refl; serial = omega arith; older = prefix_self v.seen; made = sym (append-nil (made_by v.who v.seen)) }
+gains_none v =
+    record {
+      same = refl;
+      serial = omega arith;
+      older = prefix_self v.seen;
+      made =
+          sym (append-nil (made_by v.who v.seen));
+    }
 
 pub gains_more : (v m w : View) (xs ys : List Entry) → Gains v xs m → Gains m ys w → Gains v (xs ++ ys) w
 gains_more v m w xs ys a b = record {
@@ -47,9 +61,11 @@ gains_more v m w xs ys a b = record {
 }
 
 -- who made no entry counts as many as before
-pub counts_kept : (m w : View) → serial_of (past_of m.seen) m.who ≡ m.serial → Gains m [] w → serial_of (past_of w.seen) w.who ≡ w.serial
+pub counts_kept : (m w : View) → serial_of (past_of m.seen) m.who ≡ m.serial → Gains m [] w
+    → serial_of (past_of w.seen) w.who ≡ w.serial
 counts_kept m w counts gains =
-    let made : made_by w.who w.seen ≡ made_by m.who m.seen ++ [] = subst (λ who. made_by who w.seen ≡ made_by m.who m.seen ++ []) (sym gains.same) gains.made in
+    let made : made_by w.who w.seen ≡ made_by m.who m.seen ++ [] =
+    subst (λ who. made_by who w.seen ≡ made_by m.who m.seen ++ []) (sym gains.same) gains.made in
     let a = made_length w.who w.seen in
     let b = made_length m.who m.seen in
     let c = ap length (made ∙ append-nil (made_by m.who m.seen)) in

@@ -3,7 +3,8 @@ use Rattle.std.specs.Prelude.{◌≡◌, ◌≢◌, ◌⊎◌, ◌<◌}
 use Rattle.cmwq_monitor.specs.Common.{ℕ, Bool, true, false, [], length, None, Call, Layout, past_of, has_room}
 use Rattle.cmwq_monitor.specs.Participants.{View, Gains, is_caller}
 use Rattle.cmwq_monitor.specs.declared.fault.RunFault.{RunFault}
-use Rattle.cmwq_monitor.specs.declared.fault.RunFault.TheVariants.{NoMemory, Full, Unfinished, NoPlace, Closed, Stranger, NoThread}
+use Rattle.cmwq_monitor.specs.declared.fault.RunFault.TheVariants.{NoMemory, Full, Unfinished, NoPlace, Closed}
+use Rattle.cmwq_monitor.specs.declared.fault.RunFault.TheVariants.{Stranger, NoThread}
 
 -- a hub that isn't the participant's own has another count of its entries, or a shorter history than it has seen
 abbrev pub Differs : View → ℕ → ℕ → Type 0
@@ -12,8 +13,8 @@ Differs w own book = ((own ≡ w.serial) × (book ≢ own)) ⊎ ((own ≡ length
 abbrev pub IsStranger : View → RunFault → Type 0
 IsStranger w f = (own : ℕ) × (book : ℕ) × (f ≡ Stranger own book) × Differs w own book
 
--- There was no room for the call behind all that it now sees; or the hub isn't its own; or it is closed, which is told to callers alone. A
--- call of one entry begins no ticket, and answers no other fault.
+-- There was no room for the call after all that it now sees; or the hub isn't its own; or it is closed, which is told
+-- to callers alone. A call of one entry begins no ticket, and answers no other fault.
 abbrev pub SaysFault : Layout → View → Call → RunFault → Type 0
 SaysFault s w call (NoMemory ticket) = ticket ≡ None
 SaysFault s w call Full = has_room s s.room (past_of w.seen) w.who call ≡ false

@@ -1,6 +1,7 @@
 -- What contracts see of what a hub keeps under its lock.
 use Rattle.std.specs.Prelude.{◌≡◌, ◌&&◌, ◌||◌, ◌==◌}
-use Rattle.cmwq_monitor.specs.Common.{ℕ, Bool, true, false, List, [], count_by, Who, Entry, Layout, past_of, still_open, is_active}
+use Rattle.cmwq_monitor.specs.Common.{ℕ, Bool, true, false, List, [], count_by, Who, Entry, Layout, past_of, still_open}
+use Rattle.cmwq_monitor.specs.Common.{is_active}
 use Rattle.cmwq_monitor.specs.Participants.{is_caller}
 use Rattle.cmwq_monitor.specs.declared.fault.RunFault.{RunFault}
 use Rattle.cmwq_monitor.specs.declared.fault.RunFault.TheVariants.{NoMemory, Closed}
@@ -29,7 +30,8 @@ is_over s h = h.failed || (h.closed && (active_in s h.history == 0))
 abbrev pub GoesOn : Held → Held → Type 0
 GoesOn old new = (new.closed ≡ old.closed) × (new.failed ≡ old.failed)
 
--- What a fault leaves: want of memory a hub that has failed, any other one as it was. Only a closed one answers that it is closed.
+-- What a fault leaves: want of memory a hub that has failed, any other one as it was. Only a closed one answers that it
+-- is closed.
 abbrev pub LeavesHeld : Held → RunFault → Held → Type 0
 LeavesHeld old (NoMemory ticket) new = (new.closed ≡ old.closed) × (new.failed ≡ true)
 LeavesHeld old Closed new = (new ≡ old) × (old.closed ≡ true)

@@ -1,6 +1,7 @@
 -- What contracts see of a caller or a worker of a hub.
 use Rattle.std.specs.Prelude.{◌≡◌, ◌+◌, ◌≤◌, ◌++◌}
-use Rattle.cmwq_monitor.specs.Common.{ℕ, Bool, true, false, List, [], length, filter, IsPrefix, Who, Caller, Worker, Entry, is_by}
+use Rattle.cmwq_monitor.specs.Common.{ℕ, Bool, true, false, List, [], length, filter, IsPrefix, Who, Caller, Worker}
+use Rattle.cmwq_monitor.specs.Common.{Entry, is_by}
 
 -- who it is, how many entries it made, and the history as far as it has seen it, with the oldest entry first
 pub record View : Type 0 where

@@ -1,6 +1,7 @@
 -- What one step under the lock leaves.
 use Rattle.std.specs.Prelude.{◌≡◌, ◌⊎◌, ◌&&◌, ◌≤◌, ◌∷◌, ◌++◌}
-use Rattle.cmwq_monitor.specs.Common.{ℕ, Bool, true, false, List, [], length, All, Option, Some, None, MatchBool, Call, Reply, Entry, Layout, serial_of, IsLegal, past_of, has_room}
+use Rattle.cmwq_monitor.specs.Common.{ℕ, Bool, true, false, List, [], length, All, Option, Some, None, MatchBool, Call}
+use Rattle.cmwq_monitor.specs.Common.{Reply, Entry, Layout, serial_of, IsLegal, past_of, has_room}
 use Rattle.cmwq_model.specs.declared.call.Call.TheVariants as call
 use Rattle.cmwq_model.specs.declared.reply.Reply.TheVariants as reply
 use Rattle.cmwq_monitor.specs.Participants.{View, Gains, is_caller, made_by}
@@ -16,8 +17,9 @@ use Rattle.cmwq_monitor.specs.declared.fault.Shortage.TheVariants.{Room, Memory}
 abbrev pub InStep : List Entry → View → Type 0
 InStep history v = (serial_of (past_of history) v.who ≡ v.serial) × (length v.seen ≤ length history)
 
--- Which fault a call answers where there are several: to a caller that the hub is closed, then that it has failed, then that it isn't the
--- participant's own, then that there is no room for the call. Memory may run out once the call is let in.
+-- Which fault a call answers where there are several: to a caller that the hub is closed, then that it has failed, then
+-- that it isn't the participant's own, then that there is no room for the call. Memory may run out once the call is let
+-- in.
 abbrev pub TellsFirst : Held → View → RunFault → Type 0
 TellsFirst h v Closed = (h.closed && is_caller v.who) ≡ true
 TellsFirst h v (NoMemory ticket) = ((h.closed && is_caller v.who) ≡ false) × ((h.failed ≡ true) ⊎ InStep h.history v)
@@ -47,12 +49,14 @@ is_nothing r = false
 abbrev pub HasFiredSome : View → View → Type 0
 HasFiredSome v w = (es : List Entry) × Gains v es w × All IsFire es
 
--- What is due is being fired: whatever fires are made next, so many at most, those that were made are all that was due together with them.
+-- What is due is being fired: whatever fires are made next, so many at most, those that were made are all that was due
+-- together with them.
 pub record IsFiring (s : Layout) (left : ℕ) (v w : View) : Type 0 where
   pub entries : List Entry
   pub gains : Gains v entries w
   pub fires : All IsFire entries
-  pub goes_on : (history more : List Entry) → Fires s v.who history left (made_by v.who v.seen ++ entries) more → Fires s v.who history s.items (made_by v.who v.seen) (entries ++ more)
+  pub goes_on : (history more : List Entry) → Fires s v.who history left (made_by v.who v.seen ++ entries) more
+      → Fires s v.who history s.items (made_by v.who v.seen) (entries ++ more)
   pub counts : serial_of (past_of w.seen) w.who ≡ w.serial
   pub ends : EndsFiring s v.who w.seen
   pub legal : IsLegal s (past_of w.seen)
@@ -74,7 +78,8 @@ is_retire_reply r = false
 
 -- it isn't, or there is no room for that
 abbrev pub IsViewKept : Layout → List Entry → View → Type 0
-IsViewKept s history v = WouldNot is_retire_reply s history v call.Retire ⊎ (has_room s s.room (past_of history) v.who call.Retire ≡ false)
+IsViewKept s history v = WouldNot is_retire_reply s history v call.Retire
+    ⊎ (has_room s s.room (past_of history) v.who call.Retire ≡ false)
 
 -- A wait ended: its ticket's end was done, and what a drain fires was fired.
 pub record HasEnded (s : Layout) (v : View) (c : Call) (k : ℕ) (w : View) : Type 0 where
@@ -85,7 +90,7 @@ pub record HasEnded (s : Layout) (v : View) (c : Call) (k : ℕ) (w : View) : Ty
   pub ends : MatchBool (is_drain c) (EndsFiring s v.who w.seen) (EndsOwn v.who w.seen)
   pub legal : IsLegal s (past_of w.seen)
 
--- or it stopped behind some of that
+-- or it stopped after some of that
 abbrev pub still_unended : ℕ → List Entry → Option ℕ
 still_unended k [] = Some k
 still_unended k (e ∷ es) = None

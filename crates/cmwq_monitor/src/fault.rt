@@ -6,8 +6,8 @@ use thiserror::Error;
 /// Why a call of a hub isn't answered. Unless it says so, the call has made no entry.
 #[derive(Clone, Copy, Debug, PartialEq, Eq, Error)]
 pub enum RunFault {
-    /// Memory ran out, now or before: the hub has failed, and all its calls answer this. A ticket is one that this call began and
-    /// could not end.
+    /// Memory ran out, now or before: the hub has failed, and all its calls answer this. A ticket is one that this call
+    /// began and could not end.
     #[error("no memory")]
     NoMemory { ticket: Option<Number> },
     /// There is no room for the call's first entry and for what would be owed then.
@@ -22,7 +22,8 @@ pub enum RunFault {
     /// The hub is closed.
     #[error("closed")]
     Closed,
-    /// The hub has another count of this caller's or worker's entries than it has itself, or a shorter history than it has seen.
+    /// The hub has another count of this caller's or worker's entries than it has itself, or a shorter history than it
+    /// has seen.
     #[error("stranger: {own} of its own, {book} of the hub")]
     Stranger { own: u64, book: u64 },
     /// A thread could not be made: the hub has failed.

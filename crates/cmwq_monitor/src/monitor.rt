@@ -1,5 +1,6 @@
 //! What a hub keeps under its lock: the Book, the published history, the ledger of entries, and who sleeps.
-ghost use Rattle.std.specs.Prelude.{◌≡◌, ◌≤◌, ◌<◌, ◌+◌, ◌++◌, ◌∷◌, [], drop, length, OnErr, true, false, IsTrue, IfOk, IfErr, IfSome, MatchOption, MatchBool, Some, None};
+ghost use Rattle.std.specs.Prelude.{◌≡◌, ◌≤◌, ◌<◌, ◌+◌, ◌++◌, ◌∷◌, [], drop, length, OnErr, true, false, IsTrue, IfOk};
+ghost use Rattle.std.specs.Prelude.{IfErr, IfSome, MatchOption, MatchBool, Some, None};
 ghost use Rattle.cmwq_model.specs.declared.call.Call.{Call};
 ghost use Rattle.cmwq_model.specs.Prelude.{fits, past_of, IsLegal, is_done};
 ghost use Rattle.cmwq_model.specs.declared.call.Call.TheVariants as calls;
@@ -10,7 +11,8 @@ ghost use Rattle.cmwq_monitor.specs.Held.{Held, held_at_first, IsOpenTo, GoesOn,
 ghost use Rattle.cmwq_monitor.specs.Calls.{Extends, own_entry};
 ghost use Rattle.cmwq_monitor.specs.Faults.{SaysFault, Refused, IsStranger, is_full};
 ghost use Rattle.cmwq_monitor.specs.Whole.{Stops};
-ghost use Rattle.cmwq_monitor.specs.Steps.{InStep, IsFiring, TellsFirst, Lacks, HasFired, HasFiredSome, WouldNot, IsViewKept, is_start, is_retire_reply, is_nothing};
+ghost use Rattle.cmwq_monitor.specs.Steps.{InStep, IsFiring, TellsFirst, Lacks, HasFired, HasFiredSome, WouldNot};
+ghost use Rattle.cmwq_monitor.specs.Steps.{IsViewKept, is_start, is_retire_reply, is_nothing};
 ghost use Rattle.cmwq_monitor.specs.Starts.{StartsOne};
 ghost use Rattle.cmwq_monitor.specs.Settled.{Settles};
 
@@ -30,8 +32,8 @@ use std::sync::{Wait, ledger};
 /// How many timers are fired in one hold of the lock, at most.
 pub const MOST_FIRES: u16 = 128;
 
-/// What a hub keeps under its lock. Contracts see its history, which is legal and is the Book's and the published one, whether it is closed,
-/// and whether it has failed.
+/// What a hub keeps under its lock. Contracts see its history, which is legal and is the Book's and the published one,
+/// whether it is closed, and whether it has failed.
 pub struct Monitor<N: HubName> {
     shape: Shape,
     execution: Execution,
@@ -52,7 +54,9 @@ impl<N: HubName> Model for Monitor<N> {
 
     ghost view = { λ d. record { history = d.execution.entries; closed = d.closed; failed = d.failed } };
 
-    ghost invariant = { λ d. (d.shape ≡ N.layout) × (d.execution.layout ≡ N.layout) × (d.execution.room ≡ N.layout.room) × (d.publisher.entries ≡ d.execution.entries) × (d.entries.total ≡ length d.execution.entries) × (d.tail.all ≡ d.execution.entries) };
+    ghost invariant = { λ d. (d.shape ≡ N.layout) × (d.execution.layout ≡ N.layout) × (d.execution.room ≡ N.layout.room)
+        × (d.publisher.entries ≡ d.execution.entries) × (d.entries.total ≡ length d.execution.entries)
+        × (d.tail.all ≡ d.execution.entries) };
 }
 
 impl<N: HubName> Monitor<N> {
@@ -96,10 +100,14 @@ impl<N: HubName> Monitor<N> {
     ) -> Result<Reply, NoMemory>
         requires fits { IsTrue (fits N.layout participant.old.who call) }
         requires step { InStep self.old.history participant.old }
-        requires plan { IsPlan (record { layout = N.layout; room = N.layout.room; entries = self.old.history }) participant.old.who call plan.now }
-        ensures made { IfOk result (λ reply. Extends N.layout participant.old call reply participant.new × InStep self.new.history participant.new) }
+        requires plan { IsPlan (record { layout = N.layout; room = N.layout.room; entries = self.old.history })
+            participant.old.who call plan.now }
+        ensures made { IfOk result (λ reply. Extends N.layout participant.old call reply participant.new
+            × InStep self.new.history participant.new) }
         ensures reply { IfOk result (λ reply. reply ≡ (own_entry N.layout self.old.history participant.old call).reply) }
-        ensures seen { IfOk result (λ _. participant.new.seen ≡ self.old.history ++ own_entry N.layout self.old.history participant.old call ∷ []) }
+        ensures seen { IfOk result
+            (λ _. participant.new.seen ≡ self.old.history ++ own_entry N.layout self.old.history participant.old call
+            ∷ []) }
         ensures goes_on { IfOk result (λ _. GoesOn self.old self.new) }
         ensures failed { IfErr result (λ _. (self.new ≡ record self.old { failed = true }) × (participant.new ≡ participant.old)) }
     {
@@ -148,7 +156,8 @@ impl<N: HubName> Monitor<N> {
         requires step { InStep self.old.history participant.old }
         ensures made { IfOk result (λ reply. Extends N.layout participant.old call reply participant.new) }
         ensures goes_on { IfOk result (λ _. GoesOn self.old self.new) }
-        ensures short { IfErr result (λ what. Gains participant.old [] participant.new × Lacks N.layout self.old participant.new call what self.new) }
+        ensures short { IfErr result (λ what. Gains participant.old [] participant.new
+            × Lacks N.layout self.old participant.new call what self.new) }
         ensures step { InStep self.new.history participant.new }
     {
         let who = participant.who();
@@ -231,7 +240,8 @@ impl<N: HubName> Monitor<N> {
         call: Call,
     ) -> Result<Reply, RunFault>
         requires { IsTrue (fits N.layout participant.old.who call) }
-        ensures made { IfOk result (λ reply. Extends N.layout participant.old call reply participant.new × InStep self.new.history participant.new) }
+        ensures made { IfOk result (λ reply. Extends N.layout participant.old call reply participant.new
+            × InStep self.new.history participant.new) }
         ensures open { IfOk result (λ _. IsOpenTo self.old participant.old.who × GoesOn self.old self.new) }
         ensures refused { IfErr result (λ f. Refused N.layout participant.old call f participant.new) }
         ensures first { IfErr result (λ f. TellsFirst self.old participant.old f) }
@@ -256,7 +266,8 @@ impl<N: HubName> Monitor<N> {
         call: Call,
     ) -> Result<Reply, RunFault>
         requires { IsTrue (fits N.layout participant.old.who call) }
-        ensures made { IfOk result (λ reply. Extends N.layout participant.old call reply participant.new × InStep self.new.history participant.new) }
+        ensures made { IfOk result (λ reply. Extends N.layout participant.old call reply participant.new
+            × InStep self.new.history participant.new) }
         ensures goes_on { IfOk result (λ _. (self.old.failed ≡ false) × GoesOn self.old self.new) }
         ensures refused { IfErr result (λ f. Refused N.layout participant.old call f participant.new) }
         ensures leaves { IfErr result (λ f. LeavesHeld self.old f self.new) }
@@ -335,8 +346,9 @@ impl<N: HubName> Monitor<N> {
         }
     }
 
-    /// Fires what is due, at most `left` times in all, and at most `MOST_FIRES` in this hold of the lock. Answers how many times it may still be
-    /// fired, or None once all is: there was nothing more, or no room, or it was fired so many times. A closed hub fires too.
+    /// Fires what is due, at most `left` times in all, and at most `MOST_FIRES` in this hold of the lock. Answers how
+    /// many times it may still be fired, or None once all is: there was nothing more, or no room, or it was fired so
+    /// many times. A closed hub fires too.
     pub fn fire_some<R: Wait>(
         &mut self,
         rt: &R,
@@ -344,10 +356,13 @@ impl<N: HubName> Monitor<N> {
         left: u16,
     ) -> Result<Option<u16>, RunFault>
         requires { is_caller participant.old.who ≡ true }
-        ensures fired { IfOk result (λ o. (v : View) → IsFiring N.layout left v participant.old → MatchOption o (HasFired N.layout v participant.new) (λ rest. IsFiring N.layout rest v participant.new)) }
+        ensures fired { IfOk result (λ o. (v : View) → IsFiring N.layout left v participant.old
+            → MatchOption o (HasFired N.layout v participant.new) (λ rest. IsFiring N.layout rest v participant.new)) }
         ensures fewer { IfOk result (λ o. IfSome o (λ rest. rest < left)) }
         ensures goes_on { IfOk result (λ _. (self.old.failed ≡ false) × GoesOn self.old self.new) }
-        ensures stopped { IfErr result (λ f. Stops participant.new None f × ((v : View) → IsFiring N.layout left v participant.old → HasFiredSome v participant.new)) }
+        ensures stopped { IfErr result
+            (λ f. Stops participant.new None f
+            × ((v : View) → IsFiring N.layout left v participant.old → HasFiredSome v participant.new)) }
         ensures leaves { IfErr result (λ f. LeavesHeld self.old f self.new) }
     {
         if self.failed {
@@ -385,8 +400,12 @@ impl<N: HubName> Monitor<N> {
         ticket: Number,
     ) -> Result<bool, RunFault>
         requires { is_caller participant.old.who ≡ true }
-        ensures done { IfOk result (λ b. MatchBool b (Extends N.layout participant.old (calls.End ticket) replies.Done participant.new × InStep self.new.history participant.new) (participant.new ≡ participant.old)) }
-        ensures waits { IfOk result (λ b. MatchBool b (GoesOn self.old self.new) ((self.new ≡ self.old) × WouldNot is_done N.layout self.old.history participant.old (calls.End ticket))) }
+        ensures done { IfOk result
+            (λ b. MatchBool b (Extends N.layout participant.old (calls.End ticket) replies.Done participant.new
+            × InStep self.new.history participant.new) (participant.new ≡ participant.old)) }
+        ensures waits { IfOk result
+            (λ b. MatchBool b (GoesOn self.old self.new)
+            ((self.new ≡ self.old) × WouldNot is_done N.layout self.old.history participant.old (calls.End ticket))) }
         ensures open { IfOk result (λ _. self.old.failed ≡ false) }
         ensures stopped { IfErr result (λ f. (participant.new ≡ participant.old) × Stops participant.old (Some ticket) f) }
         ensures leaves { IfErr result (λ f. LeavesHeld self.old f self.new) }
@@ -421,8 +440,13 @@ impl<N: HubName> Monitor<N> {
         participant: &mut Participant<N>,
     ) -> Result<Option<ItemId>, RunFault>
         requires { is_caller participant.old.who ≡ false }
-        ensures started { IfOk result (λ o. MatchOption o (participant.new ≡ participant.old) (λ item. (item.0 < N.layout.items) × StartsOne N.layout participant.old item participant.new)) }
-        ensures none { IfOk result (λ o. MatchOption o ((self.new ≡ self.old) × WouldNot is_start N.layout self.old.history participant.old calls.Take) (λ _. GoesOn self.old self.new)) }
+        ensures started { IfOk result
+            (λ o. MatchOption o (participant.new ≡ participant.old)
+            (λ item. (item.0 < N.layout.items) × StartsOne N.layout participant.old item participant.new)) }
+        ensures none { IfOk result
+            (λ o. MatchOption o
+            ((self.new ≡ self.old) × WouldNot is_start N.layout self.old.history participant.old calls.Take)
+            (λ _. GoesOn self.old self.new)) }
         ensures open { IfOk result (λ _. self.old.failed ≡ false) }
         ensures refused { IfErr result (λ f. Refused N.layout participant.old calls.Take f participant.new) }
         ensures room { IfErr result (λ f. is_full f ≡ false) }
@@ -458,8 +482,12 @@ impl<N: HubName> Monitor<N> {
         participant: &mut Participant<N>,
     ) -> Result<bool, RunFault>
         requires { is_caller participant.old.who ≡ false }
-        ensures retired { IfOk result (λ b. MatchBool b (Extends N.layout participant.old calls.Retire replies.Retired participant.new) (participant.new ≡ participant.old)) }
-        ensures kept { IfOk result (λ b. MatchBool b (GoesOn self.old self.new) ((self.new ≡ self.old) × IsViewKept N.layout self.old.history participant.old)) }
+        ensures retired { IfOk result
+            (λ b. MatchBool b (Extends N.layout participant.old calls.Retire replies.Retired participant.new)
+            (participant.new ≡ participant.old)) }
+        ensures kept { IfOk result
+            (λ b. MatchBool b (GoesOn self.old self.new)
+            ((self.new ≡ self.old) × IsViewKept N.layout self.old.history participant.old)) }
         ensures open { IfOk result (λ _. self.old.failed ≡ false) }
         ensures refused { IfErr result (λ f. Refused N.layout participant.old calls.Retire f participant.new) }
         ensures room { IfErr result (λ f. is_full f ≡ false) }
@@ -597,8 +625,8 @@ impl<N: HubName> Monitor<N> {
         self.failed
     }
 
-    /// Whether there is enough to hand over: half of what may be kept, or anything of a hub that is over, or somebody waits for space, or
-    /// nothing more may come.
+    /// Whether there is enough to hand over: half of what may be kept, or anything of a hub that is over, or somebody
+    /// waits for space, or nothing more may come.
     pub fn wants_journal(&self) -> bool {
         let kept = self.tail.kept().len() as u64;
         let is_enough = u64::from(self.tail.room()) <= 2 * kept || self.is_over();

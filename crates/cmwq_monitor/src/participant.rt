@@ -1,4 +1,5 @@
-//! The participant of a caller or a worker: who it is, how many entries it made, and the history as far as it has seen it.
+//! The participant of a caller or a worker: who it is, how many entries it made, and the history as far as it has seen
+//! it.
 ghost use Rattle.std.specs.Prelude.{◌≡◌, ◌+◌, ◌≤◌, [], length};
 ghost use mathlib.Core.List.{IsPrefix};
 ghost use Rattle.cmwq_model.specs.Prelude.{serial_of, past_of, IsLegal};
@@ -11,7 +12,8 @@ use std::marker::Model;
 use std::sync::ledger;
 use std::sync::ledger::Share;
 
-/// What a caller or a worker of a hub holds. Contracts see who it is, its serial and the history that it has seen, which is legal.
+/// What a caller or a worker of a hub holds. Contracts see who it is, its serial and the history that it has seen,
+/// which is legal.
 #[derive(Drop)]
 pub struct Participant<N: HubName> {
     who: Who,
@@ -30,7 +32,8 @@ impl<N: HubName> Model for Participant<N> {
 
     ghost view = { λ s. record { who = s.who; serial = s.serial; seen = s.prefix } };
 
-    ghost invariant = { λ s. IsThere N.layout s.who × (s.serial ≤ serial_of (past_of s.prefix) s.who) × (s.share.parts ≡ 1) × (s.share.amount ≡ s.serial) };
+    ghost invariant = { λ s. IsThere N.layout s.who × (s.serial ≤ serial_of (past_of s.prefix) s.who) × (s.share.parts ≡ 1)
+        × (s.share.amount ≡ s.serial) };
 }
 
 impl<N: HubName> Participant<N> {

@@ -1,4 +1,5 @@
-//! Who sleeps and what for, and who is to be woken. No contract speaks of that: a condvar that is never notified meets them all.
+//! Who sleeps and what for, and who is to be woken. No contract speaks of that: a condvar that is never notified meets
+//! them all.
 
 ghost use Rattle.std.specs.Prelude.{◌≡◌};
 
@@ -70,8 +71,8 @@ struct Waiter {
     is_woken: bool,
 }
 
-/// The workers of a pool that sleep, a bit for each index: those that may start something, and those that were found to be in the reserve.
-/// And the one that was woken and hasn't looked yet what it may start.
+/// The workers of a pool that sleep, a bit for each index: those that may start something, and those that were found to
+/// be in the reserve. And the one that was woken and hasn't looked yet what it may start.
 #[derive(Clone, Copy)]
 struct IdleWorkers {
     asleep: u64,
@@ -118,7 +119,8 @@ fn may_end_by(ticket: &Ticket, ended: &Queueing) -> bool {
     }
 }
 
-/// The queue whose flushes may end by an entry: that of what it ends, or of the flush that it ends, since another may be served then.
+/// The queue whose flushes may end by an entry: that of what it ends, or of the flush that it ends, since another may
+/// be served then.
 fn flushed_queue(ended: &Option<Queueing>, done: &Option<Ticket>) -> Option<QueueId> {
     if let Some(ended) = ended {
         return Some(ended.place.queue);
@@ -152,8 +154,8 @@ fn touched_at(shape: &Shape, queue: QueueId, cpu: CpuId) -> Touched {
     }
 }
 
-/// What an entry lets start by what it queues, or by who starts, sleeps or retires. What is queued while its item runs waits for that run, in
-/// whose pool it is.
+/// What an entry lets start by what it queues, or by who starts, sleeps or retires. What is queued while its item runs
+/// waits for that run, in whose pool it is.
 fn pools_touched_by(shape: &Shape, entry: &Entry) -> Touched {
     match entry.reply {
         Reply::Started(_) | Reply::StartedEnlist(_, _) | Reply::Slept | Reply::Retired => pool_of(
@@ -191,7 +193,7 @@ fn is_flush_of(ticket: &Ticket, queue: QueueId) -> bool {
     matches!(ticket.call, Call::Flush { queue: flushed } if flushed.0 == queue.0)
 }
 
-/// Adds a waiter behind those whose waits were begun before, where there is space for it.
+/// Adds a waiter after those whose waits were begun before, where there is space for it.
 fn add(waiters: &mut Vec<Waiter>, ticket: Ticket) {
     if waiters.len() == waiters.capacity() {
         return;
@@ -200,7 +202,7 @@ fn add(waiters: &mut Vec<Waiter>, ticket: Ticket) {
         ticket,
         is_woken: false,
     });
-    // who was woken too early comes back behind younger ones
+    // who was woken too early comes back after younger ones
     for place in (1..waiters.len()).rev() {
         if waiters[place - 1].ticket.number < ticket.number {
             return;
@@ -291,7 +293,8 @@ impl Sleepers {
         }
     }
 
-    /// After an entry that ended this queueing or ticket: those whose wait may end now, and a worker of each pool in which something may start.
+    /// After an entry that ended this queueing or ticket: those whose wait may end now, and a worker of each pool in
+    /// which something may start.
     #[inline(always)]
     pub fn changed(
         &mut self,
@@ -363,8 +366,8 @@ impl Sleepers {
         }
     }
 
-    /// Wakes one of the pool's sleeping workers, if it would start a queueing. Where one was woken and hasn't looked yet, no other is: what it
-    /// starts wakes the next.
+    /// Wakes one of the pool's sleeping workers, if it would start a queueing. Where one was woken and hasn't looked
+    /// yet, no other is: what it starts wakes the next.
     fn wake_pool(&mut self, book: &Execution, shape: &Shape, pool: PoolId)
         requires { book.now.layout ≡ shape.now }
     {

@@ -1,5 +1,8 @@
 -- The entries that steps make are of their calls, and no more than these.
-use Rattle.cmwq_output_laws.specs.Common.{◌≤◌, ◌<◌, ◌+◌, ◌-◌, ℕ, Bool, true, false, List, [], ◌∷◌, length, subst, sym, arith, fold, if◌then◌else◌, reverse, All, AllByRecursion, get_or-reverse, length-reverse, Who, Call, Entry, Layout, entry_for, Steps, has_room, step, steps, none}
+use Rattle.cmwq_output_laws.specs.Common.{◌≤◌, ◌<◌, ◌+◌, ◌-◌, ℕ, Bool, true, false, List, [], ◌∷◌, length, subst, sym}
+use Rattle.cmwq_output_laws.specs.Common.{arith, fold, if◌then◌else◌, reverse, All, AllByRecursion, get_or-reverse}
+use Rattle.cmwq_output_laws.specs.Common.{length-reverse, Who, Call, Entry, Layout, entry_for, Steps, has_room, step}
+use Rattle.cmwq_output_laws.specs.Common.{steps, none}
 
 module _ (s : Layout) (room : ℕ) where
   -- one step, by whether the call has room
@@ -15,7 +18,8 @@ module _ (s : Layout) (room : ℕ) where
       here true = omega arith
       here false = omega arith
 
-  few_on : (calls : List (Who × Call)) (t : Steps) → length (fold (step s room) t calls).past ≤ length t.past + length calls
+  few_on : (calls : List (Who × Call)) (t : Steps)
+      → length (fold (step s room) t calls).past ≤ length t.past + length calls
   few_on [] t = omega arith
   few_on (c ∷ calls) t = let one = one_more t c in let rest = few_on calls (step s room t c) in omega arith
 
@@ -26,7 +30,8 @@ module _ (s : Layout) (room : ℕ) where
     abbrev IsOf : Entry → Type 0
     IsOf e = P (e.who, e.call)
 
-    step_is_of : (t : Steps) (c : Who × Call) → P c → AllByRecursion IsOf t.past → AllByRecursion IsOf (step s room t c).past
+    step_is_of : (t : Steps) (c : Who × Call) → P c → AllByRecursion IsOf t.past
+        → AllByRecursion IsOf (step s room t c).past
     step_is_of t c own older = here (has_room s room t.past c.0 c.1)
       where
         here : (b : Bool) → AllByRecursion IsOf (stepped b t c).past
@@ -38,7 +43,8 @@ module _ (s : Layout) (room : ℕ) where
     of_on [] t each older = older
     of_on (c ∷ calls) t each older = of_on calls (step s room t c) each.1 (step_is_of t c each.0 older)
 
-    pub steps_are_of : (calls : List (Who × Call)) → AllByRecursion P calls → AllByRecursion IsOf (steps s room calls).past
+    pub steps_are_of : (calls : List (Who × Call)) → AllByRecursion P calls
+        → AllByRecursion IsOf (steps s room calls).past
     steps_are_of calls each = of_on calls none each tt
 
 pub all_reversed : {X : Type 0} (P : X → Type 0) (xs : List X) → All P xs → All P (reverse xs)

@@ -8,7 +8,7 @@ use Rattle.cmwq_theory_steps.specs.Histories.{OfLegal}
 use Rattle.cmwq_chart.specs.declared.bars.Bar.{Bar}
 use Rattle.cmwq_chart.specs.Bars.{bars_of}
 
--- the entry stands in the history, behind before
+-- the entry stands in the history, after before
 pub record StandsIn (past : List Entry) (e : Entry) (before : List Entry) : Type 0 where
   pub after : List Entry
   pub parts : past ≡ after ++ e ∷ before
@@ -40,7 +40,9 @@ pub record HasOneBar (past : List Entry) (e : Entry) (before : List Entry) (n : 
   pub ends : EndsWell past bar bar.to
 
 abbrev pub StartsHaveOneBar : Type 0
-StartsHaveOneBar = OfLegal (λ s past. (e : Entry) (before : List Entry) (n : ℕ) → StandsIn past e before → number_started e.reply ≡ Some n → HasOneBar past e before n)
+StartsHaveOneBar =
+    OfLegal (λ s past. (e : Entry) (before : List Entry) (n : ℕ) → StandsIn past e before
+    → number_started e.reply ≡ Some n → HasOneBar past e before n)
 
 -- a bar begins at a start of its queueing by its worker
 pub record IsOfStart (past : List Entry) (b : Bar) : Type 0 where

@@ -22,10 +22,12 @@ pub record IsTrueAfter (s : Layout) (past : List Entry) (l : Level) : Type 0 whe
   pub widths : l.height.width ≡ width s past l.place.queue.0
 
 abbrev pub IsTrueWhereItIs : Layout → List Entry → Level → Type 0
-IsTrueWhereItIs s past l = (e : Entry) (before : List Entry) → StandsIn past e before → Covers l (length before) → IsTrueAfter s (e ∷ before) l
+IsTrueWhereItIs s past l = (e : Entry) (before : List Entry) → StandsIn past e before → Covers l (length before)
+    → IsTrueAfter s (e ∷ before) l
 
 abbrev pub LevelsAreTrue : Type 0
-LevelsAreTrue = (s : Layout) (past : List Entry) (places : List Place) → AllByRecursion (IsTrueWhereItIs s past) (levels_of s past places)
+LevelsAreTrue = (s : Layout) (past : List Entry) (places : List Place)
+    → AllByRecursion (IsTrueWhereItIs s past) (levels_of s past places)
 
 pub record HasLevelAt (s : Layout) (past : List Entry) (places : List Place) (p : Place) (at : ℕ) : Type 0 where
   pub level : Level
@@ -42,8 +44,11 @@ abbrev pub AreOne : Level → Level → Type 0
 AreOne l m = (at : ℕ) → l.place ≡ m.place → Covers l at → Covers m at → l ≡ m
 
 abbrev pub LevelsAreAlone : Type 0
-LevelsAreAlone = (s : Layout) (past : List Entry) (places : List Place) → AllByRecursion (λ l. AllByRecursion (AreOne l) (levels_of s past places)) (levels_of s past places)
+LevelsAreAlone = (s : Layout) (past : List Entry) (places : List Place)
+    → AllByRecursion (λ l. AllByRecursion (AreOne l) (levels_of s past places)) (levels_of s past places)
 
 -- the places that are shown are those of all queueings
 abbrev pub UsedPlacesAreShown : Type 0
-UsedPlacesAreShown = OfLegal (λ s past. AllByRecursion (λ (x : Queueing). Contains (places_of s (queueings past)) x.place) (queueings past))
+UsedPlacesAreShown =
+    OfLegal (λ s past. AllByRecursion (λ (x : Queueing). Contains (places_of s (queueings past)) x.place)
+    (queueings past))

@@ -2,8 +2,8 @@
 
 ghost use Rattle.cmwq_output_laws.specs.BarLaws.{BarsAreOfStarts, LanesAreApart, StartsHaveOneBar};
 
-/// Each entry that starts a queueing begins exactly one bar, of its worker, which ends where that worker finishes the queueing, or else is
-/// what the worker runs at the end.
+/// Each entry that starts a queueing begins exactly one bar, of its worker, which ends where that worker finishes the
+/// queueing, or else is what the worker runs at the end.
 pub fn starts_have_one_bar()
     ensures { StartsHaveOneBar }
 {}

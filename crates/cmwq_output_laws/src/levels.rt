@@ -2,7 +2,8 @@
 
 ghost use Rattle.cmwq_output_laws.specs.LevelLaws.{LevelsAreAlone, LevelsAreTrue, PlacesHaveLevels, UsedPlacesAreShown};
 
-/// In any history a level says what is open and active of its queue on its CPU, and how wide the queue is, after each entry that it covers.
+/// In any history a level says what is open and active of its queue on its CPU, and how wide the queue is, after each
+/// entry that it covers.
 pub fn levels_are_true()
     ensures { LevelsAreTrue }
 {}

@@ -1,10 +1,17 @@
 -- What one entry more does to each word.
-use Rattle.cmwq_plain.specs.Common.{◌≡◌, ℕ, ◌+◌, ◌≤◌, false, ◌&&◌, ◌||◌, not, nat_lt, List, [], ◌∷◌, ◌++◌, length, filter, None, is_some, option_to_list, if◌then◌else◌, refl, ap, sum_by-cons, Worker, WorkerId, Entry, is_by, is_of_item, ticks_told, now, serial_of, settles, booking, booking_of, is_started, is_cancelled, takes_back, replaces, number_started, last_start, is_asleep, asleep_after, item_start, starts_item, start_in, queueings, opening, still_open, is_live, is_done, ends_destroy, is_gone, tickets, ticket_in, unended_tickets, is_unended, frozen_after, is_frozen}
+use Rattle.cmwq_plain.specs.Common.{◌≡◌, ℕ, ◌+◌, ◌≤◌, false, ◌&&◌, ◌||◌, not, nat_lt, List, [], ◌∷◌, ◌++◌, length}
+use Rattle.cmwq_plain.specs.Common.{filter, None, is_some, option_to_list, if◌then◌else◌, refl, ap, sum_by-cons, Worker}
+use Rattle.cmwq_plain.specs.Common.{WorkerId, Entry, is_by, is_of_item, ticks_told, now, serial_of, settles, booking}
+use Rattle.cmwq_plain.specs.Common.{booking_of, is_started, is_cancelled, takes_back, replaces, number_started}
+use Rattle.cmwq_plain.specs.Common.{last_start, is_asleep, asleep_after, item_start, starts_item, start_in, queueings}
+use Rattle.cmwq_plain.specs.Common.{opening, still_open, is_live, is_done, ends_destroy, is_gone, tickets, ticket_in}
+use Rattle.cmwq_plain.specs.Common.{unended_tickets, is_unended, frozen_after, is_frozen}
 use Rattle.cmwq_model.specs.declared.id.Who.{Who}
 use Rattle.cmwq_plain.specs.Past.{open_upto, unended_upto}
 use Rattle.cmwq_plain.proofs.Parts.{upto-none, upto-all}
 
-pub serial_step : (e : Entry) (past : List Entry) (who : Who) → serial_of (e ∷ past) who ≡ (if is_by who e then 1 else 0) + serial_of past who
+pub serial_step : (e : Entry) (past : List Entry) (who : Who)
+    → serial_of (e ∷ past) who ≡ (if is_by who e then 1 else 0) + serial_of past who
 serial_step e past who = sum_by-cons (λ x. if is_by who x then 1 else 0) e past
 
 pub now_step : (e : Entry) (past : List Entry) → now (e ∷ past) ≡ now past + ticks_told e.call
@@ -15,7 +22,8 @@ pub booking_none : (i : ℕ) → booking [] i ≡ None
 unfolding booking
 booking_none i = refl
 
-pub booking_step : (e : Entry) (past : List Entry) (i : ℕ) → booking (e ∷ past) i ≡ (if settles e.reply && is_of_item i e then booking_of e (length past) else booking past i)
+pub booking_step : (e : Entry) (past : List Entry) (i : ℕ)
+    → booking (e ∷ past) i ≡ (if settles e.reply && is_of_item i e then booking_of e (length past) else booking past i)
 unfolding booking
 booking_step e past i = refl
 
@@ -25,7 +33,10 @@ pub cancelled_none : (i n : ℕ) → is_cancelled [] i n ≡ false
 unfolding is_cancelled
 cancelled_none i n = refl
 
-pub cancelled_step : (e : Entry) (past : List Entry) (i n : ℕ) → is_cancelled (e ∷ past) i n ≡ (is_cancelled past i n || takes_back n e || (replaces e.reply && is_of_item i e && nat_lt n (length past) && not (is_started past n)))
+pub cancelled_step : (e : Entry) (past : List Entry) (i n : ℕ)
+    → is_cancelled (e ∷ past) i n
+    ≡ (is_cancelled past i n || takes_back n e
+    || (replaces e.reply && is_of_item i e && nat_lt n (length past) && not (is_started past n)))
 unfolding is_cancelled
 cancelled_step e past i n = refl
 
@@ -35,7 +46,9 @@ pub last_start_none : (w : WorkerId) → last_start [] w ≡ None
 unfolding last_start
 last_start_none w = refl
 
-pub last_start_step : (e : Entry) (past : List Entry) (w : WorkerId) → last_start (e ∷ past) w ≡ (if is_by (Worker w) e && is_some (number_started e.reply) then number_started e.reply else last_start past w)
+pub last_start_step : (e : Entry) (past : List Entry) (w : WorkerId)
+    → last_start (e ∷ past) w
+    ≡ (if is_by (Worker w) e && is_some (number_started e.reply) then number_started e.reply else last_start past w)
 unfolding last_start
 last_start_step e past w = refl
 
@@ -45,7 +58,9 @@ pub asleep_none : (w : WorkerId) → is_asleep [] w ≡ false
 unfolding is_asleep
 asleep_none w = refl
 
-pub asleep_step : (e : Entry) (past : List Entry) (w : WorkerId) → is_asleep (e ∷ past) w ≡ (if is_by (Worker w) e then asleep_after e.reply (is_asleep past w) else is_asleep past w)
+pub asleep_step : (e : Entry) (past : List Entry) (w : WorkerId)
+    → is_asleep (e ∷ past) w
+    ≡ (if is_by (Worker w) e then asleep_after e.reply (is_asleep past w) else is_asleep past w)
 unfolding is_asleep
 asleep_step e past w = refl
 
@@ -55,13 +70,15 @@ pub item_start_none : (i : ℕ) → item_start [] i ≡ None
 unfolding item_start
 item_start_none i = refl
 
-pub item_start_step : (e : Entry) (past : List Entry) (i : ℕ) → item_start (e ∷ past) i ≡ (if starts_item past e i then start_in e else item_start past i)
+pub item_start_step : (e : Entry) (past : List Entry) (i : ℕ)
+    → item_start (e ∷ past) i ≡ (if starts_item past e i then start_in e else item_start past i)
 unfolding item_start
 item_start_step e past i = refl
 
 pub ruleset item_start_steps = (item_start_none, item_start_step)
 
-pub queueings_step : (e : Entry) (past : List Entry) → queueings (e ∷ past) ≡ queueings past ++ option_to_list (opening past e)
+pub queueings_step : (e : Entry) (past : List Entry) → queueings (e ∷ past) ≡ queueings past
+    ++ option_to_list (opening past e)
 unfolding queueings
 queueings_step e past = refl
 
@@ -79,7 +96,8 @@ pub queueings_none : queueings [] ≡ []
 unfolding queueings
 queueings_none = refl
 
-pub tickets_step : (e : Entry) (past : List Entry) → tickets (e ∷ past) ≡ tickets past ++ option_to_list (ticket_in e (length past))
+pub tickets_step : (e : Entry) (past : List Entry)
+    → tickets (e ∷ past) ≡ tickets past ++ option_to_list (ticket_in e (length past))
 unfolding tickets
 tickets_step e past = refl
 
@@ -107,7 +125,8 @@ pub gone_none : (q : ℕ) → is_gone [] q ≡ false
 unfolding is_gone
 gone_none q = refl
 
-pub gone_step : (e : Entry) (past : List Entry) (q : ℕ) → is_gone (e ∷ past) q ≡ (is_gone past q || (is_done e.reply && ends_destroy past q e.who e.call))
+pub gone_step : (e : Entry) (past : List Entry) (q : ℕ)
+    → is_gone (e ∷ past) q ≡ (is_gone past q || (is_done e.reply && ends_destroy past q e.who e.call))
 unfolding is_gone
 gone_step e past q = refl
 

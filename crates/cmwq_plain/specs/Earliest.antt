@@ -1,6 +1,7 @@
 -- The next queueing of a pool, told by when each became active.
 use Rattle.std.specs.Prelude.{◌&&◌, if◌then◌else◌, ◌∷◌}
-use Rattle.cmwq_plain.specs.Common.{ℕ, Bool, List, [], length, fold, Option, Some, None, nat_lt, option_or, PoolId, Entry, Queueing, Layout, queueings, is_active, is_listed, is_startable}
+use Rattle.cmwq_plain.specs.Common.{ℕ, Bool, List, [], length, fold, Option, Some, None, nat_lt, option_or, PoolId}
+use Rattle.cmwq_plain.specs.Common.{Entry, Queueing, Layout, queueings, is_active, is_listed, is_startable}
 use Rattle.cmwq_plain.specs.Past.{upto}
 use Rattle.cmwq_plain.specs.declared.active.Candidate.{Candidate}
 
@@ -11,7 +12,8 @@ may_start s past p x = is_listed s past p x && is_startable past x
 -- the number of the first entry after which the queueing is active
 unfoldable pub earliest_since : Layout → List Entry → Queueing → Option ℕ
 earliest_since s [] x = None
-earliest_since s (e ∷ past) x = option_or (earliest_since s past x) (if is_active s (e ∷ past) x then Some (length past) else None)
+earliest_since s (e ∷ past) x =
+    option_or (earliest_since s past x) (if is_active s (e ∷ past) x then Some (length past) else None)
 
 -- the earlier one, and of two that one entry made active the one that stood first
 abbrev pub earlier : Option Candidate → Queueing → Option ℕ → Option Candidate

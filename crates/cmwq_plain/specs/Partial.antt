@@ -1,6 +1,7 @@
 -- What the first k entries made of it.
 use Rattle.std.specs.Prelude.{◌+◌}
-use Rattle.cmwq_plain.specs.Common.{ℕ, List, filter, count_by, Option, None, WorkerId, Call, Entry, Queueing, bookings, standing_bookings, stands, has_run, runs_asleep, may_fire, serving_from, is_ahead}
+use Rattle.cmwq_plain.specs.Common.{ℕ, List, filter, count_by, Option, None, WorkerId, Call, Entry, Queueing, bookings}
+use Rattle.cmwq_plain.specs.Common.{standing_bookings, stands, has_run, runs_asleep, may_fire, serving_from, is_ahead}
 use Rattle.cmwq_model.specs.declared.record.Booking.{Booking}
 use Rattle.cmwq_model.specs.declared.call.Call.TheVariants as call
 use Rattle.cmwq_plain.specs.Past.{upto, open_upto}

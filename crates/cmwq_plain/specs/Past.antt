@@ -1,6 +1,7 @@
 -- Parts of a history that is seen with the newest entry first.
 use Rattle.std.specs.Prelude.{◌-◌, ◌∷◌}
-use Rattle.cmwq_plain.specs.Common.{ℕ, List, length, drop, filter, Option, Some, None, Entry, Queueing, queueings, is_live, tickets, is_unended}
+use Rattle.cmwq_plain.specs.Common.{ℕ, List, length, drop, filter, Option, Some, None, Entry, Queueing, queueings}
+use Rattle.cmwq_plain.specs.Common.{is_live, tickets, is_unended}
 use Rattle.cmwq_model.specs.declared.record.Ticket.{Ticket}
 
 -- the first k entries

@@ -1,4 +1,5 @@
-ghost use Rattle.cmwq_model.specs.Prelude.{is_live, same_place, is_ahead, is_active, is_listed, next, is_below_max_active};
+ghost use Rattle.cmwq_model.specs.Prelude.{is_live, same_place, is_ahead, is_active, is_listed, next};
+ghost use Rattle.cmwq_model.specs.Prelude.{is_below_max_active};
 ghost use Rattle.std.specs.Prelude.{◌≡◌, ◌&&◌, ◌<◌, ◌+◌, length, if◌then◌else◌, option_map};
 ghost use Rattle.cmwq_theory_steps.specs.Looks.{keeps_widths, was_below_max_active};
 ghost use Rattle.cmwq_plain.specs.Partial.{ahead_upto};

@@ -1,7 +1,10 @@
 ghost use Rattle.std.specs.Prelude.{◌≡◌};
-ghost use Rattle.cmwq_model.specs.Prelude.{may_call, runs_on, is_shut, queue_answer, modify_answer, taken_back_answer, cancel_answer, wait_answer, destroy_answer, set_max_answer};
-ghost use Rattle.cmwq_model.specs.Prelude.{fired_answer, flush_item_answer, is_held_back, flush_delayed_answer, taken_back_for, cancel_sync_answer, end_of_ticket};
-ghost use Rattle.cmwq_model.specs.Prelude.{start_of, take_answer, finished_answer, finish_answer, retire_answer, worker_answer, own_answer, answer};
+ghost use Rattle.cmwq_model.specs.Prelude.{may_call, runs_on, is_shut, queue_answer, modify_answer, taken_back_answer};
+ghost use Rattle.cmwq_model.specs.Prelude.{cancel_answer, wait_answer, destroy_answer, set_max_answer};
+ghost use Rattle.cmwq_model.specs.Prelude.{fired_answer, flush_item_answer, is_held_back, flush_delayed_answer};
+ghost use Rattle.cmwq_model.specs.Prelude.{taken_back_for, cancel_sync_answer, end_of_ticket};
+ghost use Rattle.cmwq_model.specs.Prelude.{start_of, take_answer, finished_answer, finish_answer, retire_answer};
+ghost use Rattle.cmwq_model.specs.Prelude.{worker_answer, own_answer, answer};
 
 use crate::active::next;
 use crate::bookings::{booking, is_booked};

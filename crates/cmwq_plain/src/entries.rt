@@ -1,6 +1,7 @@
 //! What single entries say.
 ghost use Rattle.std.specs.Prelude.{◌≡◌};
-ghost use Rattle.cmwq_model.specs.Prelude.{same_pool, same_worker, is_by, item_of, is_of_item, starts, finishes, takes_back, replaces};
+ghost use Rattle.cmwq_model.specs.Prelude.{same_pool, same_worker, is_by, item_of, is_of_item, starts, finishes};
+ghost use Rattle.cmwq_model.specs.Prelude.{takes_back, replaces};
 
 use cmwq_model::{Entry, Number, PoolId, Reply, Who, WorkerId};
 

@@ -62,8 +62,8 @@ pub fn serial_of(entries: &[Entry], who: Who) -> u64
     tally::serial_of(&Past::new(entries), who)
 }
 
-/// Whether the history with the call's entry, and what it then still owes, is within the shape's room, and its time within 2^62 ticks. A call without
-/// room is refused and has no entry.
+/// Whether the history with the call's entry, and what it then still owes, is within the shape's room, and its time
+/// within 2^62 ticks. A call without room is refused and has no entry.
 pub fn has_room(shape: &Shape, entries: &[Entry], who: Who, call: Call) -> bool
     requires { length entries.now ≤ 1000000 }
     ensures { result ≡ room.has_room shape.now shape.now.room (past_of entries.now) who call }

@@ -1,5 +1,6 @@
 ghost use Rattle.std.specs.Prelude.{◌≡◌, ◌<◌, ◌+◌, ◌++◌, length, option_to_list};
-ghost use Rattle.cmwq_model.specs.Prelude.{opens, place_called, place_wanted, cpu_for, queued_at, opening, queueings, is_live, unstarted_queueing, is_unstarted, is_pending, queueing_at};
+ghost use Rattle.cmwq_model.specs.Prelude.{opens, place_called, place_wanted, cpu_for, queued_at, opening, queueings};
+ghost use Rattle.cmwq_model.specs.Prelude.{is_live, unstarted_queueing, is_unstarted, is_pending, queueing_at};
 ghost use Rattle.cmwq_model.specs.Prelude.{queue_of, run_queue, runs_elsewhere, is_item_open};
 ghost use Rattle.cmwq_plain.specs.Past.{upto, open_upto};
 

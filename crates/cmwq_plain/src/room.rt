@@ -1,6 +1,7 @@
 ghost use Rattle.std.specs.Prelude.{◌≡◌, ◌≤◌, count_by, length};
 ghost use Rattle.std.specs.List.{range_with_len};
-ghost use Rattle.cmwq_model.specs.Prelude.{is_booked, still_open, unended_tickets, pool_workers, cpu_workers, workers, has_not_started, owed, room_needed, has_time};
+ghost use Rattle.cmwq_model.specs.Prelude.{is_booked, still_open, unended_tickets, pool_workers, cpu_workers, workers};
+ghost use Rattle.cmwq_model.specs.Prelude.{has_not_started, owed, room_needed, has_time};
 ghost use Rattle.cmwq_plain.specs.Partial.{owed_by_runs};
 
 use crate::bookings::is_booked;

@@ -1,5 +1,6 @@
 ghost use Rattle.std.specs.Prelude.{◌≡◌};
-ghost use Rattle.cmwq_model.specs.Prelude.{entry_at, item_at, is_number_open, last_start, run, has_run, asleep_after, is_asleep, runs_awake, runs_asleep, start_in, starts_item};
+ghost use Rattle.cmwq_model.specs.Prelude.{entry_at, item_at, is_number_open, last_start, run, has_run, asleep_after};
+ghost use Rattle.cmwq_model.specs.Prelude.{is_asleep, runs_awake, runs_asleep, start_in, starts_item};
 ghost use Rattle.cmwq_model.specs.Prelude.{item_start, item_run, item_runs};
 
 use crate::entries::{is_by, item_of};

@@ -1,6 +1,7 @@
 ghost use Rattle.std.specs.Prelude.{◌≡◌, ◌<◌, ◌+◌, ◌++◌, length, option_to_list};
 ghost use Rattle.cmwq_model.specs.Prelude.{tickets, ends, is_unended, cancels_sync, drains, destroys, flushes};
-ghost use Rattle.cmwq_model.specs.Prelude.{is_cancelling, is_draining, is_being_destroyed, ends_destroy, is_gone, is_held_by, is_crowded, ticket_of};
+ghost use Rattle.cmwq_model.specs.Prelude.{is_cancelling, is_draining, is_being_destroyed, ends_destroy, is_gone};
+ghost use Rattle.cmwq_model.specs.Prelude.{is_held_by, is_crowded, ticket_of};
 ghost use Rattle.cmwq_plain.specs.Past.{upto, unended_upto};
 
 use crate::entries::is_by;

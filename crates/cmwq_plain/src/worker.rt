@@ -1,7 +1,8 @@
 ghost use Rattle.std.specs.Prelude.{◌≡◌, ◌≤◌, false, count_by, find};
 ghost use Rattle.std.specs.List.{list_any};
 ghost use Rattle.std.specs.Option.{option_map_or};
-ghost use Rattle.cmwq_model.specs.Prelude.{indices, is_intensive, run_queue, worker_at, is_in_pool, enlists, is_enlisted, is_occupied, is_idle};
+ghost use Rattle.cmwq_model.specs.Prelude.{indices, is_intensive, run_queue, worker_at, is_in_pool, enlists};
+ghost use Rattle.cmwq_model.specs.Prelude.{is_enlisted, is_occupied, is_idle};
 ghost use Rattle.cmwq_model.specs.Prelude.{is_reserve, is_holding, runnable, is_other_idle, enlisted_by, may_retire};
 
 use crate::entries::{is_by, is_same_pool};

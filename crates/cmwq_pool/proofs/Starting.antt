@@ -1,5 +1,6 @@
 -- The slots of a pool as a worker starts, and what a start takes.
-use Rattle.cmwq_pool.specs.Common.{◌≡◌, ℕ, zero, suc, ◌+◌, ◌<◌, Bool, true, false, cond, List, [], ◌∷◌, length, Option, Some, None, arith, find, IfSome, list_any, range_with_len}
+use Rattle.cmwq_pool.specs.Common.{◌≡◌, ℕ, zero, suc, ◌+◌, ◌<◌, Bool, true, false, cond, List, [], ◌∷◌, length, Option}
+use Rattle.cmwq_pool.specs.Common.{Some, None, arith, find, IfSome, list_any, range_with_len}
 use Rattle.cmwq_pool.specs.declared.task.Task.{Task}
 use Rattle.cmwq_pool.specs.declared.slot.Slot.{Slot}
 use Rattle.cmwq_pool.specs.Slots.{no_slot, slot_at, is_reserve_at, slot_is_other_idle, slot_indices, slots_enlisted_by}
@@ -7,14 +8,16 @@ use Rattle.cmwq_pool.specs.PoolState.{PoolState}
 
 -- ---- a slot that passes a test which none in its place would
 
-pub in_range : (p : Slot → Bool) (slots : List Slot) (w : ℕ) → p no_slot ≡ false → p (slot_at slots w) ≡ true → w < length slots
+pub in_range : (p : Slot → Bool) (slots : List Slot) (w : ℕ) → p no_slot ≡ false → p (slot_at slots w) ≡ true
+    → w < length slots
 in_range p [] w none here = cc
 in_range p (x ∷ slots) zero none here = omega arith
 in_range p (x ∷ slots) (suc w) none here = let h = in_range p slots w none here in omega arith
 
 -- ---- a start
 
-chosen_in_range : (b : Bool) (a n : ℕ) (o : Option ℕ) → IfSome o (λ x. x < (a + 1) + n) → IfSome (cond b (Some a) o) (λ x. x < a + suc n)
+chosen_in_range : (b : Bool) (a n : ℕ) (o : Option ℕ) → IfSome o (λ x. x < (a + 1) + n)
+    → IfSome (cond b (Some a) o) (λ x. x < a + suc n)
 chosen_in_range b a n o h = grind arith
 
 found_in_range : (p : ℕ → Bool) (a n : ℕ) → IfSome (find p (range_with_len a n)) (λ x. x < a + n)
@@ -26,7 +29,9 @@ reserve_in_range b n o h = grind arith
 
 -- whom a start enlists is one of the pool
 pub enlisted_by-in_range : (slots : List Slot) (w : ℕ) → IfSome (slots_enlisted_by slots w) (λ x. x < length slots)
-enlisted_by-in_range slots w = reserve_in_range (list_any (slot_is_other_idle slots w) (slot_indices slots)) (length slots) (find (is_reserve_at slots) (slot_indices slots)) (found_in_range (is_reserve_at slots) 0 (length slots))
+enlisted_by-in_range slots w =
+    reserve_in_range (list_any (slot_is_other_idle slots w) (slot_indices slots)) (length slots)
+    (find (is_reserve_at slots) (slot_indices slots)) (found_in_range (is_reserve_at slots) 0 (length slots))
 
 -- ---- a list that was written in place
 

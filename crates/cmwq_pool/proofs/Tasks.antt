@@ -1,5 +1,7 @@
 -- What stands in the lists of pools, each item with what is noted of it.
-use Rattle.cmwq_pool.specs.Common.{◌≡◌, ℕ, ◌<◌, ◌&&◌, ◌||◌, Bool, true, false, eqb, not, List, [], ◌∷◌, ◌++◌, length, set, map, filter, find, Option, Some, None, refl, sym, ap, ap₂, ◌∙◌, arith, is_some, option_map, nat_eq, list_any, get_or-set_same, get_or-set_other}
+use Rattle.cmwq_pool.specs.Common.{◌≡◌, ℕ, ◌<◌, ◌&&◌, ◌||◌, Bool, true, false, eqb, not, List, [], ◌∷◌, ◌++◌, length}
+use Rattle.cmwq_pool.specs.Common.{set, map, filter, find, Option, Some, None, refl, sym, ap, ap₂, ◌∙◌, arith, is_some}
+use Rattle.cmwq_pool.specs.Common.{option_map, nat_eq, list_any, get_or-set_same, get_or-set_other}
 use Rattle.std.proofs.lemmas.Bool.{and_parts, eqb-true, eqb-false, eq-eqb, or_parts, false≢true}
 use Rattle.std.proofs.lemmas.List.{get_or_past, map_push}
 use Rattle.std.proofs.lemmas.List.Sums.{fails_before_first}
@@ -14,7 +16,8 @@ use Rattle.cmwq_pool.specs.Upkeep.{no_note, note_at, noted_task}
 use Rattle.cmwq_list.proofs.Members.{owner_has}
 
 flipped : (a b : ℕ) → eqb a b ≡ eqb b a
-flipped a b = same_bools (eqb a b) (eqb b a) (λ h. eq-eqb b a (sym (eqb-true a b h))) (λ h. eq-eqb a b (sym (eqb-true b a h)))
+flipped a b =
+    same_bools (eqb a b) (eqb b a) (λ h. eq-eqb b a (sym (eqb-true a b h))) (λ h. eq-eqb a b (sym (eqb-true b a h)))
 
 -- ---- which list has an item
 
@@ -36,51 +39,69 @@ module _ (notes : List Note) where
   any_item i [] = refl
   any_item i (x ∷ xs) = ap₂ (λ a b. a || b) (flipped x i) (any_item i xs)
 
-  pub any_task : (n i : ℕ) (xs : List ℕ) → list_any (is_task n i) (map (noted_task notes) xs) ≡ (has_item i xs && eqb (note_at notes i).number n)
+  pub any_task : (n i : ℕ) (xs : List ℕ) → list_any (is_task n i) (map (noted_task notes) xs)
+      ≡ (has_item i xs && eqb (note_at notes i).number n)
   any_task n i [] = refl
   any_task n i (x ∷ xs) = grind (arith, any_task n i xs)
 
   -- so it is listed exactly where its item is, with its number
-  pub task_parts : (n i : ℕ) (xs : List ℕ) → list_any (is_task n i) (map (noted_task notes) xs) ≡ true → (has_item i xs ≡ true) × ((note_at notes i).number ≡ n)
-  task_parts n i xs h = let parts = and_parts (has_item i xs) (eqb (note_at notes i).number n) (sym (any_task n i xs) ∙ h) in (parts.0, eqb-true (note_at notes i).number n parts.1)
+  pub task_parts : (n i : ℕ) (xs : List ℕ) → list_any (is_task n i) (map (noted_task notes) xs) ≡ true
+      → (has_item i xs ≡ true) × ((note_at notes i).number ≡ n)
+  task_parts n i xs h = let parts =
+      and_parts (has_item i xs) (eqb (note_at notes i).number n) (sym (any_task n i xs) ∙ h) in
+      (parts.0, eqb-true (note_at notes i).number n parts.1)
 
-  pub no_task : (n i : ℕ) (xs : List ℕ) → has_item i xs ≡ false → list_any (is_task n i) (map (noted_task notes) xs) ≡ false
+  pub no_task : (n i : ℕ) (xs : List ℕ) → has_item i xs ≡ false → list_any (is_task n i) (map (noted_task notes) xs)
+      ≡ false
   no_task n i xs lacks = any_task n i xs ∙ ap (λ b. b && eqb (note_at notes i).number n) lacks
 
-  pub other_number : (n i : ℕ) (xs : List ℕ) → eqb (note_at notes i).number n ≡ false → list_any (is_task n i) (map (noted_task notes) xs) ≡ false
+  pub other_number : (n i : ℕ) (xs : List ℕ) → eqb (note_at notes i).number n ≡ false
+      → list_any (is_task n i) (map (noted_task notes) xs) ≡ false
   other_number n i xs differs = any_task n i xs ∙ (ap (λ b. has_item i xs && b) differs ∙ and_false (has_item i xs))
 
-  pub owned_task : (lists : Listed) (o l n i : ℕ) → AreListedOnce lists → list_of lists.lists i ≡ Some o → eqb (note_at notes i).number n ≡ true → eqb o l ≡ list_any (is_task n i) (map (noted_task notes) (list_at lists.lists l))
+  pub owned_task : (lists : Listed) (o l n i : ℕ) → AreListedOnce lists → list_of lists.lists i ≡ Some o
+      → eqb (note_at notes i).number n ≡ true
+      → eqb o l ≡ list_any (is_task n i) (map (noted_task notes) (list_at lists.lists l))
   owned_task lists o l n i once owner number =
       let owned = owner_has lists.lists i o owner in
-      same_bools (eqb o l) (has_item i (list_at lists.lists l)) (λ h. ap (λ k. has_item i (list_at lists.lists k)) (sym (eqb-true o l h)) ∙ owned) (λ h. eq-eqb o l (once.apart i o l owned h))
-      ∙ sym (any_task n i (list_at lists.lists l) ∙ (ap (λ b. has_item i (list_at lists.lists l) && b) number ∙ and_true (has_item i (list_at lists.lists l))))
+      same_bools (eqb o l) (has_item i (list_at lists.lists l))
+      (λ h. ap (λ k. has_item i (list_at lists.lists k)) (sym (eqb-true o l h)) ∙ owned)
+      (λ h. eq-eqb o l (once.apart i o l owned h))
+      ∙ sym (any_task n i (list_at lists.lists l)
+      ∙ (ap (λ b. has_item i (list_at lists.lists l) && b) number ∙ and_true (has_item i (list_at lists.lists l))))
 
   -- ---- what leaves a list
 
   same_test : (n i x : ℕ) → (note_at notes i).number ≡ n → not (nat_eq i x) ≡ is_other_task n i (noted_task notes x)
   same_test n i x number = grind arith
 
-  pub taken : (n i : ℕ) (xs : List ℕ) → (note_at notes i).number ≡ n → map (noted_task notes) (without_item i xs) ≡ filter (is_other_task n i) (map (noted_task notes) xs)
+  pub taken : (n i : ℕ) (xs : List ℕ) → (note_at notes i).number ≡ n → map (noted_task notes) (without_item i xs)
+      ≡ filter (is_other_task n i) (map (noted_task notes) xs)
   taken n i [] number = refl
   taken n i (x ∷ xs) number = grind (arith, taken n i xs number)
 
   -- ---- what joins a list
 
-  pub kept_notes : (i : ℕ) (y : Note) (xs : List ℕ) → has_item i xs ≡ false → map (noted_task (set notes i y)) xs ≡ map (noted_task notes) xs
+  pub kept_notes : (i : ℕ) (y : Note) (xs : List ℕ) → has_item i xs ≡ false → map (noted_task (set notes i y)) xs
+      ≡ map (noted_task notes) xs
   kept_notes i y [] h = refl
   kept_notes i y (x ∷ xs) h =
       let parts = or_parts (nat_eq i x) (has_item i xs) h in
-      ap₂ (λ t ts. t ∷ ts) (ap (λ (m : Note). task m.number x m.intensive) (get_or-set_other notes i x y no_note (λ e. eqb-false i x parts.0 (sym e)))) (kept_notes i y xs parts.1)
+      ap₂ (λ t ts. t ∷ ts)
+      (ap (λ (m : Note). task m.number x m.intensive)
+      (get_or-set_other notes i x y no_note (λ e. eqb-false i x parts.0 (sym e)))) (kept_notes i y xs parts.1)
 
-  pub added : (i : ℕ) (y : Note) (xs : List ℕ) → i < length notes → has_item i xs ≡ false → map (noted_task (set notes i y)) (xs ++ i ∷ []) ≡ map (noted_task notes) xs ++ task y.number i y.intensive ∷ []
+  pub added : (i : ℕ) (y : Note) (xs : List ℕ) → i < length notes → has_item i xs ≡ false
+      → map (noted_task (set notes i y)) (xs ++ i ∷ []) ≡ map (noted_task notes) xs ++ task y.number i y.intensive ∷ []
   added i y xs low h =
       map_push (noted_task (set notes i y)) xs i
-      ∙ ap₂ (λ ts t. ts ++ t ∷ []) (kept_notes i y xs h) (ap (λ (m : Note). task m.number i m.intensive) (get_or-set_same notes i y no_note low))
+      ∙ ap₂ (λ ts t. ts ++ t ∷ []) (kept_notes i y xs h)
+      (ap (λ (m : Note). task m.number i m.intensive) (get_or-set_same notes i y no_note low))
 
   -- ---- the first that may start
 
-  pub first_startable : (slots : List Slot) (xs : List ℕ) → find (is_task_startable slots) (map (noted_task notes) xs) ≡ option_map (noted_task notes) (find (λ i. not (slots_run_item slots i)) xs)
+  pub first_startable : (slots : List Slot) (xs : List ℕ) → find (is_task_startable slots) (map (noted_task notes) xs)
+      ≡ option_map (noted_task notes) (find (λ i. not (slots_run_item slots i)) xs)
   first_startable slots [] = refl
   first_startable slots (x ∷ xs) = grind (arith, first_startable slots xs)
 
@@ -97,5 +118,6 @@ pub empty_lacks : (i : ℕ) (xs : List ℕ) → length xs ≡ 0 → has_item i x
 empty_lacks i [] h = refl
 empty_lacks i (x ∷ xs) h = absurd (omega arith)
 
-pub some_first : {A B C : Type 0} (f : B → C) (g : A → B) (o : Option A) → is_some (option_map f (option_map g o)) ≡ true → is_some o ≡ true
+pub some_first : {A B C : Type 0} (f : B → C) (g : A → B) (o : Option A) → is_some (option_map f (option_map g o))
+    ≡ true → is_some o ≡ true
 some_first f g o h = grind arith

@@ -1,6 +1,7 @@
 -- A pool as one plain value: how many items there are, what is listed to start, and the slots of its workers.
 use Rattle.std.specs.Prelude.{◌&&◌, ◌==◌, ◌∷◌, ◌++◌}
-use Rattle.cmwq_pool.specs.Common.{ℕ, Bool, not, List, [], map, filter, find, Option, option_map, nat_lt, range_with_len, list_any}
+use Rattle.cmwq_pool.specs.Common.{ℕ, Bool, not, List, [], map, filter, find, Option, option_map, nat_lt}
+use Rattle.cmwq_pool.specs.Common.{range_with_len, list_any}
 use Rattle.cmwq_pool.specs.declared.task.Task.{Task}
 use Rattle.cmwq_pool.specs.declared.slot.Slot.{Slot}
 use Rattle.cmwq_pool.specs.Slots.{is_task_of, new_slot, slots_run_item, with_slot, slots_started}
@@ -46,7 +47,8 @@ next_number p = option_map (λ (t : Task). t.number) (next_task p)
 
 -- it leaves the list, and its worker runs it and enlists whom the rule says
 abbrev pub pool_with_run : PoolState → ℕ → Task → PoolState
-pool_with_run p w t = record p { listed = filter (is_other_task t.number t.item.0) p.listed; slots = slots_started p.slots w t }
+pool_with_run p w t =
+    record p { listed = filter (is_other_task t.number t.item.0) p.listed; slots = slots_started p.slots w t }
 
 -- the slot of one worker changes, and nothing else
 abbrev pub with_slot_again : (Slot → Slot) → PoolState → ℕ → PoolState

@@ -1,6 +1,7 @@
 -- The slots of a pool's workers: which are enlisted, what they run, which hold the pool, and who comes and goes.
 use Rattle.std.specs.Prelude.{◌&&◌, ◌==◌, if◌then◌else◌}
-use Rattle.cmwq_pool.specs.Common.{ℕ, Bool, true, false, not, List, length, find, count_by, slice_index_or, slice_set, Option, Some, None, option_map, is_some, range_with_len, list_any, option_map_or}
+use Rattle.cmwq_pool.specs.Common.{ℕ, Bool, true, false, not, List, length, find, count_by, slice_index_or, slice_set}
+use Rattle.cmwq_pool.specs.Common.{Option, Some, None, option_map, is_some, range_with_len, list_any, option_map_or}
 use Rattle.cmwq_model.specs.Prelude.{has_spare}
 use Rattle.cmwq_pool.specs.declared.task.Task.{Task}
 use Rattle.cmwq_pool.specs.declared.slot.Slot.{Slot}
@@ -56,7 +57,8 @@ slot_is_holding slot = slot_runs_awake slot && not (option_map_or (λ (t : Task)
 abbrev pub slots_runnable : List Slot → ℕ
 slots_runnable slots = count_by slot_is_holding slots
 
--- A worker that starts, and leaves no other idle one behind, enlists the reserve worker of the least index, if there is one.
+-- A worker that starts, and leaves no other idle one behind, enlists the reserve worker of the least index, if there is
+-- one.
 abbrev pub slot_indices : List Slot → List ℕ
 slot_indices slots = range_with_len 0 (length slots)
 
@@ -67,11 +69,14 @@ abbrev pub is_reserve_at : List Slot → ℕ → Bool
 is_reserve_at slots x = slot_is_reserve (slot_at slots x)
 
 abbrev pub slots_enlisted_by : List Slot → ℕ → Option ℕ
-slots_enlisted_by slots w = if list_any (slot_is_other_idle slots w) (slot_indices slots) then None else find (is_reserve_at slots) (slot_indices slots)
+slots_enlisted_by slots w = if list_any (slot_is_other_idle slots w) (slot_indices slots) then None
+    else find (is_reserve_at slots) (slot_indices slots)
 
--- An idle worker may retire while more than two are idle, and the idle ones past two are a quarter of the occupied ones or more.
+-- An idle worker may retire while more than two are idle, and the idle ones past two are a quarter of the occupied ones
+-- or more.
 abbrev pub slot_may_retire : List Slot → ℕ → Bool
-slot_may_retire slots w = slot_is_idle (slot_at slots w) && has_spare (count_by slot_is_idle slots) (count_by slot_is_occupied slots)
+slot_may_retire slots w =
+    slot_is_idle (slot_at slots w) && has_spare (count_by slot_is_idle slots) (count_by slot_is_occupied slots)
 
 -- what becomes of a slot: its worker starts, sleeps, wakes, finishes, is enlisted, retires
 abbrev pub slot_running : Task → Slot → Slot

@@ -19,7 +19,13 @@ noted_task notes i = task (note_at notes i).number i (note_at notes i).intensive
 
 -- list p has what pool p lists
 abbrev pub pool_seen : Listed → List Note → List (List Slot) → ℕ → PoolState
-pool_seen lists notes workers p = record { items = lists.items; listed = map (noted_task notes) (list_at lists.lists p); slots = slice_index_or workers p [] }
+pool_seen lists notes workers p =
+    record {
+      items = lists.items;
+      listed = map (noted_task notes) (list_at lists.lists p);
+      slots =
+          slice_index_or workers p [];
+    }
 
 abbrev pub pools_seen : Listed → List Note → List (List Slot) → List PoolState
 pools_seen lists notes workers = map (pool_seen lists notes workers) (range_with_len 0 (length workers))

@@ -7,7 +7,14 @@ use Rattle.cmwq_pool.specs.declared.slot.Slot.{Slot}
 use Rattle.cmwq_pool.specs.Slots.{slot_has_run, slot_is_holding, slot_is_idle, slot_is_occupied, slot_is_reserve}
 
 abbrev pub counts_of : List Slot → WorkerCounts
-counts_of slots = record { idle = count_by slot_is_idle slots; occupied = count_by slot_is_occupied slots; running = count_by slot_has_run slots; holding = count_by slot_is_holding slots }
+counts_of slots =
+    record {
+      idle = count_by slot_is_idle slots;
+      occupied = count_by slot_is_occupied slots;
+      running =
+          count_by slot_has_run slots;
+      holding = count_by slot_is_holding slots;
+    }
 
 -- bit i of a word of 64 says whether slot i is there and of the reserve
 pub record AreReserveBits (word : ℕ) (slots : List Slot) : Type 0 where

@@ -1,6 +1,8 @@
 ghost use Rattle.std.specs.Prelude.{◌≡◌, ◌<◌, length, map, replicate, slice_set, IsSome, IfOk, IfSome, Some};
 ghost use Rattle.std.specs.List.{range_with_len};
-ghost use Rattle.cmwq_pool.specs.Slots.{new_slot, slot_at, slots_runnable, slots_run_item, slots_enlisted_by, slots_started, slot_may_retire, slot_asleep, slot_awake, slot_free, slot_is_idle, slot_retired, with_enlisted, with_slot};
+ghost use Rattle.cmwq_pool.specs.Slots.{new_slot, slot_at, slots_runnable, slots_run_item, slots_enlisted_by};
+ghost use Rattle.cmwq_pool.specs.Slots.{slots_started, slot_may_retire, slot_asleep, slot_awake, slot_free};
+ghost use Rattle.cmwq_pool.specs.Slots.{slot_is_idle, slot_retired, with_enlisted, with_slot};
 
 use crate::counts::WorkerCounts;
 use crate::reserve::{first_reserve, new_reserve, reserve_after};
@@ -160,8 +162,8 @@ impl PoolWorkers {
         slot.run.unwrap()
     }
 
-    /// Whether a worker is idle, and so many are that it may go back to the reserve: more than two, and those past two are a
-    /// quarter of the occupied ones or more.
+    /// Whether a worker is idle, and so many are that it may go back to the reserve: more than two, and those past two
+    /// are a quarter of the occupied ones or more.
     pub(crate) fn may_retire(&self, worker: u8) -> bool
         requires { worker < length self.now }
         ensures { result ≡ slot_may_retire self.now worker }

@@ -1,6 +1,9 @@
 ghost use Rattle.std.specs.Prelude.{◌≡◌, ◌<◌, length, replicate, IsTrue, IsSome, IfSome, IfOk, Some};
-ghost use Rattle.cmwq_pool.specs.Slots.{slot_at, slot_is_idle, slot_runs_awake, slot_runs_asleep, run_number, slots_runnable, slots_enlisted_by, slot_may_retire, slot_asleep, slot_awake, slot_free, slot_retired};
-ghost use Rattle.cmwq_pool.specs.PoolState.{new_pool_state, task, pool_with_task, pool_without_task, next_task, next_number, pool_with_run, with_slot_again};
+ghost use Rattle.cmwq_pool.specs.Slots.{slot_at, slot_is_idle, slot_runs_awake, slot_runs_asleep, run_number};
+ghost use Rattle.cmwq_pool.specs.Slots.{slots_runnable, slots_enlisted_by, slot_may_retire, slot_asleep, slot_awake};
+ghost use Rattle.cmwq_pool.specs.Slots.{slot_free, slot_retired};
+ghost use Rattle.cmwq_pool.specs.PoolState.{new_pool_state, task, pool_with_task, pool_without_task, next_task};
+ghost use Rattle.cmwq_pool.specs.PoolState.{next_number, pool_with_run, with_slot_again};
 ghost use Rattle.cmwq_pool.specs.Pools.{pool_numbered, with_pool, may_list};
 
 use crate::listing::{first_free, is_listed, task_of};
@@ -38,8 +41,8 @@ impl Model for Pools {
 }
 
 impl Pools {
-    /// So many pools for these items, each with so many workers: nothing is listed, and of each pool worker 0 is enlisted.
-    /// The error says that memory ran out.
+    /// So many pools for these items, each with so many workers: nothing is listed, and of each pool worker 0 is
+    /// enlisted. The error says that memory ran out.
     pub fn new(alloc: Global, pools: u16, items: u16, workers: u8) -> Result<Pools, NoMemory>
         ensures { IfOk result (λ made. made ≡ replicate pools (new_pool_state items workers)) }
     {
@@ -60,7 +63,7 @@ impl Pools {
         self.workers.len()
     }
 
-    /// Lists a queueing that became active in its pool, behind all others (the kernel's `insert_work`).
+    /// Lists a queueing that became active in its pool, after all others (the kernel's `insert_work`).
     #[inline(always)]
     pub fn add(&mut self, pool: u16, number: Number, item: ItemId, intensive: bool)
         requires pool { pool < length self.old }
@@ -103,7 +106,8 @@ impl Pools {
         self.next_task(pool).map(|task| task.number)
     }
 
-    /// How many runs are awake and not CPU intensive (the kernel's `nr_running`). While there is one, nothing may start.
+    /// How many runs are awake and not CPU intensive (the kernel's `nr_running`). While there is one, nothing may
+    /// start.
     #[inline(always)]
     pub fn runnable(&self, pool: u16) -> u32
         requires { pool < length self.now }
@@ -146,7 +150,8 @@ impl Pools {
         requires idle { IsTrue (slot_is_idle (slot_at (pool_numbered self.old pool).slots worker)) }
         requires next { IsSome (next_number (pool_numbered self.old pool)) }
         requires free { slots_runnable (pool_numbered self.old pool).slots ≡ 0 }
-        ensures started { IfSome (next_task (pool_numbered self.old pool)) (λ t. self.new ≡ with_pool (λ l. pool_with_run l worker t) pool self.old) }
+        ensures started { IfSome (next_task (pool_numbered self.old pool))
+            (λ t. self.new ≡ with_pool (λ l. pool_with_run l worker t) pool self.old) }
         ensures enlisted { result ≡ slots_enlisted_by (pool_numbered self.old pool).slots worker }
     {
         let workers = &mut self.workers[usize::from(pool)];

@@ -1,5 +1,6 @@
 ghost use Rattle.std.specs.Prelude.{◌≡◌};
-ghost use Rattle.cmwq_pool.specs.Slots.{new_slot, slot_has_run, slot_runs_awake, slot_runs_asleep, slot_is_idle, slot_is_occupied, slot_is_holding, slot_runs};
+ghost use Rattle.cmwq_pool.specs.Slots.{new_slot, slot_has_run, slot_runs_awake, slot_runs_asleep, slot_is_idle};
+ghost use Rattle.cmwq_pool.specs.Slots.{slot_is_occupied, slot_is_holding, slot_runs};
 
 use crate::task::Task;
 

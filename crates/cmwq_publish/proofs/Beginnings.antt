@@ -2,7 +2,8 @@
 use Rattle.cmwq_publish.specs.Common.{◌≡◌, ◌≤◌, List, [], ◌∷◌, length, refl, arith, IsPrefix}
 
 -- of two beginnings of one list the shorter begins the longer
-pub shorter_begins : {A : Type 0} (xs ys zs : List A) → IsPrefix xs zs → IsPrefix ys zs → length xs ≤ length ys → IsPrefix xs ys
+pub shorter_begins : {A : Type 0} (xs ys zs : List A) → IsPrefix xs zs → IsPrefix ys zs → length xs ≤ length ys
+    → IsPrefix xs ys
 shorter_begins [] ys zs p q le = (ys, refl)
 shorter_begins (x ∷ xs) [] zs p q le = absurd (omega arith)
 shorter_begins (x ∷ xs) (y ∷ ys) [] p q le = absurd (cc (p.1))

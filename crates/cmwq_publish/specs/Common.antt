@@ -1,5 +1,7 @@
 -- What the files of this crate name from outside it, in one import.
-pub use Rattle.std.proofs.Common.{Bool, List, None, Option, [], ap, arith, cond, false, fold, inl, length, length-append, length-set, refl, replicate, set, subst, sym, true, ℕ, ⊎_elim, ◌++◌, ◌+◌, ◌<◌, ◌==◌, ◌∙◌, ◌∷◌, ◌≡◌, ◌≢◌, ◌≤◌}
+pub use Rattle.std.proofs.Common.{Bool, List, None, Option, [], ap, arith, cond, false, fold, inl, length}
+pub use Rattle.std.proofs.Common.{length-append, length-set, refl, replicate, set, subst, sym, true, ℕ, ⊎_elim, ◌++◌}
+pub use Rattle.std.proofs.Common.{◌+◌, ◌<◌, ◌==◌, ◌∙◌, ◌∷◌, ◌≡◌, ◌≢◌, ◌≤◌}
 pub use Rattle.std.proofs.lemmas.Bool.Decides.{nat_tests}
 pub use Rattle.std.proofs.lemmas.List.{append-nil, get_or-replicate, length-replicate, length-reverse, reverse-append}
 pub use Rattle.std.specs.Prelude.{All, MatchBool, MatchOption, Some, if◌then◌else◌, option_map, slice_index, slice_set}

@@ -1,5 +1,6 @@
 -- What one mark does to the bits of all items, and to the counts of all callers.
-use Rattle.cmwq_publish.specs.Common.{ℕ, List, Option, Some, None, option_map, slice_set, CallerId, ItemId, Who, Caller, Worker}
+use Rattle.cmwq_publish.specs.Common.{ℕ, List, Option, Some, None, option_map, slice_set, CallerId, ItemId, Who, Caller}
+use Rattle.cmwq_publish.specs.Common.{Worker}
 
 -- the number of one place, if one is named, is another
 abbrev pub put_at : List ℕ → Option ℕ → ℕ → List ℕ

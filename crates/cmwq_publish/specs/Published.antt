@@ -1,19 +1,23 @@
 -- What readers read, and the rule over it.
 use Rattle.std.specs.Prelude.{◌≡◌, ◌<◌}
-use Rattle.cmwq_publish.specs.Common.{ℕ, List, [], length, slice_index, Option, Some, None, MatchOption, some, get_elem?, Book, Entry, CallerId, ItemId, Caller, serial_of, Layout, IsLegal, past_of, bits}
+use Rattle.cmwq_publish.specs.Common.{ℕ, List, [], length, slice_index, Option, Some, None, MatchOption, some}
+use Rattle.cmwq_publish.specs.Common.{get_elem?, Book, Entry, CallerId, ItemId, Caller, serial_of, Layout, IsLegal}
+use Rattle.cmwq_publish.specs.Common.{past_of, bits}
 use Rattle.cmwq_publish.specs.declared.versions.Versions.{Versions}
 use Rattle.cmwq_publish.specs.declared.versions.Known.{Known}
 use Rattle.cmwq_publish.specs.declared.versions.Publish.{Publish}
 use Rattle.cmwq_publish.specs.Marked.{bits_with_mark, counts_with_entry}
 
--- the entries are a legal history of this shape, and these are their number, the bits of all items after them, and how many each caller has
+-- the entries are a legal history of this shape, and these are their number, the bits of all items after them, and how
+-- many each caller has
 pub record AreVersions (x : Versions) : Type 0 where
   pub legal : IsLegal x.shape (past_of x.seen.log)
   pub len_is : x.len ≡ length x.seen.log
   pub items : length x.bits.items ≡ x.shape.items
   pub bits_are : (i : ℕ) → i < x.shape.items → slice_index x.bits.items i ≡ bits (past_of x.seen.log) i
   pub callers : length x.serials.items ≡ x.shape.callers
-  pub serials_are : (c : ℕ) → c < x.shape.callers → slice_index x.serials.items c ≡ serial_of (past_of x.seen.log) (Caller (record { 0 = c }))
+  pub serials_are : (c : ℕ) → c < x.shape.callers
+      → slice_index x.serials.items c ≡ serial_of (past_of x.seen.log) (Caller (record { 0 = c }))
 
 -- the version is of this hub
 abbrev pub AreVersionsOf : Layout → Book → Versions → Type 0
@@ -63,4 +67,5 @@ IsOut layout book log x waiting = AreVersionsOf layout book x × (x.seen.log ≡
 
 -- the bits of an item after these entries, and how many of them a caller has made
 abbrev pub IsReading : Layout → ItemId → CallerId → List Entry → ℕ → ℕ → Type 0
-IsReading s item caller log b n = (item.0 < s.items → b ≡ bits (past_of log) item.0) × (caller.0 < s.callers → n ≡ serial_of (past_of log) (Caller caller))
+IsReading s item caller log b n = (item.0 < s.items → b ≡ bits (past_of log) item.0)
+    × (caller.0 < s.callers → n ≡ serial_of (past_of log) (Caller caller))

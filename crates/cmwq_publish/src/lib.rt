@@ -1,4 +1,5 @@
-//! The published history: a log that only grows, and the bits of all items after it, which readers read without waiting.
+//! The published history: a log that only grows, and the bits of all items after it, which readers read without
+//! waiting.
 #![tactic(auto)]
 
 mod log;

@@ -21,7 +21,8 @@ const MOST_READERS: usize = 0xffff_ffff;
 // No entry, no item that is pending or runs, and no caller that has made one.
 fn empty(alloc: Global, shape: &Shape, seen: Token) -> Result<Versions, NoMemory>
     requires { seen.log ≡ [] }
-    ensures { IfOk result (λ x. AreVersions x × (x.shape ≡ shape.now) × (x.seen ≡ seen) × (x.len ≡ 0) × (x.bits.items ≡ replicate shape.now.items 0) × (x.serials.items ≡ replicate shape.now.callers 0)) }
+    ensures { IfOk result (λ x. AreVersions x × (x.shape ≡ shape.now) × (x.seen ≡ seen) × (x.len ≡ 0)
+        × (x.bits.items ≡ replicate shape.now.items 0) × (x.serials.items ≡ replicate shape.now.callers 0)) }
 {
     let bits = Vec::from_elem(alloc, 0u8, usize::from(shape.counts().items))?;
     let serials = Vec::from_elem(alloc, 0u64, usize::from(shape.counts().callers))?;
@@ -34,8 +35,8 @@ fn empty(alloc: Global, shape: &Shape, seen: Token) -> Result<Versions, NoMemory
     })
 }
 
-// The writer of the history without entries, whose place knows which hub it is. It publishes a mark that changes nothing, so that
-// its list of marks has its room from then on.
+// The writer of the history without entries, whose place knows which hub it is. It publishes a mark that changes
+// nothing, so that its list of marks has its room from then on.
 fn opened_writer<R: Wait>(
     rt: &R,
     alloc: Global,
@@ -70,7 +71,8 @@ fn opened_writer<R: Wait>(
 
 // A reader that the writer has told what it knows.
 fn told(writer: &mut BitsWriter) -> Result<BitsReader, AllocError>
-    ensures kept { (writer.new.desk.shown ≡ writer.old.desk.shown) × (writer.new.behind ≡ writer.old.behind) × (writer.new.log ≡ writer.old.log) × (view writer.new.desk.place ≡ view writer.old.desk.place) }
+    ensures kept { (writer.new.desk.shown ≡ writer.old.desk.shown) × (writer.new.behind ≡ writer.old.behind)
+        × (writer.new.log ≡ writer.old.log) × (view writer.new.desk.place ≡ view writer.old.desk.place) }
     ensures told { IfOk result (λ r. view r.place ≡ view writer.old.desk.place) }
 {
     let mut reader = writer.factory().reader()?;
@@ -84,8 +86,10 @@ fn told_all(
     writer: &mut BitsWriter,
     count: usize,
 ) -> Result<Vec<BitsReader>, AllocError>
-    ensures kept { (writer.new.desk.shown ≡ writer.old.desk.shown) × (writer.new.behind ≡ writer.old.behind) × (writer.new.log ≡ writer.old.log) }
-    ensures told { IfOk result (λ rs. (length rs.items ≡ count) × All (λ r. view r.place ≡ view writer.old.desk.place) rs.items) }
+    ensures kept { (writer.new.desk.shown ≡ writer.old.desk.shown) × (writer.new.behind ≡ writer.old.behind)
+        × (writer.new.log ≡ writer.old.log) }
+    ensures told { IfOk result
+        (λ rs. (length rs.items ≡ count) × All (λ r. view r.place ≡ view writer.old.desk.place) rs.items) }
 {
     let mut all = Vec::new(alloc);
     for _ in 0..count {
@@ -111,9 +115,17 @@ impl Model for Opening {
 
     ghost Value = { Unnamed };
 
-    ghost view = { λ o. record { layout = o.writer.desk.shown.value.shape; book = o.seen.book; readers = count_of o.readers.items } };
+    ghost view = { λ o. record {
+      layout = o.writer.desk.shown.value.shape;
+      book = o.seen.book;
+      readers =
+          count_of o.readers.items;
+    } };
 
-    ghost invariant = { λ o. (o.seen.log ≡ []) × (o.length ≡ head_of o.seen.book) × IsOut o.writer.desk.shown.value.shape o.seen.book [] o.writer.desk.shown.value (drop o.writer.behind o.writer.log.items) × All (λ r. IsOurs o.writer.desk.shown.value.shape o.seen.book (view_of r.place)) o.readers.items };
+    ghost invariant = { λ o. (o.seen.log ≡ []) × (o.length ≡ head_of o.seen.book)
+        × IsOut o.writer.desk.shown.value.shape o.seen.book [] o.writer.desk.shown.value
+        (drop o.writer.behind o.writer.log.items)
+        × All (λ r. IsOurs o.writer.desk.shown.value.shape o.seen.book (view_of r.place)) o.readers.items };
 }
 
 impl Opening {

@@ -12,8 +12,8 @@ use cmwq_model::{CallerId, Mark, NoMemory, Who};
 use std::marker::Model;
 use std::sync::Wait;
 
-/// What the lock keeps of the published history. Contracts see the entries that are published, the oldest first, and whether they are shown to
-/// readers: where the hub has none, nothing is made for them.
+/// What the lock keeps of the published history. Contracts see the entries that are published, the oldest first, and
+/// whether they are shown to readers: where the hub has none, nothing is made for them.
 pub struct Publisher<N: HubName> {
     head: Head<N>,
     prefix: Prefix<N>,
@@ -30,7 +30,8 @@ impl<N: HubName> Model for Publisher<N> {
 
     ghost view = { λ s. record { entries = s.prefix; is_shown = s.is_shown } };
 
-    ghost invariant = { λ s. s.is_shown ≡ true → IsOut N.layout N.book s.prefix s.writer.desk.shown.value (drop s.writer.behind s.writer.log.items) };
+    ghost invariant = { λ s. s.is_shown ≡ true
+        → IsOut N.layout N.book s.prefix s.writer.desk.shown.value (drop s.writer.behind s.writer.log.items) };
 }
 
 // The caller, where it is one.
@@ -67,7 +68,9 @@ impl<N: HubName> Publisher<N> {
     pub fn publish<R: Wait>(&mut self, rt: &R, mark: &Mark) -> Result<(), NoMemory>
         requires next { IsNextMark N.layout self.old.entries mark.now }
         requires few { length self.old.entries < 2 ^ 62 }
-        ensures { MatchResult result (λ _. self.new ≡ record self.old { entries = self.old.entries ++ mark.now.entry ∷ [] }) (λ _. self.new ≡ self.old) }
+        ensures { MatchResult result
+            (λ _. self.new ≡ record self.old { entries = self.old.entries ++ mark.now.entry ∷ [] })
+            (λ _. self.new ≡ self.old) }
     {
         let Some(prefix) = self.prefix.extended(&self.head, mark.entry) else {
             return Err(NoMemory);

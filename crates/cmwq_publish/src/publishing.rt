@@ -19,7 +19,9 @@ pub(crate) fn put_out<R: Wait>(
     requires idle { drop writer.old.behind writer.old.log.items ≡ [] }
     requires follows { FollowsVersions writer.old.desk.shown.value mark }
     ensures idle { drop writer.new.behind writer.new.log.items ≡ [] }
-    ensures shown { MatchResult result (λ _. ShowsVersion writer.old.desk.shown.value mark writer.new.desk.shown.value (view writer.new.desk.place)) (λ _. writer.new.desk.shown.value ≡ writer.old.desk.shown.value) }
+    ensures shown { MatchResult result
+        (λ _. ShowsVersion writer.old.desk.shown.value mark writer.new.desk.shown.value (view writer.new.desk.place))
+        (λ _. writer.new.desk.shown.value ≡ writer.old.desk.shown.value) }
 {
     if writer.append(mark).is_err() {
         return Err(AllocError);
@@ -28,8 +30,11 @@ pub(crate) fn put_out<R: Wait>(
         writer,
         (),
         |writer, _nothing| -> (BitsWriter, Result<(), AllocError>)
-            requires { (mark : Publish) × (drop writer.behind writer.log.items ≡ mark ∷ []) × FollowsVersions writer.desk.shown.value mark }
-            ensures { (drop result.0.behind result.0.log.items ≡ []) × IsOk result.1 × ((mark : Publish) → drop writer.behind writer.log.items ≡ mark ∷ [] → ShowsVersion writer.desk.shown.value mark result.0.desk.shown.value (view result.0.desk.place)) }
+            requires { (mark : Publish) × (drop writer.behind writer.log.items ≡ mark ∷ [])
+                × FollowsVersions writer.desk.shown.value mark }
+            ensures { (drop result.0.behind result.0.log.items ≡ []) × IsOk result.1
+                × ((mark : Publish) → drop writer.behind writer.log.items ≡ mark ∷ []
+                → ShowsVersion writer.desk.shown.value mark result.0.desk.shown.value (view result.0.desk.place)) }
         { writer.publish_as::<Look, R>(rt) },
     )
 }

@@ -46,9 +46,9 @@ impl<N: HubName> Model for Reader<N> {
 }
 
 impl<N: HubName> Reader<N> {
-    /// What is published, the bits of an item after it: 1 if it is pending, plus 2 if it runs; 0 for an item that
-    /// the hub doesn't have; and how many entries of it a caller has made; 0 for one that the hub doesn't have. It takes no lock and no
-    /// memory, and waits for nobody. `None` only once the publisher is ended.
+    /// What is published, the bits of an item after it: 1 if it is pending, plus 2 if it runs; 0 for an item that the
+    /// hub doesn't have; and how many entries of it a caller has made; 0 for one that the hub doesn't have. It takes no
+    /// lock and no memory, and waits for nobody. `None` only once the publisher is ended.
     pub fn read(&mut self, item: ItemId, caller: CallerId) -> Option<Reading<N>>
         ensures { IfSome result (λ g. IsReading N.layout item caller g.prefix g.bits g.serial) }
     {
@@ -57,7 +57,8 @@ impl<N: HubName> Reader<N> {
             (item, caller),
             |reader, (item, caller)| -> (BitsReader, Option<Reading<N>>)
                 requires { IsOurs N.layout N.book (view reader.place) }
-                ensures { IsOurs N.layout N.book (view result.0.place) × IfSome result.1 (λ g. IsReading N.layout item caller g.prefix g.bits g.serial) }
+                ensures { IsOurs N.layout N.book (view result.0.place)
+                    × IfSome result.1 (λ g. IsReading N.layout item caller g.prefix g.bits g.serial) }
             { read(reader, item, caller) },
         )
     }

@@ -12,7 +12,8 @@ use left_right::reader::Reader;
 use left_right::writer::Writer;
 use std::alloc::AllocError;
 
-/// The bits of all items, how many entries each caller has made, how many there are in all, and the token of these entries.
+/// The bits of all items, how many entries each caller has made, how many there are in all, and the token of these
+/// entries.
 #[derive(Drop)]
 pub struct Versions {
     pub shape: Shape,
@@ -22,7 +23,8 @@ pub struct Versions {
     pub seen: Token,
 }
 
-/// The bits that one more entry leaves to one item, how many its caller has made then, how many there are in all, and their token.
+/// The bits that one more entry leaves to one item, how many its caller has made then, how many there are in all, and
+/// their token.
 #[derive(Drop)]
 pub struct Publish {
     pub item: Option<ItemId>,

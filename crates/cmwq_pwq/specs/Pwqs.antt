@@ -1,6 +1,8 @@
 -- What waits to become active, and how many are active of each queue on each CPU.
 use Rattle.std.specs.Prelude.{◌≡◌, ◌+◌, ◌*◌, ◌-◌, ◌<◌, ◌≤◌, ◌&&◌, ◌==◌, if◌then◌else◌, ◌∷◌, ◌++◌}
-use Rattle.cmwq_pwq.specs.Common.{ℕ, Bool, false, Option, Some, None, not, List, [], length, filter, count_by, replicate, nat_lt, slice_index, slice_set, slice_index_or, All, AllByRecursion, list_any, Queueing, is_of, no_queue, has_number, is_on, most_cpus}
+use Rattle.cmwq_pwq.specs.Common.{ℕ, Bool, false, Option, Some, None, not, List, [], length, filter, count_by}
+use Rattle.cmwq_pwq.specs.Common.{replicate, nat_lt, slice_index, slice_set, slice_index_or, All, AllByRecursion}
+use Rattle.cmwq_pwq.specs.Common.{list_any, Queueing, is_of, no_queue, has_number, is_on, most_cpus}
 use Rattle.cmwq_model.specs.declared.shape.QueueShape.{QueueShape}
 
 -- what waits, and what the last pass made active, both in their order; the items' numbers are below items
@@ -21,7 +23,8 @@ abbrev pub count_of_same_pwq : List ℕ → Queueing → ℕ
 count_of_same_pwq counts x = count_at counts x.place.queue.0 x.place.cpu.0
 
 abbrev pub new_pwq_state : ℕ → ℕ → PwqState
-new_pwq_state queues items = record { items = items; counts = replicate (most_cpus * queues) 0; waiting = []; activated = [] }
+new_pwq_state queues items =
+    record { items = items; counts = replicate (most_cpus * queues) 0; waiting = []; activated = [] }
 
 -- a queueing that is opened waits
 abbrev pub pwqs_with_open : PwqState → Queueing → PwqState
@@ -37,7 +40,8 @@ is_other_waiting n x = not (x.number == n)
 abbrev pub pwqs_without_open : PwqState → Queueing → PwqState
 pwqs_without_open l x =
     if is_waiting l x then record l { waiting = filter (is_other_waiting x.number) l.waiting }
-    else record l { counts = slice_set l.counts (place_of x.place.queue.0 x.place.cpu.0) (count_of_same_pwq l.counts x - 1) }
+    else record l
+    { counts = slice_set l.counts (place_of x.place.queue.0 x.place.cpu.0) (count_of_same_pwq l.counts x - 1) }
 
 -- after a queueing ended, and after one was opened, where there was one
 abbrev pub pwqs_after_end : Option Queueing → PwqState → PwqState
@@ -82,22 +86,27 @@ NoneWaitsAnew old new = (i : ℕ) → list_any (is_of i) old ≡ false → list_
 abbrev pub width_by : List QueueShape → List ℕ → Bool → ℕ → ℕ
 width_by queues most frozen q = if (slice_index_or queues q no_queue).freezable && frozen then 0 else slice_index most q
 
--- What is below max_active, by what is counted: a queueing of the list is below max_active where fewer than the width are active on its pool workqueue, with those before it
--- in the list that are below max_active.
+-- What is below max_active, by what is counted: a queueing of the list is below max_active where fewer than the width
+-- are active on its pool workqueue, with those before it in the list that are below max_active.
 abbrev pub AreBelowMaxActive : (Queueing → Bool) → (ℕ → ℕ) → List ℕ → List Queueing → Type 0
-AreBelowMaxActive way wide counts xs = (done : List Queueing) (x : Queueing) (rest : List Queueing) → xs ≡ done ++ x ∷ rest
-    → way x ≡ nat_lt (count_of_same_pwq counts x + count_by (is_on x.place.queue.0 x.place.cpu.0) (filter way done)) (wide x.place.queue.0)
+AreBelowMaxActive way wide counts xs = (done : List Queueing) (x : Queueing) (rest : List Queueing)
+    → xs ≡ done ++ x ∷ rest
+    → way x ≡ nat_lt (count_of_same_pwq counts x + count_by (is_on x.place.queue.0 x.place.cpu.0) (filter way done))
+    (wide x.place.queue.0)
 
 -- those that are below max_active become active and are counted, and the others go on waiting
-pub record Passes (way : Queueing → Bool) (xs : List Queueing) (old new : List ℕ) (rest taken : List Queueing) : Type 0 where
-  pub kept : rest ≡ filter (λ x. not (way x)) xs
-  pub activated : taken ≡ filter way xs
-  pub many : length new ≡ length old
-  pub counts : (q c : ℕ) → c < most_cpus → place_of q c < length old → count_at new q c ≡ count_at old q c + count_by (is_on q c) (filter way xs)
+pub record Passes (way : Queueing → Bool) (xs : List Queueing) (old new : List ℕ) (rest taken : List Queueing) : Type 0
+  where
+    pub kept : rest ≡ filter (λ x. not (way x)) xs
+    pub activated : taken ≡ filter way xs
+    pub many : length new ≡ length old
+    pub counts : (q c : ℕ) → c < most_cpus → place_of q c < length old
+        → count_at new q c ≡ count_at old q c + count_by (is_on q c) (filter way xs)
 
 -- The pool workqueues after the pass are those before it with what is below max_active made active.
 pub record IsPassed (wide : ℕ → ℕ) (old new : PwqState) : Type 0 where
-  pub passes : (way : Queueing → Bool) → AreBelowMaxActive way wide old.counts old.waiting → Passes way old.waiting old.counts new.counts new.waiting new.activated
+  pub passes : (way : Queueing → Bool) → AreBelowMaxActive way wide old.counts old.waiting
+      → Passes way old.waiting old.counts new.counts new.waiting new.activated
   pub many : length new.counts ≡ length old.counts
   pub items : new.items ≡ old.items
   pub sorted : length new.waiting + length new.activated ≡ length old.waiting

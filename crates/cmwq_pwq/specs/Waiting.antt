@@ -1,6 +1,8 @@
--- What waits, as contracts see it, and how it is kept: a row for each item, with the items of which one waits in a list, by number, and those of each pwq in a list of its own.
+-- What waits, as contracts see it, and how it is kept: a row for each item, with the items of which one waits in a
+-- list, by number, and those of each pwq in a list of its own.
 use Rattle.std.specs.Prelude.{◌≡◌, ◌<◌, ◌++◌, ◌∷◌, slice_index_or, nat_eq}
-use Rattle.cmwq_pwq.specs.Common.{ℕ, Bool, true, false, not, List, length, filter, AllByRecursion, Queueing, is_of, is_on, most_cpus}
+use Rattle.cmwq_pwq.specs.Common.{ℕ, Bool, true, false, not, List, length, filter, AllByRecursion, Queueing, is_of}
+use Rattle.cmwq_pwq.specs.Common.{is_on, most_cpus}
 use Rattle.cmwq_pwq.specs.Pwqs.{place_of}
 use Rattle.cmwq_list.specs.Lists.{Listed, list_at}
 
@@ -25,7 +27,8 @@ pub record IsFirstTaken (q c : ℕ) (old new : List Queueing) (x : Queueing) : T
 
 -- what stands in the row of an item of which nothing ever waited
 abbrev pub no_queueing : Queueing
-no_queueing = record { item = record { 0 = 0 }; place = record { queue = record { 0 = 0 }; cpu = record { 0 = 0 } }; number = 0 }
+no_queueing =
+    record { item = record { 0 = 0 }; place = record { queue = record { 0 = 0 }; cpu = record { 0 = 0 } }; number = 0 }
 
 abbrev pub row_of : List Queueing → ℕ → Queueing
 row_of rows i = slice_index_or rows i no_queueing
@@ -46,4 +49,5 @@ pub record AreWaitingKept (rows : List Queueing) (all pwqs : Listed) : Type 0 wh
   pub items_of_pwqs : pwqs.items ≡ length rows
   pub one : length all.lists ≡ 1
   pub each : AllByRecursion (HasOwnRow rows) (list_at all.lists 0)
-  pub of_pwqs : (p : ℕ) → p < length pwqs.lists → list_at pwqs.lists p ≡ filter (is_at_place rows p) (list_at all.lists 0)
+  pub of_pwqs : (p : ℕ) → p < length pwqs.lists
+      → list_at pwqs.lists p ≡ filter (is_at_place rows p) (list_at all.lists 0)

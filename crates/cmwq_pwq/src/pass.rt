@@ -43,7 +43,8 @@ pub(crate) fn pass(
     requires placed { ArePlaced (length queues.now) waiting.old.queueings }
     requires activated_none { activated.old.items ≡ [] }
     requires activated_room { waiting.old.items < vec_capacity activated.old }
-    ensures passes { (way : Queueing → Bool) → AreBelowMaxActive way (width_by queues.now most.now frozen) counts.old.items waiting.old.queueings
+    ensures passes { (way : Queueing → Bool)
+        → AreBelowMaxActive way (width_by queues.now most.now frozen) counts.old.items waiting.old.queueings
         → Passes way waiting.old.queueings counts.old.items counts.new.items waiting.new.queueings activated.new.items }
     ensures many { vec_len counts.new ≡ vec_len counts.old }
     ensures sorted { length waiting.new.queueings + vec_len activated.new ≡ length waiting.old.queueings }

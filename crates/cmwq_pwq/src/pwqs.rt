@@ -1,6 +1,9 @@
 ghost use Rattle.std.specs.Prelude.{◌≡◌, ℕ, ◌+◌, ◌*◌, ◌<◌, ◌≤◌, true, false, [], length, IfOk, IfSome};
 ghost use Rattle.cmwq_model.specs.Prelude.{most_cpus};
-ghost use Rattle.cmwq_pwq.specs.Pwqs.{AreBehind, ArePlaced, IsPassed, IsPlacedIf, PwqState, MayEnd, MayEndInPwqs, MayOpen, MayOpenInPwqs, NoneWaitsAnew, count_of_same_pwq, pwqs_without_open, is_waiting, new_pwq_state, pwqs_with_open, place_of, pwqs_after_end, pwqs_after_opening, width_by};
+ghost use Rattle.cmwq_pwq.specs.Pwqs.{AreBehind, ArePlaced, IsPassed, IsPlacedIf, PwqState, MayEnd, MayEndInPwqs};
+ghost use Rattle.cmwq_pwq.specs.Pwqs.{MayOpen, MayOpenInPwqs, NoneWaitsAnew, count_of_same_pwq, pwqs_without_open};
+ghost use Rattle.cmwq_pwq.specs.Pwqs.{is_waiting, new_pwq_state, pwqs_with_open, place_of, pwqs_after_end};
+ghost use Rattle.cmwq_pwq.specs.Pwqs.{pwqs_after_opening, width_by};
 
 use crate::pass::{pass, place_of, width_by};
 use crate::waiting::Waiting;
@@ -23,7 +26,13 @@ impl Model for Pwqs {
 
     ghost Value = { PwqState };
 
-    ghost view = { λ l. record { items = l.waiting.items; counts = l.counts.items; waiting = l.waiting.queueings; activated = l.activated.items } };
+    ghost view = { λ l. record {
+      items = l.waiting.items;
+      counts = l.counts.items;
+      waiting = l.waiting.queueings;
+      activated =
+          l.activated.items;
+    } };
 
     ghost invariant = { λ l. IsPwqState l.waiting.items l.waiting.places l.counts.items (vec_capacity l.activated) };
 }
@@ -42,7 +51,7 @@ impl Pwqs {
         })
     }
 
-    /// A queueing is opened, and waits behind the others.
+    /// A queueing is opened, and waits after the others.
     pub fn open(&mut self, queueing: Queueing)
         requires { MayOpen queueing self.old }
         ensures { self.new ≡ pwqs_with_open self.old queueing }
@@ -60,7 +69,8 @@ impl Pwqs {
         }
     }
 
-    /// An active queueing ends: the first that waits beside it takes its place, unless more than the width were active there.
+    /// An active queueing ends: the first that waits beside it takes its place, unless more than the width were active
+    /// there.
     #[inline(always)]
     fn end_active(&mut self, queueing: Queueing, width: u32)
         requires cpu { queueing.place.cpu.0 < most_cpus }
@@ -70,7 +80,9 @@ impl Pwqs {
         requires none { self.old.activated ≡ [] }
         ensures few { length self.new.activated ≤ 1 }
         ensures none_anew { NoneWaitsAnew self.old.waiting self.new.waiting }
-        ensures passed { (wide : ℕ → ℕ) → wide queueing.place.queue.0 ≡ width → AreBehind wide self.old.counts self.old.waiting → IsPassed wide (pwqs_without_open self.old queueing) self.new }
+        ensures passed { (wide : ℕ → ℕ) → wide queueing.place.queue.0 ≡ width
+            → AreBehind wide self.old.counts self.old.waiting
+            → IsPassed wide (pwqs_without_open self.old queueing) self.new }
     {
         let at = place_of(queueing.place);
         if self.counts[at] <= width {
@@ -92,7 +104,9 @@ impl Pwqs {
         requires may { MayEnd queueing self.old }
         requires ran { has_run ≡ true → is_waiting self.old queueing ≡ false }
         requires none { self.old.activated ≡ [] }
-        ensures passed { (wide : ℕ → ℕ) → wide queueing.place.queue.0 ≡ width → AreBehind wide self.old.counts self.old.waiting → IsPassed wide (pwqs_without_open self.old queueing) self.new }
+        ensures passed { (wide : ℕ → ℕ) → wide queueing.place.queue.0 ≡ width
+            → AreBehind wide self.old.counts self.old.waiting
+            → IsPassed wide (pwqs_without_open self.old queueing) self.new }
         ensures few { length self.new.activated ≤ 1 }
         ensures none_anew { NoneWaitsAnew (pwqs_without_open self.old queueing).waiting self.new.waiting }
     {
@@ -101,12 +115,15 @@ impl Pwqs {
         }
     }
 
-    /// A queueing is opened, behind all that wait: it is active at once where fewer than the width are active on its pool workqueue.
+    /// A queueing is opened, after all that wait: it is active at once where fewer than the width are active on its
+    /// pool workqueue.
     #[inline(always)]
     fn open_one(&mut self, queueing: Queueing, width: u32)
         requires may { MayOpen queueing self.old }
         requires few { length self.old.activated ≤ 1 }
-        ensures { (wide : ℕ → ℕ) (before : PwqState) → wide queueing.place.queue.0 ≡ width → length before.counts ≡ length self.old.counts → IsPassed wide before self.old → IsPassed wide (pwqs_with_open before queueing) self.new }
+        ensures { (wide : ℕ → ℕ) (before : PwqState) → wide queueing.place.queue.0 ≡ width
+            → length before.counts ≡ length self.old.counts → IsPassed wide before self.old
+            → IsPassed wide (pwqs_with_open before queueing) self.new }
     {
         let at = place_of(queueing.place);
         if self.counts[at] < width {
@@ -146,8 +163,9 @@ impl Pwqs {
         }
     }
 
-    /// An entry that changes no width ends a queueing, which had a run or not, and opens one. What is below max_active then becomes active:
-    /// the first that waits beside an active one that ends, and what is opened, for wherever others wait the widths are filled.
+    /// An entry that changes no width ends a queueing, which had a run or not, and opens one. What is below max_active
+    /// then becomes active: the first that waits beside an active one that ends, and what is opened, for wherever
+    /// others wait the widths are filled.
     #[inline(always)]
     pub fn go_on(
         &mut self,
@@ -166,7 +184,8 @@ impl Pwqs {
         requires opened { MayOpenInPwqs opened (pwqs_after_end ended self.old) }
         requires opened_placed { IsPlacedIf (length queues.now) opened }
         requires behind { AreBehind (width_by queues.now most.now frozen) self.old.counts self.old.waiting }
-        ensures { IsPassed (width_by queues.now most.now frozen) (pwqs_after_opening opened (pwqs_after_end ended self.old)) self.new }
+        ensures { IsPassed (width_by queues.now most.now frozen)
+            (pwqs_after_opening opened (pwqs_after_end ended self.old)) self.new }
     {
         self.end_some(queues, most, frozen, ended, has_run);
         match opened {

@@ -5,8 +5,8 @@ use cmwq_model::{CpuId, ItemId, NoMemory, Number, Place, QueueId, Queueing};
 use std::alloc::Global;
 use std::marker::Model;
 
-/// Of each item a queueing: the one that waits, or the last that did. It takes ten bytes an item, where queueings beside one
-/// another would take sixteen.
+/// Of each item a queueing: the one that waits, or the last that did. It takes ten bytes an item, where queueings
+/// beside one another would take sixteen.
 #[derive(Drop)]
 pub(crate) struct Rows {
     numbers: Vec<Number>,

@@ -1,6 +1,7 @@
 //! What waits to become active, by number and by pool workqueue.
 
-ghost use Rattle.std.specs.Prelude.{◌≡◌, ℕ, ◌+◌, ◌≤◌, All, ◌<◌, [], ◌∷◌, ◌++◌, Some, None, false, true, take, drop, filter, length, option_and_then, slice_get, IfNone, IfOk, IfSome};
+ghost use Rattle.std.specs.Prelude.{◌≡◌, ℕ, ◌+◌, ◌≤◌, All, ◌<◌, [], ◌∷◌, ◌++◌, Some, None, false, true, take, drop};
+ghost use Rattle.std.specs.Prelude.{filter, length, option_and_then, slice_get, IfNone, IfOk, IfSome};
 ghost use Rattle.std.specs.List.{AllByRecursion, list_any};
 ghost use Rattle.cmwq_model.specs.declared.record.Queueing.{Queueing};
 ghost use Rattle.cmwq_model.specs.Prelude.{has_number, is_of, most_cpus};
@@ -15,7 +16,8 @@ use cmwq_model::{ItemId, NoMemory, Place, Queueing};
 use std::alloc::Global;
 use std::marker::Model;
 
-/// What waits to become active: of each item at most one queueing. Each is put in and taken out in a fixed number of steps.
+/// What waits to become active: of each item at most one queueing. Each is put in and taken out in a fixed number of
+/// steps.
 #[derive(Drop)]
 pub(crate) struct Waiting {
     /// Of each item the queueing that waits, or the last that did.
@@ -33,7 +35,12 @@ impl Model for Waiting {
 
     ghost Value = { WaitingState };
 
-    ghost view = { λ w. record { items = length w.rows; places = length w.pwqs.lists; queueings = map (row_of w.rows) (list_at w.all.lists 0) } };
+    ghost view = { λ w. record {
+      items = length w.rows;
+      places = length w.pwqs.lists;
+      queueings =
+          map (row_of w.rows) (list_at w.all.lists 0);
+    } };
 
     ghost invariant = { λ w. AreWaitingKept w.rows w.all w.pwqs };
 }
@@ -69,7 +76,7 @@ impl Waiting {
         self.all.len(0)
     }
 
-    /// A queueing of an item of which none waits is put behind all others.
+    /// A queueing of an item of which none waits is put after all others.
     pub(crate) fn push_back(&mut self, queueing: Queueing)
         requires item { queueing.item.0 < self.old.items }
         requires cpu { queueing.place.cpu.0 < most_cpus }
@@ -101,7 +108,8 @@ impl Waiting {
         requires item { queueing.item.0 < self.now.items }
         requires number { IsNumberOfItem queueing self.now.queueings }
         ensures waits { result ≡ list_any (has_number queueing.number) self.now.queueings }
-        ensures others { result ≡ true → filter (is_of_other queueing.item.0) self.now.queueings ≡ filter (is_other_waiting queueing.number) self.now.queueings }
+        ensures others { result ≡ true → filter (is_of_other queueing.item.0) self.now.queueings
+            ≡ filter (is_other_waiting queueing.number) self.now.queueings }
     {
         let item = u32::from(queueing.item.0);
         self.rows.at(item).number == queueing.number && self.all.list_of(item).is_some()
@@ -143,10 +151,11 @@ impl Waiting {
         row(&self.rows, self.all.first(0))
     }
 
-    /// What waits behind one that waits.
+    /// What waits after one that waits.
     pub(crate) fn next(&self, queueing: Queueing) -> Option<Queueing>
         requires { queueing.item.0 < self.now.items }
-        ensures { (k : ℕ) → slice_get self.now.queueings k ≡ Some queueing → result ≡ slice_get self.now.queueings (k + 1) }
+        ensures { (k : ℕ) → slice_get self.now.queueings k ≡ Some queueing
+            → result ≡ slice_get self.now.queueings (k + 1) }
     {
         row(&self.rows, self.all.next(u32::from(queueing.item.0)))
     }

@@ -1,6 +1,10 @@
 -- The tickets of callers refine the unended tickets of a history.
 use Rattle.std.specs.Prelude.{◌≡◌, ◌<◌, ◌∷◌}
-use Rattle.cmwq_refinement.specs.Common.{ℕ, List, [], length, map, filter, find, Option, Some, None, IsSome, IsTrue, range_with_len, Who, Caller, Entry, Ticket, Layout, unended_tickets, is_held_by, is_crowded, ticket_of, is_cancelling, is_draining, is_being_destroyed, IsLegal, ticket_ended, TicketBook, TicketRows, is_numbered, any_ticket, may_give, new_tickets, tickets_with, tickets_without, count}
+use Rattle.cmwq_refinement.specs.Common.{ℕ, List, [], length, map, filter, find, Option, Some, None, IsSome, IsTrue}
+use Rattle.cmwq_refinement.specs.Common.{range_with_len, Who, Caller, Entry, Ticket, Layout, unended_tickets}
+use Rattle.cmwq_refinement.specs.Common.{is_held_by, is_crowded, ticket_of, is_cancelling, is_draining}
+use Rattle.cmwq_refinement.specs.Common.{is_being_destroyed, IsLegal, ticket_ended, TicketBook, TicketRows, is_numbered}
+use Rattle.cmwq_refinement.specs.Common.{any_ticket, may_give, new_tickets, tickets_with, tickets_without, count}
 use Rattle.cmwq_ticket.specs.Rows as row
 use Rattle.cmwq_refinement.specs.ByNumber.{ticket_given}
 
@@ -38,7 +42,8 @@ abbrev pub NoTicketsAtFirst : Type 0
 NoTicketsAtFirst = (s : Layout) → tickets_of s [] ≡ new_tickets s.callers s.items (length s.queues)
 
 abbrev pub TicketsRefine : Type 0
-TicketsRefine = (s : Layout) (past : List Entry) (e : Entry) → IsLegal s (e ∷ past) → tickets_after past e (tickets_of s past) ≡ tickets_of s (e ∷ past)
+TicketsRefine = (s : Layout) (past : List Entry) (e : Entry) → IsLegal s (e ∷ past)
+    → tickets_after past e (tickets_of s past) ≡ tickets_of s (e ∷ past)
 
 -- each of these calls may be made where it is made, in a legal history whose layout is inside the limits
 abbrev pub MayEndTicket : Option Ticket → TicketBook → Type 0
@@ -54,7 +59,8 @@ pub record MayApplyToTickets (past : List Entry) (e : Entry) (b : TicketBook) : 
   pub given : MayGiveTicket (ticket_given past e) (tickets_after_end (ticket_ended past e) b)
 
 abbrev pub EntriesApplyToTickets : Type 0
-EntriesApplyToTickets = (s : Layout) (past : List Entry) (e : Entry) → IsLegal s (e ∷ past) → MayApplyToTickets past e (tickets_of s past)
+EntriesApplyToTickets = (s : Layout) (past : List Entry) (e : Entry) → IsLegal s (e ∷ past)
+    → MayApplyToTickets past e (tickets_of s past)
 
 -- there is a row for each caller, so that they may be asked of it
 abbrev pub RowsForCallers : Type 0
@@ -62,23 +68,30 @@ RowsForCallers = (s : Layout) (past : List Entry) → length (tickets_of s past)
 
 -- what they answer of a caller is what the definitions say
 abbrev pub CrowdedAlike : Type 0
-CrowdedAlike = (s : Layout) (past : List Entry) (c : ℕ) → c < s.callers → row.is_row_crowded (tickets_of s past).rows c ≡ is_crowded past (the_caller c)
+CrowdedAlike = (s : Layout) (past : List Entry) (c : ℕ) → c < s.callers → row.is_row_crowded (tickets_of s past).rows c
+    ≡ is_crowded past (the_caller c)
 
 abbrev pub TicketsFoundAlike : Type 0
-TicketsFoundAlike = (s : Layout) (past : List Entry) (c n : ℕ) → c < s.callers → row.ticket_of_caller (tickets_of s past).rows c n ≡ ticket_of past (the_caller c) n
+TicketsFoundAlike = (s : Layout) (past : List Entry) (c n : ℕ) → c < s.callers
+    → row.ticket_of_caller (tickets_of s past).rows c n ≡ ticket_of past (the_caller c) n
 
 -- and so it is of all callers in a legal history
 abbrev pub TicketsOfAnyCaller : Type 0
-TicketsOfAnyCaller = (s : Layout) (past : List Entry) (n : ℕ) → IsLegal s past → any_ticket (tickets_of s past).rows n ≡ find (is_numbered n) (unended_tickets past)
+TicketsOfAnyCaller = (s : Layout) (past : List Entry) (n : ℕ) → IsLegal s past → any_ticket (tickets_of s past).rows n
+    ≡ find (is_numbered n) (unended_tickets past)
 
 abbrev pub CancellingAlike : Type 0
-CancellingAlike = (s : Layout) (past : List Entry) (i : ℕ) → IsLegal s past → row.any_cancels (tickets_of s past).rows i ≡ is_cancelling past i
+CancellingAlike = (s : Layout) (past : List Entry) (i : ℕ) → IsLegal s past → row.any_cancels (tickets_of s past).rows i
+    ≡ is_cancelling past i
 
 abbrev pub DrainingAlike : Type 0
-DrainingAlike = (s : Layout) (past : List Entry) (q : ℕ) → IsLegal s past → row.any_drains (tickets_of s past).rows q ≡ is_draining past q
+DrainingAlike = (s : Layout) (past : List Entry) (q : ℕ) → IsLegal s past → row.any_drains (tickets_of s past).rows q
+    ≡ is_draining past q
 
 abbrev pub DestroyedAlike : Type 0
-DestroyedAlike = (s : Layout) (past : List Entry) (q : ℕ) → IsLegal s past → row.any_destroys (tickets_of s past).rows q ≡ is_being_destroyed past q
+DestroyedAlike = (s : Layout) (past : List Entry) (q : ℕ) → IsLegal s past → row.any_destroys (tickets_of s past).rows q
+    ≡ is_being_destroyed past q
 
 abbrev pub AllTicketsAreCounted : Type 0
-AllTicketsAreCounted = (s : Layout) (past : List Entry) → IsLegal s past → count (tickets_of s past).rows ≡ length (unended_tickets past)
+AllTicketsAreCounted = (s : Layout) (past : List Entry) → IsLegal s past
+    → count (tickets_of s past).rows ≡ length (unended_tickets past)

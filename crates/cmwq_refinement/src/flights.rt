@@ -1,6 +1,8 @@
 //! Where the flights are those of a history, the calls for each entry make them those of the longer history.
 
-ghost use Rattle.cmwq_refinement.specs.Flights.{NoFlightsAtFirst, FlightsRefine, FlightsForItems, FlightsAreOfItems, OpenAreInFlight, WorkersRunFlights, StartsAreUnstarted, EntriesApplyToFlights};
+ghost use Rattle.cmwq_refinement.specs.Flights.{NoFlightsAtFirst, FlightsRefine, FlightsForItems, FlightsAreOfItems};
+ghost use Rattle.cmwq_refinement.specs.Flights.{OpenAreInFlight, WorkersRunFlights, StartsAreUnstarted};
+ghost use Rattle.cmwq_refinement.specs.Flights.{EntriesApplyToFlights};
 
 /// Where the flights are those of a history, the calls for each entry make them those of the longer history.
 pub fn flights_refine()

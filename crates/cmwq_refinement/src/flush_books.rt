@@ -1,10 +1,13 @@
 //! Where a flush book is that of a queue after some entries, the calls for one more entry make it that of the longer
 //! history, and what it answers is what the definitions say.
 
-ghost use Rattle.cmwq_refinement.specs.FlushBooks.{FlushesAtFirst, FlushesRefine, ReadyFlushesWaitForNothing, FlushesWaitForLeastOpen, DrainsWaitForLeastOpen, OverflowedAreBehindFifteen, DoneFlushesMayEnd, EntriesApplyToFlushes, GivenFlushesHaveRoom, UnendedFlushesStand};
+ghost use Rattle.cmwq_refinement.specs.FlushBooks.{FlushesAtFirst, FlushesRefine, ReadyFlushesWaitForNothing};
+ghost use Rattle.cmwq_refinement.specs.FlushBooks.{FlushesWaitForLeastOpen, DrainsWaitForLeastOpen};
+ghost use Rattle.cmwq_refinement.specs.FlushBooks.{OverflowedAreBehindFifteen, DoneFlushesMayEnd};
+ghost use Rattle.cmwq_refinement.specs.FlushBooks.{EntriesApplyToFlushes, GivenFlushesHaveRoom, UnendedFlushesStand};
 
-/// Where a flush book is that of a queue after some entries, the calls for one more entry make it that of the longer history, and what it
-/// answers is what the definitions say.
+/// Where a flush book is that of a queue after some entries, the calls for one more entry make it that of the longer
+/// history, and what it answers is what the definitions say.
 pub fn flushes_refine()
     ensures flushes_at_first { FlushesAtFirst }
     ensures flushes_refine { FlushesRefine }

@@ -1,5 +1,5 @@
-//! The values of pools, flush books, open numbers, timers, flights and tickets refine a history: theorems that tie them to the definitions,
-//! which no running code needs.
+//! The values of pools, flush books, open numbers, timers, flights and tickets refine a history: theorems that tie them
+//! to the definitions, which no running code needs.
 #![tactic(auto)]
 
 mod flights;

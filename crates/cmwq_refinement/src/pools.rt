@@ -1,10 +1,12 @@
 //! Where a pool is that of some entries, the calls for one more entry make it that of the longer history, and what it
 //! answers is what the definitions say.
 
-ghost use Rattle.cmwq_refinement.specs.Pools.{PoolsAtFirst, PoolsRefine, NextsAreNext, RunnablesAreRunnable, StartsEnlistAlike, IdleRetireAlike, SlotsAreWorkers, RepliesApplyToPools, ActiveMayBeAdded, SlotsForWorkers, ItemsAreListedOnce};
+ghost use Rattle.cmwq_refinement.specs.Pools.{PoolsAtFirst, PoolsRefine, NextsAreNext, RunnablesAreRunnable};
+ghost use Rattle.cmwq_refinement.specs.Pools.{StartsEnlistAlike, IdleRetireAlike, SlotsAreWorkers, RepliesApplyToPools};
+ghost use Rattle.cmwq_refinement.specs.Pools.{ActiveMayBeAdded, SlotsForWorkers, ItemsAreListedOnce};
 
-/// Where a pool is that of some entries, the calls for one more entry make it that of the longer history, and what it answers is what the
-/// definitions say.
+/// Where a pool is that of some entries, the calls for one more entry make it that of the longer history, and what it
+/// answers is what the definitions say.
 pub fn pools_refine()
     ensures pools_at_first { PoolsAtFirst }
     ensures pools_refine { PoolsRefine }

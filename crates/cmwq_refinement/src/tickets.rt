@@ -1,10 +1,12 @@
 //! Where the tickets of callers are those of a history, the calls for one more entry make them those of the longer one,
 //! and what they answer is what the definitions say.
 
-ghost use Rattle.cmwq_refinement.specs.Tickets.{AllTicketsAreCounted, CancellingAlike, CrowdedAlike, DestroyedAlike, DrainingAlike, NoTicketsAtFirst, RowsForCallers, TicketsRefine, TicketsFoundAlike, EntriesApplyToTickets, TicketsOfAnyCaller};
+ghost use Rattle.cmwq_refinement.specs.Tickets.{AllTicketsAreCounted, CancellingAlike, CrowdedAlike, DestroyedAlike};
+ghost use Rattle.cmwq_refinement.specs.Tickets.{DrainingAlike, NoTicketsAtFirst, RowsForCallers, TicketsRefine};
+ghost use Rattle.cmwq_refinement.specs.Tickets.{TicketsFoundAlike, EntriesApplyToTickets, TicketsOfAnyCaller};
 
-/// Where the tickets of callers are those of a history, the calls for one more entry make them those of the longer one, and what they answer is
-/// what the definitions say.
+/// Where the tickets of callers are those of a history, the calls for one more entry make them those of the longer one,
+/// and what they answer is what the definitions say.
 pub fn tickets_refine()
     ensures no_tickets_at_first { NoTicketsAtFirst }
     ensures tickets_refine { TicketsRefine }

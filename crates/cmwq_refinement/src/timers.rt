@@ -1,6 +1,9 @@
 //! Where the timers are the bookings of a history, the calls for each entry make them those of the longer history.
 
-ghost use Rattle.cmwq_refinement.specs.Timers.{NoTimersAtFirst, TimersAreDueAsBooked, TimersStandOnQueues, BookingsSetTimers, SettledTimersAreTakenBack, OthersKeepTimers, EntriesApplyToTimers, FirstTimerIsFirstDue, NoTimerIsNoneDue, RowsForItems, TimersRefine, TimersMayBeSet};
+ghost use Rattle.cmwq_refinement.specs.Timers.{NoTimersAtFirst, TimersAreDueAsBooked, TimersStandOnQueues};
+ghost use Rattle.cmwq_refinement.specs.Timers.{BookingsSetTimers, SettledTimersAreTakenBack, OthersKeepTimers};
+ghost use Rattle.cmwq_refinement.specs.Timers.{EntriesApplyToTimers, FirstTimerIsFirstDue, NoTimerIsNoneDue};
+ghost use Rattle.cmwq_refinement.specs.Timers.{RowsForItems, TimersRefine, TimersMayBeSet};
 
 /// Where the timers are the bookings of a history, the calls for each entry make them those of the longer history.
 pub fn timers_refine()

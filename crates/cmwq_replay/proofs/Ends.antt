@@ -8,6 +8,7 @@ use Rattle.cmwq_replay.specs.Scenarios.{PlanWithNames, scenario_of}
 use Rattle.cmwq_replay.specs.Replay.{ReplayEnds, table_text}
 
 -- the table of the scenario that was read is written
-pub ends_done : (left old new : Option (List ℕ)) (d : Data) (p : PlanWithNames) → IfSome left (λ text. IsJson text d) → scenario_of d ≡ Ok p → Appends old new (table_text p) → IfSome left (λ text. ReplayEnds text old new (Ok tt))
+pub ends_done : (left old new : Option (List ℕ)) (d : Data) (p : PlanWithNames) → IfSome left (λ text. IsJson text d)
+    → scenario_of d ≡ Ok p → Appends old new (table_text p) → IfSome left (λ text. ReplayEnds text old new (Ok tt))
 ends_done None old new d p read said written = tt
 ends_done (Some text) old new d p read said written = (p, (d, read, said), written)

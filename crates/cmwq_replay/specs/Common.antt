@@ -1,5 +1,7 @@
 -- What the files of this crate name from outside it, in one import.
-pub use Rattle.std.proofs.Common.{Bool, Err, List, None, Ok, Option, Result, Some, [], ap, arith, drop, false, if◌then◌else◌, length, map, refl, string_bytes, subst, sym, true, ℕ, ◌&&◌, ◌++◌, ◌<◌, ◌==◌, ◌∙◌, ◌∷◌, ◌≡◌, ◌≤◌}
+pub use Rattle.std.proofs.Common.{Bool, Err, List, None, Ok, Option, Result, Some, [], ap, arith, drop, false}
+pub use Rattle.std.proofs.Common.{if◌then◌else◌, length, map, refl, string_bytes, subst, sym, true, ℕ, ◌&&◌, ◌++◌, ◌<◌}
+pub use Rattle.std.proofs.Common.{◌==◌, ◌∙◌, ◌∷◌, ◌≡◌, ◌≤◌}
 pub use Rattle.std.proofs.lemmas.List.{length-map}
 pub use Rattle.std.specs.Prelude.{IfSome, codes, nat_lt, option_and_then, option_map}
 pub use Rattle.serde_json.specs.Data.{Data, Items}

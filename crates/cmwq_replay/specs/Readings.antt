@@ -1,6 +1,7 @@
 -- What is read of a scenario, as plain values.
 use Rattle.std.specs.Prelude.{◌≡◌}
-use Rattle.cmwq_replay.specs.Common.{length, map, string_bytes, Item, plan_item, plan_of, IsWithinLimits, Named, map_named, named_of}
+use Rattle.cmwq_replay.specs.Common.{length, map, string_bytes, Item, plan_item, plan_of, IsWithinLimits, Named}
+use Rattle.cmwq_replay.specs.Common.{map_named, named_of}
 use Rattle.cmwq_sim.specs.declared.scenario.SimItem.{SimItem}
 use Rattle.cmwq_json.specs.declared.names.Members.{Members}
 use Rattle.cmwq_replay.specs.declared.scenario.ScenarioWithNames.{ScenarioWithNames}

@@ -14,10 +14,12 @@ use Rattle.cmwq_replay.specs.Scenarios.{PlanWithNames, scenario_of}
 abbrev pub table_text : PlanWithNames → List ℕ
 table_text p = lines_text p.names (scenario_lines p.plan)
 
--- It writes the table of the scenario that its input says, or a fault stopped it. Only a fault of writing comes after the first byte is written.
+-- It writes the table of the scenario that its input says, or a fault stopped it. Only a fault of writing comes after
+-- the first byte is written.
 abbrev pub ReplayEnds : List ℕ → Option (List ℕ) → Option (List ℕ) → Result ⊤ Fault → Type 0
 ReplayEnds text old new (Ok r) = (p : PlanWithNames) × Says scenario_of text (Ok p) × Appends old new (table_text p)
-ReplayEnds text old new (Err fault.WriteFault) = (p : PlanWithNames) × Says scenario_of text (Ok p) × AppendsFront old new (table_text p)
+ReplayEnds text old new (Err fault.WriteFault) = (p : PlanWithNames) × Says scenario_of text (Ok p)
+    × AppendsFront old new (table_text p)
 ReplayEnds text old new (Err (fault.Member r)) = Says scenario_of text (Err r) × Keeps old new
 ReplayEnds text old new (Err fault.NotJson) = IsNoJson text × Keeps old new
 ReplayEnds text old new (Err fault.TooLong) = IsLong text × Keeps old new

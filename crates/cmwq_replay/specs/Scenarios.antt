@@ -1,6 +1,9 @@
 -- What a JSON value says of a scenario, or which member of it is refused first.
 use Rattle.std.specs.Prelude.{if◌then◌else◌, ◌∷◌, ◌++◌}
-use Rattle.cmwq_replay.specs.Common.{ℕ, List, [], length, Option, Some, None, Result, Ok, Err, option_map, option_and_then, codes, nat_lt, Data, Items, get, as_str, as_array, SimQueue, Plan, Item, in_turn, has_keys, name_said, Named, nobody, number_of_name, add_named, is_in_range, number_between, parts_said}
+use Rattle.cmwq_replay.specs.Common.{ℕ, List, [], length, Option, Some, None, Result, Ok, Err, option_map}
+use Rattle.cmwq_replay.specs.Common.{option_and_then, codes, nat_lt, Data, Items, get, as_str, as_array, SimQueue, Plan}
+use Rattle.cmwq_replay.specs.Common.{Item, in_turn, has_keys, name_said, Named, nobody, number_of_name, add_named}
+use Rattle.cmwq_replay.specs.Common.{is_in_range, number_between, parts_said}
 use Rattle.cmwq_json.specs.declared.refused.Refused.{Refused}
 use Rattle.cmwq_json.specs.Parts.{top, queues, items}
 
@@ -8,7 +11,8 @@ use Rattle.cmwq_json.specs.Parts.{top, queues, items}
 
 abbrev pub sim_queue_said : Data → Option (List ℕ × SimQueue)
 sim_queue_said d =
-    if has_keys (codes "intensive" ∷ codes "max_active" ∷ codes "name" ∷ []) d then option_map (λ parts. (parts.0, record { max_active = parts.1; intensive = parts.2 })) (parts_said d)
+    if has_keys (codes "intensive" ∷ codes "max_active" ∷ codes "name" ∷ []) d
+    then option_map (λ parts. (parts.0, record { max_active = parts.1; intensive = parts.2 })) (parts_said d)
     else None
 
 abbrev pub add_sim_queue : Named SimQueue → Data → Option (Named SimQueue)
@@ -39,7 +43,9 @@ item_with None q o = None
 abbrev pub sim_item_said : List (List ℕ) → Data → Option (List ℕ × Item)
 sim_item_said queue_names d =
     if has_keys (codes "ms" ∷ codes "name" ∷ codes "queue" ∷ []) d
-    then item_with (option_and_then name_said (get (codes "name") d)) (option_and_then (queue_number queue_names) (get (codes "queue") d)) (option_and_then ms_said (get (codes "ms") d))
+    then item_with (option_and_then name_said (get (codes "name") d))
+    (option_and_then (queue_number queue_names) (get (codes "queue") d))
+    (option_and_then ms_said (get (codes "ms") d))
     else None
 
 abbrev pub add_sim_item : List (List ℕ) → Named Item → Data → Option (Named Item)
@@ -59,7 +65,8 @@ script_with qs (Err i) = Err (items i)
 
 abbrev pub items_then : Items → Result (Named SimQueue) ℕ → Result PlanWithNames Refused
 items_then is (Err i) = Err (queues i)
-items_then is (Ok qs) = if nat_lt 0 (length qs.values) then script_with qs (in_turn (add_sim_item qs.names) 0 nobody is) else Err (queues 0)
+items_then is (Ok qs) = if nat_lt 0 (length qs.values) then script_with qs (in_turn (add_sim_item qs.names) 0 nobody is)
+    else Err (queues 0)
 
 abbrev pub lists_said : Option Items → Option Items → Result PlanWithNames Refused
 lists_said (Some qs) (Some is) = items_then is (in_turn add_sim_queue 0 nobody qs)
@@ -68,5 +75,7 @@ lists_said None o = Err top
 
 abbrev pub scenario_of : Data → Result PlanWithNames Refused
 scenario_of d =
-    if has_keys (codes "items" ∷ codes "queues" ∷ []) d then lists_said (option_and_then as_array (get (codes "queues") d)) (option_and_then as_array (get (codes "items") d))
+    if has_keys (codes "items" ∷ codes "queues" ∷ []) d
+    then lists_said (option_and_then as_array (get (codes "queues") d))
+    (option_and_then as_array (get (codes "items") d))
     else Err top

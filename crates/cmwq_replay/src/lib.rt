@@ -1,5 +1,5 @@
-//! The subcommand `replay`, over any source of bytes and any sinks, and what it reads: a scenario in JSON, or which member of it is refused
-//! first.
+//! The subcommand `replay`, over any source of bytes and any sinks, and what it reads: a scenario in JSON, or which
+//! member of it is refused first.
 #![tactic(auto)]
 
 mod replay;

@@ -17,8 +17,11 @@ use std::alloc::Global;
 
 /// The table of the scenario that a value names.
 fn table_of(alloc: Global, value: &Value) -> Result<String, Fault>
-    ensures table { IfOk result (λ text. (p : PlanWithNames) × (scenario_of (view value.now) ≡ Ok p) × (string_bytes text ≡ table_text p)) }
-    ensures refused { IfErr result (λ e. (e ≡ Fault.NoMemory) ⊎ ((r : TheRefused) × (e ≡ Fault.Member r) × (scenario_of (view value.now) ≡ Err r))) }
+    ensures table { IfOk result (λ text. (p : PlanWithNames) × (scenario_of (view value.now) ≡ Ok p)
+        × (string_bytes text ≡ table_text p)) }
+    ensures refused { IfErr result
+        (λ e. (e ≡ Fault.NoMemory)
+        ⊎ ((r : TheRefused) × (e ≡ Fault.Member r) × (scenario_of (view value.now) ≡ Err r))) }
 {
     let script = read_scenario(alloc, value)??;
     let lines = cmwq_sim::replay(alloc, &script.scenario)?;
@@ -39,10 +42,10 @@ fn replay<S: Source, O: Sink>(alloc: Global, input: &mut S, output: &mut O) -> R
     Ok(())
 }
 
-/// Reads all of a scenario in JSON, and then writes its table, and nothing else: a heading, and a line for each event. What went
-/// wrong is told on `errors`, whose own failing changes nothing. Answers the exit status: 0 done, 1 refused input, 4 no memory,
-/// 5 a fault of reading or writing. At 1, at want of memory and at a fault of reading nothing is written to `output`; at a fault
-/// of writing a front of the table is.
+/// Reads all of a scenario in JSON, and then writes its table, and nothing else: a heading, and a line for each event.
+/// What went wrong is told on `errors`, whose own failing changes nothing. Answers the exit status: 0 done, 1 refused
+/// input, 4 no memory, 5 a fault of reading or writing. At 1, at want of memory and at a fault of reading nothing is
+/// written to `output`; at a fault of writing a front of the table is.
 pub fn run_replay<S: Source, O: Sink, E: Sink>(
     alloc: Global,
     input: &mut S,

@@ -1,6 +1,7 @@
 //! A scenario, as a JSON value names it.
 
-ghost use Rattle.std.specs.Prelude.{◌≡◌, ◌≤◌, length, IfOk, Ok, Some, None, option_map, option_and_then, if◌then◌else◌, map, string_bytes, codes};
+ghost use Rattle.std.specs.Prelude.{◌≡◌, ◌≤◌, length, IfOk, Ok, Some, None, option_map, option_and_then, if◌then◌else◌};
+ghost use Rattle.std.specs.Prelude.{map, string_bytes, codes};
 ghost use Rattle.serde_json.specs.Find.{get, as_array};
 ghost use Rattle.serde_json.specs.View.{view, items_view};
 ghost use Rattle.cmwq_sim.specs.Plan.{plan_item};
@@ -81,7 +82,8 @@ fn name_of(value: &Value) -> Option<&str>
 /// The number of the queue that a value names.
 fn read_queue_number(names: &IndexSet<String>, value: &Value) -> Option<u8>
     requires { length names.now.keys ≤ 8 }
-    ensures { result ≡ option_and_then (spec.queue_number (map string_bytes names.now.keys)) (get (codes "queue") (view value.now)) }
+    ensures { result ≡ option_and_then (spec.queue_number (map string_bytes names.now.keys))
+        (get (codes "queue") (view value.now)) }
 {
     let number = number_of(names, value.get("queue")?.as_str()?)?;
     Some(number as u8)
@@ -118,7 +120,8 @@ fn add_queue(
     queues: &mut Members<SimQueue>,
     value: &Value,
 ) -> Result<bool, AllocError>
-    ensures { IfOk result (λ added. spec.add_sim_queue (named_of queues.old) (view value.now) ≡ (if added then Some (named_of queues.new) else None)) }
+    ensures { IfOk result (λ added. spec.add_sim_queue (named_of queues.old) (view value.now)
+        ≡ (if added then Some (named_of queues.new) else None)) }
 {
     match read_queue(value) {
         Some((name, queue)) => queues.add(alloc, 8, name, queue),
@@ -133,7 +136,8 @@ fn add_item(
     value: &Value,
 ) -> Result<bool, AllocError>
     requires { length queue_names.now.keys ≤ 8 }
-    ensures { IfOk result (λ added. spec.add_sim_item (map string_bytes queue_names.now.keys) (named_items items.old) (view value.now)
+    ensures { IfOk result
+        (λ added. spec.add_sim_item (map string_bytes queue_names.now.keys) (named_items items.old) (view value.now)
         ≡ (if added then Some (named_items items.new) else None)) }
 {
     match read_item(alloc, queue_names, value)? {
@@ -165,7 +169,9 @@ fn read_items(
     values: &[Value],
 ) -> Result<Result<Members<SimItem>, usize>, AllocError>
     requires { length queue_names.now.keys ≤ 8 }
-    ensures { IfOk result (λ r. map_ok named_items r ≡ in_turn (spec.add_sim_item (map string_bytes queue_names.now.keys)) 0 nobody (items_view values.now)) }
+    ensures { IfOk result
+        (λ r. map_ok named_items r ≡ in_turn (spec.add_sim_item (map string_bytes queue_names.now.keys)) 0 nobody
+        (items_view values.now)) }
 {
     let mut items = Members::new(alloc);
     for (index, value) in values.iter().enumerate() {
@@ -215,8 +221,8 @@ fn read_lists(
     }))
 }
 
-/// The scenario that a value names, or the first member that is refused: the keys and their types first, then the queues in
-/// order, then the items. An Err is want of memory.
+/// The scenario that a value names, or the first member that is refused: the keys and their types first, then the
+/// queues in order, then the items. An Err is want of memory.
 pub fn read_scenario(
     alloc: Global,
     value: &Value,

@@ -1,5 +1,6 @@
 -- A run that waits.
-use Rattle.cmwq_rt.specs.Common.{◌≡◌, true, false, refl, Result, Ok, Err, IfOk, IsPrefix, Call, Reply, Layout, View, is_caller, Completes}
+use Rattle.cmwq_rt.specs.Common.{◌≡◌, true, false, refl, Result, Ok, Err, IfOk, IsPrefix, Call, Reply, Layout, View}
+use Rattle.cmwq_rt.specs.Common.{is_caller, Completes}
 use Rattle.cmwq_rt.specs.declared.wait_fault.WaitFault.{WaitFault}
 use Rattle.cmwq_model.specs.declared.call.Call.TheVariants as call
 use Rattle.cmwq_model.specs.Prelude.{is_callers}
@@ -37,11 +38,14 @@ pub later_one : (s : Layout) (v w : View) (c : Call) → MakesOne s v c w → La
 later_one s v w c m = later_made s v w c m.0 m.1
 
 pub later_slept : (s : Layout) (v w : View) (c : Call) (r : Reply) → SleepsThrough s v c r w → Later v w
-later_slept s v w c r x = later_trans v x.asleep w (later_one s v x.asleep call.Sleep x.sleeps) (later_one s x.asleep w call.Wake x.wakes)
+later_slept s v w c r x =
+    later_trans v x.asleep w (later_one s v x.asleep call.Sleep x.sleeps) (later_one s x.asleep w call.Wake x.wakes)
 
 -- put together of its steps
-pub slept_through : (s : Layout) (v asleep before after w : View) (c : Call) (o : Result Reply WaitFault) → MakesOne s v call.Sleep asleep → is_caller after.who ≡ true → IfOk o (λ r. Completes s before c r after)
-    → IfOk o (λ _. MakesOne s asleep call.Wake w) → IfOk o (λ _. IsPrefix asleep.seen after.seen) → IfOk o (λ _. IsPrefix after.seen w.seen) → IfOk o (λ r. SleepsThrough s v c r w)
+pub slept_through : (s : Layout) (v asleep before after w : View) (c : Call) (o : Result Reply WaitFault)
+    → MakesOne s v call.Sleep asleep → is_caller after.who ≡ true → IfOk o (λ r. Completes s before c r after)
+    → IfOk o (λ _. MakesOne s asleep call.Wake w) → IfOk o (λ _. IsPrefix asleep.seen after.seen)
+    → IfOk o (λ _. IsPrefix after.seen w.seen) → IfOk o (λ r. SleepsThrough s v c r w)
 slept_through s v asleep before after w c (Ok r) sleeps caller completes wakes saw_sleep sees = record {
   asleep = asleep;
   sleeps = sleeps;

@@ -1,8 +1,9 @@
 -- What is left of a hub's history at its end.
 use Rattle.std.specs.Prelude.{◌≡◌, ◌≤◌}
-use Rattle.cmwq_rt.specs.Common.{ℕ, List, drop, length, slice_get, Some, Entry, Layout, IsLegal, past_of, View, IsStranger, AllSettle, RunFault}
+use Rattle.cmwq_rt.specs.Common.{ℕ, List, drop, length, slice_get, Some, Entry, Layout, IsLegal, past_of, View}
+use Rattle.cmwq_rt.specs.Common.{IsStranger, AllSettle, RunFault}
 
--- there is a legal history that all callers and workers see, and these are its entries behind the first so many
+-- there is a legal history that all callers and workers see, and these are its entries after the first so many
 pub record EndsAs (s : Layout) (c c' w w' : List View) (first : ℕ) (rest : List Entry) : Type 0 where
   pub history : List Entry
   pub legal : IsLegal s (past_of history)

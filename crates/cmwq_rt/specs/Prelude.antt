@@ -1,4 +1,5 @@
--- The words that the contracts of a hub cite, in one import. Those of the types are imported from where they are declared.
+-- The words that the contracts of a hub cite, in one import. Those of the types are imported from where they are
+-- declared.
 pub use Rattle.cmwq_model.specs.Layout.{Layout, fits, has_numbers, is_callers, is_workers}
 pub use Rattle.cmwq_model.specs.Legal.{past_of, entry_for, bits}
 unfoldable pub use Rattle.cmwq_model.specs.Legal.{IsLegal}
@@ -11,11 +12,14 @@ pub use Rattle.cmwq_monitor.specs.Participants.{View, newcomer, made_by, Agree, 
 pub use Rattle.cmwq_monitor.specs.Settled.{Settles, AllSettle}
 pub use Rattle.cmwq_monitor.specs.Starts.{StartsOne}
 pub use Rattle.cmwq_monitor.specs.Steps.{HasEnded, HasEndedSome}
-pub use Rattle.cmwq_monitor.specs.Whole.{HadNoRoom, MakesEntries, EndsWhole, Completes, BrokeOff, Stops, is_tick, ticket_in_reply}
+pub use Rattle.cmwq_monitor.specs.Whole.{HadNoRoom, MakesEntries, EndsWhole, Completes, BrokeOff, Stops, is_tick}
+pub use Rattle.cmwq_monitor.specs.Whole.{ticket_in_reply}
 pub use Rattle.cmwq_rt.specs.Later.{Later}
-pub use Rattle.cmwq_rt.specs.Places.{Places, first_worker, after_worker, next_after, worker_by_number, all_free, AreCounts, IsNextPlace}
+pub use Rattle.cmwq_rt.specs.Places.{Places, first_worker, after_worker, next_after, worker_by_number, all_free}
+pub use Rattle.cmwq_rt.specs.Places.{AreCounts, IsNextPlace}
 pub use Rattle.cmwq_rt.specs.Scripts.{Follows, HasFollowed, HasStopped}
 pub use Rattle.cmwq_rt.specs.Ending.{EndsAs, OneIsStranger}
 pub use Rattle.cmwq_rt.specs.Starting.{HasStarted}
-pub use Rattle.cmwq_rt.specs.Running.{Running, fault_after, breaks_off, MakesOne, Behavior, RunsItem, EndsRun, RunsInTurn, HasWorked, IsNextStart}
+pub use Rattle.cmwq_rt.specs.Running.{Running, fault_after, breaks_off, MakesOne, Behavior, RunsItem, EndsRun}
+pub use Rattle.cmwq_rt.specs.Running.{RunsInTurn, HasWorked, IsNextStart}
 pub use Rattle.cmwq_rt.specs.Waiting.{SleepsThrough, HasWaited, is_refusal, IsOfRun, fault_after_wait}

@@ -1,10 +1,13 @@
 -- What a worker's loop leaves: one run after another.
 use Rattle.std.specs.Prelude.{◌≡◌, ◌⊎◌, ◌<◌}
-use Rattle.cmwq_rt.specs.Common.{ℕ, zero, suc, Bool, true, false, Option, Some, Result, Ok, Err, MatchOption, ItemId, Call, Reply, Layout, View, active_in, Extends, Settles, StartsOne, RunFault, NoMemory, Full, Closed, Stranger}
+use Rattle.cmwq_rt.specs.Common.{ℕ, zero, suc, Bool, true, false, Option, Some, Result, Ok, Err, MatchOption, ItemId}
+use Rattle.cmwq_rt.specs.Common.{Call, Reply, Layout, View, active_in, Extends, Settles, StartsOne, RunFault, NoMemory}
+use Rattle.cmwq_rt.specs.Common.{Full, Closed, Stranger}
 use Rattle.cmwq_model.specs.declared.call.Call.TheVariants as call
 use Rattle.cmwq_model.specs.declared.reply.Reply.TheVariants as reply
 
--- a worker that runs this item, and the fault that one of its calls has answered since the run began, want of room aside
+-- a worker that runs this item, and the fault that one of its calls has answered since the run began, want of room
+-- aside
 pub record Running : Type 0 where
   pub item : ItemId
   pub participant : View
@@ -16,8 +19,8 @@ fault_after (Ok r) old = old
 fault_after (Err Full) old = old
 fault_after (Err f) old = Some f
 
--- whether a script or a worker's loop may break off with this fault: want of room leaves a call out, and the others are those of who makes
--- participants and threads
+-- whether a script or a worker's loop may break off with this fault: want of room leaves a call out, and the others are
+-- those of who makes participants and threads
 abbrev pub breaks_off : RunFault → Bool
 breaks_off (NoMemory ticket) = true
 breaks_off Closed = true
@@ -38,13 +41,15 @@ RunsItem s does item v w = (done : View) × does item v done × ((w ≡ done) �
 
 -- the run ended, and the worker may have been sent to the reserve
 abbrev pub EndsRun : Layout → View → View → Type 0
-EndsRun s v w = (ended : View) × MakesOne s v call.Finish ended × ((w ≡ ended) ⊎ Extends s ended call.Retire reply.Retired w)
+EndsRun s v w = (ended : View) × MakesOne s v call.Finish ended
+    × ((w ≡ ended) ⊎ Extends s ended call.Retire reply.Retired w)
 
 -- so many runs, one after another: each starts a queueing, runs its item, and ends
 abbrev pub RunsInTurn : Layout → Behavior → ℕ → View → View → Type 0
 RunsInTurn s does zero v w = w ≡ v
 RunsInTurn s does (suc n) v w = (before started ran : View) × (item : ItemId)
-    × RunsInTurn s does n v before × StartsOne s before item started × RunsItem s does item started ran × EndsRun s ran w
+    × RunsInTurn s does n v before × StartsOne s before item started × RunsItem s does item started ran
+    × EndsRun s ran w
 
 -- a worker has run what it started, and has made no other entry in the history that it sees
 abbrev pub HasWorked : Layout → Behavior → View → View → Type 0
@@ -52,4 +57,5 @@ HasWorked s does v w = (n : ℕ) × (last : View) × RunsInTurn s does n v last 
 
 -- what a worker does next: it starts a queueing of this item, or it sees that nothing active is open
 abbrev pub IsNextStart : Layout → View → Option ItemId → View → Type 0
-IsNextStart s v next w = MatchOption next ((active_in s w.seen ≡ 0) × Settles w.seen v w) (λ item. (item.0 < s.items) × StartsOne s v item w)
+IsNextStart s v next w =
+    MatchOption next ((active_in s w.seen ≡ 0) × Settles w.seen v w) (λ item. (item.0 < s.items) × StartsOne s v item w)

@@ -1,6 +1,7 @@
 -- Waits of runs, and what they leave.
 use Rattle.std.specs.Prelude.{◌≡◌, ◌⊎◌}
-use Rattle.cmwq_rt.specs.Common.{Bool, true, false, Option, Result, Err, IsPrefix, Call, Reply, Layout, View, Refused, is_caller, is_full, Completes, RunFault, Full}
+use Rattle.cmwq_rt.specs.Common.{Bool, true, false, Option, Result, Err, IsPrefix, Call, Reply, Layout, View, Refused}
+use Rattle.cmwq_rt.specs.Common.{is_caller, is_full, Completes, RunFault, Full}
 use Rattle.cmwq_model.specs.declared.call.Call.TheVariants as call
 use Rattle.cmwq_rt.specs.Running.{MakesOne, breaks_off, fault_after}
 use Rattle.cmwq_rt.specs.declared.wait_fault.WaitFault.{WaitFault}
@@ -37,10 +38,11 @@ HasWaited s v c r w = (awake : View) × IsAwake s v awake × SleepsThrough s awa
 
 -- there was no room for a sleep, or the worker slept and woke
 abbrev pub SleepsInVain : Layout → View → View → Type 0
-SleepsInVain s v w = Refused s v call.Sleep Full w ⊎ ((asleep : View) × MakesOne s v call.Sleep asleep × MakesOne s asleep call.Wake w)
+SleepsInVain s v w =
+    Refused s v call.Sleep Full w ⊎ ((asleep : View) × MakesOne s v call.Sleep asleep × MakesOne s asleep call.Wake w)
 
--- A wait had no room: a run that was asleep had none to wake, or, awake, it had none to sleep, or it slept and woke, since there was none for
--- what it would wait for.
+-- A wait had no room: a run that was asleep had none to wake, or, awake, it had none to sleep, or it slept and woke,
+-- since there was none for what it would wait for.
 abbrev pub HadNoRoom : Layout → View → View → Type 0
 HadNoRoom s v w = Refused s v call.Wake Full w ⊎ ((awake : View) × IsAwake s v awake × SleepsInVain s awake w)
 

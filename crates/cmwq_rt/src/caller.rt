@@ -105,9 +105,10 @@ impl<N: HubName> Caller<N> {
         participant.into_share()
     }
 
-    /// The bits of an item (`work_busy`): 1 if it is pending, plus 2 if it runs, after a list of entries that begins with all that the
-    /// caller has seen, and that it has seen from then on; none of those that are new is its own. It takes no lock, no memory, and waits for
-    /// nobody. None where the reader gives no guard, and for a caller that has none (`HubParts::with_readers`).
+    /// The bits of an item (`work_busy`): 1 if it is pending, plus 2 if it runs, after a list of entries that begins
+    /// with all that the caller has seen, and that it has seen from then on; none of those that are new is its own. It
+    /// takes no lock, no memory, and waits for nobody. None where the reader gives no guard, and for a caller that has
+    /// none (`HubParts::with_readers`).
     pub fn busy(&mut self, item: ItemId) -> Option<u8>
         requires { item.0 < N.layout.items }
         ensures bits { MatchOption result (self.new ≡ self.old) (λ b. b ≡ bits (past_of self.new.seen) item.0) }
@@ -143,7 +144,8 @@ impl<N: HubName> Caller<N> {
         hub.call(rt, &mut self.participant, call)
     }
 
-    /// A whole call under the lock, which is let go while the call waits: it makes its entry and those that belong to it.
+    /// A whole call under the lock, which is let go while the call waits: it makes its entry and those that belong to
+    /// it.
     pub(crate) fn make_locked<'a, R: Wait>(
         &mut self,
         rt: &R,
@@ -234,7 +236,7 @@ impl<N: HubName> Caller<N> {
         (monitor, Ok(reply))
     }
 
-    /// A tick, and all that is due behind it.
+    /// A tick, and all that is due after it.
     fn tick_locked<'a, R: Wait>(
         &mut self,
         rt: &R,
@@ -281,7 +283,8 @@ impl<N: HubName> Caller<N> {
     /// Queues an item (`queue_work_on`): one entry.
     ///
     /// # Errors
-    /// As of all calls of one entry: `Closed`, `NoMemory` where the hub has failed, `Stranger`, `Full`; it has made no entry then.
+    /// As of all calls of one entry: `Closed`, `NoMemory` where the hub has failed, `Stranger`, `Full`; it has made no
+    /// entry then.
     pub fn queue<R: Wait>(
         &mut self,
         rt: &R,
@@ -300,7 +303,8 @@ impl<N: HubName> Caller<N> {
     /// Queues an item after so many ticks (`queue_delayed_work_on`): one entry.
     ///
     /// # Errors
-    /// As of all calls of one entry: `Closed`, `NoMemory` where the hub has failed, `Stranger`, `Full`; it has made no entry then.
+    /// As of all calls of one entry: `Closed`, `NoMemory` where the hub has failed, `Stranger`, `Full`; it has made no
+    /// entry then.
     pub fn delay<R: Wait>(
         &mut self,
         rt: &R,
@@ -329,7 +333,8 @@ impl<N: HubName> Caller<N> {
     /// Queues or delays an item anew (`mod_delayed_work_on`): one entry.
     ///
     /// # Errors
-    /// As of all calls of one entry: `Closed`, `NoMemory` where the hub has failed, `Stranger`, `Full`; it has made no entry then.
+    /// As of all calls of one entry: `Closed`, `NoMemory` where the hub has failed, `Stranger`, `Full`; it has made no
+    /// entry then.
     pub fn modify<R: Wait>(
         &mut self,
         rt: &R,
@@ -358,7 +363,8 @@ impl<N: HubName> Caller<N> {
     /// Takes a pending item back (`cancel_work`, `cancel_delayed_work`): one entry.
     ///
     /// # Errors
-    /// As of all calls of one entry: `Closed`, `NoMemory` where the hub has failed, `Stranger`, `Full`; it has made no entry then.
+    /// As of all calls of one entry: `Closed`, `NoMemory` where the hub has failed, `Stranger`, `Full`; it has made no
+    /// entry then.
     pub fn cancel<R: Wait>(&mut self, rt: &R, hub: &Hub<N>, item: ItemId) -> Result<Reply, RunFault>
         requires { has_numbers N.layout (calls.Cancel item) ≡ true }
         ensures made { IfOk result (λ reply. Extends N.layout self.old (calls.Cancel item) reply self.new) }
@@ -370,7 +376,8 @@ impl<N: HubName> Caller<N> {
     /// Begins to wait for all that is queued on a queue, and doesn't wait: one entry, whose reply gives the ticket.
     ///
     /// # Errors
-    /// As of all calls of one entry: `Closed`, `NoMemory` where the hub has failed, `Stranger`, `Full`; it has made no entry then.
+    /// As of all calls of one entry: `Closed`, `NoMemory` where the hub has failed, `Stranger`, `Full`; it has made no
+    /// entry then.
     pub fn flush_begin<R: Wait>(
         &mut self,
         rt: &R,
@@ -387,7 +394,8 @@ impl<N: HubName> Caller<N> {
     /// Ends a ticket if it may end (`done`), and else says what it waits for: one entry.
     ///
     /// # Errors
-    /// As of all calls of one entry: `Closed`, `NoMemory` where the hub has failed, `Stranger`, `Full`; it has made no entry then.
+    /// As of all calls of one entry: `Closed`, `NoMemory` where the hub has failed, `Stranger`, `Full`; it has made no
+    /// entry then.
     pub fn flush_try<R: Wait>(
         &mut self,
         rt: &R,
@@ -403,7 +411,8 @@ impl<N: HubName> Caller<N> {
     /// Sets how many queueings of a queue may be active on one CPU (`workqueue_set_max_active`): one entry.
     ///
     /// # Errors
-    /// As of all calls of one entry: `Closed`, `NoMemory` where the hub has failed, `Stranger`, `Full`; it has made no entry then.
+    /// As of all calls of one entry: `Closed`, `NoMemory` where the hub has failed, `Stranger`, `Full`; it has made no
+    /// entry then.
     pub fn set_max<R: Wait>(
         &mut self,
         rt: &R,
@@ -421,7 +430,8 @@ impl<N: HubName> Caller<N> {
     /// Lets nothing more become active on freezable queues (`freeze_workqueues_begin`): one entry.
     ///
     /// # Errors
-    /// As of all calls of one entry: `Closed`, `NoMemory` where the hub has failed, `Stranger`, `Full`; it has made no entry then.
+    /// As of all calls of one entry: `Closed`, `NoMemory` where the hub has failed, `Stranger`, `Full`; it has made no
+    /// entry then.
     pub fn freeze<R: Wait>(&mut self, rt: &R, hub: &Hub<N>) -> Result<Reply, RunFault>
         ensures made { IfOk result (λ reply. Extends N.layout self.old calls.Freeze reply self.new) }
         ensures refused { IfErr result (λ f. Refused N.layout self.old calls.Freeze f self.new) }
@@ -432,7 +442,8 @@ impl<N: HubName> Caller<N> {
     /// Ends that (`thaw_workqueues`): one entry.
     ///
     /// # Errors
-    /// As of all calls of one entry: `Closed`, `NoMemory` where the hub has failed, `Stranger`, `Full`; it has made no entry then.
+    /// As of all calls of one entry: `Closed`, `NoMemory` where the hub has failed, `Stranger`, `Full`; it has made no
+    /// entry then.
     pub fn thaw<R: Wait>(&mut self, rt: &R, hub: &Hub<N>) -> Result<Reply, RunFault>
         ensures made { IfOk result (λ reply. Extends N.layout self.old calls.Thaw reply self.new) }
         ensures refused { IfErr result (λ f. Refused N.layout self.old calls.Thaw f self.new) }
@@ -440,11 +451,12 @@ impl<N: HubName> Caller<N> {
         self.make(rt, hub, Call::Thaw)
     }
 
-    /// Lets so many ticks go by, and then fires what is due: the tick's entry and those of the fires, until there is nothing to fire or no
-    /// room, but at most as many as there are items. Others may make entries between the fires where there are many. The answer is the tick's.
+    /// Lets so many ticks go by, and then fires what is due: the tick's entry and those of the fires, until there is
+    /// nothing to fire or no room, but at most as many as there are items. Others may make entries between the fires
+    /// where there are many. The answer is the tick's.
     ///
     /// # Errors
-    /// Those of a call of one entry, with no entry made; `NoMemory` and `Stranger` also behind some of them.
+    /// Those of a call of one entry, with no entry made; `NoMemory` and `Stranger` also after some of them.
     pub fn tick<R: Wait>(&mut self, rt: &R, hub: &Hub<N>, ticks: u32) -> Result<Reply, RunFault>
         ensures done { IfOk result (λ reply. Completes N.layout self.old (calls.Tick ticks) reply self.new) }
         ensures broke { IfErr result (λ f. BrokeOff N.layout self.old (calls.Tick ticks) f self.new) }
@@ -452,10 +464,12 @@ impl<N: HubName> Caller<N> {
         self.make_whole(rt, hub, Call::Tick { ticks })
     }
 
-    /// Waits until all that was queued on a queue before has ended (`flush_workqueue`): the entry that begins the wait, and the one that ends it.
+    /// Waits until all that was queued on a queue before has ended (`flush_workqueue`): the entry that begins the wait,
+    /// and the one that ends it.
     ///
     /// # Errors
-    /// Those of a call of one entry, with no entry made; `NoMemory` also behind the first, and then it tells the ticket, which stands unended.
+    /// Those of a call of one entry, with no entry made; `NoMemory` also after the first, and then it tells the ticket,
+    /// which stands unended.
     pub fn flush<R: Wait>(
         &mut self,
         rt: &R,
@@ -469,10 +483,12 @@ impl<N: HubName> Caller<N> {
         self.make_whole(rt, hub, Call::Flush { queue })
     }
 
-    /// Waits until the queueings of an item that are open have ended (`flush_work`): one entry where there are none, else two.
+    /// Waits until the queueings of an item that are open have ended (`flush_work`): one entry where there are none,
+    /// else two.
     ///
     /// # Errors
-    /// Those of a call of one entry, with no entry made; `NoMemory` also behind the first, and then it tells the ticket, which stands unended.
+    /// Those of a call of one entry, with no entry made; `NoMemory` also after the first, and then it tells the ticket,
+    /// which stands unended.
     pub fn flush_item<R: Wait>(
         &mut self,
         rt: &R,
@@ -489,7 +505,8 @@ impl<N: HubName> Caller<N> {
     /// The same, after queueing the item at once if it is delayed (`flush_delayed_work`).
     ///
     /// # Errors
-    /// Those of a call of one entry, with no entry made; `NoMemory` also behind the first, and then it tells the ticket, which stands unended.
+    /// Those of a call of one entry, with no entry made; `NoMemory` also after the first, and then it tells the ticket,
+    /// which stands unended.
     pub fn flush_delayed<R: Wait>(
         &mut self,
         rt: &R,
@@ -506,7 +523,8 @@ impl<N: HubName> Caller<N> {
     /// Takes an item back and waits until it doesn't run (`cancel_work_sync`, `cancel_delayed_work_sync`): two entries.
     ///
     /// # Errors
-    /// Those of a call of one entry, with no entry made; `NoMemory` also behind the first, and then it tells the ticket, which stands unended.
+    /// Those of a call of one entry, with no entry made; `NoMemory` also after the first, and then it tells the ticket,
+    /// which stands unended.
     pub fn cancel_sync<R: Wait>(
         &mut self,
         rt: &R,
@@ -520,10 +538,12 @@ impl<N: HubName> Caller<N> {
         self.make_whole(rt, hub, Call::CancelSync { item })
     }
 
-    /// Waits until a queue is empty (`drain_workqueue`), and then fires what is due: two entries and those of the fires.
+    /// Waits until a queue is empty (`drain_workqueue`), and then fires what is due: two entries and those of the
+    /// fires.
     ///
     /// # Errors
-    /// Those of a call of one entry, with no entry made; `NoMemory` also behind the first, and then it tells the ticket, which stands unended.
+    /// Those of a call of one entry, with no entry made; `NoMemory` also after the first, and then it tells the ticket,
+    /// which stands unended.
     pub fn drain<R: Wait>(
         &mut self,
         rt: &R,
@@ -540,7 +560,8 @@ impl<N: HubName> Caller<N> {
     /// Waits until a queue is empty, which is then gone (`destroy_workqueue`): two entries.
     ///
     /// # Errors
-    /// Those of a call of one entry, with no entry made; `NoMemory` also behind the first, and then it tells the ticket, which stands unended.
+    /// Those of a call of one entry, with no entry made; `NoMemory` also after the first, and then it tells the ticket,
+    /// which stands unended.
     pub fn destroy<R: Wait>(
         &mut self,
         rt: &R,

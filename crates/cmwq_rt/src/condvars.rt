@@ -1,4 +1,4 @@
-//! Where callers and workers sleep, behind a short spin where that is of use. No contract speaks of it.
+//! Where callers and workers sleep, after a short spin where that is of use. No contract speaks of it.
 
 use cmwq_model::{NoMemory, Shape, Who, WorkerId};
 use cmwq_monitor::Wakes;
@@ -110,8 +110,8 @@ impl Condvars {
             .checked_add(usize::from(worker.index))
     }
 
-    /// How often its condvar was notified so far, where it is to spin until it is notified again: not where it has just spun in vain, and seldom
-    /// where that was of no use before.
+    /// How often its condvar was notified so far, where it is to spin until it is notified again: not where it has just
+    /// spun in vain, and seldom where that was of no use before.
     pub fn to_spin(&self, who: Who) -> Option<u64> {
         let parker = self.of(who)?;
         if parker.is_to_spin() {
@@ -121,8 +121,8 @@ impl Condvars {
         }
     }
 
-    /// Spins until its condvar is notified again, but not for long, without the lock. Behind it what is waited for is looked at anew, under
-    /// the lock, since the notification of what was done meanwhile may still come.
+    /// Spins until its condvar is notified again, but not for long, without the lock. Behind it what is waited for is
+    /// looked at anew, under the lock, since the notification of what was done meanwhile may still come.
     pub fn spin(&self, who: Who, seen: u64) {
         if let Some(parker) = self.of(who) {
             parker.spin(seen);

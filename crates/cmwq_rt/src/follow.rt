@@ -22,8 +22,9 @@ fn is_full(fault: RunFault) -> bool
 }
 
 impl<N: HubName> Caller<N> {
-    /// Makes the calls of a script, one after another, each whole; those for which there is no room are left out. It answers how many
-    /// entries it made, and how many calls were left out. Eight calls at most stand in one hold of the lock, which a call that waits lets go.
+    /// Makes the calls of a script, one after another, each whole; those for which there is no room are left out. It
+    /// answers how many entries it made, and how many calls were left out. Eight calls at most stand in one hold of the
+    /// lock, which a call that waits lets go.
     ///
     /// # Errors
     /// Those of the calls but `Full`: the script breaks off at the first call that answers one.

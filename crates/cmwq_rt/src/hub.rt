@@ -1,5 +1,6 @@
 //! The hub: one monitor behind a lock.
-ghost use Rattle.std.specs.Prelude.{◌≡◌, ◌⊎◌, ◌<◌, ◌++◌, [], OnErr, true, false, IsTrue, IfOk, IfErr, IfSome, MatchOption, None, Some};
+ghost use Rattle.std.specs.Prelude.{◌≡◌, ◌⊎◌, ◌<◌, ◌++◌, [], OnErr, true, false, IsTrue, IfOk, IfErr, IfSome};
+ghost use Rattle.std.specs.Prelude.{MatchOption, None, Some};
 ghost use Rattle.cmwq_model.specs.declared.call.Call.TheVariants as calls;
 ghost use Rattle.cmwq_model.specs.declared.reply.Reply.TheVariants as replies;
 ghost use Rattle.cmwq_model.specs.Prelude.{fits, past_of, IsLegal};
@@ -26,7 +27,8 @@ use std::alloc::Global;
 use std::sync::{Arc, Condvar, CondvarTimeouts, Mutex, MutexGuard, Wait};
 use std::time::{Clock, Duration};
 
-/// The runtime that threads share. Its callers and workers carry its name, so that none of them is taken for another hub's.
+/// The runtime that threads share. Its callers and workers carry its name, so that none of them is taken for another
+/// hub's.
 pub struct Hub<N: HubName> {
     pub(crate) monitor: Mutex<Monitor<N>>,
     pub(crate) condvars: Condvars,
@@ -67,8 +69,8 @@ impl<N: HubName> Hub<N> {
         &self.shape
     }
 
-    /// Callers make no calls from now on: each answers `Closed`. Calls that wait go on to their end, and workers go on until no active
-    /// queueing is open.
+    /// Callers make no calls from now on: each answers `Closed`. Calls that wait go on to their end, and workers go on
+    /// until no active queueing is open.
     pub fn close<R: Wait>(&self, rt: &R) {
         let has_turn = self.comes_to_close(rt);
         let mut monitor = self.monitor.lock(rt);
@@ -79,8 +81,8 @@ impl<N: HubName> Hub<N> {
         }
     }
 
-    /// Nobody makes a call from now on: each answers `NoMemory`, and so do those that wait. So ends the journal of a hub whose callers and
-    /// workers have all come back.
+    /// Nobody makes a call from now on: each answers `NoMemory`, and so do those that wait. So ends the journal of a
+    /// hub whose callers and workers have all come back.
     pub fn fail<R: Wait>(&self, rt: &R) {
         let mut monitor = self.monitor.lock(rt);
         monitor.fail();
@@ -88,13 +90,13 @@ impl<N: HubName> Hub<N> {
         self.stop_turns(rt);
     }
 
-    /// How many entries are made in one hold of the lock, at most, where what is due is fired behind the first.
+    /// How many entries are made in one hold of the lock, at most, where what is due is fired after the first.
     pub(crate) fn with_fires(&self) -> u32 {
         HubParts::least_kept(&self.shape)
     }
 
-    /// A journal of a hub that has no entry yet, or of what comes from now on. `spare` is an empty buffer, at least as large as the
-    /// number of entries that the hub keeps.
+    /// A journal of a hub that has no entry yet, or of what comes from now on. `spare` is an empty buffer, at least as
+    /// large as the number of entries that the hub keeps.
     pub fn journal<R: Wait>(&self, rt: &R, spare: Vec<Entry>) -> Journal<N>
         requires { spare.items ≡ [] }
         ensures legal { IsLegal N.layout (past_of result.seen) }
@@ -107,11 +109,12 @@ impl<N: HubName> Hub<N> {
         journal
     }
 
-    /// Sleeps until there is enough to write down, or the hub has failed, and takes it. It answers whether more may come.
+    /// Sleeps until there is enough to write down, or the hub has failed, and takes it. It answers whether more may
+    /// come.
     ///
     /// # Errors
-    /// `Stranger` where the journal isn't the one that has all that was handed over, `NoMemory` where its buffer is too small. It has
-    /// taken nothing then.
+    /// `Stranger` where the journal isn't the one that has all that was handed over, `NoMemory` where its buffer is too
+    /// small. It has taken nothing then.
     pub fn hand_over<R: Wait>(&self, rt: &R, journal: &mut Journal<N>) -> Result<bool, RunFault>
         ensures batch { IfOk result (λ _. journal.new.seen ≡ journal.old.seen ++ journal.new.batch) }
         ensures legal { IfOk result (λ _. IsLegal N.layout (past_of journal.new.seen)) }
@@ -127,7 +130,8 @@ impl<N: HubName> Hub<N> {
         self.give(rt, monitor, journal)
     }
 
-    /// The same, but it sleeps no longer than so, and takes what there is then: so the last entries of a quiet hub are written down too.
+    /// The same, but it sleeps no longer than so, and takes what there is then: so the last entries of a quiet hub are
+    /// written down too.
     ///
     /// # Errors
     /// As of `hand_over`.
@@ -298,8 +302,8 @@ impl<N: HubName> Hub<N> {
         unreachable!()
     }
 
-    /// What was not handed over of the history, which each of these callers and workers has seen whole from then on. It waits for readers
-    /// to leave.
+    /// What was not handed over of the history, which each of these callers and workers has seen whole from then on. It
+    /// waits for readers to leave.
     ///
     /// # Errors
     /// `Stranger` where one of them is another hub's. The hub and its history are then gone.
@@ -309,7 +313,8 @@ impl<N: HubName> Hub<N> {
         callers: &mut [Caller<N>],
         workers: &mut [Worker<N>],
     ) -> Result<Rest, RunFault>
-        ensures legal { IfOk result (λ rest. EndsAs N.layout callers.old callers.new workers.old workers.new rest.first rest.entries.items) }
+        ensures legal { IfOk result
+            (λ rest. EndsAs N.layout callers.old callers.new workers.old workers.new rest.first rest.entries.items) }
         ensures stranger { IfErr result (λ f. OneIsStranger callers.old f ⊎ OneIsStranger workers.old f) }
     {
         let monitor = self.into_monitor();
@@ -343,7 +348,8 @@ fn next_start<N: HubName, R: Wait>(
 ) -> Option<Result<Option<ItemId>, RunFault>>
     requires { is_caller participant.old.who ≡ false }
     ensures fault { IfSome result (λ next. IfErr next (λ f. breaks_off f ≡ true)) }
-    ensures next { MatchOption result (participant.new ≡ participant.old) (λ next. IfOk next (λ o. IsNextStart N.layout participant.old o participant.new)) }
+    ensures next { MatchOption result (participant.new ≡ participant.old)
+        (λ next. IfOk next (λ o. IsNextStart N.layout participant.old o participant.new)) }
     ensures later { Later participant.old participant.new }
 {
     match monitor.start(rt, participant) {

@@ -1,7 +1,8 @@
-//! A hub: the Book shared by threads. Callers make calls, workers run what is queued, and all of it stands in one history.
+//! A hub: the Book shared by threads. Callers make calls, workers run what is queued, and all of it stands in one
+//! history.
 //!
-//! Whoever uses a hub needs this crate alone: it passes on the types of calls, entries and shapes, and `check` with its test `all_fit`. The
-//! words that the contracts cite are in `specs::Prelude`.
+//! Whoever uses a hub needs this crate alone: it passes on the types of calls, entries and shapes, and `check` with its
+//! test `all_fit`. The words that the contracts cite are in `specs::Prelude`.
 #![tactic(auto)]
 
 mod caller;

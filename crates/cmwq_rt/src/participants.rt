@@ -14,8 +14,8 @@ use cmwq_publish::{HubName, Prefix, Readers};
 use std::marker::Model;
 use std::sync::ledger::Share;
 
-/// Gives out the callers and the workers of a hub, each once. It stays in one thread at a time, since a reader can't be shared.
-/// Contracts see which are given out.
+/// Gives out the callers and the workers of a hub, each once. It stays in one thread at a time, since a reader can't be
+/// shared. Contracts see which are given out.
 #[derive(Drop)]
 pub struct Participants<N: HubName> {
     counts: Counts,
@@ -35,7 +35,9 @@ impl<N: HubName> Model for Participants<N> {
 
     ghost view = { λ s. record { callers = s.callers; next = s.next; workers = s.workers } };
 
-    ghost invariant = { λ s. AreCounts N.layout s.counts × (s.start ≡ []) × (s.callers ≤ N.layout.callers) × (s.rest.parts + s.callers + s.workers ≡ shares) × (s.rest.amount ≡ 0) × IsNextPlace N.layout s.next s.workers };
+    ghost invariant = { λ s. AreCounts N.layout s.counts × (s.start ≡ []) × (s.callers ≤ N.layout.callers)
+        × (s.rest.parts + s.callers + s.workers ≡ shares) × (s.rest.amount ≡ 0)
+        × IsNextPlace N.layout s.next s.workers };
 }
 
 impl<N: HubName> Participants<N> {
@@ -70,7 +72,8 @@ impl<N: HubName> Participants<N> {
     /// # Errors
     /// `NoPlace` where all are given out.
     pub fn caller(&mut self) -> Result<Caller<N>, RunFault>
-        ensures given { IfOk result (λ c. (c ≡ newcomer (whos.Caller (record { 0 = self.old.callers }))) × (self.old.callers < N.layout.callers) × (self.new ≡ record self.old { callers = self.old.callers + 1 })) }
+        ensures given { IfOk result (λ c. (c ≡ newcomer (whos.Caller (record { 0 = self.old.callers })))
+            × (self.old.callers < N.layout.callers) × (self.new ≡ record self.old { callers = self.old.callers + 1 })) }
         ensures none { IfErr result (λ f. (f ≡ NoPlace) × (self.old.callers ≡ N.layout.callers) × (self.new ≡ self.old)) }
     {
         if self.callers >= self.counts.callers {
@@ -88,7 +91,10 @@ impl<N: HubName> Participants<N> {
     /// # Errors
     /// `NoPlace` where all are given out.
     pub fn worker(&mut self) -> Result<Worker<N>, RunFault>
-        ensures given { IfOk result (λ w. MatchOption self.old.next ⊥ (λ x. (w ≡ newcomer (whos.Worker x)) × (self.new ≡ record self.old { next = after_worker N.layout x; workers = self.old.workers + 1 }))) }
+        ensures given { IfOk result
+            (λ w. MatchOption self.old.next ⊥
+            (λ x. (w ≡ newcomer (whos.Worker x))
+            × (self.new ≡ record self.old { next = after_worker N.layout x; workers = self.old.workers + 1 }))) }
         ensures none { IfErr result (λ f. (f ≡ NoPlace) × (self.old.next ≡ None) × (self.new ≡ self.old)) }
     {
         let Some(worker) = self.next else {

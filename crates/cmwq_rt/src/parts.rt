@@ -79,7 +79,8 @@ fn copies_of(alloc: Global, shape: &Shape) -> Result<(Shape, Shape), NoMemory>
 }
 
 impl HubParts {
-    /// The Book, the published history with a reader for each caller, a condvar for each caller and worker, and the ledger of entries.
+    /// The Book, the published history with a reader for each caller, a condvar for each caller and worker, and the
+    /// ledger of entries.
     ///
     /// # Errors
     /// `NoMemory` where memory runs out.
@@ -94,8 +95,8 @@ impl HubParts {
         HubParts::keeping(rt, alloc, shape, kept)
     }
 
-    /// How many entries a hub of this shape is to keep at a time, at least: those of one hold of the lock. Where fewer are kept, a tick and the
-    /// end of a drain wait for ever for space.
+    /// How many entries a hub of this shape is to keep at a time, at least: those of one hold of the lock. Where fewer
+    /// are kept, a tick and the end of a drain wait for ever for space.
     pub fn least_kept(shape: &Shape) -> u32
         ensures few { shape.now.items ≤ 128 → result ≡ 1 + shape.now.items }
         ensures many { 128 ≤ shape.now.items → result ≡ 129 }
@@ -121,8 +122,9 @@ impl HubParts {
         HubParts::with_readers(rt, alloc, shape, kept, readers)
     }
 
-    /// The same, with so many readers in place of one for each caller: the callers that are given out first have one each, and `busy` of the
-    /// others answers None. Each reader makes all entries dearer, whether it looks or not, so who never looks is to have none.
+    /// The same, with so many readers in place of one for each caller: the callers that are given out first have one
+    /// each, and `busy` of the others answers None. Each reader makes all entries dearer, whether it looks or not, so
+    /// who never looks is to have none.
     ///
     /// # Errors
     /// `NoMemory` where memory runs out.
@@ -166,8 +168,8 @@ impl HubParts {
         })
     }
 
-    /// The same of a hub that drops all that it keeps where there is no space for more, for who wants no history: no journal is to be
-    /// kept of it.
+    /// The same of a hub that drops all that it keeps where there is no space for more, for who wants no history: no
+    /// journal is to be kept of it.
     ///
     /// # Errors
     /// `NoMemory` where memory runs out.
@@ -204,7 +206,8 @@ impl HubParts {
 }
 
 impl<N: HubName> Hub<N> {
-    /// Opens a hub under a name, which a caller's and a worker's type carries. It takes no memory. The participants give out its callers and workers.
+    /// Opens a hub under a name, which a caller's and a worker's type carries. It takes no memory. The participants
+    /// give out its callers and workers.
     pub fn open(parts: HubParts) -> (Hub<N>, Participants<N>)
         requires layout { parts.shape ≡ N.layout }
         requires book { parts.opening.book ≡ N.book }

@@ -10,7 +10,8 @@ ghost use Rattle.cmwq_monitor.specs.declared.fault.RunFault.TheVariants as fault
 ghost use Rattle.cmwq_rt.specs.Later.{Later};
 ghost use Rattle.cmwq_rt.specs.Starting.{HasStarted};
 ghost use Rattle.cmwq_rt.specs.Running.{RunsItem, MakesOne, fault_after, breaks_off};
-ghost use Rattle.cmwq_rt.specs.Waiting.{HadNoRoom, HasWaited, IsOfRun, SleepsInVain, SleepsThrough, fault_after_wait, is_refusal, is_wait};
+ghost use Rattle.cmwq_rt.specs.Waiting.{HadNoRoom, HasWaited, IsOfRun, SleepsInVain, SleepsThrough, fault_after_wait};
+ghost use Rattle.cmwq_rt.specs.Waiting.{is_refusal, is_wait};
 ghost use Rattle.cmwq_rt.specs.declared.wait_fault.WaitFault.TheVariants as waits;
 ghost use Rattle.cmwq_monitor.specs.Whole.{is_tick};
 
@@ -26,8 +27,8 @@ use core::mem::replace_with;
 use std::marker::Model;
 use std::sync::Wait;
 
-/// What a work function is given: it makes calls by its worker. Contracts see the item, who runs it, its serial and the history that it has seen,
-/// and the fault that a call of this run has answered, if any but want of room was.
+/// What a work function is given: it makes calls by its worker. Contracts see the item, who runs it, its serial and the
+/// history that it has seen, and the fault that a call of this run has answered, if any but want of room was.
 #[derive(Drop)]
 pub struct RunCtx<'a, N: HubName, R> {
     rt: &'a R,
@@ -59,18 +60,20 @@ pub trait Work {
     ghost use Rattle.cmwq_rt.specs.Starting.{HasStarted};
     ghost use Rattle.cmwq_rt.specs.Running.{Behavior};
 
-    /// What one run of an item does in a hub of this shape: `Hub::work` carries it into the history. Nothing is said where it is left out.
+    /// What one run of an item does in a hub of this shape: `Hub::work` carries it into the history. Nothing is said
+    /// where it is left out.
     ghost does: { Self → Layout → Behavior } = { λ _ _ _ _ _. Unit {0} };
 
-    /// Runs an item, once for each start of one of its queueings. A run in which a call answered a fault other than want of room may
-    /// break off: its worker answers that fault.
+    /// Runs an item, once for each start of one of its queueings. A run in which a call answered a fault other than
+    /// want of room may break off: its worker answers that fault.
     fn run<N: HubName, R: Wait>(&self, item: ItemId, context: &mut RunCtx<N, R>)
         requires item { item.0 < N.layout.items }
         requires started { HasStarted context.old.participant item }
         requires own { context.old.item ≡ item }
         requires fresh { context.old.fault ≡ None }
         ensures later { Later context.old.participant context.new.participant }
-        ensures done { context.new.fault ≡ None → does self.now N.layout item context.old.participant context.new.participant };
+        ensures done { context.new.fault ≡ None
+            → does self.now N.layout item context.old.participant context.new.participant };
 }
 
 impl<'a, N: HubName, R: Wait> RunCtx<'a, N, R> {
@@ -154,8 +157,10 @@ impl<'a, N: HubName, R: Wait> RunCtx<'a, N, R> {
     pub fn queue(&mut self, item: ItemId, queue: QueueId, cpu: CpuId) -> Result<Reply, RunFault>
         requires { has_numbers N.layout (calls.Queue item queue cpu) ≡ true }
         ensures later { Later self.old.participant self.new.participant }
-        ensures made { IfOk result (λ reply. Extends N.layout self.old.participant (calls.Queue item queue cpu) reply self.new.participant) }
-        ensures refused { IfErr result (λ f. Refused N.layout self.old.participant (calls.Queue item queue cpu) f self.new.participant) }
+        ensures made { IfOk result
+            (λ reply. Extends N.layout self.old.participant (calls.Queue item queue cpu) reply self.new.participant) }
+        ensures refused { IfErr result
+            (λ f. Refused N.layout self.old.participant (calls.Queue item queue cpu) f self.new.participant) }
         ensures fault { self.new.fault ≡ fault_after result self.old.fault }
         ensures item { self.new.item ≡ self.old.item }
     {
@@ -175,8 +180,11 @@ impl<'a, N: HubName, R: Wait> RunCtx<'a, N, R> {
     ) -> Result<Reply, RunFault>
         requires { has_numbers N.layout (calls.Delay item queue cpu ticks) ≡ true }
         ensures later { Later self.old.participant self.new.participant }
-        ensures made { IfOk result (λ reply. Extends N.layout self.old.participant (calls.Delay item queue cpu ticks) reply self.new.participant) }
-        ensures refused { IfErr result (λ f. Refused N.layout self.old.participant (calls.Delay item queue cpu ticks) f self.new.participant) }
+        ensures made { IfOk result
+            (λ reply. Extends N.layout self.old.participant (calls.Delay item queue cpu ticks) reply
+            self.new.participant) }
+        ensures refused { IfErr result
+            (λ f. Refused N.layout self.old.participant (calls.Delay item queue cpu ticks) f self.new.participant) }
         ensures fault { self.new.fault ≡ fault_after result self.old.fault }
         ensures item { self.new.item ≡ self.old.item }
     {
@@ -201,8 +209,11 @@ impl<'a, N: HubName, R: Wait> RunCtx<'a, N, R> {
     ) -> Result<Reply, RunFault>
         requires { has_numbers N.layout (calls.Modify item queue cpu ticks) ≡ true }
         ensures later { Later self.old.participant self.new.participant }
-        ensures made { IfOk result (λ reply. Extends N.layout self.old.participant (calls.Modify item queue cpu ticks) reply self.new.participant) }
-        ensures refused { IfErr result (λ f. Refused N.layout self.old.participant (calls.Modify item queue cpu ticks) f self.new.participant) }
+        ensures made { IfOk result
+            (λ reply. Extends N.layout self.old.participant (calls.Modify item queue cpu ticks) reply
+            self.new.participant) }
+        ensures refused { IfErr result
+            (λ f. Refused N.layout self.old.participant (calls.Modify item queue cpu ticks) f self.new.participant) }
         ensures fault { self.new.fault ≡ fault_after result self.old.fault }
         ensures item { self.new.item ≡ self.old.item }
     {
@@ -221,7 +232,8 @@ impl<'a, N: HubName, R: Wait> RunCtx<'a, N, R> {
     pub fn cancel(&mut self, item: ItemId) -> Result<Reply, RunFault>
         requires { has_numbers N.layout (calls.Cancel item) ≡ true }
         ensures later { Later self.old.participant self.new.participant }
-        ensures made { IfOk result (λ reply. Extends N.layout self.old.participant (calls.Cancel item) reply self.new.participant) }
+        ensures made { IfOk result
+            (λ reply. Extends N.layout self.old.participant (calls.Cancel item) reply self.new.participant) }
         ensures refused { IfErr result (λ f. Refused N.layout self.old.participant (calls.Cancel item) f self.new.participant) }
         ensures fault { self.new.fault ≡ fault_after result self.old.fault }
         ensures item { self.new.item ≡ self.old.item }
@@ -229,7 +241,8 @@ impl<'a, N: HubName, R: Wait> RunCtx<'a, N, R> {
         self.make(Call::Cancel { item })
     }
 
-    /// The run sleeps from now on, so that others of its pool may start (`wq_worker_sleeping`): one entry of the worker.
+    /// The run sleeps from now on, so that others of its pool may start (`wq_worker_sleeping`): one entry of the
+    /// worker.
     ///
     /// # Errors
     /// As of `queue`.
@@ -267,9 +280,11 @@ impl<'a, N: HubName, R: Wait> RunCtx<'a, N, R> {
     pub fn flush_item(&mut self, item: ItemId) -> Result<Reply, WaitFault>
         requires { has_numbers N.layout (calls.FlushItem item) ≡ true }
         ensures later { Later self.old.participant self.new.participant }
-        ensures waited { IfOk result (λ reply. HasWaited N.layout self.old.participant (calls.FlushItem item) reply self.new.participant) }
+        ensures waited { IfOk result
+            (λ reply. HasWaited N.layout self.old.participant (calls.FlushItem item) reply self.new.participant) }
         ensures itself { item.0 ≡ self.old.item.0 → (result ≡ Err waits.Itself) × (self.new ≡ self.old) }
-        ensures refused { IfErr result (λ f. is_refusal f ≡ true → (self.new.participant ≡ self.old.participant) ⊎ MakesOne N.layout self.old.participant calls.Wake self.new.participant) }
+        ensures refused { IfErr result (λ f. is_refusal f ≡ true → (self.new.participant ≡ self.old.participant)
+            ⊎ MakesOne N.layout self.old.participant calls.Wake self.new.participant) }
         ensures fault { self.new.fault ≡ fault_after_wait result self.old.fault }
         ensures item { self.new.item ≡ self.old.item }
     {
@@ -284,9 +299,11 @@ impl<'a, N: HubName, R: Wait> RunCtx<'a, N, R> {
     pub fn cancel_sync(&mut self, item: ItemId) -> Result<Reply, WaitFault>
         requires { has_numbers N.layout (calls.CancelSync item) ≡ true }
         ensures later { Later self.old.participant self.new.participant }
-        ensures waited { IfOk result (λ reply. HasWaited N.layout self.old.participant (calls.CancelSync item) reply self.new.participant) }
+        ensures waited { IfOk result
+            (λ reply. HasWaited N.layout self.old.participant (calls.CancelSync item) reply self.new.participant) }
         ensures itself { item.0 ≡ self.old.item.0 → (result ≡ Err waits.Itself) × (self.new ≡ self.old) }
-        ensures refused { IfErr result (λ f. is_refusal f ≡ true → (self.new.participant ≡ self.old.participant) ⊎ MakesOne N.layout self.old.participant calls.Wake self.new.participant) }
+        ensures refused { IfErr result (λ f. is_refusal f ≡ true → (self.new.participant ≡ self.old.participant)
+            ⊎ MakesOne N.layout self.old.participant calls.Wake self.new.participant) }
         ensures fault { self.new.fault ≡ fault_after_wait result self.old.fault }
         ensures item { self.new.item ≡ self.old.item }
     {
@@ -300,9 +317,11 @@ impl<'a, N: HubName, R: Wait> RunCtx<'a, N, R> {
     pub fn flush_delayed(&mut self, item: ItemId) -> Result<Reply, WaitFault>
         requires { has_numbers N.layout (calls.FlushDelayed item) ≡ true }
         ensures later { Later self.old.participant self.new.participant }
-        ensures waited { IfOk result (λ reply. HasWaited N.layout self.old.participant (calls.FlushDelayed item) reply self.new.participant) }
+        ensures waited { IfOk result
+            (λ reply. HasWaited N.layout self.old.participant (calls.FlushDelayed item) reply self.new.participant) }
         ensures itself { item.0 ≡ self.old.item.0 → (result ≡ Err waits.Itself) × (self.new ≡ self.old) }
-        ensures refused { IfErr result (λ f. is_refusal f ≡ true → (self.new.participant ≡ self.old.participant) ⊎ MakesOne N.layout self.old.participant calls.Wake self.new.participant) }
+        ensures refused { IfErr result (λ f. is_refusal f ≡ true → (self.new.participant ≡ self.old.participant)
+            ⊎ MakesOne N.layout self.old.participant calls.Wake self.new.participant) }
         ensures fault { self.new.fault ≡ fault_after_wait result self.old.fault }
         ensures item { self.new.item ≡ self.old.item }
     {
@@ -317,8 +336,10 @@ impl<'a, N: HubName, R: Wait> RunCtx<'a, N, R> {
     pub fn flush(&mut self, queue: QueueId) -> Result<Reply, WaitFault>
         requires { has_numbers N.layout (calls.Flush queue) ≡ true }
         ensures later { Later self.old.participant self.new.participant }
-        ensures waited { IfOk result (λ reply. HasWaited N.layout self.old.participant (calls.Flush queue) reply self.new.participant) }
-        ensures refused { IfErr result (λ f. is_refusal f ≡ true → (self.new.participant ≡ self.old.participant) ⊎ MakesOne N.layout self.old.participant calls.Wake self.new.participant) }
+        ensures waited { IfOk result
+            (λ reply. HasWaited N.layout self.old.participant (calls.Flush queue) reply self.new.participant) }
+        ensures refused { IfErr result (λ f. is_refusal f ≡ true → (self.new.participant ≡ self.old.participant)
+            ⊎ MakesOne N.layout self.old.participant calls.Wake self.new.participant) }
         ensures fault { self.new.fault ≡ fault_after_wait result self.old.fault }
         ensures item { self.new.item ≡ self.old.item }
     {
@@ -333,8 +354,10 @@ impl<'a, N: HubName, R: Wait> RunCtx<'a, N, R> {
     pub fn drain(&mut self, queue: QueueId) -> Result<Reply, WaitFault>
         requires { has_numbers N.layout (calls.Drain queue) ≡ true }
         ensures later { Later self.old.participant self.new.participant }
-        ensures waited { IfOk result (λ reply. HasWaited N.layout self.old.participant (calls.Drain queue) reply self.new.participant) }
-        ensures refused { IfErr result (λ f. is_refusal f ≡ true → (self.new.participant ≡ self.old.participant) ⊎ MakesOne N.layout self.old.participant calls.Wake self.new.participant) }
+        ensures waited { IfOk result
+            (λ reply. HasWaited N.layout self.old.participant (calls.Drain queue) reply self.new.participant) }
+        ensures refused { IfErr result (λ f. is_refusal f ≡ true → (self.new.participant ≡ self.old.participant)
+            ⊎ MakesOne N.layout self.old.participant calls.Wake self.new.participant) }
         ensures fault { self.new.fault ≡ fault_after_wait result self.old.fault }
         ensures item { self.new.item ≡ self.old.item }
     {
@@ -354,7 +377,8 @@ impl<'a, N: HubName, R: Wait> RunCtx<'a, N, R> {
         ensures later { Later self.old.participant self.new.participant }
         ensures waited { IfOk result (λ reply. HasWaited N.layout self.old.participant call reply self.new.participant) }
         ensures itself { item_called call ≡ Some self.old.item.0 → (result ≡ Err waits.Itself) × (self.new ≡ self.old) }
-        ensures refused { IfErr result (λ f. is_refusal f ≡ true → (self.new.participant ≡ self.old.participant) ⊎ MakesOne N.layout self.old.participant calls.Wake self.new.participant) }
+        ensures refused { IfErr result (λ f. is_refusal f ≡ true → (self.new.participant ≡ self.old.participant)
+            ⊎ MakesOne N.layout self.old.participant calls.Wake self.new.participant) }
         ensures full { IfErr result (λ f. f ≡ waits.Run Full → HadNoRoom N.layout self.old.participant self.new.participant) }
         ensures fault { self.new.fault ≡ fault_after_wait result self.old.fault }
         ensures item { self.new.item ≡ self.old.item }
@@ -384,7 +408,8 @@ impl<'a, N: HubName, R: Wait> RunCtx<'a, N, R> {
         requires numbers { has_numbers N.layout call ≡ true }
         ensures later { Later self.old.participant self.new.participant }
         ensures waited { IfOk result (λ reply. HasWaited N.layout self.old.participant call reply self.new.participant) }
-        ensures refused { IfErr result (λ f. is_refusal f ≡ true → (self.new.participant ≡ self.old.participant) ⊎ MakesOne N.layout self.old.participant calls.Wake self.new.participant) }
+        ensures refused { IfErr result (λ f. is_refusal f ≡ true → (self.new.participant ≡ self.old.participant)
+            ⊎ MakesOne N.layout self.old.participant calls.Wake self.new.participant) }
         ensures full { IfErr result (λ f. f ≡ waits.Run Full → HadNoRoom N.layout self.old.participant self.new.participant) }
         ensures fault { self.new.fault ≡ fault_after_wait result self.old.fault }
         ensures item { self.new.item ≡ self.old.item }
@@ -408,7 +433,8 @@ impl<'a, N: HubName, R: Wait> RunCtx<'a, N, R> {
         requires waits { is_tick call ≡ false }
         ensures later { Later self.old.participant self.new.participant }
         ensures waited { IfOk result (λ reply. HasWaited N.layout self.old.participant call reply self.new.participant) }
-        ensures refused { IfErr result (λ f. is_refusal f ≡ true → (self.new.participant ≡ self.old.participant) ⊎ MakesOne N.layout self.old.participant calls.Wake self.new.participant) }
+        ensures refused { IfErr result (λ f. is_refusal f ≡ true → (self.new.participant ≡ self.old.participant)
+            ⊎ MakesOne N.layout self.old.participant calls.Wake self.new.participant) }
         ensures full { IfErr result (λ f. f ≡ waits.Run Full → HadNoRoom N.layout self.old.participant self.new.participant) }
         ensures fault { self.new.fault ≡ fault_after_wait result self.old.fault }
         ensures item { self.new.item ≡ self.old.item }
@@ -423,9 +449,11 @@ impl<'a, N: HubName, R: Wait> RunCtx<'a, N, R> {
     #[tactic(auto, using(crate::proofs::Later::later_self, crate::proofs::Running::refused_breaks_off))]
     fn be_awake(&mut self) -> Result<(), RunFault>
         ensures later { Later self.old.participant self.new.participant }
-        ensures wakes { IfOk result (λ _. (self.new.participant ≡ self.old.participant) ⊎ MakesOne N.layout self.old.participant calls.Wake self.new.participant) }
+        ensures wakes { IfOk result (λ _. (self.new.participant ≡ self.old.participant)
+            ⊎ MakesOne N.layout self.old.participant calls.Wake self.new.participant) }
         ensures kept { IfOk result (λ _. self.new.fault ≡ self.old.fault) }
-        ensures full { IfErr result (λ f. f ≡ Full → Refused N.layout self.old.participant calls.Wake Full self.new.participant) }
+        ensures full { IfErr result (λ f. f ≡ Full
+            → Refused N.layout self.old.participant calls.Wake Full self.new.participant) }
         ensures fault { IfErr result (λ f. self.new.fault ≡ fault_after_wait (Err (waits.Run f)) self.old.fault) }
         ensures item { self.new.item ≡ self.old.item }
     {
@@ -475,7 +503,8 @@ impl<'a, N: HubName, R: Wait> RunCtx<'a, N, R> {
         ensures later { Later self.old.participant self.new.participant }
         ensures fault { IfErr result (λ f. breaks_off f ≡ true) }
         ensures whole { IfOk result (λ _. self.old.fault ≡ None) }
-        ensures wakes { IfOk result (λ _. (self.new.participant ≡ self.old.participant) ⊎ MakesOne N.layout self.old.participant calls.Wake self.new.participant) }
+        ensures wakes { IfOk result (λ _. (self.new.participant ≡ self.old.participant)
+            ⊎ MakesOne N.layout self.old.participant calls.Wake self.new.participant) }
     {
         if let Some(fault) = self.fault {
             return Err(fault);
@@ -490,8 +519,8 @@ impl<'a, N: HubName, R: Wait> RunCtx<'a, N, R> {
     }
 }
 
-/// The fault of a call that ends a run. Its room was reserved when the queueing began: should there be none, the hub can't go on, and that is
-/// told as want of memory.
+/// The fault of a call that ends a run. Its room was reserved when the queueing began: should there be none, the hub
+/// can't go on, and that is told as want of memory.
 pub(crate) fn with_room(fault: RunFault) -> RunFault
     requires { is_full fault ≡ false → breaks_off fault ≡ true }
     ensures { breaks_off result ≡ true }
@@ -562,7 +591,9 @@ pub(crate) fn run_in<N: HubName, R: Wait, W: Work>(
         lent,
         |participant, lent| -> (Participant<N>, Result<(), RunFault>)
             requires { (is_caller participant.who ≡ false) × (item.0 < N.layout.items) × HasStarted participant item }
-            ensures { Later participant result.0 × IfOk result.1 (λ _. RunsItem N.layout (W.does work.entry.now N.layout) item participant result.0) × IfErr result.1 (λ f. breaks_off f ≡ true) }
+            ensures { Later participant result.0
+                × IfOk result.1 (λ _. RunsItem N.layout (W.does work.entry.now N.layout) item participant result.0)
+                × IfErr result.1 (λ f. breaks_off f ≡ true) }
         { run_once(rt, hub, participant, lent, work, item) },
     )
 }

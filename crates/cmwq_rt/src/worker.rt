@@ -79,9 +79,10 @@ impl<N: HubName> Worker<N> {
 }
 
 impl<N: HubName> Hub<N> {
-    /// A worker's loop (`worker_thread`): it starts what it may start, runs the work function once for each start, and goes when the
-    /// hub is closed and no active queueing is open, as it then sees. It answers how many entries it made. Between runs it sleeps, or goes to the
-    /// pool's reserve where it would be sent there. What each run made is what the work function says that it does.
+    /// A worker's loop (`worker_thread`): it starts what it may start, runs the work function once for each start, and
+    /// goes when the hub is closed and no active queueing is open, as it then sees. It answers how many entries it
+    /// made. Between runs it sleeps, or goes to the pool's reserve where it would be sent there. What each run made is
+    /// what the work function says that it does.
     ///
     /// # Errors
     /// `NoMemory` where the hub has failed; whatever else is answered, the hub has failed from then on.
@@ -186,7 +187,8 @@ impl<N: HubName> Hub<N> {
     ) -> Result<Option<ItemId>, RunFault>
         requires { is_caller participant.old.who ≡ false }
         ensures fault { IfErr result (λ f. breaks_off f ≡ true) }
-        ensures next { IfOk result (λ o. (ended : View) × EndsRun N.layout participant.old ended × IsNextStart N.layout ended o participant.new) }
+        ensures next { IfOk result (λ o. (ended : View) × EndsRun N.layout participant.old ended
+            × IsNextStart N.layout ended o participant.new) }
         ensures later { Later participant.old participant.new }
     {
         let mut monitor = self.spacious(rt, self.lock(rt), participant.who(), 1);

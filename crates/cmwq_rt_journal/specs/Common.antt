@@ -1,5 +1,6 @@
 -- What the files of this crate name from outside it, in one import.
-pub use Rattle.std.proofs.Common.{List, Option, ap, append_assoc, arith, length, subst, sym, take, ℕ, ◌++◌, ◌+◌, ◌∙◌, ◌≡◌, ◌≤◌}
+pub use Rattle.std.proofs.Common.{List, Option, ap, append_assoc, arith, length, subst, sym, take, ℕ, ◌++◌, ◌+◌, ◌∙◌}
+pub use Rattle.std.proofs.Common.{◌≡◌, ◌≤◌}
 pub use Rattle.std.proofs.lemmas.Result.{err_from_is_err_and}
 pub use Rattle.std.specs.Io.KnownBytes.{Appends}
 pub use Rattle.std.specs.Prelude.{Bool, [], false, true}

@@ -11,7 +11,8 @@ use Rattle.cmwq_rt_journal.specs.declared.fault.Unwritten.TheVariants as unwritt
 
 -- the whole text of a history that the run leaves, of so many entries
 abbrev pub WritesLeft : Layout → Behavior → Conduct → Roster → ℕ → ℕ → Option (List ℕ) → Option (List ℕ) → Type 0
-WritesLeft s does calls r entries full a b = (history : List Entry) × IsLeft s does calls r full history × (entries ≡ length history) × Appends a b (text_of_format 3 s history)
+WritesLeft s does calls r entries full a b = (history : List Entry) × IsLeft s does calls r full history
+    × (entries ≡ length history) × Appends a b (text_of_format 3 s history)
 
 -- it says nothing of what callers and workers did
 abbrev pub is_quiet : Unwritten → Bool

@@ -52,11 +52,13 @@ fn keep<
 ) -> Result<Beside<N>, RunFault>
     requires fresh { participants ≡ all_free }
     requires fits { C.fits crew.now N.layout }
-    ensures ends { IfOk result (λ b. EndsAll N.layout (W.does work.now N.layout) (C.calls crew.now) (C.roles crew.now N.layout) b.ends) }
+    ensures ends { IfOk result
+        (λ b. EndsAll N.layout (W.does work.now N.layout) (C.calls crew.now) (C.roles crew.now N.layout) b.ends) }
     ensures legal { IfOk result (λ b. IsLegal N.layout (past_of b.journal.seen)) }
     ensures kept { IfOk result (λ b. HasKept N.layout b.journal.seen (O.written output.old) (O.written output.new) b.kept) }
     ensures grown { OnOk result (O.troubles output.old ≤ O.troubles output.new) }
-    ensures sink { IfOk result (λ b. IfErr b.kept (λ f. is_of_sink f ≡ true → Rises (O.troubles output.old) (O.troubles output.new))) }
+    ensures sink { IfOk result
+        (λ b. IfErr b.kept (λ f. is_of_sink f ≡ true → Rises (O.troubles output.old) (O.troubles output.new))) }
     ensures none { IfErr result (λ f. (is_silent f ≡ true) × (output.new ≡ output.old)) }
 {
     let conductor = match start_all(scope, rt, alloc, hub, participants, crew, work) {
@@ -103,11 +105,13 @@ pub(crate) fn run_beside<
 ) -> Result<Beside<N>, RunFault>
     requires fresh { participants ≡ all_free }
     requires fits { C.fits crew.now N.layout }
-    ensures ends { IfOk result (λ b. EndsAll N.layout (W.does work.now N.layout) (C.calls crew.now) (C.roles crew.now N.layout) b.ends) }
+    ensures ends { IfOk result
+        (λ b. EndsAll N.layout (W.does work.now N.layout) (C.calls crew.now) (C.roles crew.now N.layout) b.ends) }
     ensures legal { IfOk result (λ b. IsLegal N.layout (past_of b.journal.seen)) }
     ensures kept { IfOk result (λ b. HasKept N.layout b.journal.seen (O.written output.old) (O.written output.new) b.kept) }
     ensures grown { OnOk result (O.troubles output.old ≤ O.troubles output.new) }
-    ensures sink { IfOk result (λ b. IfErr b.kept (λ f. is_of_sink f ≡ true → Rises (O.troubles output.old) (O.troubles output.new))) }
+    ensures sink { IfOk result
+        (λ b. IfErr b.kept (λ f. is_of_sink f ≡ true → Rises (O.troubles output.old) (O.troubles output.new))) }
     ensures none { IfErr result (λ f. (is_silent f ≡ true) × (output.new ≡ output.old)) }
 {
     let (beside, output) = thread::scope(
@@ -116,10 +120,13 @@ pub(crate) fn run_beside<
         move |scope| -> (Result<Beside<N>, RunFault>, &mut O)
             requires { (participants ≡ all_free) × C.fits crew.now N.layout }
             ensures { (result.1.ghost_name ≡ output.entry.ghost_name)
-                × IfOk result.0 (λ b. EndsAll N.layout (W.does work.entry.now N.layout) (C.calls crew.entry.now) (C.roles crew.entry.now N.layout) b.ends
+                × IfOk result.0
+                (λ b. EndsAll N.layout (W.does work.entry.now N.layout) (C.calls crew.entry.now)
+                (C.roles crew.entry.now N.layout) b.ends
                 × IsLegal N.layout (past_of b.journal.seen)
                 × HasKept N.layout b.journal.seen (O.written output.entry.now) (O.written result.1.now) b.kept
-                × IfErr b.kept (λ f. is_of_sink f ≡ true → Rises (O.troubles output.entry.now) (O.troubles result.1.now)))
+                × IfErr b.kept (λ f. is_of_sink f ≡ true
+                → Rises (O.troubles output.entry.now) (O.troubles result.1.now)))
                 × OnOk result.0 (O.troubles output.entry.now ≤ O.troubles result.1.now)
                 × IfErr result.0 (λ f. (is_silent f ≡ true) × (result.1.now ≡ output.entry.now)) }
         {

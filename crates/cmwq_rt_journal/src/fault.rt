@@ -11,11 +11,11 @@ pub enum JournalFault {
     Late(u64),
     /// The sink failed. The lines of the first so many entries were written whole, unless that is 0: then not even the
     /// head may be.
-    #[error("write fault behind entry {written}")]
+    #[error("write fault after entry {written}")]
     Write { written: u64 },
     /// The hub answered a fault. The lines of the first so many entries, which are all that the journal has, were
     /// written whole.
-    #[error("{fault}, behind entry {written}")]
+    #[error("{fault}, after entry {written}")]
     Hub { fault: RunFault, written: u64 },
 }
 

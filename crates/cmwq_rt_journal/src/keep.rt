@@ -18,7 +18,7 @@ use std::sync::Wait;
 use std::time::{Clock, Duration};
 
 /// Writes the history of a hub as text of format 3 while it is made, but for its last line, until the hub has failed:
-/// so who has joined all callers and workers ends it by `Hub::fail`. It flushes behind each batch, and waits for the
+/// so who has joined all callers and workers ends it by `Hub::fail`. It flushes after each batch, and waits for the
 /// next no longer than `time`. It takes no memory, and writes without the hub's lock.
 ///
 /// # Errors
@@ -37,7 +37,8 @@ pub fn keep_journal<N: HubName, R: Wait + Clock, O: Sink>(
     ensures flushed { OnOk result (O.held output.new ≡ 0) }
     ensures legal { IsLegal N.layout (past_of journal.new.seen) }
     ensures grown { O.troubles output.old ≤ O.troubles output.new }
-    ensures broke { IfErr result (λ f. Broke N.layout journal.old.seen journal.new.seen (O.written output.old) (O.written output.new) f) }
+    ensures broke { IfErr result
+        (λ f. Broke N.layout journal.old.seen journal.new.seen (O.written output.old) (O.written output.new) f) }
     ensures sink { IfErr result (λ f. is_of_sink f ≡ true → Rises (O.troubles output.old) (O.troubles output.new)) }
 {
     let late = journal.len();
@@ -66,7 +67,8 @@ fn keep_from_start<N: HubName, R: Wait + Clock, O: Sink>(
     ensures written { OnOk result (Appends (O.written output.old) (O.written output.new) (body_text 3 N.layout journal.new.seen)) }
     ensures flushed { OnOk result (O.held output.new ≡ 0) }
     ensures grown { O.troubles output.old ≤ O.troubles output.new }
-    ensures broke { IfErr result (λ f. Broke N.layout journal.old.seen journal.new.seen (O.written output.old) (O.written output.new) f) }
+    ensures broke { IfErr result
+        (λ f. Broke N.layout journal.old.seen journal.new.seen (O.written output.old) (O.written output.new) f) }
     ensures sink { IfErr result (λ f. is_of_sink f ≡ true → Rises (O.troubles output.old) (O.troubles output.new)) }
 {
     if write_head(output, hub.shape()).is_err() {
@@ -101,10 +103,16 @@ pub fn end_journal<N: HubName, O: Sink>(
     output: &mut O,
 ) -> Result<(), JournalFault>
     ensures follows { OnOk result (rest.now.first ≡ length journal.now.seen) }
-    ensures written { OnOk result (Appends (O.written output.old) (O.written output.new) (ending_text journal.now.seen rest.now.entries.items)) }
-    ensures whole { OnOk result ((start : Option (List ℕ)) → Appends start (O.written output.old) (body_text 3 N.layout journal.now.seen) → Appends start (O.written output.new) (text_of_format 3 N.layout (journal.now.seen ++ rest.now.entries.items))) }
+    ensures written { OnOk result
+        (Appends (O.written output.old) (O.written output.new) (ending_text journal.now.seen rest.now.entries.items)) }
+    ensures whole { OnOk result ((start : Option (List ℕ))
+        → Appends start (O.written output.old) (body_text 3 N.layout journal.now.seen)
+        → Appends start (O.written output.new)
+        (text_of_format 3 N.layout (journal.now.seen ++ rest.now.entries.items))) }
     ensures flushed { OnOk result (O.held output.new ≡ 0) }
-    ensures broke { IfErr result (λ f. EndBroke journal.now.seen rest.now.first rest.now.entries.items (O.written output.old) (O.written output.new) f) }
+    ensures broke { IfErr result
+        (λ f. EndBroke journal.now.seen rest.now.first rest.now.entries.items (O.written output.old)
+        (O.written output.new) f) }
     ensures sink { IfErr result (λ f. is_of_sink f ≡ true → Rises (O.troubles output.old) (O.troubles output.new)) }
 {
     let own = journal.len();

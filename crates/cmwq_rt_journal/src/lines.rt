@@ -37,8 +37,10 @@ pub(crate) fn write_batch<O: Sink>(output: &mut O, batch: &[Entry]) -> Result<()
 
 /// The last lines: those of these entries, and the one that says how many `all` are.
 pub(crate) fn write_last<O: Sink>(output: &mut O, last: &[Entry], all: u64) -> Result<(), Refusal>
-    ensures ok { OnOk result (Appends (O.written output.old) (O.written output.new) (entries_text last.now ++ last_text 3 all)) }
-    ensures err { OnErr result (AppendsFront (O.written output.old) (O.written output.new) (entries_text last.now ++ last_text 3 all)) }
+    ensures ok { OnOk result
+        (Appends (O.written output.old) (O.written output.new) (entries_text last.now ++ last_text 3 all)) }
+    ensures err { OnErr result
+        (AppendsFront (O.written output.old) (O.written output.new) (entries_text last.now ++ last_text 3 all)) }
     ensures flushed { OnOk result (O.held output.new ≡ 0) }
     ensures grown { O.troubles output.old ≤ O.troubles output.new }
     ensures fault { OnErr result (Rises (O.troubles output.old) (O.troubles output.new)) }

@@ -52,9 +52,13 @@ fn write_end<N: HubName, O: Sink>(
 ) -> Result<Tally, Unwritten>
     requires rest { counted.rest.entries.items ≡ [] }
     ensures written { IfOk result (λ t. t ≡ counted.tally) }
-    ensures whole { OnOk result ((start : Option (List ℕ)) → Appends start (O.written output.old) (body_text 3 N.layout journal.now.seen) → Appends start (O.written output.new) (text_of_format 3 N.layout journal.now.seen)) }
+    ensures whole { OnOk result ((start : Option (List ℕ))
+        → Appends start (O.written output.old) (body_text 3 N.layout journal.now.seen)
+        → Appends start (O.written output.new) (text_of_format 3 N.layout journal.now.seen)) }
     ensures flushed { OnOk result (O.held output.new ≡ 0) }
-    ensures front { OnErr result ((start : Option (List ℕ)) → Appends start (O.written output.old) (body_text 3 N.layout journal.now.seen) → AppendsFront start (O.written output.new) (text_of_format 3 N.layout journal.now.seen)) }
+    ensures front { OnErr result ((start : Option (List ℕ))
+        → Appends start (O.written output.old) (body_text 3 N.layout journal.now.seen)
+        → AppendsFront start (O.written output.new) (text_of_format 3 N.layout journal.now.seen)) }
     ensures tells { IfErr result (λ f. is_quiet f ≡ true) }
     ensures sink { IsErrOf result unwritten.Sink → Rises (O.troubles output.old) (O.troubles output.new) }
 {
@@ -76,11 +80,19 @@ fn end_run<N: HubName, C: Crew, W: Work, R: Wait, O: Sink>(
     requires parts { N.parts ≡ shares }
     requires ends { EndsAll N.layout (W.does work.now N.layout) (C.calls crew.now) (C.roles crew.now N.layout) beside.ends }
     requires legal { IsLegal N.layout (past_of beside.journal.seen) }
-    ensures whole { IfOk result (λ t. (start : Option (List ℕ)) → HasKept N.layout beside.journal.seen start (O.written output.old) beside.kept → WritesLeft N.layout (W.does work.now N.layout) (C.calls crew.now) (C.roles crew.now N.layout) t.answered t.full start (O.written output.new)) }
+    ensures whole { IfOk result (λ t. (start : Option (List ℕ))
+        → HasKept N.layout beside.journal.seen start (O.written output.old) beside.kept
+        → WritesLeft N.layout (W.does work.now N.layout) (C.calls crew.now) (C.roles crew.now N.layout) t.answered
+        t.full start (O.written output.new)) }
     ensures flushed { OnOk result (O.held output.new ≡ 0) }
-    ensures front { OnErr result ((start : Option (List ℕ)) → HasKept N.layout beside.journal.seen start (O.written output.old) beside.kept → WritesFront N.layout start (O.written output.new)) }
+    ensures front { OnErr result ((start : Option (List ℕ))
+        → HasKept N.layout beside.journal.seen start (O.written output.old) beside.kept
+        → WritesFront N.layout start (O.written output.new)) }
     ensures tells { IfErr result (TellsOf N.layout (C.calls crew.now) (C.roles crew.now N.layout)) }
-    ensures sink { IsErrOf result unwritten.Sink → ((start : ℕ) → start ≤ O.troubles output.old → IfErr beside.kept (λ f. is_of_sink f ≡ true → Rises start (O.troubles output.old)) → Rises start (O.troubles output.new)) }
+    ensures sink { IsErrOf result unwritten.Sink
+        → ((start : ℕ) → start ≤ O.troubles output.old
+        → IfErr beside.kept (λ f. is_of_sink f ≡ true → Rises start (O.troubles output.old))
+        → Rises start (O.troubles output.new)) }
 {
     let Beside {
         ends,
@@ -127,7 +139,9 @@ fn run_parts<
     requires ledger { (parts.blank.name ≡ N.name) × (parts.blank.parts ≡ N.parts) }
     requires fits { C.fits crew.now N.layout }
     requires spare { spare.items ≡ [] }
-    ensures whole { IfOk result (λ t. WritesLeft N.layout (W.does work.now N.layout) (C.calls crew.now) (C.roles crew.now N.layout) t.answered t.full (O.written output.old) (O.written output.new)) }
+    ensures whole { IfOk result
+        (λ t. WritesLeft N.layout (W.does work.now N.layout) (C.calls crew.now) (C.roles crew.now N.layout) t.answered
+        t.full (O.written output.old) (O.written output.new)) }
     ensures flushed { OnOk result (O.held output.new ≡ 0) }
     ensures front { OnErr result (WritesFront N.layout (O.written output.old) (O.written output.new)) }
     ensures tells { IfErr result (TellsOf N.layout (C.calls crew.now) (C.roles crew.now N.layout)) }
@@ -145,14 +159,14 @@ fn run_parts<
 }
 
 /// Runs a crew and its work on a new hub, as `cmwq_engine::run` does, and writes the history with its shape in format 3
-/// while it is made, flushed behind each batch: so many entries are kept at a time, or as many as a hold of the lock
+/// while it is made, flushed after each batch: so many entries are kept at a time, or as many as a hold of the lock
 /// may make where that is more, and what is made is written after a tenth of a second at the latest. The journal is
 /// kept in this thread, beside one that runs all others. So many callers have a reader (`HubParts::with_readers`).
 ///
 /// # Errors
 /// `Sink` where the sink failed. `Run` with what `cmwq_engine::run` answers, all threads having ended, or with
 /// `NoMemory` or `NoThread` for the journal. A front of the text of a legal history is written then, and no last line
-/// but where the sink failed behind it.
+/// but where the sink failed after it.
 pub fn run_with_journal<
     'x,
     C: Crew + Sync,
@@ -170,7 +184,9 @@ pub fn run_with_journal<
     output: &mut O,
 ) -> Result<Tally, Unwritten>
     requires { C.fits crew.now shape.now }
-    ensures whole { IfOk result (λ t. WritesLeft shape.now (W.does work.now shape.now) (C.calls crew.now) (C.roles crew.now shape.now) t.answered t.full (O.written output.old) (O.written output.new)) }
+    ensures whole { IfOk result
+        (λ t. WritesLeft shape.now (W.does work.now shape.now) (C.calls crew.now) (C.roles crew.now shape.now)
+        t.answered t.full (O.written output.old) (O.written output.new)) }
     ensures flushed { OnOk result (O.held output.new ≡ 0) }
     ensures front { OnErr result (WritesFront shape.now (O.written output.old) (O.written output.new)) }
     ensures tells { IfErr result (TellsOf shape.now (C.calls crew.now) (C.roles crew.now shape.now)) }

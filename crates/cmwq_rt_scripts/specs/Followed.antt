@@ -1,7 +1,8 @@
 -- What a crew that follows scripts does.
 use Rattle.std.specs.Prelude.{◌≡◌, ◌<◌, ◌≤◌, ◌^◌}
 use Rattle.cmwq_model.specs.Prelude.{most_callers}
-use Rattle.cmwq_rt_scripts.specs.Common.{ℕ, List, length, All, slice_get, Some, Vec, Global, Call, Layout, View, newcomer, IsScripted, HasFollowed, Conduct, caller_numbered}
+use Rattle.cmwq_rt_scripts.specs.Common.{ℕ, List, length, All, slice_get, Some, Vec, Global, Call, Layout, View}
+use Rattle.cmwq_rt_scripts.specs.Common.{newcomer, IsScripted, HasFollowed, Conduct, caller_numbered}
 
 -- the caller of this place has followed the script from its first call on and done nothing else
 abbrev pub FollowedAt : Layout → ℕ → List Call → ℕ → View → Type 0
@@ -13,4 +14,5 @@ follows scripts s k full v = (x : Vec Call Global) → slice_get scripts k ≡ S
 
 -- a hub of this shape can run these scripts
 abbrev pub AreFit : Layout → List (Vec Call Global) → Type 0
-AreFit s scripts = (length scripts ≤ most_callers) × All (λ x. All (IsScripted s) x.items × (length x.items < 2 ^ 32)) scripts
+AreFit s scripts =
+    (length scripts ≤ most_callers) × All (λ x. All (IsScripted s) x.items × (length x.items < 2 ^ 32)) scripts

@@ -1,7 +1,8 @@
 -- Whether calls may be scripts, as a test.
 use Rattle.cmwq_model.specs.Prelude.{most_callers}
 use Rattle.std.specs.Prelude.{◌&&◌, ◌^◌}
-use Rattle.cmwq_rt_scripts.specs.Common.{Bool, List, length, nat_le, nat_lt, Vec, Global, Call, Layout, has_numbers, is_whole}
+use Rattle.cmwq_rt_scripts.specs.Common.{Bool, List, length, nat_le, nat_lt, Vec, Global, Call, Layout, has_numbers}
+use Rattle.cmwq_rt_scripts.specs.Common.{is_whole}
 use Rattle.std.specs.List.{list_all}
 
 abbrev pub is_scripted : Layout → Call → Bool

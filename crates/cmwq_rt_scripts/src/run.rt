@@ -55,7 +55,9 @@ fn run_parts<'x, W: Work + Sync, R: Threads + Wait + Sync>(
 ) -> Result<Report, RunFault>
     requires shape { parts.shape ≡ shape.now }
     requires fits { AreFit parts.shape scripts.now }
-    ensures left { IfOk result (λ r. IsLeft shape.now (W.does work.now shape.now) (map (λ s. s.items) scripts.now) lent r.full r.history.items) }
+    ensures left { IfOk result
+        (λ r. IsLeft shape.now (W.does work.now shape.now) (map (λ s. s.items) scripts.now) lent r.full
+        r.history.items) }
     ensures counted { IfOk result (λ r. r.answered ≡ length r.history.items) }
     ensures fails { IfErr result (FailsAs shape.now (map (λ s. s.items) scripts.now) lent) }
 {
@@ -123,7 +125,9 @@ pub fn run_scripts_lending<'x, W: Work + Sync, R: Threads + Wait + Sync>(
 ) -> Result<Report, RunFault>
     requires few { length scripts.now ≤ most_callers }
     requires calls { All (λ s. All (IsScripted shape.now) s.items × (length s.items < 2 ^ 32)) scripts.now }
-    ensures left { IfOk result (λ r. IsLeft shape.now (W.does work.now shape.now) (map (λ s. s.items) scripts.now) lent r.full r.history.items) }
+    ensures left { IfOk result
+        (λ r. IsLeft shape.now (W.does work.now shape.now) (map (λ s. s.items) scripts.now) lent r.full
+        r.history.items) }
     ensures counted { IfOk result (λ r. r.answered ≡ length r.history.items) }
     ensures fails { IfErr result (FailsAs shape.now (map (λ s. s.items) scripts.now) lent) }
 {
@@ -154,7 +158,9 @@ pub fn run_scripts_with_journal<'x, W: Work + Sync, R: Threads + Wait + Clock + 
 ) -> Result<Tally, Unwritten>
     requires few { length scripts.now ≤ most_callers }
     requires calls { All (λ s. All (IsScripted shape.now) s.items × (length s.items < 2 ^ 32)) scripts.now }
-    ensures whole { IfOk result (λ w. WritesAll shape.now (W.does work.now shape.now) (map (λ s. s.items) scripts.now) lent w.answered w.full (O.written output.old) (O.written output.new)) }
+    ensures whole { IfOk result
+        (λ w. WritesAll shape.now (W.does work.now shape.now) (map (λ s. s.items) scripts.now) lent w.answered w.full
+        (O.written output.old) (O.written output.new)) }
     ensures flushed { OnOk result (O.held output.new ≡ 0) }
     ensures front { OnErr result (WritesFront shape.now (O.written output.old) (O.written output.new)) }
     ensures tells { IfErr result (TellsOf shape.now (map (λ s. s.items) scripts.now) lent) }

@@ -36,7 +36,8 @@ fn are_all_scripts(shape: &Shape, scripts: &[Vec<Call>]) -> bool
 pub fn are_scripts(shape: &Shape, scripts: &[Vec<Call>]) -> bool
     ensures exact { result ≡ are_scripts shape.now scripts.now }
     ensures few { IsTrue result → length scripts.now ≤ most_callers }
-    ensures calls { IsTrue result → All (λ s. All (IsScripted shape.now) s.items × (length s.items < 2 ^ 32)) scripts.now }
+    ensures calls { IsTrue result
+        → All (λ s. All (IsScripted shape.now) s.items × (length s.items < 2 ^ 32)) scripts.now }
 {
     scripts.len() <= usize::from(MOST_CALLERS) && are_all_scripts(shape, scripts)
 }

@@ -1,5 +1,6 @@
 -- What calls leave of a caller or a worker, one after another.
-use Rattle.std.proofs.Common.{◌≡◌, ◌∙◌, List, [], ◌∷◌, ◌++◌, take, drop, length, arith, refl, ap, inl, inr, sym, subst, Result, Ok, Err}
+use Rattle.std.proofs.Common.{◌≡◌, ◌∙◌, List, [], ◌∷◌, ◌++◌, take, drop, length, arith, refl, ap, inl, inr, sym, subst}
+use Rattle.std.proofs.Common.{Result, Ok, Err}
 use Rattle.std.specs.Prelude.{IfOk, IfErr}
 use Rattle.std.proofs.Math.Logic.{∥∥₁_map}
 use Rattle.std.proofs.Math.ListN.{take-append-drop}
@@ -38,7 +39,8 @@ goes_broke : (s : Layout) (a v w : View) (c : Call) (f : RunFault) → GoesOn a 
 goes_broke s a v w c f so (inl refused) = goes_refused s a v w c f so refused
 goes_broke s a v w c f so (inr (e, es, gains, part, stops)) = goes_gains a v w (e ∷ es) so gains
 
-pub goes_whole : (s : Layout) (a v w : View) (c : Call) (o : Result Reply RunFault) → GoesOn a v → IfOk o (λ r. Completes s v c r w) → IfErr o (λ f. BrokeOff s v c f w) → GoesOn a w
+pub goes_whole : (s : Layout) (a v w : View) (c : Call) (o : Result Reply RunFault) → GoesOn a v
+    → IfOk o (λ r. Completes s v c r w) → IfErr o (λ f. BrokeOff s v c f w) → GoesOn a w
 goes_whole s a v w c (Ok r) so done broke = goes_gains a v w done.entries so done.gains
 goes_whole s a v w c (Err f) so done broke = goes_broke s a v w c f so broke
 
@@ -47,13 +49,18 @@ begins_after : (a w : View) → IsPrefix a.seen w.seen → take (length a.seen) 
 begins_after a w (rest, is) = ap (take (length a.seen)) (sym is) ∙ take-append_seam a.seen rest
 
 begins : (a w : View) → take (length a.seen) w.seen ≡ a.seen → IsPrefix a.seen w.seen
-begins a w is = (drop (length a.seen) w.seen, ap (λ xs. xs ++ drop (length a.seen) w.seen) (sym is) ∙ take-append-drop (length a.seen) w.seen)
+begins a w is = (
+  drop (length a.seen) w.seen,
+  ap (λ xs. xs ++ drop (length a.seen) w.seen) (sym is)
+      ∙ take-append-drop (length a.seen) w.seen,
+)
 
 pub after_self : (a v : View) → v ≡ a → IsAfter a v
 after_self a v same = subst (IsAfter a) (sym same) (refl, omega arith, begins_after a a (prefix_self a.seen))
 
 pub after_later : (a v w : View) → IsAfter a v → Later v w → IsAfter a w
-after_later a v w x y = (y.0 ∙ x.0, (let p = x.1 in let q = y.1 in omega (arith, p, q)), begins_after a w (y.2 a.seen (begins a v x.2)))
+after_later a v w x y =
+    (y.0 ∙ x.0, (let p = x.1 in let q = y.1 in omega (arith, p, q)), begins_after a w (y.2 a.seen (begins a v x.2)))
 
 pub later_after : (a v : View) → IsAfter a v → Later a v
 later_after a v x = (x.0, x.1, λ front p. prefix_trans front a.seen v.seen p (begins a v x.2))

@@ -14,14 +14,14 @@ use Rattle.cmwq_rt.specs.declared.wait_fault.WaitFault.TheVariants as wait
 use Rattle.cmwq_service.specs.declared.fault.Fault.{Fault}
 use Rattle.cmwq_service.specs.declared.fault.Fault.TheVariants.{Outside, Run, Itself, Deadlock, NoCaller, Own}
 
--- A call of one entry made none: a number of it isn't inside the shape, and nothing has changed, or the hub refused it. No call answers a fault
--- of the service's own.
+-- A call of one entry made none: a number of it isn't inside the shape, and nothing has changed, or the hub refused it.
+-- No call answers a fault of the service's own.
 abbrev pub Denied : Layout → View → Call → Fault → View → Type 0
 Denied s v c Outside w = (has_numbers s c ≡ false) × (w ≡ v)
 Denied s v c (Run f) w = Refused s v c f w
 Denied _ _ _ f _ = ⊥
 
--- a call of several entries: so too, or it stopped behind some of them
+-- a call of several entries: so too, or it stopped after some of them
 abbrev pub Interrupted : Layout → View → Call → Fault → View → Type 0
 Interrupted s v c Outside w = (has_numbers s c ≡ false) × (w ≡ v)
 Interrupted s v c (Run f) w = BrokeOff s v c f w

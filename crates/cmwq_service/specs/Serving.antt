@@ -33,16 +33,19 @@ pub record CalledIn (s : Layout) (calls : Conduct) (k : ℕ) (history : List Ent
   pub older : IsPrefix last.seen history
   pub own : made_by (caller_numbered k) history ≡ entries
 
--- A history that a service leaves, whose shape's last callers, so many, are lent to runs that wait: all that a user relies on holds of it, no active queueing is open at its end, each of its callers did what
--- the service says and made no other entries, and each worker's entries are runs, in each of which its item did what the service says.
-pub record IsServed (s : Layout) (waits : ℕ) (calls : Conduct) (does : Layout → Behavior) (history : List Entry) : Type 0 where
+-- A history that a service leaves, whose shape's last callers, so many, are lent to runs that wait: all that a user
+-- relies on holds of it, no active queueing is open at its end, each of its callers did what the service says and made
+-- no other entries, and each worker's entries are runs, in each of which its item did what the service says.
+pub record IsServed (s : Layout) (waits : ℕ) (calls : Conduct) (does : Layout → Behavior) (history : List Entry) : Type
+    0 where
   pub reliable : IsReliable s (past_of history)
   pub finished : active_in s history ≡ 0
   pub called : (k : ℕ) → k + own_callers + waits < s.callers → ∥ CalledIn s calls k history ∥₁
   pub worked : AllWorked s (does s) history
 
 -- what a hub kept of a history that a service leaves, after its first so many entries
-pub record IsRestOfServed (s : Layout) (waits : ℕ) (calls : Conduct) (does : Layout → Behavior) (first : ℕ) (rest : List Entry) : Type 0 where
+pub record IsRestOfServed (s : Layout) (waits : ℕ) (calls : Conduct) (does : Layout → Behavior) (first : ℕ)
+    (rest : List Entry) : Type 0 where
   pub history : List Entry
   pub served : IsServed s waits calls does history
   pub rest_is : rest ≡ drop first history

@@ -61,14 +61,30 @@ impl Model for ShapeBuilder {
 
     ghost Value = { Layout };
 
-    ghost view = { λ b. record { cpus = b.cpus; workers = b.workers; callers = b.callers + own_callers; items = b.items; room = b.room; queues = b.queues.items } };
+    ghost view = { λ b. record {
+      cpus = b.cpus;
+      workers = b.workers;
+      callers = b.callers + own_callers;
+      items = b.items;
+      room =
+          b.room;
+      queues = b.queues.items;
+    } };
 }
 
 impl ShapeBuilder {
     /// One CPU, one worker in each of its two pools, no callers, one item, no queues, and room for a history of 10,000
     /// entries.
     pub fn new(alloc: Global) -> ShapeBuilder
-        ensures { result ≡ record { cpus = 1; workers = 1; callers = own_callers; items = 1; room = 10000; queues = [] } }
+        ensures { result ≡ record {
+          cpus = 1;
+          workers = 1;
+          callers = own_callers;
+          items = 1;
+          room = 10000;
+          queues =
+              [];
+        } }
     {
         ShapeBuilder {
             cpus: 1,
@@ -173,7 +189,8 @@ impl ShapeBuilder {
     fn misfit_of_counts(&self) -> Option<Misfit>
         ensures misfit { IfSome result (Misfits self.now) }
         ensures few { IfNone result (self.now.callers < 256) }
-        ensures none { IfNone result (are_counts self.now.cpus self.now.workers self.now.callers self.now.items self.now.room ≡ true) }
+        ensures none { IfNone result (are_counts self.now.cpus self.now.workers self.now.callers self.now.items self.now.room
+            ≡ true) }
     {
         if !(1..=MOST_CPUS).contains(&self.cpus) {
             return Some(Misfit::Cpus(self.cpus));

@@ -16,7 +16,7 @@ use std::sync::Wait;
 /// Every call that names an item, a queue or a CPU answers `Fault::Outside` where one isn't inside the shape, and has
 /// made no entry then; a `set_max` to 0 too. Otherwise a call answers what the hub does, as `Fault::Run`: `Closed`,
 /// `NoMemory` where the hub has failed, `Full`. It has made no entry then; but a call of several entries may break off
-/// behind some of them, with `NoMemory`, which tells a ticket that stands unended.
+/// after some of them, with `NoMemory`, which tells a ticket that stands unended.
 pub trait Client {
     ghost use Rattle.std.specs.Prelude.{◌≡◌, [], false, true, IfOk, IfErr, OnOk, MatchOption, None};
     ghost use Rattle.cmwq_model.specs.declared.call.Call.TheVariants as calls;
@@ -45,9 +45,11 @@ pub trait Client {
     /// The bits of an item (`work_busy`): 1 if it is pending, plus 2 if it runs, after a history that begins with all
     /// that the caller has seen. It takes no lock, and waits for nobody. None where the reader gives no guard.
     fn busy(&mut self, item: ItemId) -> Result<Option<u8>, Fault>
-        ensures bits { IfOk result (λ o. MatchOption o (view self.new ≡ view self.old) (λ b. b ≡ bits (past_of (view self.new).seen) item.0)) }
+        ensures bits { IfOk result
+            (λ o. MatchOption o (view self.new ≡ view self.old) (λ b. b ≡ bits (past_of (view self.new).seen) item.0)) }
         ensures legal { OnOk result (IsLegal layout (past_of (view self.new).seen)) }
-        ensures outside { IfErr result (λ f. (f ≡ Outside) × (has_numbers layout (calls.Cancel item) ≡ false) × (view self.new ≡ view self.old)) }
+        ensures outside { IfErr result (λ f. (f ≡ Outside) × (has_numbers layout (calls.Cancel item) ≡ false)
+            × (view self.new ≡ view self.old)) }
         ensures own { Gains (view self.old) [] (view self.new) };
 
     /// A call of one entry: it waits for nothing. Each method below of a call of one entry makes its call by this one.
@@ -94,7 +96,8 @@ pub trait Client {
         cpu: CpuId,
         ticks: u32,
     ) -> Result<Reply, Fault>
-        ensures made { IfOk result (λ reply. Extends layout (view self.old) (calls.Delay item queue cpu ticks) reply (view self.new)) }
+        ensures made { IfOk result
+            (λ reply. Extends layout (view self.old) (calls.Delay item queue cpu ticks) reply (view self.new)) }
         ensures denied { IfErr result (λ f. Denied layout (view self.old) (calls.Delay item queue cpu ticks) f (view self.new)) }
     {
         self.make(Call::Delay {
@@ -113,7 +116,8 @@ pub trait Client {
         cpu: CpuId,
         ticks: u32,
     ) -> Result<Reply, Fault>
-        ensures made { IfOk result (λ reply. Extends layout (view self.old) (calls.Modify item queue cpu ticks) reply (view self.new)) }
+        ensures made { IfOk result
+            (λ reply. Extends layout (view self.old) (calls.Modify item queue cpu ticks) reply (view self.new)) }
         ensures denied { IfErr result (λ f. Denied layout (view self.old) (calls.Modify item queue cpu ticks) f (view self.new)) }
     {
         self.make(Call::Modify {
@@ -150,7 +154,8 @@ pub trait Client {
 
     /// Sets how many queueings of a queue may be active on one CPU (`workqueue_set_max_active`).
     final fn set_max(&mut self, queue: QueueId, max_active: u32) -> Result<Reply, Fault>
-        ensures made { IfOk result (λ reply. Extends layout (view self.old) (calls.SetMax queue max_active) reply (view self.new)) }
+        ensures made { IfOk result
+            (λ reply. Extends layout (view self.old) (calls.SetMax queue max_active) reply (view self.new)) }
         ensures denied { IfErr result (λ f. Denied layout (view self.old) (calls.SetMax queue max_active) f (view self.new)) }
     {
         self.make(Call::SetMax { queue, max_active })

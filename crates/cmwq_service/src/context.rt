@@ -85,7 +85,8 @@ pub trait Context {
         cpu: CpuId,
         ticks: u32,
     ) -> Result<Reply, Fault>
-        ensures made { IfOk result (λ reply. Extends layout (view self.old) (calls.Delay item queue cpu ticks) reply (view self.new)) }
+        ensures made { IfOk result
+            (λ reply. Extends layout (view self.old) (calls.Delay item queue cpu ticks) reply (view self.new)) }
         ensures denied { IfErr result (λ f. Denied layout (view self.old) (calls.Delay item queue cpu ticks) f (view self.new)) }
     {
         self.make(Call::Delay {
@@ -104,7 +105,8 @@ pub trait Context {
         cpu: CpuId,
         ticks: u32,
     ) -> Result<Reply, Fault>
-        ensures made { IfOk result (λ reply. Extends layout (view self.old) (calls.Modify item queue cpu ticks) reply (view self.new)) }
+        ensures made { IfOk result
+            (λ reply. Extends layout (view self.old) (calls.Modify item queue cpu ticks) reply (view self.new)) }
         ensures denied { IfErr result (λ f. Denied layout (view self.old) (calls.Modify item queue cpu ticks) f (view self.new)) }
     {
         self.make(Call::Modify {

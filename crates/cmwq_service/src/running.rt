@@ -34,8 +34,11 @@ fn give_all<S: Service>(
     rest: Rest,
     outcome: Result<Tally, Fault>,
 ) -> Result<Vec<Entry>, Stopped>
-    ensures served { (s : Layout) (waits : ℕ) → OnOk outcome (IsRestOfServed s waits S.calls S.does rest.first rest.entries.items) → IfOk result (λ history. IsServed s waits S.calls S.does history.items) }
-    ensures stopped { (s : Layout) → IsRest s rest.first rest.entries.items → IfErr result (λ stopped. IsReliable s (past_of stopped.history.items)) }
+    ensures served { (s : Layout) (waits : ℕ)
+        → OnOk outcome (IsRestOfServed s waits S.calls S.does rest.first rest.entries.items)
+        → IfOk result (λ history. IsServed s waits S.calls S.does history.items) }
+    ensures stopped { (s : Layout) → IsRest s rest.first rest.entries.items
+        → IfErr result (λ stopped. IsReliable s (past_of stopped.history.items)) }
 {
     let Rest { first, entries } = rest;
     // no journal took any
@@ -59,14 +62,15 @@ fn run_parts<'s, S: Service + Send + Sync, R: Threads + Wait + Sync, Q: Wait + C
     serving: &Serving<'s, S, Q>,
 ) -> (Rest, Result<Tally, Fault>)
     ensures rest { IsRest parts.shape result.0.first result.0.entries.items }
-    ensures served { OnOk result.1 (IsRestOfServed parts.shape serving.now.waits S.calls S.does result.0.first result.0.entries.items) }
+    ensures served { OnOk result.1
+        (IsRestOfServed parts.shape serving.now.waits S.calls S.does result.0.first result.0.entries.items) }
 {
     let (rest, ended) = cmwq_engine::run(&*rt, alloc, parts, &*serving, &*serving);
     (rest, serving.outcome(ended))
 }
 
-/// Runs a service on a hub of these parts, which keeps all of its history, and returns that. The handle by which threads
-/// are started and joined may be another than the one that the service is given.
+/// Runs a service on a hub of these parts, which keeps all of its history, and returns that. The handle by which
+/// threads are started and joined may be another than the one that the service is given.
 ///
 /// # Errors
 /// Those of `run_with_waits`.

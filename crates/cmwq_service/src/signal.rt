@@ -66,7 +66,8 @@ impl Signal {
         self.state.lock(rt).callers > 0
     }
 
-    /// Sleeps until all callers of the service have ended, or the hub has failed, and returns whether no fault was told.
+    /// Sleeps until all callers of the service have ended, or the hub has failed, and returns whether no fault was
+    /// told.
     pub(crate) fn have_left<N: HubName, R: Wait>(&self, rt: &R, hub: &Hub<N>) -> bool {
         if self.has_callers(rt) && hub.wait_for(rt, &self.left).is_err() {
             return false;

@@ -7,5 +7,8 @@ use Rattle.cmwq_service.specs.Serving.{Conduct}
 use Rattle.cmwq_service.proofs.Ending.{calls_of, is_served, roles_of}
 use Rattle.cmwq_service_journal.specs.Writing.{WritesServed}
 
-pub writes_served : (s : Layout) (waits : ℕ) (does : Layout → Behavior) (calls : Conduct) (entries full : ℕ) (a b : Option (List ℕ)) → WritesLeft s (does s) (calls_of waits calls) (roles_of waits s) entries full a b → WritesServed s waits calls does entries a b
-writes_served s waits does calls entries full a b (h, left, many, text) = (h, is_served s waits does calls full h left, many, text)
+pub writes_served : (s : Layout) (waits : ℕ) (does : Layout → Behavior) (calls : Conduct) (entries full : ℕ)
+    (a b : Option (List ℕ)) → WritesLeft s (does s) (calls_of waits calls) (roles_of waits s) entries full a b
+    → WritesServed s waits calls does entries a b
+writes_served s waits does calls entries full a b (h, left, many, text) =
+    (h, is_served s waits does calls full h left, many, text)

@@ -9,4 +9,5 @@ use Rattle.cmwq_service.specs.Serving.{Conduct, IsServed}
 
 -- the whole text of a history that a service leaves, of so many entries
 abbrev pub WritesServed : Layout → ℕ → Conduct → (Layout → Behavior) → ℕ → Option (List ℕ) → Option (List ℕ) → Type 0
-WritesServed s waits calls does entries a b = (history : List Entry) × IsServed s waits calls does history × (entries ≡ length history) × Appends a b (text_of_format 3 s history)
+WritesServed s waits calls does entries a b = (history : List Entry) × IsServed s waits calls does history
+    × (entries ≡ length history) × Appends a b (text_of_format 3 s history)

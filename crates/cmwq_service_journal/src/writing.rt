@@ -28,7 +28,7 @@ pub enum Unwritten {
 }
 
 /// The same as `cmwq_service::run`, but the history is written to a sink while it is made, as text of format 3, and
-/// flushed behind each batch. So many entries are kept at a time, or as many as a hold of the lock may make where that
+/// flushed after each batch. So many entries are kept at a time, or as many as a hold of the lock may make where that
 /// is more; who makes a call waits while there is no space for it. What is made is written after a tenth of a second at
 /// the latest. The shape's room may be as great as any. The answer is how many entries were written, and the text ends
 /// with a line that says so.
@@ -38,7 +38,7 @@ pub enum Unwritten {
 /// function of the service, a worker, or the clock has answered; `NoThread` where a thread can't be made; `NoPlace`
 /// where the shape has fewer than two callers; `Unfinished` where an active queueing is open at the end; `NoMemory`.
 /// All threads have ended then. A front of the text of a legal history is written, with no last line, unless the sink
-/// failed behind it.
+/// failed after it.
 pub fn run_writing<S: Service + Send + Sync, R: Threads + Wait + Clock + Sync, O: Sink>(
     rt: &R,
     alloc: Global,
@@ -68,7 +68,8 @@ pub fn run_writing_with_waits<S: Service + Send + Sync, R: Threads + Wait + Cloc
     kept: u32,
     output: &mut O,
 ) -> Result<u64, Unwritten>
-    ensures whole { IfOk result (λ n. WritesServed shape.now waits S.calls S.does n (O.written output.old) (O.written output.new)) }
+    ensures whole { IfOk result
+        (λ n. WritesServed shape.now waits S.calls S.does n (O.written output.old) (O.written output.new)) }
     ensures flushed { OnOk result (O.held output.new ≡ 0) }
     ensures front { OnErr result (WritesFront shape.now (O.written output.old) (O.written output.new)) }
     ensures sink { IsErrOf result unwritten.Sink → Rises (O.troubles output.old) (O.troubles output.new) }

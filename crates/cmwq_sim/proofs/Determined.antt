@@ -9,5 +9,8 @@ numbers s [] = refl
 numbers s (i ∷ is) = ap (λ ks. i ∷ ks) (numbers s is)
 
 -- so the code that keeps the lists of those that run needs none of those that wait
-pub determined : (s : Plan) (past : List Entry) (m : Moment) (slot : ℕ → ℕ) → Shows s past m slot → moment_of s past m.cpu m.sleeping m.lines ≡ m
-determined s past m slot h = ap₂ (λ r b. record m { ready = r; behind = b }) (ap (map queueing_number) h.ready ∙ numbers s m.ready) (ap (map queueing_number) h.behind ∙ numbers s m.behind)
+pub determined : (s : Plan) (past : List Entry) (m : Moment) (slot : ℕ → ℕ) → Shows s past m slot
+    → moment_of s past m.cpu m.sleeping m.lines ≡ m
+determined s past m slot h =
+    ap₂ (λ r b. record m { ready = r; behind = b }) (ap (map queueing_number) h.ready ∙ numbers s m.ready)
+    (ap (map queueing_number) h.behind ∙ numbers s m.behind)

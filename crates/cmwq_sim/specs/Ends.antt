@@ -1,4 +1,5 @@
--- All items have ended when as many milliseconds have passed as they have in all, and each has one line that tells its end.
+-- All items have ended when as many milliseconds have passed as they have in all, and each has one line that tells its
+-- end.
 use Rattle.std.specs.Prelude.{◌≡◌, ◌<◌, ◌&&◌, ◌==◌}
 use Rattle.cmwq_sim.specs.Common.{ℕ, suc, Bool, true, false, [], length, count_by, fold, list_any, range_with_len}
 use Rattle.cmwq_sim.specs.declared.scenario.LineKind.{LineKind}
@@ -13,7 +14,7 @@ pub record NobodyIsLeft (m : Moment) : Type 0 where
   pub cpu : m.cpu ≡ []
   pub sleeping : m.sleeping ≡ []
 
--- the moment behind so many milliseconds
+-- the moment after so many milliseconds
 abbrev pub moment_after : Plan → ℕ → Moment
 moment_after s n = fold (millisecond s) (queued_at_first s) (range_with_len 0 n)
 
@@ -29,4 +30,5 @@ abbrev pub tells_end : ℕ → Event → Bool
 tells_end i e = is_end_line e.kind && list_any (λ j. j == i) e.items
 
 abbrev pub EachEndsOnce : Type 0
-EachEndsOnce = (s : Plan) (i : ℕ) → IsWithinLimits s → i < length s.items → count_by (tells_end i) (scenario_lines s) ≡ 1
+EachEndsOnce = (s : Plan) (i : ℕ) → IsWithinLimits s → i < length s.items → count_by (tells_end i) (scenario_lines s)
+    ≡ 1

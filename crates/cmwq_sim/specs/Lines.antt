@@ -1,9 +1,11 @@
 -- The lines of a scenario, millisecond by millisecond. No worker occurs here, and no history.
 use Rattle.std.specs.Prelude.{◌+◌, ◌-◌, ◌&&◌, ◌==◌, if◌then◌else◌, ◌∷◌, ◌++◌}
-use Rattle.cmwq_sim.specs.Common.{ℕ, suc, Bool, not, List, [], length, drop, map, filter, find, count_by, Option, Some, None, nat_lt, list_any, fold, range_with_len}
+use Rattle.cmwq_sim.specs.Common.{ℕ, suc, Bool, not, List, [], length, drop, map, filter, find, count_by, Option, Some}
+use Rattle.cmwq_sim.specs.Common.{None, nat_lt, list_any, fold, range_with_len}
 use Rattle.cmwq_sim.specs.declared.scenario.LineKind.{LineKind}
 use Rattle.cmwq_sim.specs.declared.scenario.LineKind.TheVariants as kind
-use Rattle.cmwq_sim.specs.Plan.{Plan, Event, plan_queue, ms_of, plan_width, is_plan_intensive, is_of_plan_queue, whole_time}
+use Rattle.cmwq_sim.specs.Plan.{Plan, Event, plan_queue, ms_of, plan_width, is_plan_intensive, is_of_plan_queue}
+use Rattle.cmwq_sim.specs.Plan.{whole_time}
 
 -- on the CPU's list: what is left of its burn, and the parts after that
 pub record Job : Type 0 where
@@ -17,7 +19,8 @@ pub record Sleeper : Type 0 where
   pub until : ℕ
   pub left : List ℕ
 
--- The lists at a moment. Of those that wait, ready are the ones that max_active lets start, in order, and behind the others, by number.
+-- The lists at a moment. Of those that wait, ready are the ones that max_active lets start, in order, and after the
+-- others, by number.
 pub record Moment : Type 0 where
   pub ready : List ℕ
   pub behind : List ℕ
@@ -32,7 +35,8 @@ tell t k is m = record m { lines = m.lines ++ record { at = t; kind = k; items =
 -- queued one after the other at 0: ready where fewer of its queue than max_active were queued before it
 abbrev pub queue_item : Plan → Moment → ℕ → Moment
 queue_item s m i =
-    if nat_lt (count_by (is_of_plan_queue s (plan_queue s i)) (m.ready ++ m.behind)) (plan_width s (plan_queue s i)) then record m { ready = m.ready ++ i ∷ [] }
+    if nat_lt (count_by (is_of_plan_queue s (plan_queue s i)) (m.ready ++ m.behind)) (plan_width s (plan_queue s i))
+    then record m { ready = m.ready ++ i ∷ [] }
     else record m { behind = m.behind ++ i ∷ [] }
 
 abbrev pub empty : Moment
@@ -44,7 +48,7 @@ plan_items s = range_with_len 0 (length s.items)
 abbrev pub queued_at_first : Plan → Moment
 queued_at_first s = fold (queue_item s) empty (plan_items s)
 
--- where an item ends, the first of its queue that is behind becomes ready
+-- where an item ends, the first of its queue that is after becomes ready
 abbrev pub is_other_item : ℕ → ℕ → Bool
 is_other_item i j = not (j == i)
 
@@ -58,12 +62,15 @@ end_job s i m = make_ready m (find (is_of_plan_queue s (plan_queue s i)) m.behin
 -- after a burn an item sleeps, or finishes if nothing is left
 abbrev pub after_burn : Plan → ℕ → Moment → ℕ → List ℕ → Moment
 after_burn s t m i [] = end_job s i (tell t kind.Ends (i ∷ []) m)
-after_burn s t m i (pause ∷ left) = tell t kind.Sleeps (i ∷ []) (record m { sleeping = m.sleeping ++ record { item = i; until = t + pause; left = left } ∷ [] })
+after_burn s t m i (pause ∷ left) =
+    tell t kind.Sleeps (i ∷ [])
+    (record m { sleeping = m.sleeping ++ record { item = i; until = t + pause; left = left } ∷ [] })
 
 -- after a sleep it joins the CPU's list, or finishes if nothing is left
 abbrev pub after_sleep : Plan → ℕ → Moment → ℕ → List ℕ → Moment
 after_sleep s t m i [] = end_job s i (tell t kind.WakesEnds (i ∷ []) m)
-after_sleep s t m i (burn ∷ left) = tell t kind.WakesBurns (i ∷ []) (record m { cpu = m.cpu ++ record { item = i; burn = burn; left = left } ∷ [] })
+after_sleep s t m i (burn ∷ left) =
+    tell t kind.WakesBurns (i ∷ []) (record m { cpu = m.cpu ++ record { item = i; burn = burn; left = left } ∷ [] })
 
 -- (1) the first of the CPU's list, if it has burnt its time
 abbrev pub serve_first : Plan → ℕ → Moment → List Job → Moment
@@ -82,7 +89,8 @@ is_other_sleeper i x = is_other_item i x.item
 
 abbrev pub wake_sleeper : Plan → ℕ → Moment → Option Sleeper → Moment
 wake_sleeper s t m None = m
-wake_sleeper s t m (Some x) = after_sleep s t (record m { sleeping = filter (is_other_sleeper x.item) m.sleeping }) x.item x.left
+wake_sleeper s t m (Some x) =
+    after_sleep s t (record m { sleeping = filter (is_other_sleeper x.item) m.sleeping }) x.item x.left
 
 abbrev pub wake_item : Plan → ℕ → Moment → ℕ → Moment
 wake_item s t m i = wake_sleeper s t m (find (is_due t i) m.sleeping)
@@ -90,7 +98,8 @@ wake_item s t m i = wake_sleeper s t m (find (is_due t i) m.sleeping)
 abbrev pub wake_sleepers : Plan → ℕ → Moment → Moment
 wake_sleepers s t m = fold (wake_item s t) m (plan_items s)
 
--- (3) of the ready items, in turn, those that start: while no item is on the CPU's list but of queues that are CPU intensive
+-- (3) of the ready items, in turn, those that start: while no item is on the CPU's list but of queues that are CPU
+-- intensive
 abbrev pub is_job_held : Plan → Job → Bool
 is_job_held s j = not (is_plan_intensive s (plan_queue s j.item))
 
@@ -103,14 +112,16 @@ job_of s i = job_with i (ms_of s i)
 
 unfoldable pub starting_items : Plan → List Job → List ℕ → List ℕ
 starting_items s cpu [] = []
-starting_items s cpu (i ∷ ready) = if list_any (is_job_held s) cpu then [] else i ∷ starting_items s (cpu ++ job_of s i ∷ []) ready
+starting_items s cpu (i ∷ ready) = if list_any (is_job_held s) cpu then [] else i
+    ∷ starting_items s (cpu ++ job_of s i ∷ []) ready
 
 abbrev pub tell_starts : ℕ → List ℕ → Moment → Moment
 tell_starts t [] m = m
 tell_starts t (i ∷ is) m = tell t kind.Starts (i ∷ is) m
 
 abbrev pub start_these : Plan → ℕ → Moment → List ℕ → Moment
-start_these s t m is = tell_starts t is (record m { ready = drop (length is) m.ready; cpu = m.cpu ++ map (job_of s) is })
+start_these s t m is =
+    tell_starts t is (record m { ready = drop (length is) m.ready; cpu = m.cpu ++ map (job_of s) is })
 
 abbrev pub start : Plan → ℕ → Moment → Moment
 start s t m = start_these s t m (starting_items s m.cpu m.ready)

@@ -16,7 +16,9 @@ abbrev pub parts_of_sleeper : Sleeper → ℕ
 parts_of_sleeper x = length x.left
 
 abbrev pub parts_left : Plan → Moment → ℕ
-parts_left s m = sum_by (parts_at s) m.ready + sum_by (parts_at s) m.behind + sum_by parts_of_job m.cpu + sum_by parts_of_sleeper m.sleeping
+parts_left s m =
+    sum_by (parts_at s) m.ready + sum_by (parts_at s) m.behind + sum_by parts_of_job m.cpu + sum_by parts_of_sleeper
+    m.sleeping
 
 -- with what the parts that are left may still need, eight items of eight parts need no more than this
 abbrev pub IsRoomy : Plan → List Entry → Moment → Type 0

@@ -1,6 +1,10 @@
--- What a history shows of a moment: the same items wait, are on the CPU's list and sleep, each of those in a worker of its own.
+-- What a history shows of a moment: the same items wait, are on the CPU's list and sleep, each of those in a worker of
+-- its own.
 use Rattle.std.specs.Prelude.{◌≡◌, ◌+◌, ◌≤◌, ◌||◌, ◌==◌, if◌then◌else◌, ◌∷◌}
-use Rattle.cmwq_sim.specs.Common.{ℕ, Bool, true, false, List, [], length, map, filter, count_by, Option, Some, None, AllByRecursion, list_any, PoolId, WorkerId, Entry, Queueing, QueueShape, Layout, first_width, run, is_asleep, queueings, still_open, worklist, width, worker_at, is_retired, IsLegal, waits, HasFirstWidths}
+use Rattle.cmwq_sim.specs.Common.{ℕ, Bool, true, false, List, [], length, map, filter, count_by, Option, Some, None}
+use Rattle.cmwq_sim.specs.Common.{AllByRecursion, list_any, PoolId, WorkerId, Entry, Queueing, QueueShape, Layout}
+use Rattle.cmwq_sim.specs.Common.{first_width, run, is_asleep, queueings, still_open, worklist, width, worker_at}
+use Rattle.cmwq_sim.specs.Common.{is_retired, IsLegal, waits, HasFirstWidths}
 use Rattle.cmwq_sim.specs.declared.scenario.SimQueue.{SimQueue}
 use Rattle.cmwq_sim.specs.Plan.{Plan, Event, plan_queue}
 use Rattle.cmwq_sim.specs.Lines.{Moment, Job, Sleeper, plan_items, is_job_held}
@@ -20,7 +24,12 @@ plan_worker x = worker_at pool x
 
 -- items are queued one after the other at first, so the number of each is its own
 abbrev pub queueing_for : Plan → ℕ → Queueing
-queueing_for s i = record { item = record { 0 = i }; place = record { queue = record { 0 = plan_queue s i }; cpu = record { 0 = 0 } }; number = i }
+queueing_for s i =
+    record {
+      item = record { 0 = i };
+      place = record { queue = record { 0 = plan_queue s i }; cpu = record { 0 = 0 } };
+      number = i;
+    }
 
 -- the worker with this index runs the item, and that sleeps or not
 pub record IsRunAt (past : List Entry) (x i : ℕ) (asleep : Bool) : Type 0 where
@@ -37,7 +46,9 @@ abbrev pub runs_in : Moment → ℕ → Bool
 runs_in m i = list_any (is_job i) m.cpu || list_any (is_sleeper i) m.sleeping
 
 abbrev pub times : Moment → ℕ → ℕ
-times m i = count_by (λ j. j == i) m.ready + count_by (λ j. j == i) m.behind + count_by (is_job i) m.cpu + count_by (is_sleeper i) m.sleeping
+times m i =
+    count_by (λ j. j == i) m.ready + count_by (λ j. j == i) m.behind + count_by (is_job i) m.cpu + count_by
+    (is_sleeper i) m.sleeping
 
 -- slot gives the worker of each item
 pub record Shows (s : Plan) (past : List Entry) (m : Moment) (slot : ℕ → ℕ) : Type 0 where
@@ -62,7 +73,8 @@ next_of (i ∷ ready) = Some i
 abbrev pub to_start : Plan → Moment → Option ℕ
 to_start s m = if list_any (is_job_held s) m.cpu then None else next_of m.ready
 
--- What waits is determined by the history: the moment at which these are on the CPU's list and asleep, and these lines have been told.
+-- What waits is determined by the history: the moment at which these are on the CPU's list and asleep, and these lines
+-- have been told.
 abbrev pub queueing_number : Queueing → ℕ
 queueing_number x = x.number
 

@@ -1,4 +1,5 @@
--- What a replay stands at: its lists with the book's history show a moment of the plan, and there is room for what comes.
+-- What a replay stands at: its lists with the book's history show a moment of the plan, and there is room for what
+-- comes.
 use Rattle.std.specs.Prelude.{◌≡◌, ◌<◌, ◌-◌, ◌++◌, ◌∷◌}
 use Rattle.cmwq_sim.specs.Common.{ℕ, [], List, length, map, drop, slice_index, AllByRecursion, past_in}
 use Rattle.cmwq_sim.specs.declared.scenario.LineKind.TheVariants as kind
@@ -18,7 +19,9 @@ abbrev pub sleeper_seen : Plan → Asleep → Sleeper
 sleeper_seen s x = record { item = x.item; until = x.until; left = drop x.next (ms_of s x.item) }
 
 abbrev pub moment_in : Plan → Execution → Moment
-moment_in s r = moment_of s (past_in r.book) (map (job_seen s) r.cpu.items) (map (sleeper_seen s) r.sleeping.items) (map event_of r.lines.items)
+moment_in s r =
+    moment_of s (past_in r.book) (map (job_seen s) r.cpu.items) (map (sleeper_seen s) r.sleeping.items)
+    (map event_of r.lines.items)
 
 abbrev pub slot_in : List ℕ → ℕ → ℕ
 slot_in slots i = slice_index slots i

@@ -1,6 +1,7 @@
 //! A scenario replayed over the book, millisecond by millisecond.
 
-ghost use Rattle.std.specs.Prelude.{◌≡◌, ℕ, drop, MatchOption, ◌≤◌, ◌<◌, ◌+◌, ◌++◌, ◌∷◌, [], ◌==◌, ◌&&◌, not, map, find, filter, IsTrue, IfOk, OnOk, IfSome, IsNone};
+ghost use Rattle.std.specs.Prelude.{◌≡◌, ℕ, drop, MatchOption, ◌≤◌, ◌<◌, ◌+◌, ◌++◌, ◌∷◌, [], ◌==◌, ◌&&◌, not, map};
+ghost use Rattle.std.specs.Prelude.{find, filter, IsTrue, IfOk, OnOk, IfSome, IsNone};
 ghost use Rattle.std.specs.List.{AllByRecursion};
 ghost use Rattle.cmwq_model.specs.declared.id.Who.TheVariants as who;
 ghost use Rattle.cmwq_model.specs.Prelude.{fits, number_started};
@@ -80,7 +81,8 @@ fn tell(
     kind: LineKind,
     item: u8,
 ) -> Result<(), AllocError>
-    ensures { OnOk result (map event_of lines.new.items ≡ map event_of lines.old.items ++ record { at = at; kind = kind; items = item ∷ [] } ∷ []) }
+    ensures { OnOk result (map event_of lines.new.items ≡ map event_of lines.old.items
+        ++ record { at = at; kind = kind; items = item ∷ [] } ∷ []) }
 {
     let mut items = Vec::new(alloc);
     items.push(item)?;
@@ -203,7 +205,8 @@ fn queue_all(book: &mut Book, scenario: &Scenario)
     requires fresh { book.old ≡ record { layout = shows.layout_for (plan_of scenario.now); room = 1000; entries = [] } }
     ensures layout { book.new.layout ≡ shows.layout_for (plan_of scenario.now) }
     ensures room { book.new.room ≡ 1000 }
-    ensures shows { (slot : ℕ → ℕ) → shows.Shows (plan_of scenario.now) (past_in book.new) (lines.queued_at_first (plan_of scenario.now)) slot }
+    ensures shows { (slot : ℕ → ℕ)
+        → shows.Shows (plan_of scenario.now) (past_in book.new) (lines.queued_at_first (plan_of scenario.now)) slot }
     ensures roomy { IsRoomy (plan_of scenario.now) (past_in book.new) (lines.queued_at_first (plan_of scenario.now)) }
 {
     for item in 0..item_count(scenario) {
@@ -220,7 +223,8 @@ fn queue_all(book: &mut Book, scenario: &Scenario)
 impl Execution {
     fn new(alloc: Global, scenario: &Scenario) -> Result<Execution, NoMemory>
         requires { IsWithinLimits (plan_of scenario.now) }
-        ensures { IfOk result (λ execution. StandsAt (plan_of scenario.now) execution (lines.queued_at_first (plan_of scenario.now))) }
+        ensures { IfOk result
+            (λ execution. StandsAt (plan_of scenario.now) execution (lines.queued_at_first (plan_of scenario.now))) }
     {
         let shape = shape_of(alloc, scenario)?;
         let mut book = Book::new(alloc, &shape, 1000)?;
@@ -238,7 +242,9 @@ impl Execution {
     fn serve(&mut self, alloc: Global, scenario: &Scenario, at: u32) -> Result<(), AllocError>
         requires stands { Stands (plan_of scenario.now) self.old }
         requires early { at ≤ 64000 }
-        ensures { OnOk result (StandsAt (plan_of scenario.now) self.new (lines.serve (plan_of scenario.now) at (moment_in (plan_of scenario.now) self.old))) }
+        ensures { OnOk result
+            (StandsAt (plan_of scenario.now) self.new
+            (lines.serve (plan_of scenario.now) at (moment_in (plan_of scenario.now) self.old))) }
     {
         let Some(job) = first(&self.cpu) else {
             return Ok(());
@@ -277,7 +283,9 @@ impl Execution {
     ) -> Result<(), AllocError>
         requires stands { Stands (plan_of scenario.now) self.old }
         requires early { at ≤ 64000 }
-        ensures { OnOk result (StandsAt (plan_of scenario.now) self.new (lines.wake_item (plan_of scenario.now) at (moment_in (plan_of scenario.now) self.old) item)) }
+        ensures { OnOk result
+            (StandsAt (plan_of scenario.now) self.new
+            (lines.wake_item (plan_of scenario.now) at (moment_in (plan_of scenario.now) self.old) item)) }
     {
         let Some(sleeper) = due(&self.sleeping, at, item) else {
             return Ok(());
@@ -306,7 +314,9 @@ impl Execution {
     fn wake(&mut self, alloc: Global, scenario: &Scenario, at: u32) -> Result<(), AllocError>
         requires stands { Stands (plan_of scenario.now) self.old }
         requires early { at ≤ 64000 }
-        ensures { OnOk result (StandsAt (plan_of scenario.now) self.new (lines.wake_sleepers (plan_of scenario.now) at (moment_in (plan_of scenario.now) self.old))) }
+        ensures { OnOk result
+            (StandsAt (plan_of scenario.now) self.new
+            (lines.wake_sleepers (plan_of scenario.now) at (moment_in (plan_of scenario.now) self.old))) }
     {
         for item in 0..item_count(scenario) {
             self.wake_item(alloc, scenario, at, item)?;
@@ -334,7 +344,9 @@ impl Execution {
     fn start(&mut self, alloc: Global, scenario: &Scenario, at: u32) -> Result<(), AllocError>
         requires stands { Stands (plan_of scenario.now) self.old }
         requires early { at ≤ 64000 }
-        ensures { OnOk result (StandsAt (plan_of scenario.now) self.new (lines.start (plan_of scenario.now) at (moment_in (plan_of scenario.now) self.old))) }
+        ensures { OnOk result
+            (StandsAt (plan_of scenario.now) self.new
+            (lines.start (plan_of scenario.now) at (moment_in (plan_of scenario.now) self.old))) }
     {
         let mut items = Vec::new(alloc);
         while let Some((index, item)) = self.taker(scenario) {
@@ -348,7 +360,9 @@ impl Execution {
     fn start_item(&mut self, scenario: &Scenario, index: u8, item: u8) -> Result<(), AllocError>
         requires stands { Stands (plan_of scenario.now) self.old }
         requires taker { IsTaker self.old.book.layout (past_in self.old.book) index item }
-        ensures { OnOk result (StandsAt (plan_of scenario.now) self.new (started_one (plan_of scenario.now) (moment_in (plan_of scenario.now) self.old) item)) }
+        ensures { OnOk result
+            (StandsAt (plan_of scenario.now) self.new
+            (started_one (plan_of scenario.now) (moment_in (plan_of scenario.now) self.old) item)) }
     {
         call(&mut self.book, worker(index), Call::Take);
         self.slots[usize::from(item)] = index;
@@ -377,7 +391,8 @@ impl Execution {
         requires stands { Stands (plan_of scenario.now) self.old }
         requires after { moment_in (plan_of scenario.now) self.old ≡ moment_after (plan_of scenario.now) at }
         requires early { at ≤ 64000 }
-        ensures { OnOk result (StandsAt (plan_of scenario.now) self.new (moment_after (plan_of scenario.now) (at + 1))) }
+        ensures { OnOk result
+            (StandsAt (plan_of scenario.now) self.new (moment_after (plan_of scenario.now) (at + 1))) }
     {
         self.serve(alloc, scenario, at)?;
         self.wake(alloc, scenario, at)?;
@@ -398,8 +413,8 @@ impl Execution {
     }
 }
 
-/// The lines of a scenario: what befalls its items on one CPU with a pool of eight workers, until all have ended. The error
-/// says that memory ran out.
+/// The lines of a scenario: what befalls its items on one CPU with a pool of eight workers, until all have ended. The
+/// error says that memory ran out.
 pub fn replay(alloc: Global, scenario: &Scenario) -> Result<Vec<Line>, NoMemory>
     requires { IsWithinLimits (plan_of scenario.now) }
     ensures { IfOk result (λ told. map event_of told.items ≡ lines.scenario_lines (plan_of scenario.now)) }

@@ -19,7 +19,9 @@ fn name_at(names: &[String], item: u8) -> &str
 }
 
 fn push_others(text: &mut String, names: &[String], others: &[u8]) -> Result<(), AllocError>
-    ensures { OnOk result (string_bytes text.new ≡ string_bytes text.old ++ flat_map (spec.and_name (map string_bytes names.now)) others.now) }
+    ensures { OnOk result
+        (string_bytes text.new ≡ string_bytes text.old
+        ++ flat_map (spec.and_name (map string_bytes names.now)) others.now) }
 {
     for other in others {
         text.push_str(" and ")?;
@@ -29,7 +31,8 @@ fn push_others(text: &mut String, names: &[String], others: &[u8]) -> Result<(),
 }
 
 fn push_names(text: &mut String, names: &[String], items: &[u8]) -> Result<(), AllocError>
-    ensures { OnOk result (string_bytes text.new ≡ string_bytes text.old ++ spec.item_names_text (map string_bytes names.now) items.now) }
+    ensures { OnOk result
+        (string_bytes text.new ≡ string_bytes text.old ++ spec.item_names_text (map string_bytes names.now) items.now) }
 {
     if let Some((first, others)) = items.split_first() {
         text.push_str(name_at(names, *first))?;
@@ -52,7 +55,9 @@ fn deed_text(kind: LineKind, many: bool) -> &'static str
 }
 
 fn push_line(text: &mut String, names: &[String], line: &Line) -> Result<(), AllocError>
-    ensures { OnOk result (string_bytes text.new ≡ string_bytes text.old ++ spec.event_text (map string_bytes names.now) (event_of line.now)) }
+    ensures { OnOk result
+        (string_bytes text.new ≡ string_bytes text.old
+        ++ spec.event_text (map string_bytes names.now) (event_of line.now)) }
 {
     text.push_str(Buffer::new().format(line.at))?;
     text.push_str("\t")?;
@@ -62,9 +67,11 @@ fn push_line(text: &mut String, names: &[String], line: &Line) -> Result<(), All
     Ok(())
 }
 
-/// The table of lines, with the items' names: a heading, and then a line for each. What has no name is spelled as nothing.
+/// The table of lines, with the items' names: a heading, and then a line for each. What has no name is spelled as
+/// nothing.
 pub fn spell_lines(alloc: Global, names: &[String], lines: &[Line]) -> Result<String, AllocError>
-    ensures { IfOk result (λ text. string_bytes text ≡ spec.lines_text (map string_bytes names.now) (map event_of lines.now)) }
+    ensures { IfOk result
+        (λ text. string_bytes text ≡ spec.lines_text (map string_bytes names.now) (map event_of lines.now)) }
 {
     let mut text = String::from_str(alloc, "TIME IN MSECS\tEVENT\n")?;
     for line in lines {

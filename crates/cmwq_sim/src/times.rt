@@ -9,7 +9,8 @@ use crate::scenario::Scenario;
 
 /// This part of an item, if it has so many.
 pub(crate) fn part_at(scenario: &Scenario, item: u8, part: usize) -> Option<u16>
-    ensures part { MatchOption result (drop part (ms_of (plan_of scenario.now) item) ≡ []) (λ n. drop part (ms_of (plan_of scenario.now) item) ≡ n ∷ drop (part + 1) (ms_of (plan_of scenario.now) item)) }
+    ensures part { MatchOption result (drop part (ms_of (plan_of scenario.now) item) ≡ [])
+        (λ n. drop part (ms_of (plan_of scenario.now) item) ≡ n ∷ drop (part + 1) (ms_of (plan_of scenario.now) item)) }
     ensures next { IfSome result (λ _. part < 2 ^ 62) }
 {
     let item = scenario.items.get(usize::from(item))?;

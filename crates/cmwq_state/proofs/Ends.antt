@@ -1,5 +1,11 @@
 -- What a ticket still waits for, and which booking fires first, read off the parts.
-use Rattle.cmwq_state.specs.Common.{◌≡◌, ℕ, ◌<◌, Bool, true, false, List, [], ◌∷◌, find, length, Option, Some, None, refl, sym, ap, ◌∙◌, IsTrue, ◌↔◌, Contains, slice_get, option_map, option_and_then, ◌⊎◌, inl, inr, ItemId, Call, Entry, Queueing, Start, Who, Ticket, Layout, unended_tickets, ticket_of, is_ticket, waits_for, item_run, queueing_at, still_open, IsLegal, found, in_contained, runs_are_queueings, found_number, FlushBook, flush_tickets, IsReady, AreFlushes, ready_flushes_wait_for_nothing, flushes_wait_for_least_open, drains_wait_for_least_open, numbers_of}
+use Rattle.cmwq_state.specs.Common.{◌≡◌, ℕ, ◌<◌, Bool, true, false, List, [], ◌∷◌, find, length, Option, Some, None}
+use Rattle.cmwq_state.specs.Common.{refl, sym, ap, ◌∙◌, IsTrue, ◌↔◌, Contains, slice_get, option_map, option_and_then}
+use Rattle.cmwq_state.specs.Common.{◌⊎◌, inl, inr, ItemId, Call, Entry, Queueing, Start, Who, Ticket, Layout}
+use Rattle.cmwq_state.specs.Common.{unended_tickets, ticket_of, is_ticket, waits_for, item_run, queueing_at, still_open}
+use Rattle.cmwq_state.specs.Common.{IsLegal, found, in_contained, runs_are_queueings, found_number, FlushBook}
+use Rattle.cmwq_state.specs.Common.{flush_tickets, IsReady, AreFlushes, ready_flushes_wait_for_nothing}
+use Rattle.cmwq_state.specs.Common.{flushes_wait_for_least_open, drains_wait_for_least_open, numbers_of}
 use Rattle.cmwq_state.specs.Common.{ltb-true, has_numbers}
 use Rattle.cmwq_model.specs.declared.id.QueueId.{QueueId}
 use Rattle.cmwq_model.specs.declared.call.Call.TheVariants as call
@@ -8,10 +14,14 @@ use Rattle.cmwq_refinement.proofs.ItemNumberReads.{items_wait_for_least}
 use Rattle.cmwq_flush.specs.ItemNumbers.{item_waits_for}
 
 -- a flush that is ready waits for nothing, and another for the least that is open
-pub ready_for_none : (s : Layout) (past : List Entry) (q : QueueId) (b : FlushBook) (t : ℕ) (r : Bool) → AreFlushes s past q.0 b → Contains (flush_tickets b) t → IsTrue r ↔ IsReady b t → r ≡ true → None ≡ waits_for past t (call.Flush q)
+pub ready_for_none : (s : Layout) (past : List Entry) (q : QueueId) (b : FlushBook) (t : ℕ) (r : Bool)
+    → AreFlushes s past q.0 b → Contains (flush_tickets b) t → IsTrue r ↔ IsReady b t → r ≡ true
+    → None ≡ waits_for past t (call.Flush q)
 ready_for_none s past q b t r is here test h = sym ((ready_flushes_wait_for_nothing s past q b t is here).0 (test.0 h))
 
-pub waits_for_first : (s : Layout) (past : List Entry) (q : QueueId) (b : FlushBook) (t : ℕ) (r : Bool) → AreFlushes s past q.0 b → Contains (flush_tickets b) t → IsTrue r ↔ IsReady b t → r ≡ false → slice_get b.opened 0 ≡ waits_for past t (call.Flush q)
+pub waits_for_first : (s : Layout) (past : List Entry) (q : QueueId) (b : FlushBook) (t : ℕ) (r : Bool)
+    → AreFlushes s past q.0 b → Contains (flush_tickets b) t → IsTrue r ↔ IsReady b t → r ≡ false
+    → slice_get b.opened 0 ≡ waits_for past t (call.Flush q)
 waits_for_first s past q b t r is here test h = by (waits_for past t (call.Flush q)) refl
   where
     by : (o : Option ℕ) → waits_for past t (call.Flush q) ≡ o → slice_get b.opened 0 ≡ waits_for past t (call.Flush q)
@@ -26,8 +36,10 @@ none_waited xs = sym (ap (option_map (λ (x : Queueing). x.number)) (no_one xs))
     no_one [] = refl
     no_one (y ∷ ys) = no_one ys
 
-pub other_waits : (past : List Entry) (n : ℕ) (c : Call) → ((q : QueueId) → c ≡ call.Flush q → ⊥) → ((q : QueueId) → c ≡ call.Drain q → ⊥) → ((i : ItemId) → c ≡ call.FlushItem i → ⊥)
-    → ((i : ItemId) → c ≡ call.FlushDelayed i → ⊥) → ((i : ItemId) → c ≡ call.CancelSync i → ⊥) → ((q : QueueId) → c ≡ call.Destroy q → ⊥) → None ≡ waits_for past n c
+pub other_waits : (past : List Entry) (n : ℕ) (c : Call) → ((q : QueueId) → c ≡ call.Flush q → ⊥)
+    → ((q : QueueId) → c ≡ call.Drain q → ⊥) → ((i : ItemId) → c ≡ call.FlushItem i → ⊥)
+    → ((i : ItemId) → c ≡ call.FlushDelayed i → ⊥) → ((i : ItemId) → c ≡ call.CancelSync i → ⊥)
+    → ((q : QueueId) → c ≡ call.Destroy q → ⊥) → None ≡ waits_for past n c
 other_waits past n (call.Flush q) a b d e f g = absurd (a q refl)
 other_waits past n (call.Drain q) a b d e f g = absurd (b q refl)
 other_waits past n (call.FlushItem i) a b d e f g = absurd (d i refl)
@@ -38,32 +50,46 @@ other_waits past n c a b d e f g = none_waited (still_open past)
 
 -- ---- what a cancel_sync waits for
 
-pub run_waits : (s : Layout) (past : List Entry) (i : ItemId) (o : Option Queueing) → IsLegal s past → run_open past i.0 ≡ o → option_map (λ (x : Queueing). x.number) o ≡ waits_for past 0 (call.CancelSync i)
+pub run_waits : (s : Layout) (past : List Entry) (i : ItemId) (o : Option Queueing) → IsLegal s past
+    → run_open past i.0 ≡ o → option_map (λ (x : Queueing). x.number) o ≡ waits_for past 0 (call.CancelSync i)
 run_waits s past i o legal h = ap (option_map (λ (x : Queueing). x.number)) (sym h) ∙ by (item_run past i.0) refl
   where
-    by : (t : Option Start) → item_run past i.0 ≡ t → option_map (λ (x : Queueing). x.number) (option_and_then (λ (u : Start). queueing_at past u.number) t) ≡ option_map (λ (u : Start). u.number) t
+    by : (t : Option Start) → item_run past i.0 ≡ t
+        → option_map (λ (x : Queueing). x.number) (option_and_then (λ (u : Start). queueing_at past u.number) t)
+        ≡ option_map (λ (u : Start). u.number) t
     by None is = refl
     by (Some u) is = let r = runs_are_queueings s past legal i.0 u is in
         ap (option_map (λ (x : Queueing). x.number)) r.found ∙ ap Some (found_number past u.number r.queueing r.found)
 
 -- ---- what a flush of an item, a drain and a destroy wait for
 
-pub flushed_there : (s : Layout) (t : Ticket) (i : ItemId) → (t.call ≡ call.FlushItem i) ⊎ (t.call ≡ call.FlushDelayed i) → has_numbers s t.call ≡ true → i.0 < s.items
+pub flushed_there : (s : Layout) (t : Ticket) (i : ItemId)
+    → (t.call ≡ call.FlushItem i) ⊎ (t.call ≡ call.FlushDelayed i) → has_numbers s t.call ≡ true → i.0 < s.items
 flushed_there s t i (inl e) fits = ltb-true i.0 s.items (sym (ap (has_numbers s) e) ∙ fits)
 flushed_there s t i (inr e) fits = ltb-true i.0 s.items (sym (ap (has_numbers s) e) ∙ fits)
 
-pub item_waits : (s : Layout) (past : List Entry) (i : ItemId) (t : Ticket) (opened : List (List ℕ)) → opened ≡ numbers_of s past → i.0 < s.items → (t.call ≡ call.FlushItem i) ⊎ (t.call ≡ call.FlushDelayed i) → item_waits_for opened i.0 t.number ≡ waits_for past t.number t.call
-item_waits s past i t opened are there (inl e) = ap (λ os. item_waits_for os i.0 t.number) are ∙ ((items_wait_for_least s past i t.number there).0 ∙ sym (ap (waits_for past t.number) e))
-item_waits s past i t opened are there (inr e) = ap (λ os. item_waits_for os i.0 t.number) are ∙ ((items_wait_for_least s past i t.number there).1 ∙ sym (ap (waits_for past t.number) e))
+pub item_waits : (s : Layout) (past : List Entry) (i : ItemId) (t : Ticket) (opened : List (List ℕ))
+    → opened ≡ numbers_of s past → i.0 < s.items → (t.call ≡ call.FlushItem i) ⊎ (t.call ≡ call.FlushDelayed i)
+    → item_waits_for opened i.0 t.number ≡ waits_for past t.number t.call
+item_waits s past i t opened are there (inl e) = ap (λ os. item_waits_for os i.0 t.number) are
+    ∙ ((items_wait_for_least s past i t.number there).0 ∙ sym (ap (waits_for past t.number) e))
+item_waits s past i t opened are there (inr e) = ap (λ os. item_waits_for os i.0 t.number) are
+    ∙ ((items_wait_for_least s past i t.number there).1 ∙ sym (ap (waits_for past t.number) e))
 
 -- a drain and a destroy are of a queue that there is
-pub drained_there : (s : Layout) (t : Ticket) (q : QueueId) → (t.call ≡ call.Drain q) ⊎ (t.call ≡ call.Destroy q) → has_numbers s t.call ≡ true → q.0 < length s.queues
+pub drained_there : (s : Layout) (t : Ticket) (q : QueueId) → (t.call ≡ call.Drain q) ⊎ (t.call ≡ call.Destroy q)
+    → has_numbers s t.call ≡ true → q.0 < length s.queues
 drained_there s t q (inl e) fits = ltb-true q.0 (length s.queues) (sym (ap (has_numbers s) e) ∙ fits)
 drained_there s t q (inr e) fits = ltb-true q.0 (length s.queues) (sym (ap (has_numbers s) e) ∙ fits)
 
-pub drain_waits : (s : Layout) (past : List Entry) (q : QueueId) (t : Ticket) (b : FlushBook) → AreFlushes s past q.0 b → (t.call ≡ call.Drain q) ⊎ (t.call ≡ call.Destroy q) → slice_get b.opened 0 ≡ waits_for past t.number t.call
-drain_waits s past q t b is (inl e) = sym (ap (waits_for past t.number) e ∙ (drains_wait_for_least_open s past q b t.number is).0)
-drain_waits s past q t b is (inr e) = sym (ap (waits_for past t.number) e ∙ (drains_wait_for_least_open s past q b t.number is).1)
+pub drain_waits : (s : Layout) (past : List Entry) (q : QueueId) (t : Ticket) (b : FlushBook) → AreFlushes s past q.0 b
+    → (t.call ≡ call.Drain q) ⊎ (t.call ≡ call.Destroy q) → slice_get b.opened 0 ≡ waits_for past t.number t.call
+drain_waits s past q t b is (inl e) =
+    sym (ap (waits_for past t.number) e ∙ (drains_wait_for_least_open s past q b t.number is).0)
+drain_waits s past q t b is (inr e) =
+    sym (ap (waits_for past t.number) e ∙ (drains_wait_for_least_open s past q b t.number is).1)
 
-pub found_unended : (past : List Entry) (who : Who) (n : ℕ) (t : Ticket) → ticket_of past who n ≡ Some t → Contains (unended_tickets past) t
-found_unended past who n t h = in_contained (unended_tickets past) t (found (is_ticket who n) (unended_tickets past) t h).0
+pub found_unended : (past : List Entry) (who : Who) (n : ℕ) (t : Ticket) → ticket_of past who n ≡ Some t
+    → Contains (unended_tickets past) t
+found_unended past who n t h =
+    in_contained (unended_tickets past) t (found (is_ticket who n) (unended_tickets past) t h).0

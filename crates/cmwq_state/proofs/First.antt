@@ -1,5 +1,10 @@
 -- The parts of a new book are those of no entries.
-use Rattle.cmwq_state.specs.Common.{◌≡◌, ℕ, Bool, ◌*◌, ◌≤◌, true, false, List, [], length, replicate, refl, sym, ◌∙◌, arith, None, subst, get_or-replicate, length-replicate, Layout, is_layout, most_room, now, IsLegal, queueings, tickets, is_gone, PoolState, no_pool, new_pool_state, new_book, AreFlushes, pools_at_first, flushes_at_first, numbers_at_first, no_timers_at_first, active_count, TimerRows, no_tickets_at_first, Flight, no_flight, no_flights_at_first, PwqState, new_pwq_state, place_inside}
+use Rattle.cmwq_state.specs.Common.{◌≡◌, ℕ, Bool, ◌*◌, ◌≤◌, true, false, List, [], length, replicate, refl, sym, ◌∙◌}
+use Rattle.cmwq_state.specs.Common.{arith, None, subst, get_or-replicate, length-replicate, Layout, is_layout}
+use Rattle.cmwq_state.specs.Common.{most_room, now, IsLegal, queueings, tickets, is_gone, PoolState, no_pool}
+use Rattle.cmwq_state.specs.Common.{new_pool_state, new_book, AreFlushes, pools_at_first, flushes_at_first}
+use Rattle.cmwq_state.specs.Common.{numbers_at_first, no_timers_at_first, active_count, TimerRows, no_tickets_at_first}
+use Rattle.cmwq_state.specs.Common.{Flight, no_flight, no_flights_at_first, PwqState, new_pwq_state, place_inside}
 use Rattle.cmwq_ticket.specs.Rows.{TicketBook, new_tickets}
 use Rattle.cmwq_state.specs.Tables.{pool_place, who_place, who_places}
 use Rattle.cmwq_flush.specs.FlushBooks.{FlushState, new_flush_state, no_book}
@@ -44,19 +49,22 @@ pub parts_at_first : (s : Layout) → Limits s → AreParts s [] (first_parts s)
 parts_at_first s limits = record {
   pools = record {
     many = length-replicate (2 * s.cpus) (new_pool_state s.items s.workers);
-    each = λ p here. get_or-replicate (2 * s.cpus) (pool_place p) (new_pool_state s.items s.workers) no_pool (pool_place_inside p s.cpus (2 * s.cpus) refl here) ∙ sym (pools_at_first s p);
+    each = λ p here. get_or-replicate (2 * s.cpus) (pool_place p) (new_pool_state s.items s.workers) no_pool
+        (pool_place_inside p s.cpus (2 * s.cpus) refl here) ∙ sym (pools_at_first s p);
   };
   books = record {
     room = refl;
     many = length-replicate (length s.queues) (new_book s.items);
-    each = λ q here. subst (AreFlushes s [] q) (sym (get_or-replicate (length s.queues) q (new_book s.items) no_book here)) (flushes_at_first s q);
+    each = λ q here. subst (AreFlushes s [] q)
+        (sym (get_or-replicate (length s.queues) q (new_book s.items) no_book here)) (flushes_at_first s q);
     numbers = sym (numbers_at_first s);
   };
   timers = sym (no_timers_at_first s);
   time = first_time;
   serials = record {
     many = length-replicate (who_places s.cpus) (let n : ℕ = 0 in n);
-    each = λ who there. get_or-replicate (who_places s.cpus) (who_place who) 0 0 (who_below s who there limits.workers.1 limits.callers.1);
+    each = λ who there. get_or-replicate (who_places s.cpus) (who_place who) 0 0
+        (who_below s who there limits.workers.1 limits.callers.1);
   };
   flights = sym (no_flights_at_first s);
   tickets = sym (no_tickets_at_first s);
@@ -78,8 +86,29 @@ book_at_first s room inside few = record {
 }
 
 -- so the parts that are made are those of a book
-pub book_made : (s : Layout) (room : ℕ) (pools : List PoolState) (books : FlushState) (timers : TimerRows) (serials : List ℕ) (flights : List Flight) (tickets : TicketBook) (gone : List Bool) (pwqs : PwqState) (most : List ℕ) → is_layout s ≡ true → room ≤ most_room →
-    pools ≡ replicate (2 * s.cpus) (new_pool_state s.items s.workers) → books ≡ new_flush_state (length s.queues) s.items s.callers → timers ≡ replicate s.items None → serials ≡ replicate (who_places s.cpus) 0 →
-    flights ≡ replicate s.items no_flight → tickets ≡ new_tickets s.callers s.items (length s.queues) → gone ≡ replicate (length s.queues) false → pwqs ≡ new_pwq_state (length s.queues) s.items → most ≡ first_most s.queues →
-    IsState s room [] (record { pools = pools; books = books; timers = timers; time = 0; serials = serials; flights = flights; tickets = tickets; gone = gone; pwqs = pwqs; most = most; frozen = false; owing = 0 })
-book_made s room pools books timers serials flights tickets gone pwqs most inside few p b t n g h k l m = rw (p, b, t, n, g, h, k, l, m) (book_at_first s room inside few)
+pub book_made : (s : Layout) (room : ℕ) (pools : List PoolState) (books : FlushState) (timers : TimerRows)
+    (serials : List ℕ) (flights : List Flight) (tickets : TicketBook) (gone : List Bool) (pwqs : PwqState)
+    (most : List ℕ) → is_layout s ≡ true → room ≤ most_room →
+    pools ≡ replicate (2 * s.cpus) (new_pool_state s.items s.workers)
+    → books ≡ new_flush_state (length s.queues) s.items s.callers → timers ≡ replicate s.items None
+    → serials ≡ replicate (who_places s.cpus) 0 →
+    flights ≡ replicate s.items no_flight → tickets ≡ new_tickets s.callers s.items (length s.queues)
+    → gone ≡ replicate (length s.queues) false → pwqs ≡ new_pwq_state (length s.queues) s.items
+    → most ≡ first_most s.queues →
+    IsState s room []
+    (record {
+      pools = pools;
+      books = books;
+      timers = timers;
+      time = 0;
+      serials = serials;
+      flights = flights;
+      tickets = tickets;
+      gone = gone;
+      pwqs = pwqs;
+      most = most;
+      frozen = false;
+      owing = 0;
+    })
+book_made s room pools books timers serials flights tickets gone pwqs most inside few p b t n g h k l m =
+    rw (p, b, t, n, g, h, k, l, m) (book_at_first s room inside few)

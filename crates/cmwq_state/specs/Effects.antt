@@ -1,6 +1,8 @@
 -- What an entry does, as it is applied to the parts.
 use Rattle.std.specs.Prelude.{◌≡◌, ◌<◌, if◌then◌else◌, ◌∷◌}
-use Rattle.cmwq_state.specs.Common.{ℕ, true, List, length, Option, None, Entry, Layout, is_layout, item_of, item_number, settles, booking_of, opening, IsLegal, owed, ending, ticket_ended, ticket_given, starting}
+use Rattle.cmwq_state.specs.Common.{ℕ, true, List, length, Option, None, Entry, Layout, is_layout, item_of, item_number}
+use Rattle.cmwq_state.specs.Common.{settles, booking_of, opening, IsLegal, owed, ending, ticket_ended, ticket_given}
+use Rattle.cmwq_state.specs.Common.{starting}
 use Rattle.cmwq_state.specs.declared.effect.Effect.{Effect}
 
 abbrev pub settled_by : Entry → Option ℕ

@@ -1,6 +1,7 @@
 -- Which queues are gone, as a book keeps them.
 use Rattle.std.specs.Prelude.{◌≡◌, ◌<◌, ◌||◌}
-use Rattle.cmwq_state.specs.Common.{ℕ, Bool, false, List, length, Option, Some, None, slice_index_or, option_map_or, Call, Entry, Ticket, Layout, is_destroy_of, is_gone}
+use Rattle.cmwq_state.specs.Common.{ℕ, Bool, false, List, length, Option, Some, None, slice_index_or, option_map_or}
+use Rattle.cmwq_state.specs.Common.{Call, Entry, Ticket, Layout, is_destroy_of, is_gone}
 use Rattle.cmwq_model.specs.declared.call.Call.TheVariants as call
 
 abbrev pub is_gone_at : List Bool → ℕ → Bool

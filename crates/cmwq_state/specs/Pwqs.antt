@@ -1,5 +1,6 @@
 -- What waits, and how many are active, refine a history.
-use Rattle.cmwq_state.specs.Common.{ℕ, List, length, Entry, Layout, active_count, waiting_queueings, PwqState, count_at, most_cpus}
+use Rattle.cmwq_state.specs.Common.{ℕ, List, length, Entry, Layout, active_count, waiting_queueings, PwqState, count_at}
+use Rattle.cmwq_state.specs.Common.{most_cpus}
 use Rattle.std.specs.Prelude.{count_by, ◌≡◌, ◌*◌, ◌<◌}
 use Rattle.cmwq_model.specs.Prelude.{is_active}
 use Rattle.cmwq_theory_steps.specs.Places.{open_on}

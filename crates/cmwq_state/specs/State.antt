@@ -1,6 +1,8 @@
 -- What the parts of a state are of the past.
 use Rattle.std.specs.Prelude.{◌≡◌, ◌+◌, ◌≤◌}
-use Rattle.cmwq_state.specs.Common.{ℕ, true, Bool, List, length, Entry, Layout, is_layout, most_room, now, IsLegal, past_of, owed, most_time, PoolState, TimerRows, timers_of, PwqState, Flight, flights_of}
+use Rattle.cmwq_state.specs.Common.{ℕ, true, Bool, List, length, Entry, Layout, is_layout, most_room, now, IsLegal}
+use Rattle.cmwq_state.specs.Common.{past_of, owed, most_time, PoolState, TimerRows, timers_of, PwqState, Flight}
+use Rattle.cmwq_state.specs.Common.{flights_of}
 use Rattle.cmwq_flush.specs.FlushBooks.{FlushState}
 use Rattle.cmwq_ticket.specs.Rows.{TicketBook}
 use Rattle.cmwq_refinement.specs.Tickets.{tickets_of}

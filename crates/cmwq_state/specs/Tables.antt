@@ -1,6 +1,11 @@
 -- The tables of a book: where each pool, each flush book and each serial stands, and what may be applied to them.
 use Rattle.std.specs.Prelude.{◌≡◌, ◌+◌, ◌*◌, ◌<◌, if◌then◌else◌}
-use Rattle.cmwq_state.specs.Common.{ℕ, true, List, length, filter, Option, Some, None, slice_index_or, Contains, IsTrue, All, PoolId, Who, Caller, Worker, Reply, Entry, Queueing, QueueShape, Ticket, Call, Layout, most_callers, most_workers, pool_at, serial_of, same_pool, PoolState, pool_without_task, pool_with_task, pool_numbered, lists_item, may_list, FlushBook, flush_tickets, IsReady, pool_after_activation, pool_of, task_for, MayReplyInPool, AreFlushes, numbers_of, is_in}
+use Rattle.cmwq_state.specs.Common.{ℕ, true, List, length, filter, Option, Some, None, slice_index_or, Contains, IsTrue}
+use Rattle.cmwq_state.specs.Common.{All, PoolId, Who, Caller, Worker, Reply, Entry, Queueing, QueueShape, Ticket, Call}
+use Rattle.cmwq_state.specs.Common.{Layout, most_callers, most_workers, pool_at, serial_of, same_pool, PoolState}
+use Rattle.cmwq_state.specs.Common.{pool_without_task, pool_with_task, pool_numbered, lists_item, may_list, FlushBook}
+use Rattle.cmwq_state.specs.Common.{flush_tickets, IsReady, pool_after_activation, pool_of, task_for, MayReplyInPool}
+use Rattle.cmwq_state.specs.Common.{AreFlushes, numbers_of, is_in}
 use Rattle.cmwq_flush.specs.FlushBooks.{CanBegin, CanOpenOn, FlushState, IsOpenOn, book_in}
 use Rattle.cmwq_model.specs.declared.call.Call.TheVariants as call
 
@@ -15,7 +20,8 @@ pool_place p = 2 * p.cpu.0 + (if p.high then 1 else 0)
 abbrev pub pool_in : List PoolState → PoolId → PoolState
 pool_in pools p = pool_numbered pools (pool_place p)
 
--- the serials of callers stand first, then those of each pool's workers, with room for as many of each as a shape may have
+-- the serials of callers stand first, then those of each pool's workers, with room for as many of each as a shape may
+-- have
 abbrev pub who_place : Who → ℕ
 who_place (Caller c) = c.0
 who_place (Worker w) = most_callers + most_workers * pool_place w.pool + w.index
@@ -57,7 +63,8 @@ pub record AreSerials (s : Layout) (past : List Entry) (serials : List ℕ) : Ty
 -- what each call of a pool that a reply applies requires
 abbrev pub MayReplyToWorker : Who → Reply → List PoolState → Type 0
 MayReplyToWorker (Caller c) r pools = Unit {0}
-MayReplyToWorker (Worker w) r pools = (pool_place w.pool < length pools) × MayReplyInPool r (pool_in pools w.pool) w.index
+MayReplyToWorker (Worker w) r pools =
+    (pool_place w.pool < length pools) × MayReplyInPool r (pool_in pools w.pool) w.index
 
 -- what the calls of flush books require for a queueing that ended, and for one that was opened
 abbrev pub MayEndInBooks : Option Queueing → FlushState → Type 0
@@ -75,7 +82,8 @@ MayCancelInPools (Some x) queues pools = (x.place.queue.0 < length queues) × (2
 
 -- for a flush that ended, and for one that began
 abbrev pub MayEndFlush : Call → ℕ → FlushState → Type 0
-MayEndFlush (call.Flush q) t books = (q.0 < length books.books) × Contains (flush_tickets (book_in books.books q.0)) t × IsReady (book_in books.books q.0) t
+MayEndFlush (call.Flush q) t books = (q.0 < length books.books) × Contains (flush_tickets (book_in books.books q.0)) t
+    × IsReady (book_in books.books q.0) t
 MayEndFlush c t books = Unit {0}
 
 abbrev pub MayBeDoneInBooks : Option Ticket → FlushState → Type 0
@@ -115,4 +123,5 @@ abbrev pub pool_listing : List QueueShape → List Queueing → List PoolState �
 pool_listing queues xs pools p = pool_after_activation (only queues) (those_in queues p xs) (pool_in pools p)
 
 abbrev pub ListEachItemOnce : List QueueShape → List Queueing → List PoolState → Type 0
-ListEachItemOnce queues xs pools = (p q : PoolId) (i : ℕ) → lists_item i (pool_listing queues xs pools p) ≡ true → lists_item i (pool_listing queues xs pools q) ≡ true → p ≡ q
+ListEachItemOnce queues xs pools = (p q : PoolId) (i : ℕ) → lists_item i (pool_listing queues xs pools p) ≡ true
+    → lists_item i (pool_listing queues xs pools q) ≡ true → p ≡ q

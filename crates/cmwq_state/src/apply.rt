@@ -29,8 +29,10 @@ use cmwq_timer::Timers;
 /// Each queue's max_active, and whether the freezable queues are frozen, which is answered.
 #[inline(always)]
 pub(crate) fn apply_widths(most: &mut Vec<u32>, frozen: bool, effect: &Effect) -> bool
-    requires { (s : Layout) × (past : List entries.Entry) × IsNextEffect s past effect.now × AreWidths s past most.old.items frozen }
-    ensures { (s : Layout) (past : List entries.Entry) → IsNextEffect s past effect.now → AreWidths s past most.old.items frozen → AreWidths s (effect.now.entry ∷ past) most.new.items result }
+    requires { (s : Layout) × (past : List entries.Entry) × IsNextEffect s past effect.now
+        × AreWidths s past most.old.items frozen }
+    ensures { (s : Layout) (past : List entries.Entry) → IsNextEffect s past effect.now
+        → AreWidths s past most.old.items frozen → AreWidths s (effect.now.entry ∷ past) most.new.items result }
 {
     let entry = effect.entry;
     set_width(most, entry.call, entry.reply);
@@ -48,7 +50,8 @@ pub(crate) fn apply_pwqs(
 )
     requires { (s : Layout) × (past : List entries.Entry) × IsNextEffect s past effect.now × (queues.now ≡ s.queues)
         × AreWidths s (effect.now.entry ∷ past) most.now frozen × ArePwqsOf s past pwqs.old }
-    ensures { (s : Layout) (past : List entries.Entry) → IsNextEffect s past effect.now → queues.now ≡ s.queues → AreWidths s (effect.now.entry ∷ past) most.now frozen → ArePwqsOf s past pwqs.old
+    ensures { (s : Layout) (past : List entries.Entry) → IsNextEffect s past effect.now → queues.now ≡ s.queues
+        → AreWidths s (effect.now.entry ∷ past) most.now frozen → ArePwqsOf s past pwqs.old
         → ArePwqsOf s (effect.now.entry ∷ past) pwqs.new × (pwqs.new.activated ≡ newly_active s past effect.now.entry) }
 {
     move_pwqs(
@@ -72,7 +75,8 @@ pub(crate) fn apply_pools(
 )
     requires { (s : Layout) × (past : List entries.Entry) × IsNextEffect s past effect.now × (queues.now ≡ s.queues)
         × (activated.now ≡ newly_active s past effect.now.entry) × ArePools s past pools.old }
-    ensures { (s : Layout) (past : List entries.Entry) → IsNextEffect s past effect.now → queues.now ≡ s.queues → activated.now ≡ newly_active s past effect.now.entry → ArePools s past pools.old
+    ensures { (s : Layout) (past : List entries.Entry) → IsNextEffect s past effect.now → queues.now ≡ s.queues
+        → activated.now ≡ newly_active s past effect.now.entry → ArePools s past pools.old
         → ArePools s (effect.now.entry ∷ past) pools.new }
 {
     let entry = effect.entry;
@@ -85,7 +89,8 @@ pub(crate) fn apply_pools(
 #[inline(always)]
 pub(crate) fn apply_books(books: &mut FlushBooks, effect: &Effect)
     requires { (s : Layout) × (past : List entries.Entry) × IsNextEffect s past effect.now × AreBooks s past books.old }
-    ensures { (s : Layout) (past : List entries.Entry) → IsNextEffect s past effect.now → AreBooks s past books.old → AreBooks s (effect.now.entry ∷ past) books.new }
+    ensures { (s : Layout) (past : List entries.Entry) → IsNextEffect s past effect.now → AreBooks s past books.old
+        → AreBooks s (effect.now.entry ∷ past) books.new }
 {
     end_in_books(books, effect.ended);
     open_in_books(books, effect.opened);
@@ -96,8 +101,10 @@ pub(crate) fn apply_books(books: &mut FlushBooks, effect: &Effect)
 /// The queueings in flight.
 #[inline(always)]
 pub(crate) fn apply_flights(flights: &mut Flights, effect: &Effect)
-    requires { (s : Layout) × (past : List entries.Entry) × IsNextEffect s past effect.now × (flights.old ≡ flights_of s past) }
-    ensures { (s : Layout) (past : List entries.Entry) → IsNextEffect s past effect.now → flights.old ≡ flights_of s past → flights.new ≡ flights_of s (effect.now.entry ∷ past) }
+    requires { (s : Layout) × (past : List entries.Entry) × IsNextEffect s past effect.now
+        × (flights.old ≡ flights_of s past) }
+    ensures { (s : Layout) (past : List entries.Entry) → IsNextEffect s past effect.now
+        → flights.old ≡ flights_of s past → flights.new ≡ flights_of s (effect.now.entry ∷ past) }
 {
     move_flights(
         flights,
@@ -111,8 +118,10 @@ pub(crate) fn apply_flights(flights: &mut Flights, effect: &Effect)
 /// The unended tickets.
 #[inline(always)]
 pub(crate) fn apply_tickets(tickets: &mut Tickets, effect: &Effect)
-    requires { (s : Layout) × (past : List entries.Entry) × IsNextEffect s past effect.now × (tickets.old ≡ tickets_of s past) }
-    ensures { (s : Layout) (past : List entries.Entry) → IsNextEffect s past effect.now → tickets.old ≡ tickets_of s past → tickets.new ≡ tickets_of s (effect.now.entry ∷ past) }
+    requires { (s : Layout) × (past : List entries.Entry) × IsNextEffect s past effect.now
+        × (tickets.old ≡ tickets_of s past) }
+    ensures { (s : Layout) (past : List entries.Entry) → IsNextEffect s past effect.now
+        → tickets.old ≡ tickets_of s past → tickets.new ≡ tickets_of s (effect.now.entry ∷ past) }
 {
     move_tickets(tickets, effect.done, effect.begun);
 }
@@ -120,8 +129,10 @@ pub(crate) fn apply_tickets(tickets: &mut Tickets, effect: &Effect)
 /// Which queues are gone.
 #[inline(always)]
 pub(crate) fn apply_gone(gone: &mut Vec<bool>, effect: &Effect)
-    requires { (s : Layout) × (past : List entries.Entry) × IsNextEffect s past effect.now × AreGone s past gone.old.items }
-    ensures { (s : Layout) (past : List entries.Entry) → IsNextEffect s past effect.now → AreGone s past gone.old.items → AreGone s (effect.now.entry ∷ past) gone.new.items }
+    requires { (s : Layout) × (past : List entries.Entry) × IsNextEffect s past effect.now
+        × AreGone s past gone.old.items }
+    ensures { (s : Layout) (past : List entries.Entry) → IsNextEffect s past effect.now → AreGone s past gone.old.items
+        → AreGone s (effect.now.entry ∷ past) gone.new.items }
 {
     lose_queue(gone, effect.done);
 }
@@ -129,8 +140,10 @@ pub(crate) fn apply_gone(gone: &mut Vec<bool>, effect: &Effect)
 /// The bookings.
 #[inline(always)]
 pub(crate) fn apply_timers(timers: &mut Timers, effect: &Effect)
-    requires { (s : Layout) × (past : List entries.Entry) × IsNextEffect s past effect.now × (timers.old ≡ timers_of s past) }
-    ensures { (s : Layout) (past : List entries.Entry) → IsNextEffect s past effect.now → timers.old ≡ timers_of s past → timers.new ≡ timers_of s (effect.now.entry ∷ past) }
+    requires { (s : Layout) × (past : List entries.Entry) × IsNextEffect s past effect.now
+        × (timers.old ≡ timers_of s past) }
+    ensures { (s : Layout) (past : List entries.Entry) → IsNextEffect s past effect.now → timers.old ≡ timers_of s past
+        → timers.new ≡ timers_of s (effect.now.entry ∷ past) }
 {
     set_timers(timers, effect.settled, effect.booked);
 }
@@ -138,8 +151,10 @@ pub(crate) fn apply_timers(timers: &mut Timers, effect: &Effect)
 /// How many entries each caller and each worker has.
 #[inline(always)]
 pub(crate) fn apply_serials(serials: &mut Vec<u64>, effect: &Effect)
-    requires { (s : Layout) × (past : List entries.Entry) × IsNextEffect s past effect.now × AreSerials s past serials.old.items }
-    ensures { (s : Layout) (past : List entries.Entry) → IsNextEffect s past effect.now → AreSerials s past serials.old.items → AreSerials s (effect.now.entry ∷ past) serials.new.items }
+    requires { (s : Layout) × (past : List entries.Entry) × IsNextEffect s past effect.now
+        × AreSerials s past serials.old.items }
+    ensures { (s : Layout) (past : List entries.Entry) → IsNextEffect s past effect.now
+        → AreSerials s past serials.old.items → AreSerials s (effect.now.entry ∷ past) serials.new.items }
 {
     let entry = effect.entry;
     serials[who_place(entry.who)] = entry.serial + 1;

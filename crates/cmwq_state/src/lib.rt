@@ -1,5 +1,6 @@
-//! The state of a work queue runtime: its history, and the parts that answer without looking back. Beside it the lists that run on: `Trail`,
-//! which keeps its length alone, and `Tail`, which keeps its last items until they are given away.
+//! The state of a work queue runtime: its history, and the parts that answer without looking back. Beside it the lists
+//! that run on: `Trail`, which keeps its length alone, and `Tail`, which keeps its last items until they are given
+//! away.
 #![tactic(auto)]
 
 mod apply;

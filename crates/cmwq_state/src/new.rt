@@ -46,7 +46,8 @@ pub(crate) struct QueueParts {
 /// What is kept of callers, workers and items before the first entry.
 pub(crate) fn new_item_parts(alloc: Global, counts: Counts) -> Result<ItemParts, NoMemory>
     ensures serials { IfOk result (λ parts. parts.serials.items ≡ replicate (who_places counts.cpus) 0) }
-    ensures pools { IfOk result (λ parts. parts.pools ≡ replicate (2 * counts.cpus) (new_pool_state counts.items counts.workers)) }
+    ensures pools { IfOk result
+        (λ parts. parts.pools ≡ replicate (2 * counts.cpus) (new_pool_state counts.items counts.workers)) }
     ensures timers { IfOk result (λ parts. parts.timers ≡ replicate counts.items None) }
     ensures flights { IfOk result (λ parts. parts.flights ≡ replicate counts.items no_flight) }
 {

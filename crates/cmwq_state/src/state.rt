@@ -1,7 +1,8 @@
 //! The state, the reads of workers and counts, and the entry that is appended.
 
 ghost use Rattle.std.specs.Prelude.{◌≡◌, ◌<◌, ◌≤◌, ◌+◌, ◌&&◌, [], true, length, count_by, nat_le, IfOk};
-ghost use Rattle.cmwq_model.specs.Prelude.{is_layout, layout_of, most_room, past_of, IsLegal, still_open, room_needed, owed, has_time, most_time, is_active};
+ghost use Rattle.cmwq_model.specs.Prelude.{is_layout, layout_of, most_room, past_of, IsLegal, still_open, room_needed};
+ghost use Rattle.cmwq_model.specs.Prelude.{owed, has_time, most_time, is_active};
 ghost use Rattle.cmwq_model.specs.Calls as calls;
 ghost use Rattle.cmwq_state.specs.Tables as tables;
 ghost use Rattle.cmwq_state.specs.Effects.{IsEffect};
@@ -33,8 +34,8 @@ use std::mem::drop;
 /// The time that a history may come to: 2^62 ticks.
 const MOST_TIME: u64 = 4_611_686_018_427_387_904;
 
-/// The parts that answer without looking back at a history, of whose entries none is kept. Contracts see the whole history, with its
-/// shape and its room.
+/// The parts that answer without looking back at a history, of whose entries none is kept. Contracts see the whole
+/// history, with its shape and its room.
 #[derive(Drop)]
 pub struct State {
     counts: Counts,
@@ -93,7 +94,8 @@ impl State {
     ) -> Result<State, NoMemory>
         requires inside { is_layout (layout_of counts queues.now) ≡ true }
         requires few { room ≤ most_room }
-        ensures { IfOk result (λ state. state ≡ record { layout = layout_of counts queues.now; room = room; entries = [] }) }
+        ensures { IfOk result
+            (λ state. state ≡ record { layout = layout_of counts queues.now; room = room; entries = [] }) }
     {
         let entries = Trail::new();
         let of_items = new_item_parts(alloc, counts)?;
@@ -157,9 +159,11 @@ impl State {
         }
     }
 
-    /// Whether one more entry of this call and what is owed then are within the room, and the time after it within its own.
+    /// Whether one more entry of this call and what is owed then are within the room, and the time after it within its
+    /// own.
     pub fn has_room(&self, call: Call, owing: u64) -> bool
-        ensures { result ≡ (has_time (past_of self.now.entries) call && nat_le (length self.now.entries + 1 + owing) self.now.room) }
+        ensures { result
+            ≡ (has_time (past_of self.now.entries) call && nat_le (length self.now.entries + 1 + owing) self.now.room) }
     {
         self.has_time(call) && owing < self.room - self.entries.len()
     }

@@ -5,18 +5,25 @@ ghost use Rattle.cmwq_model.specs.declared.call.Call.{Call};
 ghost use Rattle.cmwq_model.specs.declared.id.Who.{Who};
 ghost use Rattle.cmwq_model.specs.declared.id.PoolId.{PoolId};
 ghost use Rattle.cmwq_model.specs.declared.entry.Entry.{Entry};
-ghost use Rattle.cmwq_model.specs.Prelude.{Layout, fits, most_cpus, pool_at, finishes, frozen_after, item_number, number_finished};
+ghost use Rattle.cmwq_model.specs.Prelude.{Layout, fits, most_cpus, pool_at, finishes, frozen_after, item_number};
+ghost use Rattle.cmwq_model.specs.Prelude.{number_finished};
 ghost use Rattle.cmwq_pool.specs.Pools.{pool_numbered, with_pool};
-ghost use Rattle.cmwq_refinement.specs.Pools.{MayAllBeAdded, MayReplyInPool, pool_after_activation, pool_after_cancel, pool_after_reply, pool_after_worker};
-ghost use Rattle.cmwq_refinement.specs.FlushBooks.{flushes_after_begun, flushes_after_done, flushes_after_end, flushes_after_opening};
+ghost use Rattle.cmwq_refinement.specs.Pools.{MayAllBeAdded, MayReplyInPool, pool_after_activation, pool_after_cancel};
+ghost use Rattle.cmwq_refinement.specs.Pools.{pool_after_reply, pool_after_worker};
+ghost use Rattle.cmwq_refinement.specs.FlushBooks.{flushes_after_begun, flushes_after_done, flushes_after_end};
+ghost use Rattle.cmwq_refinement.specs.FlushBooks.{flushes_after_opening};
 ghost use Rattle.cmwq_refinement.specs.ItemNumbers.{numbers_after_end, numbers_after_opening};
 ghost use Rattle.cmwq_refinement.specs.Timers.{MayBeSet, timers_after_settling};
 ghost use Rattle.cmwq_state.specs.Tables as tables;
-ghost use Rattle.cmwq_state.specs.Tables.{EachBook, EachPool, IsThere, ListEachItemOnce, MayBeDoneInBooks, MayBeListed, MayBeginInBooks, MayCancelInPools, MayEndInBooks, MayListOne, MayOpenInBooks, MayReplyToWorker, only, pool_in, pool_with, pool_without, those_in};
-ghost use Rattle.cmwq_refinement.specs.Flights.{MayEndInFlight, MayEndOf, MayOpenInFlight, MayStartInFlight, flights_after_end, flights_after_opening, flights_after_start};
+ghost use Rattle.cmwq_state.specs.Tables.{EachBook, EachPool, IsThere, ListEachItemOnce, MayBeDoneInBooks, MayBeListed};
+ghost use Rattle.cmwq_state.specs.Tables.{MayBeginInBooks, MayCancelInPools, MayEndInBooks, MayListOne, MayOpenInBooks};
+ghost use Rattle.cmwq_state.specs.Tables.{MayReplyToWorker, only, pool_in, pool_with, pool_without, those_in};
+ghost use Rattle.cmwq_refinement.specs.Flights.{MayEndInFlight, MayEndOf, MayOpenInFlight, MayStartInFlight};
+ghost use Rattle.cmwq_refinement.specs.Flights.{flights_after_end, flights_after_opening, flights_after_start};
 ghost use Rattle.cmwq_refinement.specs.Tickets.{MayEndTicket, MayGiveTicket, tickets_after_end, tickets_after_giving};
 ghost use Rattle.cmwq_state.specs.Gone.{LosesQueue, MayLoseQueue};
-ghost use Rattle.cmwq_pwq.specs.Pwqs.{AreBehind, ArePlaced, IsPassed, IsPlacedIf, MayEndInPwqs, MayOpenInPwqs, is_waiting, pwqs_after_end, pwqs_after_opening, width_by};
+ghost use Rattle.cmwq_pwq.specs.Pwqs.{AreBehind, ArePlaced, IsPassed, IsPlacedIf, MayEndInPwqs, MayOpenInPwqs};
+ghost use Rattle.cmwq_pwq.specs.Pwqs.{is_waiting, pwqs_after_end, pwqs_after_opening, width_by};
 ghost use Rattle.cmwq_state.specs.Widths.{MaySetWidth, SetsWidth};
 ghost use Rattle.cmwq_theory_steps.specs.Looks.{keeps_widths};
 
@@ -161,7 +168,8 @@ pub(crate) fn cancel_in_pools(
     ended: Option<Queueing>,
 )
     requires { MayCancelInPools ended queues.now pools.old }
-    ensures { (s : Layout) (e : Entry) → s.queues ≡ queues.now → e.reply ≡ reply → EachPool (λ p. pool_after_cancel s p e ended) pools.old pools.new }
+    ensures { (s : Layout) (e : Entry) → s.queues ≡ queues.now → e.reply ≡ reply
+        → EachPool (λ p. pool_after_cancel s p e ended) pools.old pools.new }
 {
     if let Some(queueing) = ended {
         if !is_finish_of(reply, queueing.number) {
@@ -238,9 +246,11 @@ fn list_one(queues: &[QueueShape], pools: &mut Pools, queueing: Queueing)
 #[inline(always)]
 pub(crate) fn list_active(queues: &[QueueShape], pools: &mut Pools, activated: &[Queueing])
     requires there { MayBeListed queues.now activated.now pools.old }
-    requires may { (p : PoolId) → MayAllBeAdded (only queues.now) (those_in queues.now p activated.now) (pool_in pools.old p) }
+    requires may { (p : PoolId)
+        → MayAllBeAdded (only queues.now) (those_in queues.now p activated.now) (pool_in pools.old p) }
     requires once { ListEachItemOnce queues.now activated.now pools.old }
-    ensures { EachPool (λ p. pool_after_activation (only queues.now) (those_in queues.now p activated.now)) pools.old pools.new }
+    ensures { EachPool (λ p. pool_after_activation (only queues.now) (those_in queues.now p activated.now)) pools.old
+        pools.new }
 {
     for queueing in activated {
         list_one(queues, pools, *queueing);
@@ -314,9 +324,11 @@ pub(crate) fn move_pwqs(
     requires ran { is_some (number_finished reply) ≡ true → IfSome ended (λ x. is_waiting pwqs.old x ≡ false) }
     requires opened { MayOpenInPwqs opened (pwqs_after_end ended pwqs.old) }
     requires opened_placed { IsPlacedIf (length queues.now) opened }
-    requires behind { keeps_widths reply ≡ true → AreBehind (width_by queues.now most.now frozen) pwqs.old.counts pwqs.old.waiting }
+    requires behind { keeps_widths reply ≡ true
+        → AreBehind (width_by queues.now most.now frozen) pwqs.old.counts pwqs.old.waiting }
     requires placed { ArePlaced (length queues.now) (pwqs_after_opening opened (pwqs_after_end ended pwqs.old)).waiting }
-    ensures { IsPassed (width_by queues.now most.now frozen) (pwqs_after_opening opened (pwqs_after_end ended pwqs.old)) pwqs.new }
+    ensures { IsPassed (width_by queues.now most.now frozen) (pwqs_after_opening opened (pwqs_after_end ended pwqs.old))
+        pwqs.new }
 {
     if keeps_widths(reply) {
         pwqs.go_on(queues, most, frozen, ended, reply.is_finish(), opened);
@@ -351,7 +363,8 @@ pub(crate) fn move_flights(
     requires ended { MayEndInFlight reply ended flights.old }
     requires started { MayStartInFlight started (flights_after_end reply ended flights.old) }
     requires opened { MayOpenInFlight opened (flights_after_start started (flights_after_end reply ended flights.old)) }
-    ensures { flights.new ≡ flights_after_opening opened (flights_after_start started (flights_after_end reply ended flights.old)) }
+    ensures { flights.new
+        ≡ flights_after_opening opened (flights_after_start started (flights_after_end reply ended flights.old)) }
 {
     if let Some(queueing) = ended {
         end_flight(flights, reply, queueing);

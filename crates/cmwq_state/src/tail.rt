@@ -89,8 +89,8 @@ impl<T: Copy> Tail<T> {
         self.kept.push_reserved(item);
     }
 
-    /// Gives away all that is kept: `out` has it then, and the tail keeps what `out` was, an empty buffer that is large enough.
-    /// Nothing is copied.
+    /// Gives away all that is kept: `out` has it then, and the tail keeps what `out` was, an empty buffer that is large
+    /// enough. Nothing is copied.
     pub fn give(&mut self, out: &mut Vec<T>)
         requires empty { out.old.items ≡ [] }
         requires large { self.old.room ≤ vec_capacity out.old }

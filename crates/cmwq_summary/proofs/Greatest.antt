@@ -1,6 +1,9 @@
 -- What is open at a place, and the most that ever was, go on with each entry.
 use Rattle.cmwq_model.specs.Prelude.{most_cpus}
-use Rattle.std.proofs.Common.{◌≡◌, ◌⊎◌, ℕ, ◌+◌, ◌-◌, ◌*◌, ◌/◌, ◌%◌, ◌<◌, ◌≤◌, Bool, true, false, cond, ◌==◌, ◌&&◌, max, List, [], ◌∷◌, length, get_or, set, eqb, filter, count_by, Option, Some, None, option_to_list, refl, sym, ap, ap₂, ◌∙◌, subst, inl, inr, arith, replicate, length-set, get_or-set_other, get_or-set_same}
+use Rattle.std.proofs.Common.{◌≡◌, ◌⊎◌, ℕ, ◌+◌, ◌-◌, ◌*◌, ◌/◌, ◌%◌, ◌<◌, ◌≤◌, Bool, true, false, cond, ◌==◌, ◌&&◌, max}
+use Rattle.std.proofs.Common.{List, [], ◌∷◌, length, get_or, set, eqb, filter, count_by, Option, Some, None}
+use Rattle.std.proofs.Common.{option_to_list, refl, sym, ap, ap₂, ◌∙◌, subst, inl, inr, arith, replicate, length-set}
+use Rattle.std.proofs.Common.{get_or-set_other, get_or-set_same}
 use Rattle.std.proofs.lemmas.List.{length-replicate, get_or-replicate, get_or_past}
 use Rattle.std.proofs.lemmas.List.Sums.{count_by-le-length}
 use Rattle.std.proofs.lemmas.List.Filters.{sum_by-filter_both}
@@ -24,12 +27,15 @@ use Rattle.cmwq_summary.specs.Figures.{place_number}
 use Rattle.cmwq_theory_steps.specs.Looks.{keeps_widths}
 use Rattle.cmwq_summary.specs.Tallies.{with_one}
 use Rattle.cmwq_summary.proofs.ActiveRises.{no_more_active}
-use Rattle.cmwq_summary.specs.Peaks.{peak, open_count_at, active_count_at, most_open_at, most_active_at, AreMeasured, AreRaised, raised_at, without_one}
+use Rattle.cmwq_summary.specs.Peaks.{peak, open_count_at, active_count_at, most_open_at, most_active_at, AreMeasured}
+use Rattle.cmwq_summary.specs.Peaks.{AreRaised, raised_at, without_one}
 
 -- ---- at first
 
-pub none_measured : (measure : ℕ → List Entry → ℕ) (many : ℕ) → ((k : ℕ) → measure k [] ≡ 0) → AreMeasured measure many [] (replicate many 0)
-none_measured measure many none = record { many_are = length-replicate many 0; each = λ k h. get_or-replicate many k 0 0 h ∙ sym (none k) }
+pub none_measured : (measure : ℕ → List Entry → ℕ) (many : ℕ) → ((k : ℕ) → measure k [] ≡ 0)
+    → AreMeasured measure many [] (replicate many 0)
+none_measured measure many none =
+    record { many_are = length-replicate many 0; each = λ k h. get_or-replicate many k 0 0 h ∙ sym (none k) }
 
 pub none_open : (k : ℕ) → open_count_at k [] ≡ 0
 unfolding queueings
@@ -48,19 +54,26 @@ none_most_active s k = refl
 at_place : (q c k : ℕ) → c < most_cpus → ((q == k / most_cpus) && (c == k % most_cpus)) ≡ (most_cpus * q + c == k)
 at_place q c k h = by (q == k / most_cpus) (c == k % most_cpus) (most_cpus * q + c == k) refl refl refl
   where
-    by : (a b d : Bool) → (q == k / most_cpus) ≡ a → (c == k % most_cpus) ≡ b → (most_cpus * q + c == k) ≡ d → (a && b) ≡ d
+    by : (a b d : Bool) → (q == k / most_cpus) ≡ a → (c == k % most_cpus) ≡ b → (most_cpus * q + c == k) ≡ d
+        → (a && b) ≡ d
     by true true true qs cs is = refl
-    by true true false qs cs is = absurd (eqb-false (most_cpus * q + c) k is (let x = eqb-true q (k / most_cpus) qs in let y = eqb-true c (k % most_cpus) cs in omega arith))
-    by true false true qs cs is = absurd (eqb-false c (k % most_cpus) cs (let y = eqb-true (most_cpus * q + c) k is in omega arith))
+    by true true false qs cs is =
+        absurd (eqb-false (most_cpus * q + c) k is (let x = eqb-true q (k / most_cpus) qs in let y =
+        eqb-true c (k % most_cpus) cs in omega arith))
+    by true false true qs cs is =
+        absurd (eqb-false c (k % most_cpus) cs (let y = eqb-true (most_cpus * q + c) k is in omega arith))
     by true false false qs cs is = refl
-    by false b true qs cs is = absurd (eqb-false q (k / most_cpus) qs (let y = eqb-true (most_cpus * q + c) k is in omega arith))
+    by false b true qs cs is =
+        absurd (eqb-false q (k / most_cpus) qs (let y = eqb-true (most_cpus * q + c) k is in omega arith))
     by false b false qs cs is = refl
 
 -- how many of one are of it
-count_one : (k : ℕ) (o : Option Queueing) → ((x : Queueing) → o ≡ Some x → x.place.cpu.0 < most_cpus) → count_by (is_on (k / most_cpus) (k % most_cpus)) (option_to_list o) ≡ one (is_at (option_map place_number o) k)
+count_one : (k : ℕ) (o : Option Queueing) → ((x : Queueing) → o ≡ Some x → x.place.cpu.0 < most_cpus)
+    → count_by (is_on (k / most_cpus) (k % most_cpus)) (option_to_list o) ≡ one (is_at (option_map place_number o) k)
 count_one k None there = refl
 count_one k (Some x) there =
-    count_by-cons (is_on (k / most_cpus) (k % most_cpus)) x [] ∙ ap (λ b. cond b 1 0 + 0) (at_place x.place.queue.0 x.place.cpu.0 k (there x refl)) ∙ by (place_number x == k)
+    count_by-cons (is_on (k / most_cpus) (k % most_cpus)) x []
+    ∙ ap (λ b. cond b 1 0 + 0) (at_place x.place.queue.0 x.place.cpu.0 k (there x refl)) ∙ by (place_number x == k)
   where
     by : (b : Bool) → cond b 1 0 + 0 ≡ one b
     by true = refl
@@ -68,21 +81,29 @@ count_one k (Some x) there =
 
 -- ---- one more and one less in a table
 
-with_one_at : (counts : List ℕ) (o : Option ℕ) (k : ℕ) → k < length counts → slice_index (with_one counts o) k ≡ slice_index counts k + one (is_at o k)
+with_one_at : (counts : List ℕ) (o : Option ℕ) (k : ℕ) → k < length counts
+    → slice_index (with_one counts o) k ≡ slice_index counts k + one (is_at o k)
 with_one_at counts None k h = omega arith
 with_one_at counts (Some j) k h = by (eqb j k) refl
   where
     by : (b : Bool) → eqb j k ≡ b → get_or (set counts j (slice_index counts j + 1)) k 0 ≡ slice_index counts k + one b
-    by true same = let here : j ≡ k = eqb-true j k same in subst (λ n. get_or (set counts n (slice_index counts n + 1)) k 0 ≡ slice_index counts k + 1) (sym here) (get_or-set_same counts k (slice_index counts k + 1) 0 h)
-    by false other = get_or-set_other counts j k (slice_index counts j + 1) 0 (λ e. eqb-false j k other (sym e)) ∙ omega arith
+    by true same = let here : j ≡ k = eqb-true j k same in
+        subst (λ n. get_or (set counts n (slice_index counts n + 1)) k 0 ≡ slice_index counts k + 1) (sym here)
+        (get_or-set_same counts k (slice_index counts k + 1) 0 h)
+    by false other = get_or-set_other counts j k (slice_index counts j + 1) 0 (λ e. eqb-false j k other (sym e))
+        ∙ omega arith
 
-without_one_at : (counts : List ℕ) (o : Option ℕ) (k : ℕ) → k < length counts → slice_index (without_one counts o) k ≡ slice_index counts k - one (is_at o k)
+without_one_at : (counts : List ℕ) (o : Option ℕ) (k : ℕ) → k < length counts → slice_index (without_one counts o) k
+    ≡ slice_index counts k - one (is_at o k)
 without_one_at counts None k h = omega arith
 without_one_at counts (Some j) k h = by (eqb j k) refl
   where
     by : (b : Bool) → eqb j k ≡ b → get_or (set counts j (slice_index counts j - 1)) k 0 ≡ slice_index counts k - one b
-    by true same = let here : j ≡ k = eqb-true j k same in subst (λ n. get_or (set counts n (slice_index counts n - 1)) k 0 ≡ slice_index counts k - 1) (sym here) (get_or-set_same counts k (slice_index counts k - 1) 0 h)
-    by false other = get_or-set_other counts j k (slice_index counts j - 1) 0 (λ e. eqb-false j k other (sym e)) ∙ omega arith
+    by true same = let here : j ≡ k = eqb-true j k same in
+        subst (λ n. get_or (set counts n (slice_index counts n - 1)) k 0 ≡ slice_index counts k - 1) (sym here)
+        (get_or-set_same counts k (slice_index counts k - 1) 0 h)
+    by false other = get_or-set_other counts j k (slice_index counts j - 1) 0 (λ e. eqb-false j k other (sym e))
+        ∙ omega arith
 
 pub length_with_one : (counts : List ℕ) (o : Option ℕ) → length (with_one counts o) ≡ length counts
 length_with_one counts None = refl
@@ -94,31 +115,44 @@ length_without_one counts (Some j) = length-set counts j _
 
 module _ (s : Layout) (past : List Entry) (e : Entry) (legal : IsLegal s (e ∷ past)) (inside : is_layout s ≡ true) where
   opened_there : (x : Queueing) → opening past e ≡ Some x → x.place.cpu.0 < most_cpus
-  opened_there x is = let there = (opened_are_there s past e x legal is).cpu in let few = (limits_of s inside).cpus.1 in omega arith
+  opened_there x is = let there = (opened_are_there s past e x legal is).cpu in let few = (limits_of s inside).cpus.1 in
+      omega arith
 
   ended_there : (x : Queueing) → ending past e ≡ Some x → x.place.cpu.0 < most_cpus
   unfolding IsLegal
-  ended_there x is = let there = (open_there s past x legal.2 (found (is_ended past e) (still_open past) x is).0).cpu in let few = (limits_of s inside).cpus.1 in omega arith
+  ended_there x is = let there = (open_there s past x legal.2 (found (is_ended past e) (still_open past) x is).0).cpu in
+      let few = (limits_of s inside).cpus.1 in omega arith
 
   -- what is open at a place after an entry
-  open_goes_on : (k : ℕ) → open_count_at k (e ∷ past) + one (is_at (option_map place_number (ending past e)) k) ≡ open_count_at k past + one (is_at (option_map place_number (opening past e)) k)
+  open_goes_on : (k : ℕ) → open_count_at k (e ∷ past) + one (is_at (option_map place_number (ending past e)) k)
+      ≡ open_count_at k past + one (is_at (option_map place_number (opening past e)) k)
   open_goes_on k =
       let on = is_on (k / most_cpus) (k % most_cpus) in
-      let after = ap (count_by on) (open_go_on s past e legal) ∙ count_append on (filter (survives past e) (still_open past)) (option_to_list (opening past e)) in
+      let after = ap (count_by on) (open_go_on s past e legal)
+      ∙ count_append on (filter (survives past e) (still_open past)) (option_to_list (opening past e)) in
       let opened = count_one k (opening past e) opened_there in
-      let before = sym (sum_by-filter_both (survives past e) (is_ended past e) (λ y. refl) (λ y. cond (on y) 1 0) (still_open past)) in
-      let ended : count_by on (filter (is_ended past e) (still_open past)) ≡ one (is_at (option_map place_number (ending past e)) k) = ap (count_by on) (one_ends s past e legal) ∙ count_one k (ending past e) ended_there in
-      let split : count_by on (still_open past) ≡ count_by on (filter (survives past e) (still_open past)) + count_by on (filter (is_ended past e) (still_open past)) = before in
+      let before =
+      sym (sum_by-filter_both (survives past e) (is_ended past e) (λ y. refl) (λ y. cond (on y) 1 0)
+      (still_open past)) in
+      let ended : count_by on (filter (is_ended past e) (still_open past))
+      ≡ one (is_at (option_map place_number (ending past e)) k) = ap (count_by on) (one_ends s past e legal)
+      ∙ count_one k (ending past e) ended_there in
+      let split : count_by on (still_open past) ≡ count_by on (filter (survives past e) (still_open past)) + count_by on
+      (filter (is_ended past e) (still_open past)) = before in
       omega (arith, after, opened, split, ended)
 
   pub open_ones_go_on : (many : ℕ) (old : List ℕ) → AreMeasured open_count_at many past old
-      → AreMeasured open_count_at many (e ∷ past) (without_one (with_one old (option_map place_number (opening past e))) (option_map place_number (ending past e)))
+      → AreMeasured open_count_at many (e ∷ past)
+      (without_one (with_one old (option_map place_number (opening past e)))
+      (option_map place_number (ending past e)))
   open_ones_go_on many old are = record {
     many_are = length_without_one more (option_map place_number (ending past e)) ∙ long;
     each = λ k h.
         let there : k < length old = let m = are.many_are in omega arith in
         let first = with_one_at old (option_map place_number (opening past e)) k there in
-        let second = without_one_at more (option_map place_number (ending past e)) k (rw (length_with_one old (option_map place_number (opening past e))) there) in
+        let second =
+        without_one_at more (option_map place_number (ending past e)) k
+        (rw (length_with_one old (option_map place_number (opening past e))) there) in
         let step = open_goes_on k in let was = are.each k h in
         omega (arith, first, second, step, was);
   }
@@ -137,63 +171,92 @@ module _ (s : Layout) (past : List Entry) (e : Entry) (legal : IsLegal s (e ∷ 
   below_peak measure (d ∷ h) = omega arith
 
   -- where the measure rises only where something is opened
-  peaks_go_on : (measure : ℕ → List Entry → ℕ) (many : ℕ) (old now : List ℕ) → ((k : ℕ) → is_at (option_map place_number (opening past e)) k ≡ false → measure k (e ∷ past) ≤ measure k past)
-      → AreMeasured (λ k. peak (measure k)) many past old → AreMeasured measure many (e ∷ past) now → AreMeasured (λ k. peak (measure k)) many (e ∷ past) (raised_at old (option_map place_number (opening past e)) now)
+  peaks_go_on : (measure : ℕ → List Entry → ℕ) (many : ℕ) (old now : List ℕ)
+      → ((k : ℕ) → is_at (option_map place_number (opening past e)) k ≡ false → measure k (e ∷ past) ≤ measure k past)
+      → AreMeasured (λ k. peak (measure k)) many past old → AreMeasured measure many (e ∷ past) now
+      → AreMeasured (λ k. peak (measure k)) many (e ∷ past)
+      (raised_at old (option_map place_number (opening past e)) now)
   unfolding peak
   peaks_go_on measure many old now falls are is_now = of (option_map place_number (opening past e)) refl
     where
-      no_more : (k : ℕ) → is_at (option_map place_number (opening past e)) k ≡ false → max (peak (measure k) past) (measure k (e ∷ past)) ≡ peak (measure k) past
+      no_more : (k : ℕ) → is_at (option_map place_number (opening past e)) k ≡ false
+          → max (peak (measure k) past) (measure k (e ∷ past)) ≡ peak (measure k) past
       no_more k none = let less = falls k none in let most = below_peak (measure k) past in omega (arith, less, most)
 
-      of : (o : Option ℕ) → option_map place_number (opening past e) ≡ o → AreMeasured (λ k. peak (measure k)) many (e ∷ past) (raised_at old o now)
-      of None is = record { many_are = are.many_are; each = λ k h. are.each k h ∙ sym (no_more k (ap (λ o. is_at o k) is)) }
+      of : (o : Option ℕ) → option_map place_number (opening past e) ≡ o
+          → AreMeasured (λ k. peak (measure k)) many (e ∷ past) (raised_at old o now)
+      of None is =
+          record { many_are = are.many_are; each = λ k h. are.each k h ∙ sym (no_more k (ap (λ o. is_at o k) is)) }
       of (Some j) is = record { many_are = length-set old j _ ∙ are.many_are; each = λ k h. by k h (eqb j k) refl }
         where
-          by : (k : ℕ) → k < many → (b : Bool) → eqb j k ≡ b → get_or (set old j (max (slice_index old j) (slice_index now j))) k 0 ≡ max (peak (measure k) past) (measure k (e ∷ past))
+          by : (k : ℕ) → k < many → (b : Bool) → eqb j k ≡ b
+              → get_or (set old j (max (slice_index old j) (slice_index now j))) k 0
+              ≡ max (peak (measure k) past) (measure k (e ∷ past))
           by k h true same =
-              let here : j ≡ k = eqb-true j k same in let there : k < length old = let m = are.many_are in omega arith in
-              subst (λ n. get_or (set old n (max (slice_index old n) (slice_index now n))) k 0 ≡ max (peak (measure k) past) (measure k (e ∷ past))) (sym here)
+              let here : j ≡ k = eqb-true j k same in let there : k < length old = let m = are.many_are in
+              omega arith in
+              subst (λ n. get_or (set old n (max (slice_index old n) (slice_index now n))) k 0
+              ≡ max (peak (measure k) past) (measure k (e ∷ past))) (sym here)
               (get_or-set_same old k _ 0 there ∙ ap₂ max (are.each k h) (is_now.each k h))
-          by k h false other = get_or-set_other old j k _ 0 (λ e. eqb-false j k other (sym e)) ∙ are.each k h ∙ sym (no_more k (ap (λ o. is_at o k) is ∙ other))
+          by k h false other = get_or-set_other old j k _ 0 (λ e. eqb-false j k other (sym e)) ∙ are.each k h
+              ∙ sym (no_more k (ap (λ o. is_at o k) is ∙ other))
 
-  pub most_open_goes_on : (many : ℕ) (old open_now : List ℕ) → AreMeasured most_open_at many past old → AreMeasured open_count_at many (e ∷ past) open_now
+  pub most_open_goes_on : (many : ℕ) (old open_now : List ℕ) → AreMeasured most_open_at many past old
+      → AreMeasured open_count_at many (e ∷ past) open_now
       → AreMeasured most_open_at many (e ∷ past) (raised_at old (option_map place_number (opening past e)) open_now)
-  most_open_goes_on many old open_now are now = peaks_go_on open_count_at many old open_now (λ k none. let step = open_goes_on k in let nothing : one (is_at (option_map place_number (opening past e)) k) ≡ 0 = ap one none in omega (arith, step, nothing)) are now
+  most_open_goes_on many old open_now are now =
+      peaks_go_on open_count_at many old open_now (λ k none. let step = open_goes_on k in
+      let nothing : one (is_at (option_map place_number (opening past e)) k) ≡ 0 = ap one none in
+      omega (arith, step, nothing)) are now
 
   -- the counts of the active ones are what is measured of them
-  active_measured : (counts : List ℕ) → AreActiveCounts s (e ∷ past) counts → AreMeasured (active_count_at s) (most_cpus * length s.queues) (e ∷ past) counts
+  active_measured : (counts : List ℕ) → AreActiveCounts s (e ∷ past) counts
+      → AreMeasured (active_count_at s) (most_cpus * length s.queues) (e ∷ past) counts
   active_measured counts active = record {
     many_are = active.many;
     each = λ k h.
         let place : most_cpus * (k / most_cpus) + k % most_cpus ≡ k = omega arith in
-        subst (λ n. slice_index counts n ≡ active_count_at s k (e ∷ past)) place (active.each (k / most_cpus) (k % most_cpus) (omega arith) (omega arith));
+        subst (λ n. slice_index counts n ≡ active_count_at s k (e ∷ past)) place
+        (active.each (k / most_cpus) (k % most_cpus) (omega arith) (omega arith));
   }
 
   -- as long as no width changes
-  pub most_active_goes_on_opened : (old counts : List ℕ) → keeps_widths e.reply ≡ true → AreMeasured (most_active_at s) (most_cpus * length s.queues) past old → AreActiveCounts s (e ∷ past) counts
-      → AreMeasured (most_active_at s) (most_cpus * length s.queues) (e ∷ past) (raised_at old (option_map place_number (opening past e)) counts)
+  pub most_active_goes_on_opened : (old counts : List ℕ) → keeps_widths e.reply ≡ true
+      → AreMeasured (most_active_at s) (most_cpus * length s.queues) past old → AreActiveCounts s (e ∷ past) counts
+      → AreMeasured (most_active_at s) (most_cpus * length s.queues) (e ∷ past)
+      (raised_at old (option_map place_number (opening past e)) counts)
   most_active_goes_on_opened old counts keeps are active =
       peaks_go_on (active_count_at s) (most_cpus * length s.queues) old counts
-      (λ k none. no_more_active (k / most_cpus) (k % most_cpus) s past e legal keeps (count_one k (opening past e) opened_there ∙ ap one none))
+      (λ k none. no_more_active (k / most_cpus) (k % most_cpus) s past e legal keeps
+      (count_one k (opening past e) opened_there ∙ ap one none))
       are (active_measured counts active)
 
   -- and at any entry
-  pub most_active_goes_on : (old new counts : List ℕ) → AreMeasured (most_active_at s) (most_cpus * length s.queues) past old → AreActiveCounts s (e ∷ past) counts → AreRaised old new counts
+  pub most_active_goes_on : (old new counts : List ℕ)
+      → AreMeasured (most_active_at s) (most_cpus * length s.queues) past old → AreActiveCounts s (e ∷ past) counts
+      → AreRaised old new counts
       → AreMeasured (most_active_at s) (most_cpus * length s.queues) (e ∷ past) new
   unfolding peak
   most_active_goes_on old new counts are active raised = record {
     many_are = raised.many_are ∙ are.many_are;
-    each = λ k h. let there : k < length old = let m = are.many_are in omega arith in raised.each k there ∙ ap₂ max (are.each k h) ((active_measured counts active).each k h);
+    each = λ k h. let there : k < length old = let m = are.many_are in omega arith in
+        raised.each k there ∙ ap₂ max (are.each k h) ((active_measured counts active).each k h);
   }
 
 -- ---- there is room for one more
 
 pub open_few : (s : Layout) (past : List Entry) (k : ℕ) → IsLegal s past → open_count_at k past ≤ 2 * s.items
-open_few s past k legal = let few = count_by-le-length (is_on (k / most_cpus) (k % most_cpus)) (still_open past) in let all = two_for_each_item s past legal in omega arith
+open_few s past k legal = let few = count_by-le-length (is_on (k / most_cpus) (k % most_cpus)) (still_open past) in
+    let all = two_for_each_item s past legal in omega arith
 
-pub open_ones_few : (s : Layout) (past : List Entry) (counts : List ℕ) → IsLegal s past → is_layout s ≡ true → AreMeasured open_count_at (most_cpus * length s.queues) past counts → (k : ℕ) → slice_index counts k < 9223372036854775808
+pub open_ones_few : (s : Layout) (past : List Entry) (counts : List ℕ) → IsLegal s past → is_layout s ≡ true
+    → AreMeasured open_count_at (most_cpus * length s.queues) past counts → (k : ℕ)
+    → slice_index counts k < 9223372036854775808
 open_ones_few s past counts legal inside are k = of (cases_lt k (most_cpus * length s.queues))
   where
-    of : (k < most_cpus * length s.queues) ⊎ (most_cpus * length s.queues ≤ k) → slice_index counts k < 9223372036854775808
-    of (inl h) = let same = are.each k h in let few = open_few s past k legal in let items = (limits_of s inside).items.1 in omega arith
-    of (inr h) = let long : length counts ≤ k = let m = are.many_are in omega arith in let none = get_or_past counts k 0 long in omega arith
+    of : (k < most_cpus * length s.queues) ⊎ (most_cpus * length s.queues ≤ k)
+        → slice_index counts k < 9223372036854775808
+    of (inl h) = let same = are.each k h in let few = open_few s past k legal in let items =
+        (limits_of s inside).items.1 in omega arith
+    of (inr h) = let long : length counts ≤ k = let m = are.many_are in omega arith in let none =
+        get_or_past counts k 0 long in omega arith

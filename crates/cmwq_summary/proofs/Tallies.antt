@@ -1,5 +1,7 @@
 -- A table of counts goes on as the definition does.
-use Rattle.std.proofs.Common.{◌≡◌, ◌⊎◌, ℕ, ◌+◌, ◌<◌, ◌≤◌, Bool, true, false, List, [], ◌∷◌, length, get_or, set, eqb, Option, Some, None, refl, sym, ap, ◌∙◌, inl, inr, arith, replicate, length-set, get_or-set_other, get_or-set_same}
+use Rattle.std.proofs.Common.{◌≡◌, ◌⊎◌, ℕ, ◌+◌, ◌<◌, ◌≤◌, Bool, true, false, List, [], ◌∷◌, length, get_or, set, eqb}
+use Rattle.std.proofs.Common.{Option, Some, None, refl, sym, ap, ◌∙◌, inl, inr, arith, replicate, length-set}
+use Rattle.std.proofs.Common.{get_or-set_other, get_or-set_same}
 use Rattle.std.proofs.lemmas.List.{length-replicate, get_or-replicate, get_or_past}
 use Rattle.std.proofs.lemmas.Bool.{cases_lt, eqb-true, eqb-false}
 use Rattle.std.specs.Prelude.{if◌then◌else◌, slice_index}
@@ -22,32 +24,41 @@ tally_within key (e ∷ past) k = of (is_at (key past e) k) (tally_within key pa
     of true h = omega arith
     of false h = omega arith
 
-pub counts_within : (key : Key) (many : ℕ) (past : List Entry) (counts : List ℕ) (k : ℕ) → IsTallyTable key many past counts → slice_index counts k ≤ length past
+pub counts_within : (key : Key) (many : ℕ) (past : List Entry) (counts : List ℕ) (k : ℕ)
+    → IsTallyTable key many past counts → slice_index counts k ≤ length past
 counts_within key many past counts k t = of (cases_lt k many)
   where
     of : (k < many) ⊎ (many ≤ k) → slice_index counts k ≤ length past
     of (inl h) = let same = t.each k h in let within = tally_within key past k in omega arith
-    of (inr h) = let past_all : length counts ≤ k = let m = t.many_are in omega arith in let none = get_or_past counts k 0 past_all in omega arith
+    of (inr h) = let past_all : length counts ≤ k = let m = t.many_are in omega arith in let none =
+        get_or_past counts k 0 past_all in omega arith
 
-pub counts_few : (key : Key) (many : ℕ) (past : List Entry) (counts : List ℕ) → length past < 9223372036854775808 → IsTallyTable key many past counts → (k : ℕ) → slice_index counts k < 9223372036854775808
+pub counts_few : (key : Key) (many : ℕ) (past : List Entry) (counts : List ℕ) → length past < 9223372036854775808
+    → IsTallyTable key many past counts → (k : ℕ) → slice_index counts k < 9223372036854775808
 counts_few key many past counts few t k = let within = counts_within key many past counts k t in omega arith
 
 -- after an entry
-pub tally_goes_on : (key : Key) (many : ℕ) (past : List Entry) (e : Entry) (counts : List ℕ) (at : Option ℕ) → key past e ≡ at → IsTallyTable key many past counts → IsTallyTable key many (e ∷ past) (with_one counts at)
+pub tally_goes_on : (key : Key) (many : ℕ) (past : List Entry) (e : Entry) (counts : List ℕ) (at : Option ℕ)
+    → key past e ≡ at → IsTallyTable key many past counts → IsTallyTable key many (e ∷ past) (with_one counts at)
 unfolding tally
-tally_goes_on key many past e counts None is t = record { many_are = t.many_are; each = λ k h. let same = t.each k h in rw is (omega arith) }
-tally_goes_on key many past e counts (Some j) is t = record { many_are = length-set counts j _ ∙ t.many_are; each = λ k h. rw is (by k h (eqb j k) refl) }
+tally_goes_on key many past e counts None is t =
+    record { many_are = t.many_are; each = λ k h. let same = t.each k h in rw is (omega arith) }
+tally_goes_on key many past e counts (Some j) is t =
+    record { many_are = length-set counts j _ ∙ t.many_are; each = λ k h. rw is (by k h (eqb j k) refl) }
   where
     more : ℕ
     more = slice_index counts j + 1
 
-    by : (k : ℕ) → k < many → (b : Bool) → eqb j k ≡ b → get_or (set counts j more) k 0 ≡ tally key past k + (if b then 1 else 0)
+    by : (k : ℕ) → k < many → (b : Bool) → eqb j k ≡ b
+        → get_or (set counts j more) k 0 ≡ tally key past k + (if b then 1 else 0)
     by k h true same =
         let here : j ≡ k = eqb-true j k same in
         let there : j < length counts = let m = t.many_are in omega arith in
         let one_more = t.each k h in
         rw (← here) (get_or-set_same counts j more 0 there ∙ ap (λ n. n + 1) (t.each j (omega arith)))
-    by k h false other = let kept = t.each k h in get_or-set_other counts j k more 0 (λ e. eqb-false j k other (sym e)) ∙ omega arith
+    by k h false other = let kept = t.each k h in get_or-set_other counts j k more 0 (λ e. eqb-false j k other (sym e))
+        ∙ omega arith
 
-pub told_tally : (key : Key) (many : ℕ) (past : List Entry) (e : Entry) (old new : List ℕ) (at : Option ℕ) → at ≡ key past e → new ≡ with_one old at → IsTallyTable key many past old → IsTallyTable key many (e ∷ past) new
+pub told_tally : (key : Key) (many : ℕ) (past : List Entry) (e : Entry) (old new : List ℕ) (at : Option ℕ)
+    → at ≡ key past e → new ≡ with_one old at → IsTallyTable key many past old → IsTallyTable key many (e ∷ past) new
 told_tally key many past e old new at is made t = rw made (tally_goes_on key many past e old at (sym is) t)

@@ -1,6 +1,7 @@
 -- What is kept of a worker: what it does, since when, and how long its runs were awake and asleep until then.
 use Rattle.cmwq_model.specs.Prelude.{most_workers}
-use Rattle.std.specs.Prelude.{◌≡◌, ℕ, ◌+◌, ◌*◌, ◌-◌, ◌<◌, ◌≤◌, Bool, true, false, if◌then◌else◌, List, length, slice_index_or, slice_set}
+use Rattle.std.specs.Prelude.{◌≡◌, ℕ, ◌+◌, ◌*◌, ◌-◌, ◌<◌, ◌≤◌, Bool, true, false, if◌then◌else◌, List, length}
+use Rattle.std.specs.Prelude.{slice_index_or, slice_set}
 use Rattle.cmwq_model.specs.declared.id.WorkerId.{WorkerId}
 use Rattle.cmwq_model.specs.declared.id.Who.{Who}
 use Rattle.cmwq_model.specs.declared.id.Who.TheVariants.{Caller, Worker}
@@ -59,7 +60,7 @@ pub record IsUpTo (a : Activity) (to : Span) : Type 0 where
   pub asleep_entries : a.asleep.entries + (to.entries - a.since.entries) < 9223372036854775808
   pub asleep_ticks : a.asleep.ticks + (to.ticks - a.since.ticks) < 9223372036854775808
 
--- the moment behind a past
+-- the moment after a past
 abbrev pub behind : List Entry → Span
 behind past = record { entries = length past; ticks = now past }
 
@@ -82,7 +83,8 @@ activity_in activities w = slice_index_or activities (worker_number w) IDLE
 -- there is one of each worker on so many CPUs
 pub record AreActivities (cpus : ℕ) (past : List Entry) (activities : List Activity) : Type 0 where
   pub many_are : length activities ≡ 2 * most_workers * cpus
-  pub each : (w : WorkerId) → w.pool.cpu.0 < cpus → w.index < most_workers → IsActivity past w (activity_in activities w)
+  pub each : (w : WorkerId) → w.pool.cpu.0 < cpus → w.index < most_workers
+      → IsActivity past w (activity_in activities w)
 
 -- that of the entry's own worker may begin anew
 abbrev pub MayAct : Who → List Activity → Span → Type 0
@@ -92,7 +94,9 @@ MayAct (Worker w) activities to = IsUpTo (activity_in activities w) to
 -- the activities after an entry: that of its own worker begins anew
 abbrev pub acted_by : Who → List Activity → Reply → Span → List Activity
 acted_by (Caller c) activities r to = activities
-acted_by (Worker w) activities r to = slice_set activities (worker_number w) (activity_from (activity_in activities w) to (doing_after r (activity_in activities w).doing))
+acted_by (Worker w) activities r to =
+    slice_set activities (worker_number w)
+    (activity_from (activity_in activities w) to (doing_after r (activity_in activities w).doing))
 
 abbrev pub activities_after : List Activity → Entry → Span → List Activity
 activities_after activities e to = acted_by e.who activities e.reply to

@@ -1,5 +1,6 @@
 -- The largest and the sum of what entries extend to by some key.
-use Rattle.std.specs.Prelude.{◌≡◌, ℕ, ◌+◌, ◌*◌, ◌<◌, ◌≤◌, if◌then◌else◌, max, List, [], ◌∷◌, length, slice_index_or, slice_set, Option, Some, None}
+use Rattle.std.specs.Prelude.{◌≡◌, ℕ, ◌+◌, ◌*◌, ◌<◌, ◌≤◌, if◌then◌else◌, max, List, [], ◌∷◌, length, slice_index_or}
+use Rattle.std.specs.Prelude.{slice_set, Option, Some, None}
 use Rattle.cmwq_model.specs.declared.entry.Entry.{Entry}
 use Rattle.cmwq_model.specs.Prelude.{is_at}
 use Rattle.cmwq_summary.specs.declared.span.Span.{Span}
@@ -27,10 +28,11 @@ total key extent (e ∷ past) k = total key extent past k + (if is_at (key past 
 abbrev pub span_at : List Span → ℕ → Span
 span_at spans k = slice_index_or spans k NO_TIME
 
-pub record AreLongest (key : Key) (entries ticks : Extent) (many : ℕ) (past : List Entry) (spans : List Span) : Type 0 where
-  pub many_are : length spans ≡ many
-  pub each_entries : (k : ℕ) → k < many → (span_at spans k).entries ≡ largest key entries past k
-  pub each_ticks : (k : ℕ) → k < many → (span_at spans k).ticks ≡ largest key ticks past k
+pub record AreLongest (key : Key) (entries ticks : Extent) (many : ℕ) (past : List Entry) (spans : List Span) : Type 0
+  where
+    pub many_are : length spans ≡ many
+    pub each_entries : (k : ℕ) → k < many → (span_at spans k).entries ≡ largest key entries past k
+    pub each_ticks : (k : ℕ) → k < many → (span_at spans k).ticks ≡ largest key ticks past k
 
 -- the table after a span under this number, where it has that
 abbrev pub with_longest : List Span → Option ℕ → Span → List Span
@@ -46,11 +48,12 @@ pub record IsFewTotal (past : List Entry) (t : Total) : Type 0 where
   pub entries : t.entries ≤ 4611686018427387904 * length past
   pub ticks : t.ticks ≤ 4611686018427387904 * length past
 
-pub record AreTotals (key : Key) (entries ticks : Extent) (many : ℕ) (past : List Entry) (totals : List Total) : Type 0 where
-  pub many_are : length totals ≡ many
-  pub each_entries : (k : ℕ) → k < many → (total_at totals k).entries ≡ total key entries past k
-  pub each_ticks : (k : ℕ) → k < many → (total_at totals k).ticks ≡ total key ticks past k
-  pub few : (k : ℕ) → IsFewTotal past (total_at totals k)
+pub record AreTotals (key : Key) (entries ticks : Extent) (many : ℕ) (past : List Entry) (totals : List Total) : Type 0
+  where
+    pub many_are : length totals ≡ many
+    pub each_entries : (k : ℕ) → k < many → (total_at totals k).entries ≡ total key entries past k
+    pub each_ticks : (k : ℕ) → k < many → (total_at totals k).ticks ≡ total key ticks past k
+    pub few : (k : ℕ) → IsFewTotal past (total_at totals k)
 
 abbrev pub plus_span : Total → Span → Total
 plus_span t span = record { entries = t.entries + span.entries; ticks = t.ticks + span.ticks }

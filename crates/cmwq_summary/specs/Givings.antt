@@ -1,5 +1,6 @@
 -- When the unended tickets were given: a row for each caller, by age.
-use Rattle.std.specs.Prelude.{ℕ, ◌-◌, ◌<◌, ◌==◌, ◌++◌, Bool, not, List, [], ◌∷◌, length, map, filter, find, slice_get, slice_index_or, slice_set, Option, Some, None}
+use Rattle.std.specs.Prelude.{ℕ, ◌-◌, ◌<◌, ◌==◌, ◌++◌, Bool, not, List, [], ◌∷◌, length, map, filter, find, slice_get}
+use Rattle.std.specs.Prelude.{slice_index_or, slice_set, Option, Some, None}
 use Rattle.std.specs.Option.{option_map_or}
 use Rattle.cmwq_model.specs.declared.entry.Entry.{Entry}
 use Rattle.cmwq_model.specs.declared.record.Ticket.{Ticket}
@@ -12,9 +13,10 @@ use Rattle.cmwq_summary.specs.Spans.{stretch}
 use Rattle.cmwq_summary.specs.Spent.{each_entry, each_tick}
 use Rattle.cmwq_summary.specs.Since.{added_since}
 
--- how many entries and ticks the entry with this number left behind it, and so the giving of a ticket
+-- how many entries and ticks there were up to the entry with this number, and so up to the giving of a ticket
 abbrev pub moment_behind : List Entry → ℕ → Span
-moment_behind past n = record { entries = length past - added_since each_entry past n; ticks = now past - added_since each_tick past n }
+moment_behind past n =
+    record { entries = length past - added_since each_entry past n; ticks = now past - added_since each_tick past n }
 
 abbrev pub giving_at : ℕ → Span → Giving
 giving_at n moment = record { number = n; moment = moment }
@@ -46,14 +48,16 @@ with_giving rows (Some c) g = slice_set rows c (givings_to rows c ++ g ∷ [])
 
 abbrev pub without_giving : GivingRows → Option Ticket → GivingRows
 without_giving rows None = rows
-without_giving rows (Some t) = slice_set rows t.caller.0 (filter (is_other_giving t.number) (givings_to rows t.caller.0))
+without_giving rows (Some t) =
+    slice_set rows t.caller.0 (filter (is_other_giving t.number) (givings_to rows t.caller.0))
 
 -- a caller has fewer than 64 where it is given one more
 abbrev pub HasRoomForGiving : GivingRows → Option ℕ → Type 0
 HasRoomForGiving rows None = Unit {0}
 HasRoomForGiving rows (Some c) = length (givings_to rows c) < 64
 
--- how long it is since a giving, and so how long the ticket waited that is ended now, and how long a caller's oldest one waits
+-- how long it is since a giving, and so how long the ticket waited that is ended now, and how long a caller's oldest
+-- one waits
 abbrev pub since_giving : Option Giving → Span → Span
 since_giving o to = option_map_or (λ (g : Giving). stretch g.moment to) o NO_TIME
 

@@ -18,7 +18,8 @@ use Rattle.cmwq_summary.specs.Givings.{givings_of}
 use Rattle.cmwq_summary.specs.Waits.{AreOpeningMoments, start_wait}
 use Rattle.cmwq_summary.specs.Peaks.{AreMeasured, open_count_at, most_open_at, most_active_at}
 use Rattle.cmwq_summary.specs.Kinds.{call_kinds, reply_kinds}
-use Rattle.cmwq_summary.specs.Figures.{by_call, by_reply, by_item_started, by_item_cancelled, by_calling, by_ticket, by_starter, by_place_opened, by_place_started, by_place_cancelled}
+use Rattle.cmwq_summary.specs.Figures.{by_call, by_reply, by_item_started, by_item_cancelled, by_calling, by_ticket}
+use Rattle.cmwq_summary.specs.Figures.{by_starter, by_place_opened, by_place_started, by_place_cancelled}
 
 pub record AreKinds (past : List Entry) (k : Kinds) : Type 0 where
   pub calls : IsTallyTable by_call call_kinds past k.calls
@@ -51,7 +52,8 @@ pub record ArePeaks (s : Layout) (past : List Entry) (p : Peaks) : Type 0 where
   pub most_open : AreMeasured most_open_at (most_cpus * length s.queues) past p.most_open
   pub most_active : AreMeasured (most_active_at s) (most_cpus * length s.queues) past p.most_active
 
-pub record IsSummary (s : Layout) (entries : List Entry) (time : ℕ) (kinds : Kinds) (items : Items) (callers : Callers) (workers : Workers) (places : Places) (peaks : Peaks) : Type 0 where
+pub record IsSummary (s : Layout) (entries : List Entry) (time : ℕ) (kinds : Kinds) (items : Items) (callers : Callers)
+    (workers : Workers) (places : Places) (peaks : Peaks) : Type 0 where
   pub time_is : time ≡ now (past_of entries)
   pub soon : time ≤ most_time
   pub kinds_are : AreKinds (past_of entries) kinds

@@ -1,6 +1,8 @@
--- The most that was ever open and active of a queue on a CPU: the greatest of what was so behind any front of the history.
+-- The most that was ever open and active of a queue on a CPU: the greatest of what was so after any front of the
+-- history.
 use Rattle.cmwq_model.specs.Prelude.{most_cpus}
-use Rattle.std.specs.Prelude.{◌≡◌, ℕ, ◌-◌, ◌/◌, ◌%◌, ◌<◌, max, List, [], ◌∷◌, length, count_by, slice_index, slice_set, Option, Some, None}
+use Rattle.std.specs.Prelude.{◌≡◌, ℕ, ◌-◌, ◌/◌, ◌%◌, ◌<◌, max, List, [], ◌∷◌, length, count_by, slice_index, slice_set}
+use Rattle.std.specs.Prelude.{Option, Some, None}
 use Rattle.cmwq_model.specs.declared.entry.Entry.{Entry}
 use Rattle.cmwq_model.specs.Prelude.{Layout, still_open}
 use Rattle.cmwq_theory_steps.specs.Places.{is_on}

@@ -3,7 +3,8 @@ use Rattle.std.specs.Prelude.{◌+◌, ◌-◌, max}
 use Rattle.cmwq_summary.specs.declared.span.Span.{Span}
 
 abbrev pub with_stretch : Span → Span → Span → Span
-with_stretch span from to = record { entries = span.entries + (to.entries - from.entries); ticks = span.ticks + (to.ticks - from.ticks) }
+with_stretch span from to =
+    record { entries = span.entries + (to.entries - from.entries); ticks = span.ticks + (to.ticks - from.ticks) }
 
 abbrev pub stretch : Span → Span → Span
 stretch from to = record { entries = to.entries - from.entries; ticks = to.ticks - from.ticks }

@@ -1,4 +1,5 @@
--- How long something went on: of the entries that came while it did so, how many there are, and how many ticks they let go by.
+-- How long something went on: of the entries that came while it did so, how many there are, and how many ticks they let
+-- go by.
 use Rattle.std.specs.Prelude.{ℕ, ◌+◌, Bool, if◌then◌else◌, List, [], ◌∷◌}
 use Rattle.cmwq_model.specs.declared.id.WorkerId.{WorkerId}
 use Rattle.cmwq_model.specs.declared.entry.Entry.{Entry}

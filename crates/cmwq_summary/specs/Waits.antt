@@ -34,7 +34,8 @@ all_start_ticks past p = total by_place_started (start_wait each_tick) past p
 
 pub record AreOpeningMoments (items : ℕ) (past : List Entry) (moments : List Span) : Type 0 where
   pub many_are : length moments ≡ items
-  pub each : (i : ℕ) (x : Queueing) → i < items → unstarted_queueing past i ≡ Some x → IsMoment past x.number (span_at moments i)
+  pub each : (i : ℕ) (x : Queueing) → i < items → unstarted_queueing past i ≡ Some x
+      → IsMoment past x.number (span_at moments i)
 
 -- the table after an entry, and how long the queueing waited that is started now
 abbrev pub with_opening : List Span → Option Queueing → Span → List Span

@@ -16,8 +16,8 @@ use cmwq_model::{Entry, NoMemory, Reply, Ticket, Who};
 use cmwq_state::Effect;
 use std::alloc::Global;
 
-/// How many calls each caller made, and how many tickets it was given; how long it waited longest for one that is ended, and when the
-/// others were given.
+/// How many calls each caller made, and how many tickets it was given; how long it waited longest for one that is
+/// ended, and when the others were given.
 #[derive(Drop)]
 pub(crate) struct Callers {
     pub(crate) calls: Tally,
@@ -43,10 +43,13 @@ impl Callers {
         })
     }
 
-    /// One entry more, behind which it is now.
+    /// One entry more, after which it is now.
     pub(crate) fn add(&mut self, effect: &Effect, now: Span)
-        requires { (s : Layout) × (past : List entries.Entry) × IsNext s past effect.now × (now ≡ behind (effect.now.entry ∷ past)) × AreCallers s past self.old }
-        ensures { (s : Layout) (past : List entries.Entry) → IsNext s past effect.now → now ≡ behind (effect.now.entry ∷ past) → AreCallers s past self.old → AreCallers s (effect.now.entry ∷ past) self.new }
+        requires { (s : Layout) × (past : List entries.Entry) × IsNext s past effect.now
+            × (now ≡ behind (effect.now.entry ∷ past)) × AreCallers s past self.old }
+        ensures { (s : Layout) (past : List entries.Entry) → IsNext s past effect.now
+            → now ≡ behind (effect.now.entry ∷ past) → AreCallers s past self.old
+            → AreCallers s (effect.now.entry ∷ past) self.new }
     {
         self.calls.add(caller_in(effect.entry.who));
         let caller = ticket_caller(&effect.entry);

@@ -1,6 +1,8 @@
 //! When the tickets were given that are unended.
-ghost use Rattle.std.specs.Prelude.{◌≡◌, ◌++◌, ◌∷◌, [], ◌<◌, length, filter, find, replicate, slice_get, vec_capacity, IfOk};
-ghost use Rattle.cmwq_summary.specs.Givings.{is_giving, is_other_giving, since_giving, waited_till_end, waits_since, with_giving, without_giving, HasRoomForGiving};
+ghost use Rattle.std.specs.Prelude.{◌≡◌, ◌++◌, ◌∷◌, [], ◌<◌, length, filter, find, replicate, slice_get, vec_capacity};
+ghost use Rattle.std.specs.Prelude.{IfOk};
+ghost use Rattle.cmwq_summary.specs.Givings.{is_giving, is_other_giving, since_giving, waited_till_end, waits_since};
+ghost use Rattle.cmwq_summary.specs.Givings.{with_giving, without_giving, HasRoomForGiving};
 
 use crate::span::{NO_TIME, Span};
 use cmwq_model::{NoMemory, Number, Ticket};
@@ -62,7 +64,7 @@ impl Row {
             .find(|giving| giving.number == number)
     }
 
-    /// Puts a giving behind all others.
+    /// Adds a giving after all others.
     fn push(&mut self, giving: Giving)
         requires { length self.old < TICKETS_OF_CALLER }
         ensures { self.new ≡ self.old ++ giving ∷ [] }

@@ -31,8 +31,10 @@ impl Items {
 
     /// One entry more.
     pub(crate) fn add(&mut self, effect: &Effect)
-        requires { (many : ℕ) × (past : List entries.Entry) × (length past < 9223372036854775808) × AreItems many past self.old }
-        ensures { (many : ℕ) (s : Layout) (past : List entries.Entry) → IsEffect s past effect.now → AreItems many past self.old → AreItems many (effect.now.entry ∷ past) self.new }
+        requires { (many : ℕ) × (past : List entries.Entry) × (length past < 9223372036854775808)
+            × AreItems many past self.old }
+        ensures { (many : ℕ) (s : Layout) (past : List entries.Entry) → IsEffect s past effect.now
+            → AreItems many past self.old → AreItems many (effect.now.entry ∷ past) self.new }
     {
         self.runs.add(item_in(effect.started));
         self.cancels.add(item_in(cancelled(effect)));

@@ -9,7 +9,7 @@ use cmwq_model::{NoMemory, Queueing};
 use std::alloc::Global;
 use std::marker::Model;
 
-/// By item, behind which entry and at which tick it was queued last.
+/// By item, after which entry and at which tick it was queued last.
 #[derive(Drop)]
 pub(crate) struct Openings {
     moments: Vec<Span>,

@@ -13,7 +13,8 @@ use cmwq_model::{NoMemory, Reply};
 use cmwq_state::Effect;
 use std::alloc::Global;
 
-/// How many queueings of each queue are open on each CPU; how many were at most, and how many of them were active at most.
+/// How many queueings of each queue are open on each CPU; how many were at most, and how many of them were active at
+/// most.
 #[derive(Drop)]
 pub(crate) struct Peaks {
     pub(crate) open: Tally,
@@ -38,10 +39,13 @@ impl Peaks {
         })
     }
 
-    /// One entry more, behind which so many are active of each queue on each CPU.
+    /// One entry more, after which so many are active of each queue on each CPU.
     pub(crate) fn add(&mut self, effect: &Effect, active_counts: &[u32])
-        requires { (s : Layout) × (past : List entries.Entry) × IsNext s past effect.now × AreActiveCounts s (effect.now.entry ∷ past) active_counts.now × ArePeaks s past self.old }
-        ensures { (s : Layout) (past : List entries.Entry) → IsNext s past effect.now → AreActiveCounts s (effect.now.entry ∷ past) active_counts.now → ArePeaks s past self.old → ArePeaks s (effect.now.entry ∷ past) self.new }
+        requires { (s : Layout) × (past : List entries.Entry) × IsNext s past effect.now
+            × AreActiveCounts s (effect.now.entry ∷ past) active_counts.now × ArePeaks s past self.old }
+        ensures { (s : Layout) (past : List entries.Entry) → IsNext s past effect.now
+            → AreActiveCounts s (effect.now.entry ∷ past) active_counts.now → ArePeaks s past self.old
+            → ArePeaks s (effect.now.entry ∷ past) self.new }
     {
         let opened = place_in(effect.opened);
         self.open.add(opened);
@@ -55,7 +59,8 @@ impl Peaks {
     }
 }
 
-/// Whether the queues are as wide after an entry with this reply as before it, so that more are active only where it opens something.
+/// Whether the queues are as wide after an entry with this reply as before it, so that more are active only where it
+/// opens something.
 fn keeps_widths(reply: Reply) -> bool
     ensures { result ≡ keeps_widths reply }
 {

@@ -20,8 +20,8 @@ use std::alloc::Global;
 /// How many CPUs a shape may have.
 pub(crate) const CPUS: usize = MOST_CPUS as usize;
 
-/// How many queueings of each queue there were on each CPU, how many of them started, and how many were cancelled; and how long
-/// the longest wait for a start was, and all of them together.
+/// How many queueings of each queue there were on each CPU, how many of them started, and how many were cancelled; and
+/// how long the longest wait for a start was, and all of them together.
 #[derive(Drop)]
 pub(crate) struct Places {
     pub(crate) queueings: Tally,
@@ -55,10 +55,13 @@ impl Places {
         })
     }
 
-    /// One entry more, behind which it is now.
+    /// One entry more, after which it is now.
     pub(crate) fn add(&mut self, effect: &Effect, now: Span)
-        requires { (s : Layout) × (past : List entries.Entry) × IsNext s past effect.now × (now ≡ behind (effect.now.entry ∷ past)) × ArePlaces s.items (most_cpus * length s.queues) past self.old }
-        ensures { (s : Layout) (past : List entries.Entry) → IsNext s past effect.now → now ≡ behind (effect.now.entry ∷ past) → ArePlaces s.items (most_cpus * length s.queues) past self.old → ArePlaces s.items (most_cpus * length s.queues) (effect.now.entry ∷ past) self.new }
+        requires { (s : Layout) × (past : List entries.Entry) × IsNext s past effect.now
+            × (now ≡ behind (effect.now.entry ∷ past)) × ArePlaces s.items (most_cpus * length s.queues) past self.old }
+        ensures { (s : Layout) (past : List entries.Entry) → IsNext s past effect.now
+            → now ≡ behind (effect.now.entry ∷ past) → ArePlaces s.items (most_cpus * length s.queues) past self.old
+            → ArePlaces s.items (most_cpus * length s.queues) (effect.now.entry ∷ past) self.new }
     {
         self.queueings.add(place_in(effect.opened));
         self.cancels.add(place_in(cancelled(effect)));

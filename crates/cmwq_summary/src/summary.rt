@@ -76,7 +76,7 @@ impl Summary {
         })
     }
 
-    /// One entry more, behind which so many are active of each queue on each CPU.
+    /// One entry more, after which so many are active of each queue on each CPU.
     pub fn add(&mut self, effect: &Effect, active_counts: &[u32])
         requires effect { IsEffect self.old.layout (past_summed self.old) effect.now }
         requires time { has_time (past_summed self.old) effect.now.entry.call ≡ true }

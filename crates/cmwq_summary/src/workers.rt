@@ -37,10 +37,13 @@ impl Workers {
         Ok(Workers { runs, activities })
     }
 
-    /// One entry more, behind which it is now.
+    /// One entry more, after which it is now.
     pub(crate) fn add(&mut self, effect: &Effect, now: Span)
-        requires { (s : Layout) × (past : List entries.Entry) × IsNext s past effect.now × (now ≡ behind (effect.now.entry ∷ past)) × AreWorkers s.cpus past self.old }
-        ensures { (s : Layout) (past : List entries.Entry) → IsNext s past effect.now → now ≡ behind (effect.now.entry ∷ past) → AreWorkers s.cpus past self.old → AreWorkers s.cpus (effect.now.entry ∷ past) self.new }
+        requires { (s : Layout) × (past : List entries.Entry) × IsNext s past effect.now
+            × (now ≡ behind (effect.now.entry ∷ past)) × AreWorkers s.cpus past self.old }
+        ensures { (s : Layout) (past : List entries.Entry) → IsNext s past effect.now
+            → now ≡ behind (effect.now.entry ∷ past) → AreWorkers s.cpus past self.old
+            → AreWorkers s.cpus (effect.now.entry ∷ past) self.new }
     {
         self.runs.add(starter(&effect.entry));
         act(&mut self.activities, &effect.entry, now);

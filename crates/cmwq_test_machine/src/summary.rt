@@ -14,7 +14,8 @@ struct Summing {
     execution: Execution,
     judge: Judge,
     summary: Summary,
-    ghost same: { (summary.layout ≡ judge.layout) × (summary.entries ≡ judge.entries) × (execution.layout ≡ judge.layout) },
+    ghost same: { (summary.layout ≡ judge.layout) × (summary.entries ≡ judge.entries)
+        × (execution.layout ≡ judge.layout) },
 }
 
 impl Summing {

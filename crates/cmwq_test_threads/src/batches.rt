@@ -98,7 +98,7 @@ const WAITS_FOR_LINES: Role = Role {
     ..IDLE
 };
 
-/// What is made is flushed while the hub goes on, behind the head, which has three lines.
+/// What is made is flushed while the hub goes on, after the head, which has three lines.
 #[test]
 fn a_quiet_hub_is_written_too(rt: HostRuntime) {
     let roles = [WAITS_FOR_LINES];

@@ -90,7 +90,7 @@ const FLUSHES_ONCE: Role = Role {
     ..IDLE
 };
 
-/// An item is held until forty flushes and a wait of each other kind have begun, behind its queueing and its start.
+/// An item is held until forty flushes and a wait of each other kind have begun, after its queueing and its start.
 #[test]
 fn forty_four_callers_wait_for_one_item(rt: HostRuntime) {
     let roles = [

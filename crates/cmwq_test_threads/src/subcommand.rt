@@ -1,4 +1,5 @@
-//! The subcommand `run`: gates, runs that wait, refused scripts, calls without room, faults, and histories written as they are made.
+//! The subcommand `run`: gates, runs that wait, refused scripts, calls without room, faults, and histories written as
+//! they are made.
 
 use crate::scene::NEVER;
 use crate::sink::{Output, entries_of, output};

@@ -6,8 +6,8 @@ use cmwq_trial::trial;
 use std::sync::Wait;
 use std::time::Clock;
 
-/// The first item completes one thing three times, and waits until another is completed for good. The second item fails,
-/// if it is to.
+/// The first item completes one thing three times, and waits until another is completed for good. The second item
+/// fails, if it is to.
 #[derive(Drop)]
 struct Both {
     fails: bool,

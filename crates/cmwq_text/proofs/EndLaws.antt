@@ -1,5 +1,6 @@
 -- The last line of a history: what is spelled is read again, what is read is spelled so, and no other line is one.
-use Rattle.cmwq_text.specs.Common.{◌≡◌, ℕ, ◌≤◌, true, List, [], ◌∷◌, length, Option, Some, None, cond, refl, ap, ◌∙◌, arith, codes, decimal, same_Some, Entry, IsEntry}
+use Rattle.cmwq_text.specs.Common.{◌≡◌, ℕ, ◌≤◌, true, List, [], ◌∷◌, length, Option, Some, None, cond, refl, ap, ◌∙◌}
+use Rattle.cmwq_text.specs.Common.{arith, codes, decimal, same_Some, Entry, IsEntry}
 use Rattle.cmwq_text.specs.Numbers.{greatest_number}
 use Rattle.cmwq_text.specs.Words.{◌>>=◌, words_of, join_words, has_no_word, after, wide_in}
 use Rattle.cmwq_text.specs.EntryText.{entry_words}
@@ -30,13 +31,15 @@ ends_read_again n line le is =
     let words : words_of line ≡ end_words n = line_words (codes "end") (decimal n ∷ []) line (end_is_plain n le) is in
     ap end_from words ∙ rw (wide_in_again n [] le) refl
 
-end_pieces : (ws a rest : List (List ℕ)) (n : ℕ) → ws ≡ codes "end" ∷ a → a ≡ decimal n ∷ rest → rest ≡ [] → ws ≡ end_words n
+end_pieces : (ws a rest : List (List ℕ)) (n : ℕ) → ws ≡ codes "end" ∷ a → a ≡ decimal n ∷ rest → rest ≡ []
+    → ws ≡ end_words n
 end_pieces ws a rest n first number ended = rw (first, number, ended) refl
 
 pub ends_spelled_so : EndsSpelledSo
 unfolding end_text end_of
 ends_spelled_so n line is =
-    let first = bind_some (after (codes "end") (words_of line)) (λ (rest : List (List ℕ)). wide_in rest >>= end_tested) n is in
+    let first =
+    bind_some (after (codes "end") (words_of line)) (λ (rest : List (List ℕ)). wide_in rest >>= end_tested) n is in
     let number = bind_some (wide_in first.0) end_tested n first.2 in
     let found = chosen (has_no_word number.0.1) (Some number.0.0) n number.2 in
     let words : words_of line ≡ end_words number.0.0 = end_pieces (words_of line) first.0 number.0.1 number.0.0

@@ -21,7 +21,8 @@ pub keyword_is : (k : Keyword) (w : List ℕ) → keyword_of w ≡ Some k → w 
 unfolding keyword_of
 keyword_is k w e = sym ((bytes_eq-Decides (keyword_text k) w).0 (found_passes (is_keyword_text w) KEYWORDS k e))
 
-pub keyword_takes : (ws : List (List ℕ)) (x : Keyword × List (List ℕ)) → keyword_in ws ≡ Some x → ws ≡ keyword_text x.0 ∷ x.1
+pub keyword_takes : (ws : List (List ℕ)) (x : Keyword × List (List ℕ)) → keyword_in ws ≡ Some x
+    → ws ≡ keyword_text x.0 ∷ x.1
 keyword_takes ws x e =
     let read = word_takes keyword_of ws x e in
     read.1 ∙ ap (λ (w : List ℕ). w ∷ x.1) (keyword_is x.0 read.0 read.2)

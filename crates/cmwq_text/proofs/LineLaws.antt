@@ -1,5 +1,8 @@
 -- Whole lines: what is read from one that is spelled, where a line ends, and what fits a shape.
-use Rattle.cmwq_text.specs.Common.{◌≡◌, ℕ, ◌≤◌, Bool, true, List, [], ◌∷◌, ◌++◌, length, ltb, leb, refl, ap, sym, ◌∙◌, arith, append_assoc, list_all, leb-true, same_from_push, Who, Call, Reply, Layout, is_layout, most_callers, most_cpus, most_items, most_queues, most_room, most_workers, are_counts, is_between, may_make, has_numbers, reply_fits}
+use Rattle.cmwq_text.specs.Common.{◌≡◌, ℕ, ◌≤◌, Bool, true, List, [], ◌∷◌, ◌++◌, length, ltb, leb, refl, ap, sym, ◌∙◌}
+use Rattle.cmwq_text.specs.Common.{arith, append_assoc, list_all, leb-true, same_from_push, Who, Call, Reply, Layout}
+use Rattle.cmwq_text.specs.Common.{is_layout, most_callers, most_cpus, most_items, most_queues, most_room, most_workers}
+use Rattle.cmwq_text.specs.Common.{are_counts, is_between, may_make, has_numbers, reply_fits}
 use Rattle.cmwq_text.specs.Words.{words_of, join_words, line_text, has_no_word}
 use Rattle.cmwq_text.specs.Laws.{IsLineOf}
 use Rattle.cmwq_text.proofs.WordLaws.{is_plain, are_plain, words_again, joined_words}
@@ -10,7 +13,8 @@ use Rattle.std.proofs.lemmas.Bool.{and_parts}
 
 -- ---- words of a line
 
-pub line_words : (w : List ℕ) (ws : List (List ℕ)) (line : List ℕ) → are_plain (w ∷ ws) ≡ true → IsLineOf (line_text (w ∷ ws)) line → words_of line ≡ w ∷ ws
+pub line_words : (w : List ℕ) (ws : List (List ℕ)) (line : List ℕ) → are_plain (w ∷ ws) ≡ true
+    → IsLineOf (line_text (w ∷ ws)) line → words_of line ≡ w ∷ ws
 line_words w ws line plain e = grind (arith, same_from_push, words_again)
 
 pub line_is : (line : List ℕ) (ws : List (List ℕ)) → words_of line ≡ ws → IsLineOf (line_text ws) line
@@ -24,7 +28,8 @@ no_more ws e = grind arith
 abbrev pub has_no_feed : List ℕ → Bool
 has_no_feed bytes = list_all (ltb 10) bytes
 
-plain_has_none : (w : List ℕ) (rest : List ℕ) → is_plain w ≡ true → has_no_feed rest ≡ true → has_no_feed (w ++ rest) ≡ true
+plain_has_none : (w : List ℕ) (rest : List ℕ) → is_plain w ≡ true → has_no_feed rest ≡ true
+    → has_no_feed (w ++ rest) ≡ true
 plain_has_none [] rest p q = q
 plain_has_none (x ∷ xs) rest p q = grind (arith, plain_has_none xs rest)
 
@@ -37,16 +42,20 @@ joined_has_none [] p = refl
 joined_has_none (w ∷ []) p = plain_is_none w (and_parts (is_plain w) true p).0
 joined_has_none (w ∷ v ∷ ws) p = grind (arith, plain_has_none, joined_has_none (v ∷ ws))
 
--- the lists are one up to the first line feed, and behind it
-same_to_feed : (a b x y : List ℕ) → has_no_feed a ≡ true → has_no_feed b ≡ true → a ++ 10 ∷ x ≡ b ++ 10 ∷ y → (a ≡ b) × (x ≡ y)
+-- the lists are one up to the first line feed, and after it
+same_to_feed : (a b x y : List ℕ) → has_no_feed a ≡ true → has_no_feed b ≡ true → a ++ 10 ∷ x ≡ b ++ 10 ∷ y
+    → (a ≡ b) × (x ≡ y)
 same_to_feed [] [] x y p q e = (refl, cc)
 same_to_feed [] (b ∷ bs) x y p q e = grind arith
 same_to_feed (a ∷ as_) [] x y p q e = grind arith
 same_to_feed (a ∷ as_) (b ∷ bs) x y p q e = grind (arith, same_to_feed as_ bs x y)
 
-pub lines_apart : (v w : List (List ℕ)) (rest : List ℕ) → are_plain v ≡ true → are_plain w ≡ true → line_text v ≡ line_text w ++ rest → (join_words v ≡ join_words w) × (rest ≡ [])
+pub lines_apart : (v w : List (List ℕ)) (rest : List ℕ) → are_plain v ≡ true → are_plain w ≡ true
+    → line_text v ≡ line_text w ++ rest → (join_words v ≡ join_words w) × (rest ≡ [])
 lines_apart v w rest p q e =
-    let cut = same_to_feed (join_words v) (join_words w) [] rest (joined_has_none v p) (joined_has_none w q) (e ∙ append_assoc (join_words w) (10 ∷ []) rest) in
+    let cut =
+    same_to_feed (join_words v) (join_words w) [] rest (joined_has_none v p) (joined_has_none w q)
+    (e ∙ append_assoc (join_words w) (10 ∷ []) rest) in
     (cut.0, sym cut.1)
 
 -- ---- inside a shape
@@ -61,7 +70,9 @@ pub record IsSmall (s : Layout) : Type 0 where
 at_most : (low high n : ℕ) → is_between low high n ≡ true → n ≤ high
 at_most low high n e = leb-true n high (and_parts (leb low n) (leb n high) e).1
 
-pub counts_are_small : (cpus workers callers items room : ℕ) → are_counts cpus workers callers items room ≡ true → (cpus ≤ most_cpus) × (workers ≤ most_workers) × (callers ≤ most_callers) × (items ≤ most_items) × (room ≤ most_room)
+pub counts_are_small : (cpus workers callers items room : ℕ) → are_counts cpus workers callers items room ≡ true
+    → (cpus ≤ most_cpus) × (workers ≤ most_workers) × (callers ≤ most_callers) × (items ≤ most_items)
+    × (room ≤ most_room)
 counts_are_small cpus workers callers items room e = grind arith
 
 pub layout_is_small : (s : Layout) → is_layout s ≡ true → IsSmall s

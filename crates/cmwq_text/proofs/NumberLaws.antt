@@ -1,5 +1,9 @@
 -- A number that is spelled is read again, and what is read as a number is spelled so.
-use Rattle.cmwq_text.specs.Common.{◌≡◌, ℕ, ◌<◌, ◌≤◌, ◌^◌, true, List, length, get_or, min, Option, Some, refl, ap, sym, ◌∙◌, arith, rules, ◌⊎◌, inl, inr, decimal, all_ascii_digits, le-leb, decimal_digit, decimal_nonempty, first_decimal, digits_decimal, digits_value-decimal, decimal-digits_value, IsNumeralModel, numerals_by_fold, greatest, greatest_byte, greatest_short}
+use Rattle.cmwq_text.specs.Common.{◌≡◌, ℕ, ◌<◌, ◌≤◌, ◌^◌, true, List, length, get_or, min, Option, Some, refl, ap, sym}
+use Rattle.cmwq_text.specs.Common.{◌∙◌, arith, rules, ◌⊎◌, inl, inr, decimal, all_ascii_digits, le-leb, decimal_digit}
+use Rattle.cmwq_text.specs.Common.{decimal_nonempty, first_decimal, digits_decimal, digits_value-decimal}
+use Rattle.cmwq_text.specs.Common.{decimal-digits_value, IsNumeralModel, numerals_by_fold, greatest, greatest_byte}
+use Rattle.cmwq_text.specs.Common.{greatest_short}
 use Rattle.cmwq_text.specs.Numbers.{value_from, digits_from, is_begun, number_read, byte_of, short_of, held_at_most}
 use Rattle.cmwq_text.proofs.Steps.{chosen}
 
@@ -27,11 +31,13 @@ number_again limit n le lt =
 begun_is : (ds : List ℕ) → is_begun ds ≡ true → (0 < length ds) × (get_or ds 0 0 ≡ 48 → length ds ≡ 1)
 begun_is ds e = grind arith
 
-digits_take : (limit n : ℕ) (word : List ℕ) → digits_from limit 0 word ≡ Some n → (all_ascii_digits word ≡ true) × (value_from 0 word ≡ n) × (n ≤ limit)
+digits_take : (limit n : ℕ) (word : List ℕ) → digits_from limit 0 word ≡ Some n
+    → (all_ascii_digits word ≡ true) × (value_from 0 word ≡ n) × (n ≤ limit)
 unfolding digits_from
 digits_take limit n word e = grind arith
 
-pub number_takes : (limit n : ℕ) (word : List ℕ) → limit < 2 ^ 64 → number_read limit word ≡ Some n → (word ≡ decimal n) × (n ≤ limit)
+pub number_takes : (limit n : ℕ) (word : List ℕ) → limit < 2 ^ 64 → number_read limit word ≡ Some n
+    → (word ≡ decimal n) × (n ≤ limit)
 unfolding number_read
 number_takes limit n word lt e =
     let begins = chosen (is_begun word) (digits_from limit 0 word) n e in
@@ -51,7 +57,9 @@ held_is : (most n : ℕ) (o : Option ℕ) → held_at_most most o ≡ Some n →
 held_is most n o e lt = grind arith
 
 pub byte_takes : (n : ℕ) (word : List ℕ) → byte_of word ≡ Some n → n < greatest_byte → word ≡ decimal n
-byte_takes n word e lt = (number_takes greatest n word (omega arith) (held_is greatest_byte n (number_read greatest word) e lt)).0
+byte_takes n word e lt =
+    (number_takes greatest n word (omega arith) (held_is greatest_byte n (number_read greatest word) e lt)).0
 
 pub short_takes : (n : ℕ) (word : List ℕ) → short_of word ≡ Some n → n < greatest_short → word ≡ decimal n
-short_takes n word e lt = (number_takes greatest n word (omega arith) (held_is greatest_short n (number_read greatest word) e lt)).0
+short_takes n word e lt =
+    (number_takes greatest n word (omega arith) (held_is greatest_short n (number_read greatest word) e lt)).0

@@ -1,5 +1,7 @@
 -- A keyword and numbers: that each word is plain, and how long the words are.
-use Rattle.cmwq_text.specs.Common.{◌≡◌, ℕ, ◌+◌, ◌<◌, ◌≤◌, ◌^◌, true, List, [], ◌∷◌, ◌++◌, length, map, refl, arith, decimal, AllByRecursion, length-append, length-decimal-le, greatest, greatest_long, greatest_byte, greatest_short}
+use Rattle.cmwq_text.specs.Common.{◌≡◌, ℕ, ◌+◌, ◌<◌, ◌≤◌, ◌^◌, true, List, [], ◌∷◌, ◌++◌, length, map, refl, arith}
+use Rattle.cmwq_text.specs.Common.{decimal, AllByRecursion, length-append, length-decimal-le, greatest, greatest_long}
+use Rattle.cmwq_text.specs.Common.{greatest_byte, greatest_short}
 use Rattle.cmwq_text.specs.declared.keyword.Keyword.{Keyword}
 use Rattle.cmwq_text.specs.Numbers.{greatest_number}
 use Rattle.cmwq_text.specs.Words.{line_text}
@@ -11,10 +13,12 @@ use Rattle.std.proofs.lemmas.Bool.{and_from}
 
 pub numbers_are_plain : (ns : List ℕ) → AllByRecursion (λ n. n < 2 ^ 64) ns → are_plain (map decimal ns) ≡ true
 numbers_are_plain [] h = refl
-numbers_are_plain (n ∷ ns) h = and_from (is_plain (decimal n)) (are_plain (map decimal ns)) (is_plain-decimal n h.0) (numbers_are_plain ns h.1)
+numbers_are_plain (n ∷ ns) h =
+    and_from (is_plain (decimal n)) (are_plain (map decimal ns)) (is_plain-decimal n h.0) (numbers_are_plain ns h.1)
 
 pub phrase_is_plain : (k : Keyword) (ns : List ℕ) → AllByRecursion (λ n. n < 2 ^ 64) ns → are_plain (phrase k ns) ≡ true
-phrase_is_plain k ns h = and_from (is_plain (keyword_text k)) (are_plain (map decimal ns)) (is_plain-text k) (numbers_are_plain ns h)
+phrase_is_plain k ns h =
+    and_from (is_plain (keyword_text k)) (are_plain (map decimal ns)) (is_plain-text k) (numbers_are_plain ns h)
 
 -- ---- lengths
 
@@ -33,7 +37,7 @@ wide_len n le = length-decimal-le 19 n (omega arith) (omega arith) (omega arith)
 pub long_len : (n : ℕ) → n ≤ greatest_long → length (decimal n) ≤ 20
 long_len n le = length-decimal-le 20 n (omega arith) (omega arith) (omega arith)
 
--- the bytes of words, with one for the space or the line feed behind each
+-- the bytes of words, with one for the space or the line feed after each
 abbrev pub size : List (List ℕ) → ℕ
 size [] = 0
 size (w ∷ ws) = (length w + 1) + size ws

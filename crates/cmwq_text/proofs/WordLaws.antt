@@ -1,5 +1,9 @@
--- Words that are joined are found again, if no space and no line feed stands inside them; and a line is its words, joined.
-use Rattle.cmwq_text.specs.Common.{◌≡◌, ℕ, zero, suc, ◌<◌, ◌^◌, Bool, true, false, List, [], ◌∷◌, ◌++◌, length, get_or, ltb, Option, Some, refl, arith, decimal, all_ascii_digits, list_all, ltb-true, ne_eqb, slice_split_none, slice_split_at, join_with_byte-slice_split, bytes_eq-Decides, digits_decimal}
+-- Words that are joined are found again, if no space and no line feed stands inside them; and a line is its words,
+-- joined.
+use Rattle.cmwq_text.specs.Common.{◌≡◌, ℕ, zero, suc, ◌<◌, ◌^◌, Bool, true, false, List, [], ◌∷◌, ◌++◌, length, get_or}
+use Rattle.cmwq_text.specs.Common.{ltb, Option, Some, refl, arith, decimal, all_ascii_digits, list_all, ltb-true}
+use Rattle.cmwq_text.specs.Common.{ne_eqb, slice_split_none, slice_split_at, join_with_byte-slice_split}
+use Rattle.cmwq_text.specs.Common.{bytes_eq-Decides, digits_decimal}
 use Rattle.cmwq_text.specs.Words.{is_space, words_of, join_words, after, word_read}
 use Rattle.cmwq_text.proofs.Steps.{chosen}
 use Rattle.cmwq_text.proofs.NumberLaws.{own}
@@ -37,11 +41,13 @@ plain_at (x ∷ xs) zero d p lt = ltb-true 32 x (and_parts (is_above_space x) (i
 plain_at (x ∷ xs) (suc i) d p lt = plain_at xs i d (and_parts (is_above_space x) (is_plain xs) p).1 (omega arith)
 
 no_space : (w : List ℕ) (i d : ℕ) → is_plain w ≡ true → i < length w → is_space (get_or w i d) ≡ false
-no_space w i d p lt = let above : 32 < get_or w i d = plain_at w i d p lt in ne_eqb (get_or w i d) 32 (λ same. absurd (omega (arith, same, above)))
+no_space w i d p lt = let above : 32 < get_or w i d = plain_at w i d p lt in
+    ne_eqb (get_or w i d) 32 (λ same. absurd (omega (arith, same, above)))
 
 -- ---- a line and its words
 
-pub words_again : (w : List ℕ) (ws : List (List ℕ)) → are_plain (w ∷ ws) ≡ true → words_of (join_words (w ∷ ws)) ≡ w ∷ ws
+pub words_again : (w : List ℕ) (ws : List (List ℕ)) → are_plain (w ∷ ws) ≡ true → words_of (join_words (w ∷ ws)) ≡ w
+    ∷ ws
 words_again w [] p = grind (arith, slice_split_none, no_space)
 words_again w (v ∷ ws) p = grind (arith, slice_split_at, no_space, words_again v ws)
 
@@ -50,7 +56,8 @@ joined_words line = join_with_byte-slice_split 32 line
 
 -- ---- single words
 
-pub word_takes : {A : Type 0} (f : List ℕ → Option A) (ws : List (List ℕ)) (x : A × List (List ℕ)) → word_read f ws ≡ Some x → (w : List ℕ) × (ws ≡ w ∷ x.1) × (f w ≡ Some x.0)
+pub word_takes : {A : Type 0} (f : List ℕ → Option A) (ws : List (List ℕ)) (x : A × List (List ℕ))
+    → word_read f ws ≡ Some x → (w : List ℕ) × (ws ≡ w ∷ x.1) × (f w ≡ Some x.0)
 word_takes {A} f [] x e = absurd cc
 word_takes {A} f (w ∷ ws) x e = grind arith
 

@@ -1,10 +1,12 @@
 -- Calls in a text: how each is spelled, and how each is read.
 use Rattle.std.specs.Prelude.{◌&&◌, if◌then◌else◌, ◌∷◌}
-use Rattle.cmwq_text.specs.Common.{ℕ, Bool, true, false, nat_le, List, [], map, Option, Some, None, decimal, Who, Caller, Worker, Call, is_callers, is_workers}
+use Rattle.cmwq_text.specs.Common.{ℕ, Bool, true, false, nat_le, List, [], map, Option, Some, None, decimal, Who}
+use Rattle.cmwq_text.specs.Common.{Caller, Worker, Call, is_callers, is_workers}
 use Rattle.cmwq_model.specs.declared.call.Call.TheVariants as call
 use Rattle.cmwq_text.specs.declared.keyword.Keyword.{Keyword}
 use Rattle.cmwq_text.specs.declared.keyword.Keyword.TheVariants as word
-use Rattle.cmwq_text.specs.Words.{◌>>=◌, words_of, line_text, has_no_word, number_in, wide_in, take_none, take_one, take_two, take_three, take_four}
+use Rattle.cmwq_text.specs.Words.{◌>>=◌, words_of, line_text, has_no_word, number_in, wide_in, take_none, take_one}
+use Rattle.cmwq_text.specs.Words.{take_two, take_three, take_four}
 use Rattle.cmwq_text.specs.Keywords.{keyword_text, keyword_in}
 use Rattle.cmwq_text.specs.IdText.{who_text, item_in, queue_in, cpu_in, who_in}
 

@@ -1,4 +1,5 @@
--- The last line of a history of format 3: `end <entries>`, with the number of its entries. Who has it has the whole history.
+-- The last line of a history of format 3: `end <entries>`, with the number of its entries. Who has it has the whole
+-- history.
 use Rattle.std.specs.Prelude.{ℕ, if◌then◌else◌, List, [], ◌∷◌, Option, Some, None, codes, decimal}
 use Rattle.cmwq_text.specs.Words.{◌>>=◌, words_of, line_text, has_no_word, after, wide_in}
 

@@ -1,11 +1,13 @@
--- The three formats of histories. A history of format 2 begins with the line `history 2`, and has the whole grammar. One of format 1 has no such
--- line, and neither freezable queues, nor set_max, freeze, thaw and destroy, nor the replies that came with them. One of format 3 begins with the
--- line `history 3`, and is as one of format 2 but for its limits, those of its lines, its room and its numbers, and for its last line, which says how
--- many entries stand before it. A file of calls has no line of a format and the limits of the older ones, or begins with the line `calls 3` and has
--- those of format 3.
+-- The three formats of histories. A history of format 2 begins with the line `history 2`, and has the whole grammar.
+-- One of format 1 has no such line, and neither freezable queues, nor set_max, freeze, thaw and destroy, nor the
+-- replies that came with them. One of format 3 begins with the line `history 3`, and is as one of format 2 but for its
+-- limits, those of its lines, its room and its numbers, and for its last line, which says how many entries stand before
+-- it. A file of calls has no line of a format and the limits of the older ones, or begins with the line `calls 3` and
+-- has those of format 3.
 use Rattle.cmwq_text.specs.Words.{◌>>=◌}
 use Rattle.std.specs.Prelude.{◌&&◌, ◌||◌, ◌==◌, if◌then◌else◌}
-use Rattle.cmwq_text.specs.Common.{ℕ, Bool, true, false, not, List, Option, Some, None, codes, nat_le, bytes_eq, Call, Reply, Entry, Who, Counts, QueueShape, most_queues, most_room, greatest, most_time}
+use Rattle.cmwq_text.specs.Common.{ℕ, Bool, true, false, not, List, Option, Some, None, codes, nat_le, bytes_eq, Call}
+use Rattle.cmwq_text.specs.Common.{Reply, Entry, Who, Counts, QueueShape, most_queues, most_room, greatest, most_time}
 use Rattle.cmwq_model.specs.declared.call.Call.TheVariants as call
 use Rattle.cmwq_model.specs.declared.reply.Reply.TheVariants as reply
 use Rattle.cmwq_text.specs.CallText.{call_read}
@@ -27,8 +29,8 @@ calls_name = codes "calls 3"
 abbrev pub is_calls_line : ℕ → List ℕ → Bool
 is_calls_line version line = version == 3 && bytes_eq line calls_name
 
--- the limits of formats 1 and 2, and of files of calls without a line of a format: of the numbers of a shape, of the lines behind the queues, and of
--- the room
+-- the limits of formats 1 and 2, and of files of calls without a line of a format: of the numbers of a shape, of the
+-- lines after the queues, and of the room
 abbrev pub old_cpus : ℕ
 old_cpus = 4
 
@@ -118,15 +120,18 @@ is_timely r = true
 abbrev pub needs_end : ℕ → Bool
 needs_end version = nat_le 3 version
 
--- whether a history of this format may have such a queue, and such an entry; format 3 has numbers beyond 4,294,967,295, and no time beyond 2 ^ 62
+-- whether a history of this format may have such a queue, and such an entry; format 3 has numbers beyond 4,294,967,295,
+-- and no time beyond 2 ^ 62
 abbrev pub allows_queue : ℕ → QueueShape → Bool
 allows_queue version q = nat_le 2 version || not q.freezable
 
 abbrev pub allows_entry : ℕ → Entry → Bool
-allows_entry version e = if nat_le 3 version then is_timely e.reply else (is_short_entry e && (nat_le 2 version || (is_old_call e.call && is_old_reply e.reply)))
+allows_entry version e = if nat_le 3 version then is_timely e.reply
+    else (is_short_entry e && (nat_le 2 version || (is_old_call e.call && is_old_reply e.reply)))
 
 abbrev pub are_old_counts : Counts → Bool
-are_old_counts c = nat_le c.cpus old_cpus && nat_le c.workers old_workers && nat_le c.callers old_callers && nat_le c.items old_items
+are_old_counts c = nat_le c.cpus old_cpus && nat_le c.workers old_workers && nat_le c.callers old_callers
+    && nat_le c.items old_items
 
 abbrev pub allows_numbers : ℕ → Counts → Bool
 allows_numbers version c = nat_le 3 version || are_old_counts c

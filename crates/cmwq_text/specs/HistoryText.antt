@@ -1,6 +1,7 @@
--- The whole text of a history with its shape: in format 2 the line `history 2` and in format 3 `history 3`, then the shape line, a line for each queue, a line for each
--- entry from the oldest on, and in format 3 the line `end <entries>`. That of calls with their shape has a line for each call in place of the entries, in format 3
--- the first line `calls 3` and else none of a format, and no last line.
+-- The whole text of a history with its shape: in format 2 the line `history 2` and in format 3 `history 3`, then the
+-- shape line, a line for each queue, a line for each entry from the oldest on, and in format 3 the line `end
+-- <entries>`. That of calls with their shape has a line for each call in place of the entries, in format 3 the first
+-- line `calls 3` and else none of a format, and no last line.
 use Rattle.std.specs.Prelude.{if◌then◌else◌, ◌∷◌, ◌++◌}
 use Rattle.cmwq_text.specs.Common.{ℕ, List, [], length, nat_le, flat_map, Who, Call, Entry, Counts, Layout}
 use Rattle.cmwq_text.specs.CallText.{call_text}

@@ -1,7 +1,8 @@
 -- Items, queues, CPUs, callers and workers in a text. A caller is `c<number>`, a worker `w<cpu>n<index>` in a pool of
 -- normal priority and `w<cpu>h<index>` in one of high priority.
 use Rattle.std.specs.Prelude.{◌+◌, ◌||◌, ◌==◌, if◌then◌else◌, ◌∷◌, ◌++◌}
-use Rattle.cmwq_text.specs.Common.{ℕ, Bool, List, [], take, drop, slice_index, position, Option, Some, None, decimal, ItemId, QueueId, CpuId, Who, Caller, Worker}
+use Rattle.cmwq_text.specs.Common.{ℕ, Bool, List, [], take, drop, slice_index, position, Option, Some, None, decimal}
+use Rattle.cmwq_text.specs.Common.{ItemId, QueueId, CpuId, Who, Caller, Worker}
 use Rattle.cmwq_text.specs.Numbers.{byte_of}
 use Rattle.cmwq_text.specs.Words.{◌>>=◌, take_one, word_read, short_in, byte_in}
 

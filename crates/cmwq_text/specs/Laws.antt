@@ -1,6 +1,8 @@
--- What the texts of lines keep. A line is meant without its line feed where it is read, and with it where it is spelled.
+-- What the texts of lines keep. A line is meant without its line feed where it is read, and with it where it is
+-- spelled.
 use Rattle.std.specs.Prelude.{◌≡◌, ◌≤◌, ◌∷◌, ◌++◌}
-use Rattle.cmwq_text.specs.Common.{ℕ, List, [], length, Some, IsTrue, Who, Call, Entry, Counts, QueueShape, Layout, are_counts, is_queue, is_layout, fits, entry_fits, IsWho, IsCall, IsEntry}
+use Rattle.cmwq_text.specs.Common.{ℕ, List, [], length, Some, IsTrue, Who, Call, Entry, Counts, QueueShape, Layout}
+use Rattle.cmwq_text.specs.Common.{are_counts, is_queue, is_layout, fits, entry_fits, IsWho, IsCall, IsEntry}
 use Rattle.cmwq_text.specs.CallText.{call_text, call_read, may_say}
 use Rattle.cmwq_text.specs.EntryText.{entry_text, entry_of}
 use Rattle.cmwq_text.specs.EndText.{end_text, end_of}
@@ -13,23 +15,29 @@ IsLineOf text line = text ≡ line ++ 10 ∷ []
 
 -- what is spelled is read again
 abbrev pub CallsReadAgain : Type 0
-CallsReadAgain = (who : Who) (call : Call) (line : List ℕ) → IsWho who → (IsCall greatest_number) call → IsTrue (may_say who call) → IsLineOf (call_text who call) line → call_read line ≡ Some (who, call)
+CallsReadAgain = (who : Who) (call : Call) (line : List ℕ) → IsWho who → (IsCall greatest_number) call
+    → IsTrue (may_say who call) → IsLineOf (call_text who call) line → call_read line ≡ Some (who, call)
 
 abbrev pub EntriesReadAgain : Type 0
-EntriesReadAgain = (e : Entry) (line : List ℕ) → (IsEntry greatest_number) e → IsTrue (may_say e.who e.call) → IsLineOf (entry_text e) line → entry_of line ≡ Some e
+EntriesReadAgain = (e : Entry) (line : List ℕ) → (IsEntry greatest_number) e → IsTrue (may_say e.who e.call)
+    → IsLineOf (entry_text e) line → entry_of line ≡ Some e
 
 abbrev pub CountsReadAgain : Type 0
-CountsReadAgain = (n : Counts) (line : List ℕ) → IsTrue (are_counts n.cpus n.workers n.callers n.items n.room) → IsLineOf (counts_text n) line → counts_read line ≡ Some n
+CountsReadAgain = (n : Counts) (line : List ℕ) → IsTrue (are_counts n.cpus n.workers n.callers n.items n.room)
+    → IsLineOf (counts_text n) line → counts_read line ≡ Some n
 
 abbrev pub QueuesReadAgain : Type 0
-QueuesReadAgain = (q : QueueShape) (line : List ℕ) → IsTrue (is_queue q) → IsLineOf (queue_text q) line → (queue_of_calls line ≡ Some q) × (queue_of_history line ≡ Some q)
+QueuesReadAgain = (q : QueueShape) (line : List ℕ) → IsTrue (is_queue q) → IsLineOf (queue_text q) line
+    → (queue_of_calls line ≡ Some q) × (queue_of_history line ≡ Some q)
 
 -- what is read is spelled so, if its ids are inside some shape
 abbrev pub CallsSpelledSo : Type 0
-CallsSpelledSo = (s : Layout) (who : Who) (call : Call) (line : List ℕ) → IsTrue (is_layout s) → IsTrue (fits s who call) → call_read line ≡ Some (who, call) → IsLineOf (call_text who call) line
+CallsSpelledSo = (s : Layout) (who : Who) (call : Call) (line : List ℕ) → IsTrue (is_layout s)
+    → IsTrue (fits s who call) → call_read line ≡ Some (who, call) → IsLineOf (call_text who call) line
 
 abbrev pub EntriesSpelledSo : Type 0
-EntriesSpelledSo = (s : Layout) (e : Entry) (line : List ℕ) → IsTrue (is_layout s) → IsTrue (entry_fits s e) → entry_of line ≡ Some e → IsLineOf (entry_text e) line
+EntriesSpelledSo = (s : Layout) (e : Entry) (line : List ℕ) → IsTrue (is_layout s) → IsTrue (entry_fits s e)
+    → entry_of line ≡ Some e → IsLineOf (entry_text e) line
 
 abbrev pub CountsSpelledSo : Type 0
 CountsSpelledSo = (n : Counts) (line : List ℕ) → counts_read line ≡ Some n → IsLineOf (counts_text n) line
@@ -46,7 +54,9 @@ EndsSpelledSo = (n : ℕ) (line : List ℕ) → end_of line ≡ Some n → IsLin
 
 -- no text of an entry begins another's
 abbrev pub EntriesStandApart : Type 0
-EntriesStandApart = (e f : Entry) (rest : List ℕ) → (IsEntry greatest_number) e → (IsEntry greatest_number) f → IsTrue (may_say e.who e.call) → IsTrue (may_say f.who f.call) → entry_text f ≡ entry_text e ++ rest → (e ≡ f) × (rest ≡ [])
+EntriesStandApart = (e f : Entry) (rest : List ℕ) → (IsEntry greatest_number) e → (IsEntry greatest_number) f
+    → IsTrue (may_say e.who e.call) → IsTrue (may_say f.who f.call) → entry_text f ≡ entry_text e ++ rest
+    → (e ≡ f) × (rest ≡ [])
 
 -- no line that is spelled is longer than 120 bytes and its line feed
 abbrev pub LinesAreShort : Type 0

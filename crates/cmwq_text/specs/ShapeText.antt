@@ -1,12 +1,15 @@
 -- Shapes in a text: `shape <cpus> <workers> <callers> <items> <room>`, and `wq <max_active> <flags>` for each queue.
 use Rattle.std.specs.Prelude.{◌&&◌, ◌==◌, if◌then◌else◌, ◌∷◌, ◌++◌}
-use Rattle.cmwq_text.specs.Common.{ℕ, Bool, true, false, List, [], find, Option, Some, None, codes, decimal, min, nat_eq, starts_with, bytes_eq, Counts, QueueShape, are_counts, is_between}
+use Rattle.cmwq_text.specs.Common.{ℕ, Bool, true, false, List, [], find, Option, Some, None, codes, decimal, min}
+use Rattle.cmwq_text.specs.Common.{nat_eq, starts_with, bytes_eq, Counts, QueueShape, are_counts, is_between}
 use Rattle.cmwq_text.specs.declared.shape.Flags.{Flags}
 use Rattle.cmwq_text.specs.declared.shape.QueueLine.{QueueLine}
-use Rattle.cmwq_text.specs.Words.{◌>>=◌, words_of, line_text, has_no_word, after, word_read, byte_count_in, short_count_in, number_in, wide_in}
+use Rattle.cmwq_text.specs.Words.{◌>>=◌, words_of, line_text, has_no_word, after, word_read, byte_count_in}
+use Rattle.cmwq_text.specs.Words.{short_count_in, number_in, wide_in}
 
 abbrev pub counts_words : Counts → List (List ℕ)
-counts_words n = codes "shape" ∷ decimal n.cpus ∷ decimal n.workers ∷ decimal n.callers ∷ decimal n.items ∷ decimal n.room ∷ []
+counts_words n = codes "shape" ∷ decimal n.cpus ∷ decimal n.workers ∷ decimal n.callers ∷ decimal n.items
+    ∷ decimal n.room ∷ []
 
 unfoldable pub counts_text : Counts → List ℕ
 counts_text n = line_text (counts_words n)
@@ -68,7 +71,8 @@ queue_line_of line = do
   if has_no_word f.1 then Some (record { max_active = width.0; flags = f.0 }) else None
 
 abbrev pub queue_with : ℕ → Flags → QueueShape
-queue_with max_active f = record { max_active = max_active; high = f.high; intensive = f.intensive; freezable = f.freezable }
+queue_with max_active f =
+    record { max_active = max_active; high = f.high; intensive = f.intensive; freezable = f.freezable }
 
 -- In a file of calls 0 is taken as 256, and more than 512 as 512.
 abbrev pub width_taken : ℕ → ℕ

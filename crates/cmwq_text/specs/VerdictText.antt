@@ -1,4 +1,5 @@
--- The line of a verdict: `legal <entries>`, `illegal at <position>: serial <serial>` or `illegal at <position>: reply <reply>`.
+-- The line of a verdict: `legal <entries>`, `illegal at <position>: serial <serial>` or `illegal at <position>: reply
+-- <reply>`.
 use Rattle.std.specs.Prelude.{ℕ, List, [], ◌∷◌, ◌++◌, codes, decimal}
 use Rattle.cmwq_model.specs.declared.verdict.Wanted.{Wanted}
 use Rattle.cmwq_model.specs.declared.verdict.Illegal.{Illegal}

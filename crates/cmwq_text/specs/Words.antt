@@ -1,6 +1,8 @@
--- A line as its words, and reading from the first word on: a reader gives a value and the words that are left, if it can.
+-- A line as its words, and reading from the first word on: a reader gives a value and the words that are left, if it
+-- can.
 use Rattle.std.specs.Prelude.{◌==◌, if◌then◌else◌, option_and_then, ◌∷◌, ◌++◌}
-use Rattle.cmwq_text.specs.Common.{ℕ, Bool, true, false, List, [], Option, Some, None, slice_split, join_with_byte, bytes_eq, greatest, greatest_byte, greatest_long, greatest_short}
+use Rattle.cmwq_text.specs.Common.{ℕ, Bool, true, false, List, [], Option, Some, None, slice_split, join_with_byte}
+use Rattle.cmwq_text.specs.Common.{bytes_eq, greatest, greatest_byte, greatest_long, greatest_short}
 use Rattle.std.specs.Option.{option_map}
 use denote.Ref.{Bor}
 use Rattle.cmwq_text.specs.Numbers.{number_read, byte_of, short_of, greatest_number}
@@ -26,7 +28,7 @@ words_left (Some bytes) = words_of bytes.now
 abbrev pub join_words : List (List ℕ) → List ℕ
 join_words words = join_with_byte 32 words
 
--- words behind others, each after a space
+-- words after others, each after a space
 unfoldable pub space_words : List (List ℕ) → List ℕ
 space_words [] = []
 space_words (word ∷ words) = (32 ∷ word) ++ space_words words
@@ -88,29 +90,35 @@ wide_in words = word_read (number_read greatest_number) words
 abbrev pub long_in : List (List ℕ) → Option (ℕ × List (List ℕ))
 long_in words = word_read (number_read greatest_long) words
 
--- values that stand behind one another, each as its reader reads it, and what is made of them
+-- values that stand after one another, each as its reader reads it, and what is made of them
 abbrev pub take_none : {Y : Type 0} → Y → List (List ℕ) → Option (Y × List (List ℕ))
 take_none y words = Some (y, words)
 
-abbrev pub take_one : {A Y : Type 0} → (List (List ℕ) → Option (A × List (List ℕ))) → (A → Y) → List (List ℕ) → Option (Y × List (List ℕ))
+abbrev pub take_one : {A Y : Type 0} → (List (List ℕ) → Option (A × List (List ℕ))) → (A → Y) → List (List ℕ)
+    → Option (Y × List (List ℕ))
 take_one read make words = do
   a ← read words
   Some (make a.0, a.1)
 
-abbrev pub take_two : {A B Y : Type 0} → (List (List ℕ) → Option (A × List (List ℕ))) → (List (List ℕ) → Option (B × List (List ℕ))) → (A → B → Y) → List (List ℕ) → Option (Y × List (List ℕ))
+abbrev pub take_two : {A B Y : Type 0} → (List (List ℕ) → Option (A × List (List ℕ)))
+    → (List (List ℕ) → Option (B × List (List ℕ))) → (A → B → Y) → List (List ℕ) → Option (Y × List (List ℕ))
 take_two read_a read_b make words = do
   a ← read_a words
   b ← read_b a.1
   Some (make a.0 b.0, b.1)
 
-abbrev pub take_three : {A B C Y : Type 0} → (List (List ℕ) → Option (A × List (List ℕ))) → (List (List ℕ) → Option (B × List (List ℕ))) → (List (List ℕ) → Option (C × List (List ℕ))) → (A → B → C → Y) → List (List ℕ) → Option (Y × List (List ℕ))
+abbrev pub take_three : {A B C Y : Type 0} → (List (List ℕ) → Option (A × List (List ℕ)))
+    → (List (List ℕ) → Option (B × List (List ℕ))) → (List (List ℕ) → Option (C × List (List ℕ))) → (A → B → C → Y)
+    → List (List ℕ) → Option (Y × List (List ℕ))
 take_three read_a read_b read_c make words = do
   a ← read_a words
   b ← read_b a.1
   c ← read_c b.1
   Some (make a.0 b.0 c.0, c.1)
 
-abbrev pub take_four : {A B C D Y : Type 0} → (List (List ℕ) → Option (A × List (List ℕ))) → (List (List ℕ) → Option (B × List (List ℕ))) → (List (List ℕ) → Option (C × List (List ℕ))) → (List (List ℕ) → Option (D × List (List ℕ))) → (A → B → C → D → Y) → List (List ℕ) → Option (Y × List (List ℕ))
+abbrev pub take_four : {A B C D Y : Type 0} → (List (List ℕ) → Option (A × List (List ℕ)))
+    → (List (List ℕ) → Option (B × List (List ℕ))) → (List (List ℕ) → Option (C × List (List ℕ)))
+    → (List (List ℕ) → Option (D × List (List ℕ))) → (A → B → C → D → Y) → List (List ℕ) → Option (Y × List (List ℕ))
 take_four read_a read_b read_c read_d make words = do
   a ← read_a words
   b ← read_b a.1

@@ -1,7 +1,8 @@
 //! Calls in a text.
 ghost use Rattle.std.specs.Prelude.{◌≡◌, true};
 ghost use Rattle.cmwq_text.specs.Words.{with_left};
-ghost use Rattle.cmwq_text.specs.CallText.{is_queueing, has_item_alone, has_queue, call_read_after, call_in, is_of_kind, may_say, call_read};
+ghost use Rattle.cmwq_text.specs.CallText.{is_queueing, has_item_alone, has_queue, call_read_after, call_in};
+ghost use Rattle.cmwq_text.specs.CallText.{is_of_kind, may_say, call_read};
 
 use crate::id::{cpu_in, item_in, queue_in, who_in};
 use crate::keyword::{Keyword, keyword_in};

@@ -5,8 +5,8 @@ ghost use Rattle.cmwq_text.specs.EndText.{end_text, end_of};
 use crate::line::Line;
 use crate::word::{Words, wide_in};
 
-/// How many entries the last line of a history says, without its line feed. None: it is no such line, or the number is above
-/// 9,223,372,036,854,775,807.
+/// How many entries the last line of a history says, without its line feed. None: it is no such line, or the number is
+/// above 9,223,372,036,854,775,807.
 #[tactic(auto, unfolding(crate::specs::EndText::end_of))]
 pub fn read_end(line: &[u8]) -> Option<u64>
     ensures { result ≡ end_of line.now }

@@ -1,6 +1,10 @@
 //! The three formats of histories.
 ghost use Rattle.std.specs.Prelude.{◌≡◌, ◌≤◌};
-ghost use Rattle.cmwq_text.specs.Formats.{is_version_line, is_calls_line, is_old_call, is_old_reply, is_short, is_short_call, is_short_reply, is_short_entry, is_timely, allows_call, call_of_format, most_lines, line_limit, room_limit, queue_limit, are_old_counts, allows_numbers, allows_counts, needs_end, allows_queue, allows_entry, counts_of_format, queue_of_format, entry_of_format};
+ghost use Rattle.cmwq_text.specs.Formats.{is_version_line, is_calls_line, is_old_call, is_old_reply, is_short};
+ghost use Rattle.cmwq_text.specs.Formats.{is_short_call, is_short_reply, is_short_entry, is_timely, allows_call};
+ghost use Rattle.cmwq_text.specs.Formats.{call_of_format, most_lines, line_limit, room_limit, queue_limit};
+ghost use Rattle.cmwq_text.specs.Formats.{are_old_counts, allows_numbers, allows_counts, needs_end, allows_queue};
+ghost use Rattle.cmwq_text.specs.Formats.{allows_entry, counts_of_format, queue_of_format, entry_of_format};
 
 use crate::call::read_call;
 use crate::entry::read_entry;
@@ -34,7 +38,7 @@ pub const OLD_QUEUES: usize = 64;
 /// The greatest room in the formats before 3, in entries.
 pub const OLD_ROOM: u64 = 1_000_000;
 
-/// The greatest numbers of lines behind the queues: in the formats before it, and in it.
+/// The greatest numbers of lines after the queues: in the formats before it, and in it.
 const OLD_LINES: u64 = 1_000_000;
 
 const MOST_LINES: u64 = 4_611_686_018_426_387_904;
@@ -60,7 +64,7 @@ pub fn is_calls_line(version: u8, line: &[u8]) -> bool
     version == LONG && line == b"calls 3".as_slice()
 }
 
-/// The greatest number of lines behind the queues in this format.
+/// The greatest number of lines after the queues in this format.
 #[tactic(auto, unfolding(crate::specs::Formats::of_version))]
 pub fn line_limit(version: u8) -> u64
     ensures is { result ≡ line_limit version }
@@ -207,8 +211,8 @@ fn allows_entry(version: u8, entry: &Entry) -> bool
     }
 }
 
-/// The counts of the shape line of a history of this format, without its line feed. None: it is no such line, or a number is
-/// outside its limits.
+/// The counts of the shape line of a history of this format, without its line feed. None: it is no such line, or a
+/// number is outside its limits.
 #[tactic(auto, unfolding(crate::specs::Formats::counts_of_format))]
 pub fn read_counts_of_format(version: u8, line: &[u8]) -> Option<Counts>
     ensures { result ≡ counts_of_format version line.now }
@@ -255,8 +259,8 @@ fn allows_call(version: u8, call: Call) -> bool
     version >= LONG || is_short_call(call)
 }
 
-/// The who and the call of a line in a file of calls of this format, without its line feed. None: it is no line of a call, or its ticket is
-/// above 4,294,967,295 and the format isn't 3.
+/// The who and the call of a line in a file of calls of this format, without its line feed. None: it is no line of a
+/// call, or its ticket is above 4,294,967,295 and the format isn't 3.
 #[tactic(auto, unfolding(crate::specs::Formats::call_of_format))]
 pub fn read_call_of_format(version: u8, line: &[u8]) -> Option<(Who, Call)>
     ensures { result ≡ call_of_format version line.now }

@@ -1,7 +1,8 @@
 //! Items, queues, CPUs, callers and workers in a text.
 ghost use Rattle.std.specs.Prelude.{◌≡◌, position};
 ghost use Rattle.cmwq_text.specs.Words.{with_left, word_read};
-ghost use Rattle.cmwq_text.specs.IdText.{is_pool_letter, item_in, queue_in, cpu_in, caller_read, worker_read, who_read, who_in};
+ghost use Rattle.cmwq_text.specs.IdText.{is_pool_letter, item_in, queue_in, cpu_in, caller_read, worker_read, who_read};
+ghost use Rattle.cmwq_text.specs.IdText.{who_in};
 
 use crate::number::byte_of;
 use crate::word::{Words, byte_in, short_in};

@@ -1,5 +1,7 @@
 //! What the texts of lines keep, over every value.
-ghost use Rattle.cmwq_text.specs.Laws.{CallsReadAgain, EntriesReadAgain, CountsReadAgain, QueuesReadAgain, CallsSpelledSo, EntriesSpelledSo, CountsSpelledSo, QueuesSpelledSo, EndsReadAgain, EndsSpelledSo, EntriesStandApart, LinesAreShort};
+ghost use Rattle.cmwq_text.specs.Laws.{CallsReadAgain, EntriesReadAgain, CountsReadAgain, QueuesReadAgain};
+ghost use Rattle.cmwq_text.specs.Laws.{CallsSpelledSo, EntriesSpelledSo, CountsSpelledSo, QueuesSpelledSo};
+ghost use Rattle.cmwq_text.specs.Laws.{EndsReadAgain, EndsSpelledSo, EntriesStandApart, LinesAreShort};
 
 /// Each line of calls that is spelled is read again as itself.
 pub fn calls_read_again()

@@ -2,7 +2,8 @@
 ghost use Rattle.std.specs.Prelude.{◌≡◌, true};
 ghost use Rattle.cmwq_model.specs.Prelude.{reply_fits};
 ghost use Rattle.cmwq_text.specs.Words.{with_left};
-ghost use Rattle.cmwq_text.specs.ReplyText.{keyword_has_number, keyword_has_time, ticket_with, ticket_after, started_with, started_after, reply_after, reply_in};
+ghost use Rattle.cmwq_text.specs.ReplyText.{keyword_has_number, keyword_has_time, ticket_with, ticket_after};
+ghost use Rattle.cmwq_text.specs.ReplyText.{started_with, started_after, reply_after, reply_in};
 
 use crate::id::item_in;
 use crate::keyword::{Keyword, keyword_in};

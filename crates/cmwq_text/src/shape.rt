@@ -1,6 +1,7 @@
 //! Shapes in a text.
 ghost use Rattle.std.specs.Prelude.{◌≡◌};
-ghost use Rattle.cmwq_text.specs.ShapeText.{counts_read, begins_queue, flags_of, queue_line_of, queue_of_calls, queue_of_history, width_taken};
+ghost use Rattle.cmwq_text.specs.ShapeText.{counts_read, begins_queue, flags_of, queue_line_of, queue_of_calls};
+ghost use Rattle.cmwq_text.specs.ShapeText.{queue_of_history, width_taken};
 
 use crate::word::{Words, byte_count_in, number_in, short_count_in, wide_in};
 use cmwq_model::{Counts, QueueShape};

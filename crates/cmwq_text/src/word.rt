@@ -1,7 +1,8 @@
 //! A line as its words. Each reader takes the words that it reads; where it gives None, some may be taken.
 ghost use Rattle.std.specs.Prelude.{◌≡◌, ◌≤◌, if◌then◌else◌, nat_le, Some, None, IfSome, option_map, position};
 ghost use Rattle.cmwq_text.specs.Numbers.{IsLeading, is_begun, digits_from, number_read};
-ghost use Rattle.cmwq_text.specs.Words.{is_space, words_of, first_word, word_read, with_left, byte_in, short_in, byte_count_in, short_count_in, number_in, wide_in, long_in};
+ghost use Rattle.cmwq_text.specs.Words.{is_space, words_of, first_word, word_read, with_left, byte_in, short_in};
+ghost use Rattle.cmwq_text.specs.Words.{byte_count_in, short_count_in, number_in, wide_in, long_in};
 
 use crate::number::digits_of;
 use std::marker::Model;
@@ -110,7 +111,7 @@ fn begins_number(bytes: &[u8]) -> bool
     }
 }
 
-/// The number of the digits that bytes begin with, of no more of them than surely fit 64 bits, and what is behind these.
+/// The number of the digits that bytes begin with, of no more of them than surely fit 64 bits, and what is after these.
 #[inline(always)]
 fn leading_digits(bytes: &[u8]) -> (u64, &[u8])
     ensures { IsLeading bytes.now result.0 result.1.now }
@@ -149,7 +150,7 @@ fn long_number<'a>(limit: u64, bytes: &'a [u8]) -> Option<(u64, Words<'a>)>
     Some((number, words))
 }
 
-/// The number that digits up to a space or the end stand for, if it is at most the limit, and the words behind it.
+/// The number that digits up to a space or the end stand for, if it is at most the limit, and the words after it.
 #[inline(always)]
 fn leading_number<'a>(limit: u64, bytes: &'a [u8]) -> Option<(u64, Words<'a>)>
     ensures exact { result ≡ word_read (digits_from limit 0) (words_of bytes.now) }

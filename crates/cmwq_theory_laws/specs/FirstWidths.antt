@@ -1,7 +1,13 @@
--- Where widths don't change and no queue is destroyed, the active queueings are the first open ones, and a history is legal exactly where it was
--- before they could.
+-- Where widths don't change and no queue is destroyed, the active queueings are the first open ones, and a history is
+-- legal exactly where it was before they could.
 use Rattle.std.specs.Prelude.{◌≡◌, ◌==◌, ◌+◌, ◌&&◌, ◌||◌, if◌then◌else◌, ◌∷◌, ◌++◌}
-use Rattle.cmwq_theory_laws.specs.Common.{ℕ, length, Bool, true, false, not, List, [], filter, find, count_by, Option, IsTrue, nat_lt, AllByRecursion, PoolId, WorkerId, Who, Worker, Call, Reply, Entry, Queueing, Layout, first_width, pool_at, fits, width, same_pool, serial_of, now, is_started, has_run, queueings, still_open, is_live, is_pending, runs_elsewhere, is_ahead, is_active, became_active, is_startable, is_enlisted, is_cancelling, is_crowded, destroys, is_gone, answer, start_of, may_call, is_shut, IsLegal}
+use Rattle.cmwq_theory_laws.specs.Common.{ℕ, length, Bool, true, false, not, List, [], filter, find, count_by, Option}
+use Rattle.cmwq_theory_laws.specs.Common.{IsTrue, nat_lt, AllByRecursion, PoolId, WorkerId, Who, Worker, Call, Reply}
+use Rattle.cmwq_theory_laws.specs.Common.{Entry, Queueing, Layout, first_width, pool_at, fits, width, same_pool}
+use Rattle.cmwq_theory_laws.specs.Common.{serial_of, now, is_started, has_run, queueings, still_open, is_live}
+use Rattle.cmwq_theory_laws.specs.Common.{is_pending, runs_elsewhere, is_ahead, is_active, became_active, is_startable}
+use Rattle.cmwq_theory_laws.specs.Common.{is_enlisted, is_cancelling, is_crowded, destroys, is_gone, answer, start_of}
+use Rattle.cmwq_theory_laws.specs.Common.{may_call, is_shut, IsLegal}
 use Rattle.cmwq_model.specs.declared.call.Call.TheVariants as call
 use Rattle.cmwq_model.specs.declared.reply.Reply.TheVariants as reply
 
@@ -28,7 +34,8 @@ HasFirstWidths s [] = Unit {0}
 HasFirstWidths s (e ∷ past) = ((q : ℕ) → width s (e ∷ past) q ≡ first_width s q) × HasFirstWidths s past
 
 abbrev pub ActiveAsBefore : Type 0
-ActiveAsBefore = (s : Layout) (past : List Entry) → HasFirstWidths s past → ((x : Queueing) → is_active s past x ≡ is_first s past x) × (became_active s past ≡ ever_first s past)
+ActiveAsBefore = (s : Layout) (past : List Entry) → HasFirstWidths s past
+    → ((x : Queueing) → is_active s past x ≡ is_first s past x) × (became_active s past ≡ ever_first s past)
 
 -- no call that there wasn't before
 abbrev pub is_old : Call → Bool
@@ -79,15 +86,19 @@ answer_before s past (Worker w) call.Take = take_before s past w
 answer_before s past who c = answer s past who c
 
 abbrev pub entry_before : Layout → List Entry → Who → Call → Entry
-entry_before s past who call = record { who = who; serial = serial_of past who; call = call; reply = answer_before s past who call }
+entry_before s past who call =
+    record { who = who; serial = serial_of past who; call = call; reply = answer_before s past who call }
 
 unfoldable pub IsLegalBefore : Layout → List Entry → Type 0
 IsLegalBefore s [] = Unit {0}
-IsLegalBefore s (e ∷ past) = IsTrue (fits s e.who e.call) × (e ≡ entry_before s past e.who e.call) × IsLegalBefore s past
+IsLegalBefore s (e ∷ past) = IsTrue (fits s e.who e.call) × (e ≡ entry_before s past e.who e.call)
+    × IsLegalBefore s past
 
 -- without a destroy of it no queue is gone
 abbrev pub NoneGoneBefore : Type 0
-NoneGoneBefore = (past : List Entry) (q : ℕ) → AllByRecursion (λ e. destroys q e.call ≡ false) past → is_gone past q ≡ false
+NoneGoneBefore = (past : List Entry) (q : ℕ) → AllByRecursion (λ e. destroys q e.call ≡ false) past
+    → is_gone past q ≡ false
 
 abbrev pub LegalAsBefore : Type 0
-LegalAsBefore = (s : Layout) (past : List Entry) → AllByRecursion (λ e. is_old e.call ≡ true) past → (IsLegal s past → IsLegalBefore s past) × (IsLegalBefore s past → IsLegal s past)
+LegalAsBefore = (s : Layout) (past : List Entry) → AllByRecursion (λ e. is_old e.call ≡ true) past
+    → (IsLegal s past → IsLegalBefore s past) × (IsLegalBefore s past → IsLegal s past)

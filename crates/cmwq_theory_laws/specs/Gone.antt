@@ -1,6 +1,7 @@
 -- What becomes of a queue that is destroyed.
 use Rattle.std.specs.Prelude.{◌≡◌, ◌==◌, ◌∷◌}
-use Rattle.cmwq_theory_laws.specs.Common.{ℕ, true, false, List, Some, AllByRecursion, Entry, Booking, booking, still_open, is_gone, OfLegal}
+use Rattle.cmwq_theory_laws.specs.Common.{ℕ, true, false, List, Some, AllByRecursion, Entry, Booking, booking}
+use Rattle.cmwq_theory_laws.specs.Common.{still_open, is_gone, OfLegal}
 
 -- no item is booked on the queue, and nothing of it is open
 abbrev pub NoneBooked : List Entry → ℕ → Type 0

@@ -1,9 +1,11 @@
 -- Why the laws are said of legal histories: small illegal ones that break each.
 use Rattle.std.specs.Prelude.{◌∷◌}
-use Rattle.cmwq_theory_laws.specs.Common.{ℕ, false, List, [], WorkerId, Caller, Worker, Call, Reply, Entry, Layout, past_of}
+use Rattle.cmwq_theory_laws.specs.Common.{ℕ, false, List, [], WorkerId, Caller, Worker, Call, Reply, Entry, Layout}
+use Rattle.cmwq_theory_laws.specs.Common.{past_of}
 use Rattle.cmwq_model.specs.declared.call.Call.TheVariants as call
 use Rattle.cmwq_model.specs.declared.reply.Reply.TheVariants as reply
-use Rattle.cmwq_theory_laws.specs.Headline.{RunsInOneWorker, StartedOnce, StartsEarlier, StartsActive, RunsWithinActive, WaitsEndAfter, CancelsSettle}
+use Rattle.cmwq_theory_laws.specs.Headline.{RunsInOneWorker, StartedOnce, StartsEarlier, StartsActive, RunsWithinActive}
+use Rattle.cmwq_theory_laws.specs.Headline.{WaitsEndAfter, CancelsSettle}
 use Rattle.cmwq_theory_laws.specs.Gone.{GoneAreEmpty}
 
 -- the only caller, and the first two workers of a CPU
@@ -14,7 +16,8 @@ abbrev pub worker_of_pool_zero : ℕ → WorkerId
 worker_of_pool_zero x = record { pool = record { cpu = record { 0 = 0 }; high = false }; index = x }
 
 abbrev pub by_worker : ℕ → ℕ → Call → Reply → Entry
-by_worker x serial call reply = record { who = Worker (worker_of_pool_zero x); serial = serial; call = call; reply = reply }
+by_worker x serial call reply =
+    record { who = Worker (worker_of_pool_zero x); serial = serial; call = call; reply = reply }
 
 -- a call to queue the item on the only queue and CPU
 abbrev pub queue_zero : ℕ → Call
@@ -22,7 +25,16 @@ queue_zero i = call.Queue (record { 0 = i }) (record { 0 = 0 }) (record { 0 = 0 
 
 -- its max_active is 1
 abbrev pub narrow_layout : Layout
-narrow_layout = record { cpus = 1; workers = 2; callers = 1; items = 2; room = 100; queues = record { max_active = 1; high = false; intensive = false; freezable = false } ∷ [] }
+narrow_layout =
+    record {
+      cpus = 1;
+      workers = 2;
+      callers = 1;
+      items = 2;
+      room = 100;
+      queues =
+          record { max_active = 1; high = false; intensive = false; freezable = false } ∷ [];
+    }
 
 -- an item that is queued again while it runs is started by a second worker at once
 abbrev pub started_beside_its_run : List Entry
@@ -64,7 +76,8 @@ started_inactive = past_of (
     [])
 
 abbrev pub RunBeyondMaxActive : Type 0
-RunBeyondMaxActive = (StartsActive narrow_layout started_inactive → ⊥) × (RunsWithinActive narrow_layout started_inactive → ⊥)
+RunBeyondMaxActive = (StartsActive narrow_layout started_inactive → ⊥)
+    × (RunsWithinActive narrow_layout started_inactive → ⊥)
 
 -- a wait that begins after an item was queued ends before the item was started
 abbrev pub ended_early : Call → List Entry
@@ -76,8 +89,10 @@ ended_early wait = past_of (
 
 abbrev pub EndedEarly : Type 0
 EndedEarly =
-    (WaitsEndAfter (ended_early (call.Flush (record { 0 = 0 }))) → ⊥) × (WaitsEndAfter (ended_early (call.FlushItem (record { 0 = 0 }))) → ⊥)
-    × (WaitsEndAfter (ended_early (call.FlushDelayed (record { 0 = 0 }))) → ⊥) × (WaitsEndAfter (ended_early (call.Drain (record { 0 = 0 }))) → ⊥)
+    (WaitsEndAfter (ended_early (call.Flush (record { 0 = 0 }))) → ⊥)
+    × (WaitsEndAfter (ended_early (call.FlushItem (record { 0 = 0 }))) → ⊥)
+    × (WaitsEndAfter (ended_early (call.FlushDelayed (record { 0 = 0 }))) → ⊥)
+    × (WaitsEndAfter (ended_early (call.Drain (record { 0 = 0 }))) → ⊥)
     × (WaitsEndAfter (ended_early (call.Destroy (record { 0 = 0 }))) → ⊥)
 
 -- a cancel_sync is done while the item is pending, and while it runs

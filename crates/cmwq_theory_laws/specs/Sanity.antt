@@ -1,7 +1,10 @@
 -- Laws that show that the definitions say neither too much nor too little: each call has its one entry, and no item or
 -- queueing is two things at once.
 use Rattle.std.specs.Prelude.{◌≡◌, ◌≤◌, ◌&&◌, ◌∷◌}
-use Rattle.cmwq_theory_laws.specs.Common.{ℕ, Bool, true, false, List, map, filter, count_by, reverse, AllByRecursion, range_with_len, Who, Call, Entry, Queueing, Layout, fits, is_by, serial_of, is_started, is_finished, is_cancelled, queueings, still_open, IsLegal, steps, OfLegal}
+use Rattle.cmwq_theory_laws.specs.Common.{ℕ, Bool, true, false, List, map, filter, count_by, reverse, AllByRecursion}
+use Rattle.cmwq_theory_laws.specs.Common.{range_with_len, Who, Call, Entry, Queueing, Layout, fits, is_by, serial_of}
+use Rattle.cmwq_theory_laws.specs.Common.{is_started, is_finished, is_cancelled, queueings, still_open, IsLegal, steps}
+use Rattle.cmwq_theory_laws.specs.Common.{OfLegal}
 use Rattle.cmwq_theory_steps.specs.Pending.{is_run_of}
 
 -- ---- a call that fits has exactly one legal entry after a legal history
@@ -21,7 +24,8 @@ CallsHaveOneEntry = OfLegal (λ s past. (who : Who) (call : Call) → fits s who
 -- ---- the steps of calls that fit are a legal history
 
 abbrev pub StepsAreLegal : Type 0
-StepsAreLegal = (s : Layout) (room : ℕ) (calls : List (Who × Call)) → AllByRecursion (λ c. fits s c.0 c.1 ≡ true) calls → IsLegal s (steps s room calls).past
+StepsAreLegal = (s : Layout) (room : ℕ) (calls : List (Who × Call)) → AllByRecursion (λ c. fits s c.0 c.1 ≡ true) calls
+    → IsLegal s (steps s room calls).past
 
 -- ---- the serials of a caller's entries are 0, 1, 2, .. from the oldest on, and so are a worker's
 

@@ -1,6 +1,7 @@
 //! The definitions say what the field's words say.
 
-ghost use Rattle.cmwq_theory_laws.specs.Fidelity.{NamesItself, StandByNumber, ActiveAreFirst, WaitsForLeast, RunsAreItems};
+ghost use Rattle.cmwq_theory_laws.specs.Fidelity.{NamesItself, StandByNumber, ActiveAreFirst, WaitsForLeast};
+ghost use Rattle.cmwq_theory_laws.specs.Fidelity.{RunsAreItems};
 ghost use Rattle.cmwq_theory_steps.specs.Order.{WorklistsAreInOrder};
 
 /// A reply that opens a queueing or gives a ticket names its own entry.

@@ -7,9 +7,9 @@ pub fn entries_fit()
     ensures { EntriesFit }
 {}
 
-/// Each entry of a legal history fits its layout, and where the callers, workers and calls are inside the ranges of their
-/// types, so are all serials and replies, up to as many entries as there are numbers for them,
-/// and while the time is within its room.
+/// Each entry of a legal history fits its layout, and where the callers, workers and calls are inside the ranges of
+/// their types, so are all serials and replies, up to as many entries as there are numbers for them, and while the time
+/// is within its room.
 pub fn legal_histories_fit()
     ensures { LegalHistoriesFit }
 {}

@@ -1,6 +1,8 @@
 //! What a user of the runtime relies on, in every legal history.
 
-ghost use Rattle.cmwq_theory_laws.specs.Headline.{CancelSyncsSettle, CancelledStayIdle, FlushesEndAfterAllBefore, ItemsRunInOneWorker, NumbersStartOnce, QueueingsStart, ActiveWithinWidth, OnlyActiveStart, RunsAreActive};
+ghost use Rattle.cmwq_theory_laws.specs.Headline.{CancelSyncsSettle, CancelledStayIdle, FlushesEndAfterAllBefore};
+ghost use Rattle.cmwq_theory_laws.specs.Headline.{ItemsRunInOneWorker, NumbersStartOnce, QueueingsStart};
+ghost use Rattle.cmwq_theory_laws.specs.Headline.{ActiveWithinWidth, OnlyActiveStart, RunsAreActive};
 
 /// No two workers have runs of one item.
 pub fn items_run_in_one_worker()
@@ -17,7 +19,8 @@ pub fn queueings_start()
     ensures { QueueingsStart }
 {}
 
-/// Where an entry makes a queueing active, no more than the width that then holds of its queue are active on its CPU after it.
+/// Where an entry makes a queueing active, no more than the width that then holds of its queue are active on its CPU
+/// after it.
 pub fn active_are_within_width()
     ensures { ActiveWithinWidth }
 {}

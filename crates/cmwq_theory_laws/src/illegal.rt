@@ -1,6 +1,7 @@
 //! Why the laws are said of legal histories.
 
-ghost use Rattle.cmwq_theory_laws.specs.Illegal.{EndedEarly, RunBeyondMaxActive, RunInTwoWorkers, StartedTwice, StartedUnqueued, Unsettled, GoneButOpen};
+ghost use Rattle.cmwq_theory_laws.specs.Illegal.{EndedEarly, RunBeyondMaxActive, RunInTwoWorkers, StartedTwice};
+ghost use Rattle.cmwq_theory_laws.specs.Illegal.{StartedUnqueued, Unsettled, GoneButOpen};
 
 /// Histories that aren't legal break each law of what runs, starts, waits, is cancelled and is gone.
 pub fn illegal_histories_break_laws()

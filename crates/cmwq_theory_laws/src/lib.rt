@@ -1,4 +1,5 @@
-//! Laws of histories that a user of the runtime relies on: theorems over the definitions alone, which no running code needs.
+//! Laws of histories that a user of the runtime relies on: theorems over the definitions alone, which no running code
+//! needs.
 #![tactic(auto)]
 
 mod before;

@@ -1,6 +1,7 @@
 //! The definitions say neither too much nor too little.
 
-ghost use Rattle.cmwq_theory_laws.specs.Sanity.{CallsHaveOneEntry, CancelledNeverStart, ItemsHaveOneRun, QueueingsEndOnce, SerialsCountUp, StepsAreLegal};
+ghost use Rattle.cmwq_theory_laws.specs.Sanity.{CallsHaveOneEntry, CancelledNeverStart, ItemsHaveOneRun};
+ghost use Rattle.cmwq_theory_laws.specs.Sanity.{QueueingsEndOnce, SerialsCountUp, StepsAreLegal};
 
 /// After a legal history a call that fits has exactly one legal entry.
 pub fn calls_have_one_entry()

@@ -1,5 +1,8 @@
 -- Entries and queueings by their numbers, as a history grows.
-use Rattle.cmwq_theory_steps.specs.Common.{◌≡◌, ◌-◌, ◌<◌, ℕ, suc, true, List, [], ◌∷◌, length, Option, Some, option_to_list, ap, ◌∙◌, arith, option_and_then, AllByRecursion, nat_tests, Entry, Queueing, item_of, entry_at, item_at, queueings, opening, is_at, All_map, All_append}
+use Rattle.cmwq_theory_steps.specs.Common.{◌≡◌, ◌-◌, ◌<◌, ℕ, suc, true, List, [], ◌∷◌, length, Option, Some}
+use Rattle.cmwq_theory_steps.specs.Common.{option_to_list, ap, ◌∙◌, arith, option_and_then, AllByRecursion, nat_tests}
+use Rattle.cmwq_theory_steps.specs.Common.{Entry, Queueing, item_of, entry_at, item_at, queueings, opening, is_at}
+use Rattle.cmwq_theory_steps.specs.Common.{All_map, All_append}
 use Rattle.cmwq_theory_steps.proofs.Rising.{opening_number}
 use Rattle.cmwq_lemmas.proofs.Lists.{of_option}
 
@@ -32,8 +35,16 @@ unfolding queueings
 queueings_known [] = tt
 queueings_known (e ∷ past) =
     let opened : (x : Queueing) → opening past e ≡ Some x → IsKnown (e ∷ past) x
-    = λ x h. let number = opening_number past e x h in record { older = omega arith; item = ap (item_at (e ∷ past)) number ∙ ap (option_and_then item_of) (entry_at-newest e past) ∙ opening_item e past x h } in
-    All_append (IsKnown (e ∷ past)) (queueings past) (option_to_list (opening past e)) (All_map (IsKnown past) (IsKnown (e ∷ past)) (queueings past) (known_more e past) (queueings_known past)) (of_option (IsKnown (e ∷ past)) (opening past e) opened)
+    = λ x h. let number = opening_number past e x h in
+    record {
+      older = omega arith;
+      item =
+          ap (item_at (e ∷ past)) number ∙ ap (option_and_then item_of) (entry_at-newest e past)
+          ∙ opening_item e past x h;
+    } in
+    All_append (IsKnown (e ∷ past)) (queueings past) (option_to_list (opening past e))
+    (All_map (IsKnown past) (IsKnown (e ∷ past)) (queueings past) (known_more e past) (queueings_known past))
+    (of_option (IsKnown (e ∷ past)) (opening past e) opened)
 
 pub is_at-true : (o : Option ℕ) (n : ℕ) → is_at o n ≡ true → o ≡ Some n
 is_at-true o n h = grind (arith, nat_tests)

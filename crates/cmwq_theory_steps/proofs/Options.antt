@@ -1,5 +1,6 @@
 -- What an option holds, as a list.
-use Rattle.cmwq_theory_steps.specs.Common.{◌≡◌, Bool, false, [], length, Option, Some, None, option_to_list, count_by, refl, arith, option_map_or, is_some, count_by-cons}
+use Rattle.cmwq_theory_steps.specs.Common.{◌≡◌, Bool, false, [], length, Option, Some, None, option_to_list, count_by}
+use Rattle.cmwq_theory_steps.specs.Common.{refl, arith, option_map_or, is_some, count_by-cons}
 use Rattle.cmwq_theory_steps.specs.Histories.{one}
 
 module _ {X : Type 0} where

@@ -4,7 +4,8 @@ use Rattle.cmwq_theory_steps.specs.Common.{List, [], Entry, Layout, IsLegal, pas
 
 -- a front of a legal history is legal
 abbrev pub FrontsAreLegal : Type 0
-FrontsAreLegal = (s : Layout) (front rest : List Entry) → IsLegal s (past_of (front ++ rest)) → IsLegal s (past_of front)
+FrontsAreLegal = (s : Layout) (front rest : List Entry) → IsLegal s (past_of (front ++ rest))
+    → IsLegal s (past_of front)
 
 -- the same with the newest first
 abbrev pub OlderAreLegal : Type 0
@@ -16,4 +17,5 @@ OneMoreIsNewest = (entries : List Entry) (e : Entry) → past_of (entries ++ e �
 
 -- so a history with one more entry begins with the older one
 abbrev pub LongerBeginWithOlder : Type 0
-LongerBeginWithOlder = (older longer : List Entry) (e : Entry) → past_of longer ≡ e ∷ past_of older → longer ≡ older ++ e ∷ []
+LongerBeginWithOlder = (older longer : List Entry) (e : Entry) → past_of longer ≡ e ∷ past_of older
+    → longer ≡ older ++ e ∷ []

@@ -1,6 +1,8 @@
 -- An item's unstarted queueing and its run, as queueings, and the queueing that an entry ends, read off its reply.
 use Rattle.std.specs.Prelude.{◌≡◌, ◌==◌, ◌∷◌, if◌then◌else◌}
-use Rattle.cmwq_theory_steps.specs.Common.{ℕ, true, List, Option, Some, None, option_and_then, option_or, PoolId, Who, Caller, Worker, Reply, Entry, Queueing, Start, Layout, pool_at, item_of, run, item_run, opening, unstarted_queueing, queueing_at, is_live, next}
+use Rattle.cmwq_theory_steps.specs.Common.{ℕ, true, List, Option, Some, None, option_and_then, option_or, PoolId, Who}
+use Rattle.cmwq_theory_steps.specs.Common.{Caller, Worker, Reply, Entry, Queueing, Start, Layout, pool_at, item_of, run}
+use Rattle.cmwq_theory_steps.specs.Common.{item_run, opening, unstarted_queueing, queueing_at, is_live, next}
 use Rattle.cmwq_model.specs.declared.reply.Reply.TheVariants as reply
 use Rattle.cmwq_theory_steps.specs.Histories.{OfLegal, OfEntries}
 use Rattle.cmwq_theory_steps.specs.Endings.{ending}
@@ -17,11 +19,15 @@ of_item i None = None
 of_item i (Some x) = if x.item.0 == i then Some x else None
 
 abbrev pub UnstartedGoesOn : Type 0
-UnstartedGoesOn = OfEntries (λ s past e. (i : ℕ) → unstarted_queueing (e ∷ past) i ≡ option_or (still_unstarted past e (unstarted_queueing past i)) (of_item i (opening past e)))
+UnstartedGoesOn =
+    OfEntries (λ s past e. (i : ℕ)
+    → unstarted_queueing (e ∷ past) i
+    ≡ option_or (still_unstarted past e (unstarted_queueing past i)) (of_item i (opening past e)))
 
 -- what a pool starts next is its item's unstarted queueing
 abbrev pub NextAreUnstarted : Type 0
-NextAreUnstarted = OfLegal (λ s past. (p : PoolId) (x : Queueing) → next s past p ≡ Some x → unstarted_queueing past x.item.0 ≡ Some x)
+NextAreUnstarted =
+    OfLegal (λ s past. (p : PoolId) (x : Queueing) → next s past p ≡ Some x → unstarted_queueing past x.item.0 ≡ Some x)
 
 -- ---- an item's run is an open queueing of the item, in the pool of its worker
 

@@ -6,7 +6,9 @@ use Rattle.cmwq_theory_steps.specs.Histories.{OfLegal, one, OfEntries}
 
 -- one more for what an entry opens, and one less for what it ends
 abbrev pub OpenAreCounted : Type 0
-OpenAreCounted = OfEntries (λ s past e. length (still_open (e ∷ past)) + one (is_some (ending past e)) ≡ length (still_open past) + one (is_some (opening past e)))
+OpenAreCounted =
+    OfEntries (λ s past e. length (still_open (e ∷ past)) + one (is_some (ending past e))
+    ≡ length (still_open past) + one (is_some (opening past e)))
 
 -- two of an item at most: its run, and one that hasn't started
 abbrev pub TwoOfAnItem : Type 0

@@ -1,6 +1,8 @@
 -- The order of a pool's worklist.
 use Rattle.std.specs.Prelude.{◌≡◌, ◌<◌, ◌⊎◌, if◌then◌else◌, ◌∷◌}
-use Rattle.cmwq_theory_steps.specs.Common.{ℕ, true, List, [], length, Option, Some, None, Contains, AllByRecursion, option_or, PoolId, Entry, Queueing, Layout, queueings, is_active, is_listed, worklist}
+use Rattle.cmwq_theory_steps.specs.Common.{ℕ, true, List, [], length, Option, Some, None, Contains, AllByRecursion}
+use Rattle.cmwq_theory_steps.specs.Common.{option_or, PoolId, Entry, Queueing, Layout, queueings, is_active, is_listed}
+use Rattle.cmwq_theory_steps.specs.Common.{worklist}
 
 -- the length of the first prefix of the history in which the queueing is active
 unfoldable pub since : Layout → List Entry → Queueing → Option ℕ

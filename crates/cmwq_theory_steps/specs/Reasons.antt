@@ -1,6 +1,13 @@
 -- Why a legal entry's reply is what it is: what held before it, read off the reply.
 use Rattle.std.specs.Prelude.{◌≡◌, ◌+◌, ◌<◌, ◌∷◌}
-use Rattle.cmwq_theory_steps.specs.Common.{ℕ, Bool, true, false, List, length, Option, Some, None, CallerId, ItemId, WorkerId, Who, Caller, Worker, Call, Reply, Entry, Booking, Place, Queueing, Ticket, Layout, item_called, now, booking, is_booked, number_started, number_finished, number_cancelled, run, has_run, runs_awake, runs_asleep, place_called, is_pending, unstarted_queueing, runs_elsewhere, next, is_enlisted, index_enlisted, runnable, enlisted_by, may_retire, gives_ticket, is_cancelling, is_crowded, ticket_of, waits_for, may_call, is_shut, first_due, is_held_back, IsLegal}
+use Rattle.cmwq_theory_steps.specs.Common.{ℕ, Bool, true, false, List, length, Option, Some, None, CallerId, ItemId}
+use Rattle.cmwq_theory_steps.specs.Common.{WorkerId, Who, Caller, Worker, Call, Reply, Entry, Booking, Place, Queueing}
+use Rattle.cmwq_theory_steps.specs.Common.{Ticket, Layout, item_called, now, booking, is_booked, number_started}
+use Rattle.cmwq_theory_steps.specs.Common.{number_finished, number_cancelled, run, has_run, runs_awake, runs_asleep}
+use Rattle.cmwq_theory_steps.specs.Common.{place_called, is_pending, unstarted_queueing, runs_elsewhere, next}
+use Rattle.cmwq_theory_steps.specs.Common.{is_enlisted, index_enlisted, runnable, enlisted_by, may_retire, gives_ticket}
+use Rattle.cmwq_theory_steps.specs.Common.{is_cancelling, is_crowded, ticket_of, waits_for, may_call, is_shut}
+use Rattle.cmwq_theory_steps.specs.Common.{first_due, is_held_back, IsLegal}
 use Rattle.cmwq_model.specs.declared.call.Call.TheVariants as call
 use Rattle.cmwq_model.specs.declared.reply.Reply.TheVariants as reply
 
@@ -50,14 +57,19 @@ abbrev pub FinishesAreRuns : Type 0
 FinishesAreRuns = OfReplies (λ s past who c r. (n : ℕ) → number_finished r ≡ Some n → FinishesRun past who c n)
 
 abbrev pub SleepersAreAwake : Type 0
-SleepersAreAwake = OfReplies (λ s past who c r. r ≡ reply.Slept → (w : WorkerId) × (who ≡ Worker w) × (c ≡ call.Sleep) × (runs_awake past w ≡ true))
+SleepersAreAwake =
+    OfReplies (λ s past who c r. r ≡ reply.Slept → (w : WorkerId) × (who ≡ Worker w) × (c ≡ call.Sleep)
+    × (runs_awake past w ≡ true))
 
 abbrev pub WakersAreAsleep : Type 0
-WakersAreAsleep = OfReplies (λ s past who c r. r ≡ reply.Woke → (w : WorkerId) × (who ≡ Worker w) × (c ≡ call.Wake) × (runs_asleep past w ≡ true))
+WakersAreAsleep =
+    OfReplies (λ s past who c r. r ≡ reply.Woke → (w : WorkerId) × (who ≡ Worker w) × (c ≡ call.Wake)
+    × (runs_asleep past w ≡ true))
 
 abbrev pub RetirersMayRetire : Type 0
 RetirersMayRetire = OfReplies (λ s past who c r. r ≡ reply.Retired
-    → (w : WorkerId) × (who ≡ Worker w) × (c ≡ call.Retire) × (is_enlisted past w ≡ true) × (has_run past w ≡ false) × (may_retire s past w.pool ≡ true))
+    → (w : WorkerId) × (who ≡ Worker w) × (c ≡ call.Retire) × (is_enlisted past w ≡ true) × (has_run past w ≡ false)
+    × (may_retire s past w.pool ≡ true))
 
 -- ---- items: queued, booked, fired, cancelled
 
@@ -82,10 +94,12 @@ pub record IsGranted (past : List Entry) (who : Who) (c : Call) (t : ℕ) (pendi
   pub was_pending : is_pending past item ≡ pending
 
 abbrev pub QueuedWereIdle : Type 0
-QueuedWereIdle = OfReplies (λ s past who c r. (k : ℕ) → r ≡ reply.Yes k → (k ≡ length past) × IsGranted past who c 0 false)
+QueuedWereIdle =
+    OfReplies (λ s past who c r. (k : ℕ) → r ≡ reply.Yes k → (k ≡ length past) × IsGranted past who c 0 false)
 
 abbrev pub QueuedAgainWerePending : Type 0
-QueuedAgainWerePending = OfReplies (λ s past who c r. (k : ℕ) → r ≡ reply.Again k → (k ≡ length past) × IsGranted past who c 0 true)
+QueuedAgainWerePending =
+    OfReplies (λ s past who c r. (k : ℕ) → r ≡ reply.Again k → (k ≡ length past) × IsGranted past who c 0 true)
 
 -- what is booked is due so many ticks from now, and more than none
 pub record IsBookedIn (past : List Entry) (who : Who) (c : Call) (due : ℕ) (pending : Bool) : Type 0 where
@@ -114,7 +128,9 @@ FiredAreDue = OfReplies (λ s past who c r. (i : ItemId) (k : ℕ) → r ≡ rep
 
 -- a delayed item that a flush queues was booked, on a queue that isn't draining
 abbrev pub FlushedDelayedWereBooked : Type 0
-FlushedDelayedWereBooked = OfReplies (λ s past who c r. (k : ℕ) → r ≡ reply.TicketQueued k → (i : ItemId) × (c ≡ call.FlushDelayed i) × (is_booked past i.0 ≡ true) × (is_held_back past i.0 ≡ false))
+FlushedDelayedWereBooked =
+    OfReplies (λ s past who c r. (k : ℕ) → r ≡ reply.TicketQueued k → (i : ItemId) × (c ≡ call.FlushDelayed i)
+    × (is_booked past i.0 ≡ true) × (is_held_back past i.0 ≡ false))
 
 -- what is cancelled is the item's unstarted queueing
 pub record TakesBack (past : List Entry) (c : Call) (n : ℕ) : Type 0 where
@@ -134,13 +150,17 @@ unbooks (reply.TicketUnbooked k) = true
 unbooks r = false
 
 abbrev pub UnbookedWereBooked : Type 0
-UnbookedWereBooked = OfReplies (λ s past who c r. unbooks r ≡ true → (i : ℕ) × (item_called c ≡ Some i) × (is_booked past i ≡ true) × (unstarted_queueing past i ≡ None))
+UnbookedWereBooked =
+    OfReplies (λ s past who c r. unbooks r ≡ true → (i : ℕ) × (item_called c ≡ Some i) × (is_booked past i ≡ true)
+    × (unstarted_queueing past i ≡ None))
 
 -- ---- tickets and time
 
 -- a ticket is given to a caller that isn't crowded, under the number of the entry
 abbrev pub TicketsAreForCallers : Type 0
-TicketsAreForCallers = OfReplies (λ s past who c r. gives_ticket r ≡ true → (caller : CallerId) × (who ≡ Caller caller) × (is_crowded past who ≡ false) × (number_given r ≡ Some (length past)))
+TicketsAreForCallers =
+    OfReplies (λ s past who c r. gives_ticket r ≡ true → (caller : CallerId) × (who ≡ Caller caller)
+    × (is_crowded past who ≡ false) × (number_given r ≡ Some (length past)))
 
 -- a wait that is done is one of the caller's that stands and waits for nothing
 pub record EndsWait (past : List Entry) (who : Who) (c : Call) : Type 0 where
@@ -154,4 +174,5 @@ abbrev pub DoneAreReady : Type 0
 DoneAreReady = OfReplies (λ s past who c r. r ≡ reply.Done → EndsWait past who c)
 
 abbrev pub TicksTellNow : Type 0
-TicksTellNow = OfReplies (λ s past who c r. (d : ℕ) → r ≡ reply.Now d → (t : ℕ) × (c ≡ call.Tick t) × (d ≡ now past + t))
+TicksTellNow =
+    OfReplies (λ s past who c r. (d : ℕ) → r ≡ reply.Now d → (t : ℕ) × (c ≡ call.Tick t) × (d ≡ now past + t))

@@ -1,6 +1,10 @@
 -- Entries that change nothing: what a call is refused with, and misuse among it.
 use Rattle.std.specs.Prelude.{◌≡◌, ◌<◌, ◌∷◌}
-use Rattle.cmwq_theory_steps.specs.Common.{ℕ, Bool, true, false, List, [], length, None, PoolId, WorkerId, Reply, Entry, Queueing, Layout, now, booking, booking_of, run, item_run, is_asleep, queueings, opening, still_open, unstarted_queueing, run_queue, is_frozen, max_active, width, is_active, newly_active, worklist, next, is_enlisted, unended_tickets, ticket_in, is_gone, bits, owed}
+use Rattle.cmwq_theory_steps.specs.Common.{ℕ, Bool, true, false, List, [], length, None, PoolId, WorkerId, Reply, Entry}
+use Rattle.cmwq_theory_steps.specs.Common.{Queueing, Layout, now, booking, booking_of, run, item_run, is_asleep}
+use Rattle.cmwq_theory_steps.specs.Common.{queueings, opening, still_open, unstarted_queueing, run_queue, is_frozen}
+use Rattle.cmwq_theory_steps.specs.Common.{max_active, width, is_active, newly_active, worklist, next, is_enlisted}
+use Rattle.cmwq_theory_steps.specs.Common.{unended_tickets, ticket_in, is_gone, bits, owed}
 use Rattle.cmwq_model.specs.declared.reply.Reply.TheVariants as reply
 use Rattle.cmwq_theory_steps.specs.Histories.{OfEntries}
 use Rattle.cmwq_theory_steps.specs.Places.{active_count}

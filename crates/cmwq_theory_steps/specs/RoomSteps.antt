@@ -1,6 +1,10 @@
 -- What a history owes after one more entry, and so which replies are never refused for want of room.
 use Rattle.std.specs.Prelude.{◌≡◌, ◌+◌, ◌*◌, ◌≤◌, ◌&&◌, ◌∷◌}
-use Rattle.cmwq_theory_steps.specs.Common.{ℕ, [], Bool, true, false, List, length, count_by, is_some, range_with_len, option_map_or, Reply, Entry, Layout, item_of, settles, booking_of, is_booked, number_started, number_finished, has_run, runs_asleep, still_open, opening, gives_ticket, is_done, unended_tickets, is_frozen, owed, workers, has_not_started, room_needed}
+use Rattle.cmwq_theory_steps.specs.Common.{ℕ, [], Bool, true, false, List, length, count_by, is_some, range_with_len}
+use Rattle.cmwq_theory_steps.specs.Common.{option_map_or, Reply, Entry, Layout, item_of, settles, booking_of, is_booked}
+use Rattle.cmwq_theory_steps.specs.Common.{number_started, number_finished, has_run, runs_asleep, still_open, opening}
+use Rattle.cmwq_theory_steps.specs.Common.{gives_ticket, is_done, unended_tickets, is_frozen, owed, workers}
+use Rattle.cmwq_theory_steps.specs.Common.{has_not_started, room_needed}
 use Rattle.cmwq_model.specs.declared.reply.Reply.TheVariants as reply
 use Rattle.cmwq_theory_steps.specs.Endings.{ending}
 use Rattle.cmwq_theory_steps.specs.Histories.{one, OfEntries}
@@ -26,10 +30,15 @@ abbrev pub ends_unstarted : List Entry → Entry → Bool
 ends_unstarted past e = option_map_or (has_not_started past) (ending past e) false
 
 abbrev pub WaitingAreCounted : Type 0
-WaitingAreCounted = OfEntries (λ s past e. waiting_count (e ∷ past) + one (is_some (number_started e.reply)) + one (ends_unstarted past e) ≡ waiting_count past + one (is_some (opening past e)))
+WaitingAreCounted =
+    OfEntries
+    (λ s past e. waiting_count (e ∷ past) + one (is_some (number_started e.reply)) + one (ends_unstarted past e)
+    ≡ waiting_count past + one (is_some (opening past e)))
 
 abbrev pub RunsAreCounted : Type 0
-RunsAreCounted = OfEntries (λ s past e. run_count s (e ∷ past) + one (is_some (number_finished e.reply)) ≡ run_count s past + one (is_some (number_started e.reply)))
+RunsAreCounted =
+    OfEntries (λ s past e. run_count s (e ∷ past) + one (is_some (number_finished e.reply))
+    ≡ run_count s past + one (is_some (number_started e.reply)))
 
 abbrev pub is_slept : Reply → Bool
 is_slept reply.Slept = true
@@ -40,17 +49,23 @@ is_woke reply.Woke = true
 is_woke r = false
 
 abbrev pub SleepersAreCounted : Type 0
-SleepersAreCounted = OfEntries (λ s past e. sleeper_count s (e ∷ past) + one (is_woke e.reply) ≡ sleeper_count s past + one (is_slept e.reply))
+SleepersAreCounted =
+    OfEntries (λ s past e. sleeper_count s (e ∷ past) + one (is_woke e.reply)
+    ≡ sleeper_count s past + one (is_slept e.reply))
 
 -- the entry settles an item that was booked
 abbrev pub settles_booked : List Entry → Entry → Bool
 settles_booked past e = settles e.reply && option_map_or (is_booked past) (item_of e) false
 
 abbrev pub BookedAreCounted : Type 0
-BookedAreCounted = OfEntries (λ s past e. booked_count s (e ∷ past) + one (settles_booked past e) ≡ booked_count s past + one (is_some (booking_of e (length past))))
+BookedAreCounted =
+    OfEntries (λ s past e. booked_count s (e ∷ past) + one (settles_booked past e)
+    ≡ booked_count s past + one (is_some (booking_of e (length past))))
 
 abbrev pub TicketsAreCounted : Type 0
-TicketsAreCounted = OfEntries (λ s past e. length (unended_tickets (e ∷ past)) + one (is_done e.reply) ≡ length (unended_tickets past) + one (gives_ticket e.reply))
+TicketsAreCounted =
+    OfEntries (λ s past e. length (unended_tickets (e ∷ past)) + one (is_done e.reply)
+    ≡ length (unended_tickets past) + one (gives_ticket e.reply))
 
 -- one more while it is frozen
 abbrev pub is_frozen_now : Reply → Bool
@@ -62,13 +77,16 @@ is_thawed_now reply.Thawed = true
 is_thawed_now r = false
 
 abbrev pub FrozenAreCounted : Type 0
-FrozenAreCounted = OfEntries (λ s past e. one (is_frozen (e ∷ past)) + one (is_thawed_now e.reply) ≡ one (is_frozen past) + one (is_frozen_now e.reply))
+FrozenAreCounted =
+    OfEntries (λ s past e. one (is_frozen (e ∷ past)) + one (is_thawed_now e.reply)
+    ≡ one (is_frozen past) + one (is_frozen_now e.reply))
 
 -- ---- so what is owed: what it was, less what the entry pays off, and what it takes on
 
 abbrev pub room_paid : List Entry → Entry → ℕ
 room_paid past e =
-    2 * one (is_some (number_started e.reply)) + 2 * one (ends_unstarted past e) + one (is_some (number_finished e.reply)) + one (is_woke e.reply)
+    2 * one (is_some (number_started e.reply)) + 2 * one (ends_unstarted past e) + one
+    (is_some (number_finished e.reply)) + one (is_woke e.reply)
     + 3 * one (settles_booked past e) + one (is_done e.reply) + one (is_thawed_now e.reply)
 
 abbrev pub taken_on : List Entry → Entry → ℕ

@@ -1,6 +1,8 @@
 //! What one more entry makes active, and what it does to the worklists.
 
-ghost use Rattle.cmwq_theory_steps.specs.Activations.{WorklistsGoOn, StartedAreActive, NewlyActiveAre, OpenedAreBelowMaxActive, ActiveStay, ActiveGoOn, NewlyActiveOn, WidenedMakeActive};
+ghost use Rattle.cmwq_theory_steps.specs.Activations.{WorklistsGoOn, StartedAreActive, NewlyActiveAre};
+ghost use Rattle.cmwq_theory_steps.specs.Activations.{OpenedAreBelowMaxActive, ActiveStay, ActiveGoOn, NewlyActiveOn};
+ghost use Rattle.cmwq_theory_steps.specs.Activations.{WidenedMakeActive};
 
 /// What one more entry makes active, and what it does to the worklists.
 pub fn activations_go_on()

@@ -1,5 +1,5 @@
-//! What one more entry does to each thing that a book of the runtime would keep, and what is active, told by few looks at a history:
-//! theorems over the definitions alone.
+//! What one more entry does to each thing that a book of the runtime would keep, and what is active, told by few looks
+//! at a history: theorems over the definitions alone.
 #![tactic(auto)]
 
 mod activation_steps;

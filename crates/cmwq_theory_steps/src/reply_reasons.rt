@@ -1,6 +1,10 @@
 //! Why a legal entry's reply is what it is: what held before it.
 
-ghost use Rattle.cmwq_theory_steps.specs.Reasons.{StartsAreNext, FinishesAreRuns, SleepersAreAwake, WakersAreAsleep, RetirersMayRetire, QueuedWereIdle, QueuedAgainWerePending, BookedWereIdle, RebookedWerePending, FlushedDelayedWereBooked, CancelledWereUnstarted, UnbookedWereBooked, DoneAreReady, TicksTellNow, FiredAreDue, TicketsAreForCallers};
+ghost use Rattle.cmwq_theory_steps.specs.Reasons.{StartsAreNext, FinishesAreRuns, SleepersAreAwake, WakersAreAsleep};
+ghost use Rattle.cmwq_theory_steps.specs.Reasons.{RetirersMayRetire, QueuedWereIdle, QueuedAgainWerePending};
+ghost use Rattle.cmwq_theory_steps.specs.Reasons.{BookedWereIdle, RebookedWerePending, FlushedDelayedWereBooked};
+ghost use Rattle.cmwq_theory_steps.specs.Reasons.{CancelledWereUnstarted, UnbookedWereBooked, DoneAreReady};
+ghost use Rattle.cmwq_theory_steps.specs.Reasons.{TicksTellNow, FiredAreDue, TicketsAreForCallers};
 
 /// Why a legal entry's reply is what it is: what held before it.
 pub fn replies_have_reasons()

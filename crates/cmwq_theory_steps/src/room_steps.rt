@@ -1,6 +1,8 @@
 //! What a history owes after one more entry, and which replies are never refused for want of room.
 
-ghost use Rattle.cmwq_theory_steps.specs.RoomSteps.{WaitingAreCounted, RunsAreCounted, SleepersAreCounted, BookedAreCounted, TicketsAreCounted, FrozenAreCounted, PromisedNeedNoMore, OwedGoesOn, NothingOwedAtFirst};
+ghost use Rattle.cmwq_theory_steps.specs.RoomSteps.{WaitingAreCounted, RunsAreCounted, SleepersAreCounted};
+ghost use Rattle.cmwq_theory_steps.specs.RoomSteps.{BookedAreCounted, TicketsAreCounted, FrozenAreCounted};
+ghost use Rattle.cmwq_theory_steps.specs.RoomSteps.{PromisedNeedNoMore, OwedGoesOn, NothingOwedAtFirst};
 
 /// What a history owes after one more entry, and which replies are never refused for want of room.
 pub fn owed_goes_on()

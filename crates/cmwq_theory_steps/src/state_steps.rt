@@ -1,6 +1,7 @@
 //! What is kept of workers, items, time and serials after one more entry.
 
-ghost use Rattle.cmwq_theory_steps.specs.StateSteps.{SleepersGoOn, EnlistedGoOn, BookingsGoOn, TimeGoesOn, SerialsGoOn, SerialsRise, EntriesBookAsAsked, EntriesOpenAsAsked};
+ghost use Rattle.cmwq_theory_steps.specs.StateSteps.{SleepersGoOn, EnlistedGoOn, BookingsGoOn, TimeGoesOn, SerialsGoOn};
+ghost use Rattle.cmwq_theory_steps.specs.StateSteps.{SerialsRise, EntriesBookAsAsked, EntriesOpenAsAsked};
 ghost use Rattle.cmwq_theory_steps.specs.Marks.{OthersStay};
 
 /// What is kept of workers, items, time and serials after one more entry.

@@ -1,6 +1,7 @@
 //! What one more entry does to the unended tickets, and which flushes it serves.
 
-ghost use Rattle.cmwq_theory_steps.specs.TicketSteps.{UnendedGoOn, OneTicketEnds, ServedStay, BegunAreServed, OverflowedMoveUp, OneMovesUp, TicketsGoOn};
+ghost use Rattle.cmwq_theory_steps.specs.TicketSteps.{UnendedGoOn, OneTicketEnds, ServedStay, BegunAreServed};
+ghost use Rattle.cmwq_theory_steps.specs.TicketSteps.{OverflowedMoveUp, OneMovesUp, TicketsGoOn};
 
 /// What one more entry does to the unended tickets, and which flushes it serves.
 pub fn tickets_go_on()

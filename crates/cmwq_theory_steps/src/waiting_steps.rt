@@ -1,6 +1,7 @@
 //! What waits, and how many are active on a queue and CPU, after one more entry.
 
-ghost use Rattle.cmwq_theory_steps.specs.Waiting.{CandidatesAre, CandidatesBelowMaxActive, WaitingGoesOn, WayByPicked, WaitingOnGoesOn, ActiveAreCounted, ActiveCountsGoOn, StaysAreCounted};
+ghost use Rattle.cmwq_theory_steps.specs.Waiting.{CandidatesAre, CandidatesBelowMaxActive, WaitingGoesOn, WayByPicked};
+ghost use Rattle.cmwq_theory_steps.specs.Waiting.{WaitingOnGoesOn, ActiveAreCounted, ActiveCountsGoOn, StaysAreCounted};
 
 /// What waits, and how many are active on a queue and CPU, after one more entry.
 pub fn waiting_goes_on()

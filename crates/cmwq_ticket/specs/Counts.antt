@@ -1,6 +1,7 @@
 -- How many unended tickets there are of each kind that is asked for: by item, and by queue.
 use Rattle.std.specs.Prelude.{◌≡◌, ◌+◌, ◌-◌, ◌<◌}
-use Rattle.cmwq_ticket.specs.Common.{ℕ, Bool, true, List, length, All, count_by, sum_by, nat_lt, slice_index, slice_set, replicate, Call, Ticket, is_cancel_sync_of, is_destroy_of, is_drain_of}
+use Rattle.cmwq_ticket.specs.Common.{ℕ, Bool, true, List, length, All, count_by, sum_by, nat_lt, slice_index, slice_set}
+use Rattle.cmwq_ticket.specs.Common.{replicate, Call, Ticket, is_cancel_sync_of, is_destroy_of, is_drain_of}
 use Rattle.cmwq_model.specs.declared.call.Call.TheVariants as call
 
 -- of each item how many cancel it, of each queue how many destroy it, and how many drain or destroy it
@@ -17,7 +18,8 @@ is_counted items queues (call.Destroy q) = nat_lt q.0 queues
 is_counted items queues c = true
 
 abbrev pub no_counts : ℕ → ℕ → TicketCounts
-no_counts items queues = record { cancels = replicate items 0; destroys = replicate queues 0; drains = replicate queues 0 }
+no_counts items queues =
+    record { cancels = replicate items 0; destroys = replicate queues 0; drains = replicate queues 0 }
 
 -- one more, and one less
 abbrev pub more_at : ℕ → List ℕ → List ℕ

@@ -1,6 +1,8 @@
 -- The unended tickets of all callers: a row for each caller, with its tickets by rising number.
 use Rattle.std.specs.Prelude.{◌≤◌, ◌<◌, ◌&&◌, ◌==◌, ◌∷◌, ◌++◌}
-use Rattle.cmwq_ticket.specs.Common.{ℕ, Bool, not, List, [], length, filter, find, flat_map, Option, AllPairs, sum_by, nat_le, nat_lt, replicate, slice_index_or, slice_set, list_any, list_all, Ticket, is_cancel_sync_of, is_destroy_of, is_drain_of}
+use Rattle.cmwq_ticket.specs.Common.{ℕ, Bool, not, List, [], length, filter, find, flat_map, Option, AllPairs, sum_by}
+use Rattle.cmwq_ticket.specs.Common.{nat_le, nat_lt, replicate, slice_index_or, slice_set, list_any, list_all, Ticket}
+use Rattle.cmwq_ticket.specs.Common.{is_cancel_sync_of, is_destroy_of, is_drain_of}
 use Rattle.cmwq_ticket.specs.Counts.{is_counted}
 
 abbrev pub TicketRows : Type 0
@@ -46,15 +48,16 @@ any_destroys rows q = list_any (list_any (is_destroy_of q)) rows
 abbrev pub any_drains : TicketRows → ℕ → Bool
 any_drains rows q = list_any (list_any (is_drain_of q)) rows
 
--- a ticket may be given to a caller that isn't crowded, where its number is later than those the caller has, and its call speaks of an item or a
--- queue that is one of so many
+-- a ticket may be given to a caller that isn't crowded, where its number is later than those the caller has, and its
+-- call speaks of an item or a queue that is one of so many
 abbrev pub comes_before : Ticket → Ticket → Bool
 comes_before t u = nat_lt u.number t.number
 
 abbrev pub may_give : TicketBook → Ticket → Bool
-may_give b t = nat_lt t.caller.0 (length b.rows) && not (is_row_crowded b.rows t.caller.0) && list_all (comes_before t) (tickets_of_caller b.rows t.caller.0) && is_counted b.items b.queues t.call
+may_give b t = nat_lt t.caller.0 (length b.rows) && not (is_row_crowded b.rows t.caller.0)
+    && list_all (comes_before t) (tickets_of_caller b.rows t.caller.0) && is_counted b.items b.queues t.call
 
--- it comes behind those the caller has
+-- it comes after those the caller has
 abbrev pub rows_with : TicketRows → Ticket → TicketRows
 rows_with rows t = slice_set rows t.caller.0 (tickets_of_caller rows t.caller.0 ++ t ∷ [])
 

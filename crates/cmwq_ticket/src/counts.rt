@@ -1,11 +1,13 @@
 ghost use Rattle.std.specs.Prelude.{◌≡◌, ◌+◌, ◌-◌, ◌<◌, length, nat_lt, slice_index, IfOk, IsTrue};
-ghost use Rattle.cmwq_ticket.specs.Counts.{is_counted, no_counts, more_at, less_at, counts_with, counts_without, HasCount, HaveRoom};
+ghost use Rattle.cmwq_ticket.specs.Counts.{is_counted, no_counts, more_at, less_at, counts_with, counts_without};
+ghost use Rattle.cmwq_ticket.specs.Counts.{HasCount, HaveRoom};
 
 use cmwq_model::{Call, NoMemory};
 use std::alloc::Global;
 use std::marker::Model;
 
-/// How many unended tickets are cancel_syncs of each item, destroys of each queue, and drains or destroys of each queue.
+/// How many unended tickets are cancel_syncs of each item, destroys of each queue, and drains or destroys of each
+/// queue.
 #[derive(Drop)]
 pub(crate) struct Counts {
     cancels: Vec<u16>,

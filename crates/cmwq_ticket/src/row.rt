@@ -76,7 +76,7 @@ impl Row {
         Some(wait.ticket(self.caller))
     }
 
-    /// Puts a ticket behind all others, which are of the same caller.
+    /// Adds a ticket after all others, which are of the same caller.
     pub(crate) fn push(&mut self, ticket: Ticket)
         requires room { length self.old < TICKETS_OF_CALLER }
         requires own { AreOfCaller ticket.caller.0 self.old }

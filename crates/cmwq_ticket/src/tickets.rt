@@ -1,5 +1,6 @@
 ghost use Rattle.std.specs.Prelude.{◌≡◌, ℕ, ◌<◌, ◌↔◌, [], IfOk, IsSome, IsTrue, length, nat_lt, replicate, slice_index};
-ghost use Rattle.cmwq_ticket.specs.Rows.{any_ticket, count, new_tickets, tickets_without, tickets_with, any_destroys, any_cancels, is_row_crowded, any_drains, may_give, ticket_of_caller};
+ghost use Rattle.cmwq_ticket.specs.Rows.{any_ticket, count, new_tickets, tickets_without, tickets_with, any_destroys};
+ghost use Rattle.cmwq_ticket.specs.Rows.{any_cancels, is_row_crowded, any_drains, may_give, ticket_of_caller};
 
 use crate::counts::{Counts, has_some};
 use crate::row::{Row, TICKETS_OF_CALLER};
@@ -124,7 +125,8 @@ impl Tickets {
         self.len == 0
     }
 
-    /// Gives a ticket to its caller, which begins to wait (`flush_workqueue`, `cancel_work_sync` and the like, up to their wait).
+    /// Gives a ticket to its caller, which begins to wait (`flush_workqueue`, `cancel_work_sync` and the like, up to
+    /// their wait).
     pub fn give(&mut self, ticket: Ticket)
         requires { IsTrue (may_give self.old ticket) }
         ensures { self.new ≡ tickets_with self.old ticket }

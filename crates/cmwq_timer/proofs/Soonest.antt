@@ -1,5 +1,6 @@
 -- Which timer is sooner, and the first of some nodes.
-use Rattle.std.proofs.Common.{◌≢◌, List, length, ap, ◌≡◌, ℕ, ◌+◌, ◌<◌, ◌≤◌, Bool, true, false, Option, Some, None, cond, refl, arith, ◌⊎◌, ⊎_elim}
+use Rattle.std.proofs.Common.{◌≢◌, List, length, ap, ◌≡◌, ℕ, ◌+◌, ◌<◌, ◌≤◌, Bool, true, false, Option, Some, None, cond}
+use Rattle.std.proofs.Common.{refl, arith, ◌⊎◌, ⊎_elim}
 use Rattle.std.specs.Option.{option_map_or}
 use Rattle.std.proofs.lemmas.Bool.{cases_eq, false≢true}
 use Rattle.std.proofs.lemmas.List.{get_or_past}
@@ -30,7 +31,8 @@ pub one_value : {X : Type 0} (o : Option X) (x y : X) → o ≡ Some x → o ≡
 one_value o x y p q = cc
 
 module _ (nodes : Nodes) (lo k : ℕ) (up : lo ≤ k) where
-  here : (c d e : Candidate) (j : ℕ) → nodes k ≡ Some d → is_sooner d.timer c.timer ≡ false → j ≡ k → nodes j ≡ Some e → is_sooner e.timer c.timer ≡ false
+  here : (c d e : Candidate) (j : ℕ) → nodes k ≡ Some d → is_sooner d.timer c.timer ≡ false → j ≡ k → nodes j ≡ Some e
+      → is_sooner e.timer c.timer ≡ false
   here c d e j is not_sooner same stands = grind arith
 
   by : (o n : Option Candidate) → nodes k ≡ n → IsSoonest nodes lo k o → IsSoonest nodes lo (k + 1) (sooner o n)
@@ -40,14 +42,18 @@ module _ (nodes : Nodes) (lo k : ℕ) (up : lo ≤ k) where
     from = up;
     below = omega arith;
     is = is;
-    none_sooner = λ j e from below stands. ⊎_elim (λ l. absurd (not_both (nodes j) e (none j from l) stands)) (λ same. here d d e j is (sooner_self d.timer) same stands) (is_last j k below);
+    none_sooner =
+        λ j e from below stands. ⊎_elim (λ l. absurd (not_both (nodes j) e (none j from l) stands))
+        (λ same. here d d e j is (sooner_self d.timer) same stands) (is_last j k below);
   }
   by (Some c) None is first = record {
     at = first.at;
     from = first.from;
     below = (let b = first.below in omega arith);
     is = first.is;
-    none_sooner = λ j e from below stands. ⊎_elim (λ l. first.none_sooner j e from l stands) (λ same. absurd (not_both (nodes k) e is (rw same at stands))) (is_last j k below);
+    none_sooner =
+        λ j e from below stands. ⊎_elim (λ l. first.none_sooner j e from l stands)
+        (λ same. absurd (not_both (nodes k) e is (rw same at stands))) (is_last j k below);
   }
   by (Some c) (Some d) is first = with (is_sooner d.timer c.timer) refl
     where
@@ -57,14 +63,19 @@ module _ (nodes : Nodes) (lo k : ℕ) (up : lo ≤ k) where
         from = up;
         below = omega arith;
         is = is;
-        none_sooner = λ j e from below stands. ⊎_elim (λ l. sooner_chain e.timer c.timer d.timer (first.none_sooner j e from l stands) less) (λ same. here d d e j is (sooner_self d.timer) same stands) (is_last j k below);
+        none_sooner =
+            λ j e from below stands. ⊎_elim
+            (λ l. sooner_chain e.timer c.timer d.timer (first.none_sooner j e from l stands) less)
+            (λ same. here d d e j is (sooner_self d.timer) same stands) (is_last j k below);
       }
       with false less = record {
         at = first.at;
         from = first.from;
         below = (let b = first.below in omega arith);
         is = first.is;
-        none_sooner = λ j e from below stands. ⊎_elim (λ l. first.none_sooner j e from l stands) (λ same. here c d e j is less same stands) (is_last j k below);
+        none_sooner =
+            λ j e from below stands. ⊎_elim (λ l. first.none_sooner j e from l stands)
+            (λ same. here c d e j is less same stands) (is_last j k below);
       }
 
   -- one more node
@@ -72,21 +83,25 @@ module _ (nodes : Nodes) (lo k : ℕ) (up : lo ≤ k) where
   soonest_more o first = by o (nodes k) refl first
 
 -- nodes that agree have the same first
-pub soonest_same : (old new : Nodes) (lo hi : ℕ) (o : Option Candidate) → ((k : ℕ) → lo ≤ k → k < hi → new k ≡ old k) → IsSoonest old lo hi o → IsSoonest new lo hi o
+pub soonest_same : (old new : Nodes) (lo hi : ℕ) (o : Option Candidate) → ((k : ℕ) → lo ≤ k → k < hi → new k ≡ old k)
+    → IsSoonest old lo hi o → IsSoonest new lo hi o
 soonest_same old new lo hi o same none = grind arith
 
 pub node_past : (level : List (Option Candidate)) (i : ℕ) → length level ≤ i → node_at level i ≡ None
 node_past level i past = get_or_past level i None past
 
 pub row_past : (rows : TimerRows) (i : ℕ) → length rows ≤ i → candidate_at rows i ≡ None
-row_past rows i past = ap (option_map (λ (t : Timer). record { item = record { 0 = i }; timer = t })) (get_or_past rows i None past)
+row_past rows i past =
+    ap (option_map (λ (t : Timer). record { item = record { 0 = i }; timer = t })) (get_or_past rows i None past)
 
--- behind the last of the nodes there is nothing
-pub soonest_past : (nodes : Nodes) (lo k hi : ℕ) (o : Option Candidate) → k ≤ hi → ((i : ℕ) → k ≤ i → i < hi → nodes i ≡ None) → IsSoonest nodes lo k o → IsSoonest nodes lo hi o
+-- after the last of the nodes there is nothing
+pub soonest_past : (nodes : Nodes) (lo k hi : ℕ) (o : Option Candidate) → k ≤ hi
+    → ((i : ℕ) → k ≤ i → i < hi → nodes i ≡ None) → IsSoonest nodes lo k o → IsSoonest nodes lo hi o
 soonest_past nodes lo k hi o up past none = grind arith
 
 -- what is written and comes before the first of all is the first
-pub written_first : (old new : Nodes) (lo hi at : ℕ) (was now : Option Candidate) (kept : Candidate) → IsWritten old new at was now → lo ≤ at → at < hi → IsSoonest old lo hi (Some kept)
+pub written_first : (old new : Nodes) (lo hi at : ℕ) (was now : Option Candidate) (kept : Candidate)
+    → IsWritten old new at was now → lo ≤ at → at < hi → IsSoonest old lo hi (Some kept)
     → option_map_or (λ (next : Candidate). is_sooner next.timer kept.timer) now false ≡ true → IsSoonest new lo hi now
 written_first old new lo hi at was None kept w from below first less = absurd (false≢true less)
 written_first old new lo hi at was (Some next) kept w from below first less = record {
@@ -96,11 +111,14 @@ written_first old new lo hi at was (Some next) kept w from below first less = re
   is = w.behind;
   none_sooner = λ k d lower upper stands. ⊎_elim
       (λ same. rw (one_value (new at) next d w.behind (rw same at stands)) (sooner_self next.timer))
-      (λ ne. sooner_chain d.timer kept.timer next.timer (first.none_sooner k d lower upper (rw (w.others k ne) at stands)) less)
+      (λ ne. sooner_chain d.timer kept.timer next.timer
+      (first.none_sooner k d lower upper (rw (w.others k ne) at stands)) less)
       (cases_eq k at);
 }
 
 -- what was the first stays so where another was written that doesn't come before it
-pub first_stays : (old new : Nodes) (lo hi at : ℕ) (was now : Option Candidate) (kept : Candidate) → IsWritten old new at was now → IsSoonest old lo hi (Some kept) → was ≢ Some kept
-    → option_map_or (λ (next : Candidate). is_sooner next.timer kept.timer) now false ≡ false → IsSoonest new lo hi (Some kept)
+pub first_stays : (old new : Nodes) (lo hi at : ℕ) (was now : Option Candidate) (kept : Candidate)
+    → IsWritten old new at was now → IsSoonest old lo hi (Some kept) → was ≢ Some kept
+    → option_map_or (λ (next : Candidate). is_sooner next.timer kept.timer) now false ≡ false
+    → IsSoonest new lo hi (Some kept)
 first_stays old new lo hi at was now kept w first other less = grind arith

@@ -1,5 +1,6 @@
 -- The timers of all items: a row for each item, with its timer if it is booked.
-use Rattle.std.specs.Prelude.{◌≡◌, ℕ, ◌<◌, Bool, false, ◌==◌, ◌+◌, ◌-◌, List, Option, Some, None, option_map, IsTrue, length, count_by, slice_index, slice_index_or, slice_set}
+use Rattle.std.specs.Prelude.{◌≡◌, ℕ, ◌<◌, Bool, false, ◌==◌, ◌+◌, ◌-◌, List, Option, Some, None, option_map, IsTrue}
+use Rattle.std.specs.Prelude.{length, count_by, slice_index, slice_index_or, slice_set}
 use Rattle.std.specs.List.{list_any}
 use Rattle.cmwq_timer.specs.declared.timer.Timer.{Timer}
 use Rattle.cmwq_timer.specs.declared.timers.TheConstants.{QUEUES}

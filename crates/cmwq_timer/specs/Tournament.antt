@@ -1,5 +1,6 @@
 -- A tournament of the timers: of each sixteen nodes of a level, the next level keeps the one that fires first.
-use Rattle.std.specs.Prelude.{◌≡◌, ◌≢◌, ℕ, zero, suc, ◌+◌, ◌*◌, ◌/◌, ◌<◌, ◌≤◌, Bool, true, false, List, [], ◌∷◌, length, Option, Some, None, option_map, IsTrue, if◌then◌else◌, slice_index_or}
+use Rattle.std.specs.Prelude.{◌≡◌, ◌≢◌, ℕ, zero, suc, ◌+◌, ◌*◌, ◌/◌, ◌<◌, ◌≤◌, Bool, true, false, List, [], ◌∷◌, length}
+use Rattle.std.specs.Prelude.{Option, Some, None, option_map, IsTrue, if◌then◌else◌, slice_index_or}
 use Rattle.cmwq_timer.specs.declared.timer.Timer.{Timer}
 use Rattle.cmwq_timer.specs.declared.candidate.Candidate.{Candidate}
 use Rattle.cmwq_timer.specs.declared.candidate.Known.{Known}
@@ -59,11 +60,12 @@ pub record IsLevel (many : ℕ) (below : Nodes) (level : List (Option Candidate)
   pub covers : many ≤ 16 * length level
   pub each : (k : ℕ) → k < length level → IsSoonest below (16 * k) (16 * k + 16) (node_at level k)
 
-pub record AreLevels (rows : TimerRows) (lows middles highs : List (Option Candidate)) (top : Option Candidate) : Type 0 where
-  pub low : IsLevel (length rows) (candidate_at rows) lows
-  pub middle : IsLevel (length lows) (node_at lows) middles
-  pub high : IsLevel (length middles) (node_at middles) highs
-  pub last : IsLevel (length highs) (node_at highs) (top ∷ [])
+pub record AreLevels (rows : TimerRows) (lows middles highs : List (Option Candidate)) (top : Option Candidate) : Type 0
+  where
+    pub low : IsLevel (length rows) (candidate_at rows) lows
+    pub middle : IsLevel (length lows) (node_at lows) middles
+    pub high : IsLevel (length middles) (node_at middles) highs
+    pub last : IsLevel (length highs) (node_at highs) (top ∷ [])
 
 -- the node of a level that stands above an item
 abbrev pub node_above : ℕ → ℕ → ℕ
@@ -78,7 +80,8 @@ pub record IsFirstOf (passes : Timer → Bool) (rows : TimerRows) (HasItem : ℕ
   pub booked : timer_of rows c.item.0 ≡ Some c.timer
   pub passing : IsTrue (passes c.timer)
   pub has : HasItem c.item.0
-  pub none_sooner : (i : ℕ) (t : Timer) → timer_of rows i ≡ Some t → IsTrue (passes t) → HasItem i → is_sooner t c.timer ≡ false
+  pub none_sooner : (i : ℕ) (t : Timer) → timer_of rows i ≡ Some t → IsTrue (passes t) → HasItem i
+      → is_sooner t c.timer ≡ false
 
 abbrev pub IsFirst : (Timer → Bool) → TimerRows → (ℕ → Type 0) → Option Candidate → Type 0
 IsFirst passes rows HasItem None = (i : ℕ) (t : Timer) → timer_of rows i ≡ Some t → IsTrue (passes t) → ¬ (HasItem i)

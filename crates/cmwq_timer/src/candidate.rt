@@ -3,7 +3,8 @@
 ghost use Rattle.std.specs.Prelude.{◌≡◌, ◌≢◌, ℕ, ◌+◌, ◌*◌, ◌^◌, ◌<◌, ◌≤◌, Some, false, length, option_and_then};
 ghost use Rattle.std.specs.Option.{option_map_or};
 ghost use Rattle.cmwq_timer.specs.Due.{is_sooner};
-ghost use Rattle.cmwq_timer.specs.Tournament.{Nodes, sooner, candidate_at, node_at, IsSoonest, IsKnown, IsWritten, first_after};
+ghost use Rattle.cmwq_timer.specs.Tournament.{Nodes, sooner, candidate_at, node_at, IsSoonest, IsKnown, IsWritten};
+ghost use Rattle.cmwq_timer.specs.Tournament.{first_after};
 
 use crate::timer::Timer;
 use cmwq_model::ItemId;
@@ -80,11 +81,12 @@ fn node_of(level: &[Option<Candidate>], node: Option<usize>) -> Option<Candidate
     node_at(level, node?)
 }
 
-/// Of the first row so far and one behind it, the one whose item fires first.
+/// Of the first row so far and one after it, the one whose item fires first.
 #[inline(always)]
 fn sooner_row(rows: &[Option<Timer>], first: Option<usize>, row: usize) -> Option<usize>
     requires { length rows.now < 2 ^ 16 }
-    ensures { option_and_then (candidate_at rows.now) result ≡ sooner (option_and_then (candidate_at rows.now) first) (candidate_at rows.now row) }
+    ensures { option_and_then (candidate_at rows.now) result
+        ≡ sooner (option_and_then (candidate_at rows.now) first) (candidate_at rows.now row) }
 {
     let Some(next) = candidate_at(rows, row) else {
         return first;
@@ -111,10 +113,11 @@ fn first_of_rows(rows: &[Option<Timer>], node: usize) -> Option<Candidate>
     candidate_of(rows, first)
 }
 
-/// Of the first node so far and one behind it, the one that fires first.
+/// Of the first node so far and one after it, the one that fires first.
 #[inline(always)]
 fn sooner_node(level: &[Option<Candidate>], first: Option<usize>, node: usize) -> Option<usize>
-    ensures { option_and_then (node_at level.now) result ≡ sooner (option_and_then (node_at level.now) first) (node_at level.now node) }
+    ensures { option_and_then (node_at level.now) result
+        ≡ sooner (option_and_then (node_at level.now) first) (node_at level.now node) }
 {
     let Some(next) = node_at(level, node) else {
         return first;
@@ -181,7 +184,8 @@ fn comes_before(now: Option<Candidate>, kept: Candidate) -> bool
 /// What is known of the first of some nodes, of which one keeps `now` in place of `was`: `first` was the first before.
 #[inline(always)]
 fn known_first(first: Option<Candidate>, was: Option<Candidate>, now: Option<Candidate>) -> Known
-    ensures { (old new : Nodes) (lo hi at : ℕ) → IsWritten old new at was now → lo ≤ at → at < hi → IsSoonest old lo hi first → IsKnown new lo hi first now result }
+    ensures { (old new : Nodes) (lo hi at : ℕ) → IsWritten old new at was now → lo ≤ at → at < hi
+        → IsSoonest old lo hi first → IsKnown new lo hi first now result }
 {
     let Some(kept) = first else {
         return Known::IsWritten;
@@ -195,7 +199,8 @@ fn known_first(first: Option<Candidate>, was: Option<Candidate>, now: Option<Can
     }
 }
 
-/// What becomes of the first of the sixteen rows below a node, of which one was written. They are looked at where it is lost.
+/// What becomes of the first of the sixteen rows below a node, of which one was written. They are looked at where it is
+/// lost.
 #[inline(always)]
 pub(crate) fn first_with_row(
     rows: &[Option<Timer>],
@@ -206,7 +211,8 @@ pub(crate) fn first_with_row(
 ) -> First
     requires few { length rows.now < 2 ^ 16 }
     requires node { node < 2 ^ 16 }
-    ensures { (old : Nodes) (at : ℕ) → IsWritten old (candidate_at rows.now) at was now → 16 * node ≤ at → at < 16 * node + 16 → IsSoonest old (16 * node) (16 * node + 16) first
+    ensures { (old : Nodes) (at : ℕ) → IsWritten old (candidate_at rows.now) at was now → 16 * node ≤ at
+        → at < 16 * node + 16 → IsSoonest old (16 * node) (16 * node + 16) first
         → IsSoonest (candidate_at rows.now) (16 * node) (16 * node + 16) (first_after first result) }
 {
     match known_first(first, was, now) {
@@ -226,7 +232,8 @@ pub(crate) fn first_with_node(
     now: Option<Candidate>,
 ) -> First
     requires { node < 2 ^ 16 }
-    ensures { (old : Nodes) (at : ℕ) → IsWritten old (node_at level.now) at was now → 16 * node ≤ at → at < 16 * node + 16 → IsSoonest old (16 * node) (16 * node + 16) first
+    ensures { (old : Nodes) (at : ℕ) → IsWritten old (node_at level.now) at was now → 16 * node ≤ at
+        → at < 16 * node + 16 → IsSoonest old (16 * node) (16 * node + 16) first
         → IsSoonest (node_at level.now) (16 * node) (16 * node + 16) (first_after first result) }
 {
     match known_first(first, was, now) {

@@ -1,5 +1,6 @@
 ghost use Rattle.std.specs.Prelude.{◌≡◌, ◌<◌, Some, None, IfOk, IfSome, IfNone, length, replicate, slice_set};
-ghost use Rattle.cmwq_timer.specs.Rows.{timer_of, due_of, any_timer_on, timer_counts_with, timer_counts_without, HasCountOf, HasRoomFor, NoneMayFire, IsFirstToFire};
+ghost use Rattle.cmwq_timer.specs.Rows.{timer_of, due_of, any_timer_on, timer_counts_with, timer_counts_without};
+ghost use Rattle.cmwq_timer.specs.Rows.{HasCountOf, HasRoomFor, NoneMayFire, IsFirstToFire};
 
 use crate::timer::Timer;
 use crate::tournament::Tournament;
@@ -46,8 +47,8 @@ impl Timers {
         self.timers.len()
     }
 
-    /// Books an item for the tick `due`, to be queued at this place, instead of any booking that it had (`add_timer_on`,
-    /// `mod_timer`). `at` is the number of the entry that books it.
+    /// Books an item for the tick `due`, to be queued at this place, instead of any booking that it had
+    /// (`add_timer_on`, `mod_timer`). `at` is the number of the entry that books it.
     pub fn book(&mut self, item: ItemId, place: Place, due: u64, at: Number)
         requires { item.0 < length self.old }
         ensures { self.new ≡ slice_set self.old item.0 (Some (record { place = place; due = due; number = at })) }
@@ -99,8 +100,8 @@ impl Timers {
         self.timers.timer(item).map(|timer| timer.due)
     }
 
-    /// The item whose timer fires first at the tick `now` (`__run_timers`): one that is due on a queue that isn't
-    /// held back, and that no other such item comes before, by its tick and then by its entry. `holds` says of each queue
+    /// The item whose timer fires first at the tick `now` (`__run_timers`): one that is due on a queue that isn't held
+    /// back, and that no other such item comes before, by its tick and then by its entry. `holds` says of each queue
     /// how much holds it back.
     pub fn first_due(&self, now: u64, holds: &[u16]) -> Option<ItemId>
         ensures found { IfSome result (λ item. IsFirstToFire now holds.now self.now item.0) }

@@ -1,5 +1,6 @@
-//! A tournament of all timers: of each sixteen nodes of a level, the next level keeps the one that fires first. So what a booking
-//! changes, and which timer is the first of all, takes some steps for each level, however many items there are.
+//! A tournament of all timers: of each sixteen nodes of a level, the next level keeps the one that fires first. So what
+//! a booking changes, and which timer is the first of all, takes some steps for each level, however many items there
+//! are.
 
 ghost use Rattle.std.specs.Prelude.{◌≡◌, ◌^◌, ◌<◌, ◌≤◌, None, IfOk, length, replicate, slice_set};
 ghost use Rattle.cmwq_timer.specs.Due.{timer_may_fire};
@@ -130,8 +131,8 @@ impl Tournament {
         }
     }
 
-    /// Of the items below a node that may fire, the one that fires first. It looks below those nodes alone where something is due that
-    /// is held back.
+    /// Of the items below a node that may fire, the one that fires first. It looks below those nodes alone where
+    /// something is due that is held back.
     fn first_under(&self, level: u8, node: usize, now: u64, holds: &[u16]) -> Option<Candidate>
         requires { level ≤ 4 }
         ensures { IsFirstUnder (timer_may_fire now holds.now) self.now level node result }

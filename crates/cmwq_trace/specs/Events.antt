@@ -44,11 +44,15 @@ name_data name = object (member (codes "name") (string name) no_members)
 
 abbrev pub process_event : ℕ → List ℕ → Data
 process_event process name =
-    object (member (codes "args") (name_data name) (member (codes "name") (string (codes "process_name")) (member (codes "ph") (string (codes "M")) (member (codes "pid") (count_data process) no_members))))
+    object (member (codes "args") (name_data name)
+    (member (codes "name") (string (codes "process_name"))
+    (member (codes "ph") (string (codes "M")) (member (codes "pid") (count_data process) no_members))))
 
 abbrev pub thread_event : ℕ → ℕ → List ℕ → Data
 thread_event process thread name =
-    object (member (codes "args") (name_data name) (member (codes "name") (string (codes "thread_name")) (member (codes "ph") (string (codes "M")) (member (codes "pid") (count_data process)
+    object (member (codes "args") (name_data name)
+    (member (codes "name") (string (codes "thread_name"))
+    (member (codes "ph") (string (codes "M")) (member (codes "pid") (count_data process)
     (member (codes "tid") (count_data thread) no_members)))))
 
 abbrev pub pool_event : PoolId → Data
@@ -71,35 +75,55 @@ entries_between from to end = option_map_or (λ last. last + 1) to end - from
 
 abbrev pub span_event : ℕ → List ℕ → List ℕ → Data → ℕ → ℕ → ℕ → Option ℕ → Data
 span_event end category name args process thread from to =
-    object (member (codes "args") args (member (codes "cat") (string category) (member (codes "dur") (count_data (entries_between from to end)) (member (codes "name") (string name)
-    (member (codes "ph") (string (codes "X")) (member (codes "pid") (count_data process) (member (codes "tid") (count_data thread) (member (codes "ts") (count_data from) no_members))))))))
+    object (member (codes "args") args
+    (member (codes "cat") (string category)
+    (member (codes "dur") (count_data (entries_between from to end)) (member (codes "name") (string name)
+    (member (codes "ph") (string (codes "X"))
+    (member (codes "pid") (count_data process)
+    (member (codes "tid") (count_data thread) (member (codes "ts") (count_data from) no_members))))))))
 
 abbrev pub run_args : Bar → Data
 run_args bar =
-    object (member (codes "finished") (boolean (is_some bar.to)) (member (codes "item") (count_data bar.item.0) (member (codes "queueing") (count_data bar.number) (member (codes "worker") (string (who_text (Worker bar.worker))) no_members))))
+    object (member (codes "finished") (boolean (is_some bar.to))
+    (member (codes "item") (count_data bar.item.0)
+    (member (codes "queueing") (count_data bar.number)
+    (member (codes "worker") (string (who_text (Worker bar.worker))) no_members))))
 
 abbrev pub run_event : ℕ → Bar → Data
-run_event end bar = span_event end (codes "run") (item_name bar.item) (run_args bar) (pool_process bar.worker.pool) (worker_thread bar.worker) bar.from bar.to
+run_event end bar =
+    span_event end (codes "run") (item_name bar.item) (run_args bar) (pool_process bar.worker.pool)
+    (worker_thread bar.worker) bar.from bar.to
 
 abbrev pub sleep_args : Sleep → Data
 sleep_args sleep = object (member (codes "worker") (string (who_text (Worker sleep.worker))) no_members)
 
 abbrev pub sleep_event : ℕ → Sleep → Data
-sleep_event end sleep = span_event end (codes "sleep") (codes "asleep") (sleep_args sleep) (pool_process sleep.worker.pool) (worker_thread sleep.worker) sleep.from sleep.to
+sleep_event end sleep =
+    span_event end (codes "sleep") (codes "asleep") (sleep_args sleep) (pool_process sleep.worker.pool)
+    (worker_thread sleep.worker) sleep.from sleep.to
 
 -- a ticket has the number of the entry that gave it
 abbrev pub wait_args : CallerWait → Data
-wait_args wait = object (member (codes "caller") (string (who_text (Caller wait.caller))) (member (codes "done") (boolean (is_some wait.to)) (member (codes "ticket") (count_data wait.from) no_members)))
+wait_args wait =
+    object (member (codes "caller") (string (who_text (Caller wait.caller)))
+    (member (codes "done") (boolean (is_some wait.to)) (member (codes "ticket") (count_data wait.from) no_members)))
 
 abbrev pub wait_event : ℕ → CallerWait → Data
-wait_event end wait = span_event end (codes "wait") (ticket_name wait.from) (wait_args wait) callers_process (row_thread wait.caller wait.row) wait.from wait.to
+wait_event end wait =
+    span_event end (codes "wait") (ticket_name wait.from) (wait_args wait) callers_process
+    (row_thread wait.caller wait.row) wait.from wait.to
 
 -- ---- how many are open and active of a queue on a CPU from an entry on, and how wide the queue is
 
 abbrev pub level_args : Level → Data
-level_args level = object (member (codes "active") (count_data level.height.active_count) (member (codes "open") (count_data level.height.open_count) (member (codes "width") (count_data level.height.width) no_members)))
+level_args level =
+    object (member (codes "active") (count_data level.height.active_count)
+    (member (codes "open") (count_data level.height.open_count)
+    (member (codes "width") (count_data level.height.width) no_members)))
 
 abbrev pub level_event : Level → Data
 level_event level =
-    object (member (codes "args") (level_args level) (member (codes "name") (string (counter_name level.place)) (member (codes "ph") (string (codes "C")) (member (codes "pid") (count_data queues_process)
+    object (member (codes "args") (level_args level)
+    (member (codes "name") (string (counter_name level.place))
+    (member (codes "ph") (string (codes "C")) (member (codes "pid") (count_data queues_process)
     (member (codes "ts") (count_data level.from) no_members)))))

@@ -12,7 +12,8 @@ use Rattle.cmwq_chart.specs.declared.sleeps.Sleep.{Sleep}
 use Rattle.cmwq_chart.specs.declared.levels.Level.{Level}
 use Rattle.cmwq_chart.specs.declared.waits.CallerLane.{CallerLane}
 use Rattle.cmwq_chart.specs.declared.waits.CallerWait.{CallerWait}
-use Rattle.cmwq_trace.specs.Events.{process_event, queues_process, callers_process, pool_event, rows_events, lane_event, wait_event, run_event, sleep_event, level_event}
+use Rattle.cmwq_trace.specs.Events.{process_event, queues_process, callers_process, pool_event, rows_events, lane_event}
+use Rattle.cmwq_trace.specs.Events.{wait_event, run_event, sleep_event, level_event}
 
 -- ---- the pools of a layout, by CPU
 
@@ -33,21 +34,25 @@ first_event = process_event queues_process (codes "queues")
 abbrev pub callers_event : Data
 callers_event = process_event callers_process (codes "callers")
 
-abbrev pub later_events : Layout → ℕ → List CallerLane → List CallerWait → List WorkerId → List Bar → List Sleep → List Level → List Data
+abbrev pub later_events : Layout → ℕ → List CallerLane → List CallerWait → List WorkerId → List Bar → List Sleep
+    → List Level → List Data
 later_events s end callers waits lanes bars sleeps levels =
     callers_event ∷ (map pool_event (pools_below s.cpus) ++ (flat_map rows_events callers ++ (map lane_event lanes
-    ++ (map (wait_event end) waits ++ (map (run_event end) bars ++ (map (sleep_event end) sleeps ++ map level_event levels))))))
+    ++ (map (wait_event end) waits
+    ++ (map (run_event end) bars ++ (map (sleep_event end) sleeps ++ map level_event levels))))))
 
 abbrev pub trace_of : List Data → Data
 trace_of events = object (member (codes "traceEvents") (array (items_of events)) no_members)
 
 -- the text that `serde_json` gives of the trace, and a line feed
-unfoldable pub trace_text : Layout → ℕ → List CallerLane → List CallerWait → List WorkerId → List Bar → List Sleep → List Level → List ℕ
-trace_text s end callers waits lanes bars sleeps levels = compact_text (trace_of (first_event ∷ later_events s end callers waits lanes bars sleeps levels)) ++ 10 ∷ []
+unfoldable pub trace_text : Layout → ℕ → List CallerLane → List CallerWait → List WorkerId → List Bar → List Sleep
+    → List Level → List ℕ
+trace_text s end callers waits lanes bars sleeps levels =
+    compact_text (trace_of (first_event ∷ later_events s end callers waits lanes bars sleeps levels)) ++ 10 ∷ []
 
 -- ---- for private clauses
 
--- an event behind others
+-- an event after others
 abbrev pub text_behind_comma : Data → List ℕ
 text_behind_comma d = 44 ∷ compact_text d
 

@@ -111,7 +111,9 @@ struct Span<'a> {
 
 /// The event of what goes on in a thread, in a history of so many entries.
 fn span_event(alloc: Global, end: u64, span: Span<'_>, args: Value) -> Result<Value, AllocError>
-    ensures { IfOk result (λ event. view event ≡ spec.span_event end span.entry.category.now span.entry.name.now (view args) span.entry.process span.entry.thread span.entry.from span.entry.to) }
+    ensures { IfOk result
+        (λ event. view event ≡ spec.span_event end span.entry.category.now span.entry.name.now (view args)
+        span.entry.process span.entry.thread span.entry.from span.entry.to) }
 {
     let entries = entries_between(span.from, span.to, end);
     json!(in alloc; {

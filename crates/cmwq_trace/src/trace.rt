@@ -30,7 +30,8 @@ fn begin(alloc: Global) -> Result<String, AllocError>
     Ok(text)
 }
 
-/// The text of the trace of a history of this shape, which has so many entries and these shapes. The error says that memory ran out.
+/// The text of the trace of a history of this shape, which has so many entries and these shapes. The error says that
+/// memory ran out.
 pub fn spell_trace(
     alloc: Global,
     shape: &Shape,
@@ -42,7 +43,9 @@ pub fn spell_trace(
     sleeps: &[Sleep],
     levels: &[Level],
 ) -> Result<String, AllocError>
-    ensures { IfOk result (λ text. string_bytes text ≡ spec.trace_text shape.now entries callers.now waits.now lanes.now bars.now sleeps.now levels.now) }
+    ensures { IfOk result
+        (λ text. string_bytes text ≡ spec.trace_text shape.now entries callers.now waits.now lanes.now bars.now
+        sleeps.now levels.now) }
 {
     let mut text = begin(alloc)?;
     push_callers_process(alloc, &mut text)?;

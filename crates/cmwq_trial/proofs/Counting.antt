@@ -28,27 +28,38 @@ first_is : (P : Failure → Type 0) (o : Option Failure) (f : Failure) → IfSom
 first_is P None f p q = q
 first_is P (Some g) f p q = p
 
-pub ended_more : (s : Layout) (n : ℕ) (t u : Trials) → u.ended ≡ t.ended + 1 → u.stuck ≡ t.stuck → u.stopped ≡ t.stopped → u.first_failure ≡ t.first_failure → u.shortest_failure ≡ t.shortest_failure → AreTrials s n t → AreTrials s (n + 1) u
+pub ended_more : (s : Layout) (n : ℕ) (t u : Trials) → u.ended ≡ t.ended + 1 → u.stuck ≡ t.stuck → u.stopped ≡ t.stopped
+    → u.first_failure ≡ t.first_failure → u.shortest_failure ≡ t.shortest_failure → AreTrials s n t
+    → AreTrials s (n + 1) u
 ended_more s n t u a b c d e x =
     let counted = x.counted in
     record {
       counted = omega (arith, a, b, c, counted);
       whole = λ none. let all = x.whole (sym d ∙ none) in omega (arith, a, all);
-      failed = subst (λ (o : Option Failure). IfSome o (FailedAmong s u.ended (n + 1))) (sym d) (more (FailedAmong s t.ended n) (FailedAmong s u.ended (n + 1)) t.first_failure x.failed (λ f p. (let lt = p.0 in omega (arith, a, lt), p.1)));
+      failed = subst (λ (o : Option Failure). IfSome o (FailedAmong s u.ended (n + 1))) (sym d)
+          (more (FailedAmong s t.ended n) (FailedAmong s u.ended (n + 1)) t.first_failure x.failed
+          (λ f p. (let lt = p.0 in omega (arith, a, lt), p.1)));
       shortest = subst (λ (o : Option Failure). IfSome o (IsOf s)) (sym e) x.shortest;
     }
 
-shortest_of : (s : Layout) (o p : Option Failure) (f : Failure) → (p ≡ o) ⊎ (p ≡ Some f) → IfSome o (IsOf s) → IsOf s f → IfSome p (IsOf s)
+shortest_of : (s : Layout) (o p : Option Failure) (f : Failure) → (p ≡ o) ⊎ (p ≡ Some f) → IfSome o (IsOf s) → IsOf s f
+    → IfSome p (IsOf s)
 shortest_of s o p f (inl e) x y = subst (λ (q : Option Failure). IfSome q (IsOf s)) (sym e) x
 shortest_of s o p f (inr e) x y = subst (λ (q : Option Failure). IfSome q (IsOf s)) (sym e) y
 
-pub failed_more : (s : Layout) (n : ℕ) (t u : Trials) (f : Failure) → u.ended ≡ t.ended → u.stuck + u.stopped ≡ t.stuck + t.stopped + 1 → u.first_failure ≡ first_of t.first_failure f → (u.shortest_failure ≡ t.shortest_failure) ⊎ (u.shortest_failure ≡ Some f) → IsOf s f → AreTrials s n t → AreTrials s (n + 1) u
+pub failed_more : (s : Layout) (n : ℕ) (t u : Trials) (f : Failure) → u.ended ≡ t.ended
+    → u.stuck + u.stopped ≡ t.stuck + t.stopped + 1 → u.first_failure ≡ first_of t.first_failure f
+    → (u.shortest_failure ≡ t.shortest_failure) ⊎ (u.shortest_failure ≡ Some f) → IsOf s f → AreTrials s n t
+    → AreTrials s (n + 1) u
 failed_more s n t u f a b d e of x =
     let counted = x.counted in
     let fewer : u.ended < n + 1 = omega (arith, a, counted) in
     record {
       counted = omega (arith, a, b, counted);
       whole = λ none. absurd (first_there t.first_failure f (sym d ∙ none));
-      failed = subst (λ (o : Option Failure). IfSome o (FailedAmong s u.ended (n + 1))) (sym d) (first_is (FailedAmong s u.ended (n + 1)) t.first_failure f (more (FailedAmong s t.ended n) (FailedAmong s u.ended (n + 1)) t.first_failure x.failed (λ g p. (fewer, p.1))) (fewer, of));
+      failed = subst (λ (o : Option Failure). IfSome o (FailedAmong s u.ended (n + 1))) (sym d)
+          (first_is (FailedAmong s u.ended (n + 1)) t.first_failure f
+          (more (FailedAmong s t.ended n) (FailedAmong s u.ended (n + 1)) t.first_failure x.failed
+          (λ g p. (fewer, p.1))) (fewer, of));
       shortest = shortest_of s t.shortest_failure u.shortest_failure f e x.shortest of;
     }

@@ -11,8 +11,8 @@ abbrev pub first_of : Option Failure → Failure → Option Failure
 first_of None failure = Some failure
 first_of (Some first) _ = Some first
 
--- So many trials: each is counted once, if there is no failure all came to their end, else not all did, and each failure that is kept has a
--- history on which a user relies.
+-- So many trials: each is counted once, if there is no failure all came to their end, else not all did, and each
+-- failure that is kept has a history on which a user relies.
 pub record AreTrials (s : Layout) (many : ℕ) (t : Trials) : Type 0 where
   pub counted : t.ended + t.stuck + t.stopped ≡ many
   pub whole : t.first_failure ≡ None → t.ended ≡ many

@@ -80,9 +80,11 @@ impl Trials {
 
     /// One failure more is kept, if it is the first, or shorter than all.
     fn keep(&mut self, failure: Failure)
-        ensures counts { (self.new.ended ≡ self.old.ended) × (self.new.stuck ≡ self.old.stuck) × (self.new.stopped ≡ self.old.stopped) }
+        ensures counts { (self.new.ended ≡ self.old.ended) × (self.new.stuck ≡ self.old.stuck)
+            × (self.new.stopped ≡ self.old.stopped) }
         ensures first { self.new.first_failure ≡ first_of self.old.first_failure failure }
-        ensures shortest { (self.new.shortest_failure ≡ self.old.shortest_failure) ⊎ (self.new.shortest_failure ≡ Some failure) }
+        ensures shortest { (self.new.shortest_failure ≡ self.old.shortest_failure)
+            ⊎ (self.new.shortest_failure ≡ Some failure) }
     {
         if self.first_failure.is_none() {
             self.first_failure = Some(failure);
@@ -94,7 +96,8 @@ impl Trials {
     /// One trial more.
     fn count(&mut self, outcome: Result<Tried, Failure>)
         requires { self.old.ended + self.old.stuck + self.old.stopped < 2 ^ 64 - 1 }
-        ensures { (s : Layout) (n : ℕ) → AreTrials s n self.old → IfErr outcome (λ f. IsReliable s (past_of (history_of f))) → AreTrials s (n + 1) self.new }
+        ensures { (s : Layout) (n : ℕ) → AreTrials s n self.old
+            → IfErr outcome (λ f. IsReliable s (past_of (history_of f))) → AreTrials s (n + 1) self.new }
     {
         match outcome {
             Ok(_) => self.ended += 1,
@@ -208,10 +211,10 @@ fn watch_on<T: Fn(Progress), R: Wait + Clock>(
     }
 }
 
-/// Runs a service under each of these seeds, one after another, on a service of its own each time: `make` makes it. What
-/// is to hold when a trial has ended is looked at by the service's own `end`, which returns a fault of its own if it
-/// does not. `tell` is told of each trial that has ended, and once of one that hangs: it is called by the calling thread,
-/// and by one that watches.
+/// Runs a service under each of these seeds, one after another, on a service of its own each time: `make` makes it.
+/// What is to hold when a trial has ended is looked at by the service's own `end`, which returns a fault of its own if
+/// it does not. `tell` is told of each trial that has ended, and once of one that hangs: it is called by the calling
+/// thread, and by one that watches.
 ///
 /// There is no error: a trial that fails for want of memory or of threads is counted among those that stopped.
 pub fn trials<

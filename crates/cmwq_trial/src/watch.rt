@@ -32,8 +32,8 @@ pub(crate) struct Sight {
 }
 
 impl Sight {
-    /// Whether the trial hangs, if that is how far it was some time before: the same one has had the turn, or all are to
-    /// end and somebody still takes turns.
+    /// Whether the trial hangs, if that is how far it was some time before: the same one has had the turn, or all are
+    /// to end and somebody still takes turns.
     pub(crate) fn hangs_since(&self, before: &Sight) -> bool {
         let is_same = self.turns == before.turns || before.has_stopped;
         self.mover.is_some() && self.seed == before.seed && is_same

@@ -6,8 +6,8 @@ use std::io;
 use std::sync::Wait;
 use std::time::{Clock, Duration};
 
-/// A handle by which one waits, and whose clock is that of a turnstile: who sleeps lets others move, and time goes by at
-/// once when all sleep.
+/// A handle by which one waits, and whose clock is that of a turnstile: who sleeps lets others move, and time goes by
+/// at once when all sleep.
 #[derive(Clone, Copy, Drop)]
 pub struct Seat<'a, R> {
     rt: &'a R,

@@ -38,8 +38,8 @@ fn nanoseconds(time: Duration) -> u64 {
 }
 
 impl Turnstile {
-    /// The turnstile of a hub of this shape. The first so many callers have threads of their own, and so do all workers.
-    /// One more thread closes the hub when these callers have gone. Nobody moves before all have come.
+    /// The turnstile of a hub of this shape. The first so many callers have threads of their own, and so do all
+    /// workers. One more thread closes the hub when these callers have gone. Nobody moves before all have come.
     pub fn new(
         alloc: Global,
         shape: &Shape,
@@ -107,7 +107,8 @@ impl Turnstile {
         self.pass(rt, own, next);
     }
 
-    /// The one that closes the hub comes, and waits for its turn. Returns whether it has one: not after all has stopped.
+    /// The one that closes the hub comes, and waits for its turn. Returns whether it has one: not after all has
+    /// stopped.
     pub fn come_to_close<R: Wait>(&self, rt: &R) -> bool {
         if self.is_open() || self.has_stopped() {
             return false;

@@ -21,15 +21,25 @@ module _ (s : Stepped) (h : Summed) (is : IsSummaryOf s.layout s.past h) (next :
 
   pub are_few : length h.entries < 4611686018427387904
   are_few =
-      let needed : room_needed s.layout (entry_for s.layout s.past s.effect.entry.who s.effect.entry.call ∷ s.past) ≤ most_room = leb-true _ _ (and_parts _ _ next.few).1 in
-      let long : length s.past ≡ length h.entries = sym (ap (λ (l : List Entry). length l) is.past_is) ∙ length-reverse h.entries in
+      let needed : room_needed s.layout (entry_for s.layout s.past s.effect.entry.who s.effect.entry.call
+      ∷ s.past) ≤ most_room = leb-true _ _ (and_parts _ _ next.few).1 in
+      let long : length s.past ≡ length h.entries = sym (ap (λ (l : List Entry). length l) is.past_is)
+      ∙ length-reverse h.entries in
       omega arith
 
-  pub counts_are : (counts : List ℕ) → AreActiveCounts s.layout (after s) counts → AreActiveCounts h.layout (s.effect.entry ∷ past_summed h) counts
+  pub counts_are : (counts : List ℕ) → AreActiveCounts s.layout (after s) counts
+      → AreActiveCounts h.layout (s.effect.entry ∷ past_summed h) counts
   counts_are counts are = rw (is.layout, is.past_is) are
 
   pub is_after : IsSummaryOf s.layout (after s) (summed_with h s.effect.entry)
-  is_after = record { layout = is.layout; past_is = reverse-append h.entries (s.effect.entry ∷ []) ∙ ap (λ (l : List Entry). s.effect.entry ∷ l) is.past_is }
+  is_after =
+      record {
+        layout = is.layout;
+        past_is = reverse-append h.entries (s.effect.entry ∷ [])
+            ∙ ap (λ (l : List Entry). s.effect.entry ∷ l) is.past_is;
+      }
 
 pub summary_is : (j : Judged) (h : Summed) → IsSummaryOf j.layout (past_of j.entries) h → h ≡ summed_of j
-summary_is j h is = ap₂ (λ (s : Layout) (es : List Entry). let made : Summed = record { layout = s; entries = es } in made) is.layout (same_entries h.entries j.entries is.past_is)
+summary_is j h is =
+    ap₂ (λ (s : Layout) (es : List Entry). let made : Summed = record { layout = s; entries = es } in made) is.layout
+    (same_entries h.entries j.entries is.past_is)

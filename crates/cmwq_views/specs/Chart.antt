@@ -20,9 +20,13 @@ use Rattle.cmwq_chart_text.specs.PictureText.{drawing_of, picture_text}
 -- the picture of what a window shows of a history
 unfoldable pub chart_text : Window → Layout → List Entry → List ℕ
 chart_text w s entries =
-    picture_text (drawing_of w (length entries) (drawn_rows (caller_lanes_in s entries) (lanes_of s entries) (places_in s entries))
-    (figures_of (caller_waits_of (past_of entries) (callers_of s entries)) (wait_signs_of (past_of entries) (callers_of s entries)) (bars_of (past_of entries))
-    (sleeps_of (past_of entries) (lanes_of s entries)) (signs_of (past_of entries)) (levels_of s (past_of entries) (places_in s entries)))) entries
+    picture_text
+    (drawing_of w (length entries)
+    (drawn_rows (caller_lanes_in s entries) (lanes_of s entries) (places_in s entries))
+    (figures_of (caller_waits_of (past_of entries) (callers_of s entries))
+    (wait_signs_of (past_of entries) (callers_of s entries)) (bars_of (past_of entries))
+    (sleeps_of (past_of entries) (lanes_of s entries)) (signs_of (past_of entries))
+    (levels_of s (past_of entries) (places_in s entries)))) entries
 
 abbrev pub charted_text : Window → File Entry → List ℕ
 charted_text w f = chart_text w f.layout f.items

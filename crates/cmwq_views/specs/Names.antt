@@ -7,10 +7,17 @@ use Rattle.cmwq_text.specs.ReplyText.{reply_words}
 use Rattle.cmwq_summary.specs.Kinds.{call_kind, reply_kind}
 
 abbrev pub call_names : List (List ℕ)
-call_names = codes "queue" ∷ codes "delay" ∷ codes "modify" ∷ codes "cancel" ∷ codes "tick" ∷ codes "fire" ∷ codes "flush" ∷ codes "drain" ∷ codes "flush_item" ∷ codes "flush_delayed" ∷ codes "cancel_sync" ∷ codes "end" ∷ codes "take" ∷ codes "finish" ∷ codes "sleep" ∷ codes "wake" ∷ codes "retire" ∷ codes "set_max" ∷ codes "freeze" ∷ codes "thaw" ∷ codes "destroy" ∷ []
+call_names = codes "queue" ∷ codes "delay" ∷ codes "modify" ∷ codes "cancel" ∷ codes "tick" ∷ codes "fire"
+    ∷ codes "flush" ∷ codes "drain" ∷ codes "flush_item" ∷ codes "flush_delayed" ∷ codes "cancel_sync" ∷ codes "end"
+    ∷ codes "take" ∷ codes "finish" ∷ codes "sleep" ∷ codes "wake" ∷ codes "retire" ∷ codes "set_max" ∷ codes "freeze"
+    ∷ codes "thaw" ∷ codes "destroy" ∷ []
 
 abbrev pub reply_names : List (List ℕ)
-reply_names = codes "yes" ∷ codes "booked" ∷ codes "again" ∷ codes "rebooked" ∷ codes "no" ∷ codes "foreign" ∷ codes "draining" ∷ codes "misuse" ∷ codes "cancelled" ∷ codes "unbooked" ∷ codes "now" ∷ codes "fired" ∷ codes "nothing" ∷ codes "ticket" ∷ codes "idle" ∷ codes "crowded" ∷ codes "done" ∷ codes "waiting" ∷ codes "started" ∷ codes "held" ∷ codes "finished" ∷ codes "slept" ∷ codes "woke" ∷ codes "retired" ∷ codes "kept" ∷ codes "width" ∷ codes "frozen" ∷ codes "thawed" ∷ codes "gone" ∷ codes "timers" ∷ []
+reply_names = codes "yes" ∷ codes "booked" ∷ codes "again" ∷ codes "rebooked" ∷ codes "no" ∷ codes "foreign"
+    ∷ codes "draining" ∷ codes "misuse" ∷ codes "cancelled" ∷ codes "unbooked" ∷ codes "now" ∷ codes "fired"
+    ∷ codes "nothing" ∷ codes "ticket" ∷ codes "idle" ∷ codes "crowded" ∷ codes "done" ∷ codes "waiting"
+    ∷ codes "started" ∷ codes "held" ∷ codes "finished" ∷ codes "slept" ∷ codes "woke" ∷ codes "retired" ∷ codes "kept"
+    ∷ codes "width" ∷ codes "frozen" ∷ codes "thawed" ∷ codes "gone" ∷ codes "timers" ∷ []
 
 abbrev pub call_name : ℕ → List ℕ
 call_name k = slice_index_or call_names k []

@@ -1,11 +1,14 @@
--- The page of a summary: a line for its entries and ticks, and then the rows of each table, of which those without anything to tell are left out.
+-- The page of a summary: a line for its entries and ticks, and then the rows of each table, of which those without
+-- anything to tell are left out.
 use Rattle.cmwq_model.specs.Prelude.{most_cpus, most_workers}
-use Rattle.std.specs.Prelude.{ℕ, zero, suc, ◌*◌, ◌/◌, ◌%◌, Bool, ◌==◌, ◌&&◌, if◌then◌else◌, List, [], ◌∷◌, ◌++◌, length, flat_map, codes, decimal}
+use Rattle.std.specs.Prelude.{ℕ, zero, suc, ◌*◌, ◌/◌, ◌%◌, Bool, ◌==◌, ◌&&◌, if◌then◌else◌, List, [], ◌∷◌, ◌++◌, length}
+use Rattle.std.specs.Prelude.{flat_map, codes, decimal}
 use Rattle.cmwq_model.specs.declared.id.WorkerId.{WorkerId}
 use Rattle.cmwq_model.specs.declared.entry.Entry.{Entry}
 use Rattle.cmwq_model.specs.Prelude.{Layout, now, width}
 use Rattle.cmwq_summary.specs.Kinds.{call_kinds, reply_kinds}
-use Rattle.cmwq_summary.specs.Figures.{calls_of_kind, replies_of_kind, runs_of, cancels_of, calls_by, tickets_by, starts_by, queueings_at, starts_at, cancels_at}
+use Rattle.cmwq_summary.specs.Figures.{calls_of_kind, replies_of_kind, runs_of, cancels_of, calls_by, tickets_by}
+use Rattle.cmwq_summary.specs.Figures.{starts_by, queueings_at, starts_at, cancels_at}
 use Rattle.cmwq_summary.specs.Spent.{awake_entries, awake_ticks, asleep_entries, asleep_ticks}
 use Rattle.cmwq_summary.specs.Waits.{longest_start_entries, longest_start_ticks, all_start_entries, all_start_ticks}
 use Rattle.cmwq_summary.specs.Peaks.{most_open_at, most_active_at}
@@ -15,7 +18,7 @@ use Rattle.cmwq_views.specs.declared.table.Table.{Table}
 use Rattle.cmwq_views.specs.declared.table.Table.TheVariants as table
 use Rattle.cmwq_views.specs.declared.table.TheConstants.{TABLES}
 
--- a name and a number behind it
+-- a name and a number after it
 abbrev pub named_number : List ℕ → ℕ → List ℕ
 named_number name n = name ++ decimal n
 
@@ -33,14 +36,20 @@ reply_row k n = if n == 0 then [] else codes "reply " ++ reply_name k ++ named_n
 abbrev pub item_row : ℕ → ℕ → ℕ → List ℕ
 item_row i runs cancels =
     if (runs == 0) && (cancels == 0) then []
-    else named_number (codes "item ") i ++ named_number (codes ": runs ") runs ++ named_number (codes ", cancels ") cancels ++ line_end
+    else named_number (codes "item ") i ++ named_number (codes ": runs ") runs
+    ++ named_number (codes ", cancels ") cancels ++ line_end
 
 -- a worker's name, as in a history
 abbrev pub letter_of_pool : Bool → List ℕ
 letter_of_pool high = if high then codes "h" else codes "n"
 
 abbrev pub worker_of_row : ℕ → WorkerId
-worker_of_row w = record { pool = record { cpu = record { 0 = w / (2 * most_workers) }; high = w / most_workers % 2 == 1 }; index = w % most_workers }
+worker_of_row w =
+    record {
+      pool = record { cpu = record { 0 = w / (2 * most_workers) }; high = w / most_workers % 2 == 1 };
+      index =
+          w % most_workers;
+    }
 
 abbrev pub worker_name : WorkerId → List ℕ
 worker_name w = named_number (codes "w") w.pool.cpu.0 ++ named_number (letter_of_pool w.pool.high) w.index
@@ -52,7 +61,8 @@ span_text name entries ticks = named_number name entries ++ named_number (codes 
 abbrev pub worker_row : List Entry → WorkerId → ℕ → List ℕ
 worker_row past w runs =
     if runs == 0 then []
-    else codes "worker " ++ worker_name w ++ named_number (codes ": runs ") runs ++ span_text (codes ", awake ") (awake_entries past w) (awake_ticks past w)
+    else codes "worker " ++ worker_name w ++ named_number (codes ": runs ") runs
+    ++ span_text (codes ", awake ") (awake_entries past w) (awake_ticks past w)
     ++ span_text (codes ", asleep ") (asleep_entries past w) (asleep_ticks past w) ++ line_end
 
 abbrev pub place_name : ℕ → List ℕ
@@ -72,12 +82,14 @@ mean_text many entries ticks = waited_text (codes ", mean wait ") many (entries 
 abbrev pub caller_row : List Entry → ℕ → List ℕ
 caller_row past c =
     if calls_by past c == 0 then []
-    else named_number (codes "caller c") c ++ named_number (codes ": calls ") (calls_by past c) ++ named_number (codes ", tickets ") (tickets_by past c)
+    else named_number (codes "caller c") c ++ named_number (codes ": calls ") (calls_by past c)
+    ++ named_number (codes ", tickets ") (tickets_by past c)
     ++ longest_text (tickets_by past c) (longest_wait_entries past c) (longest_wait_ticks past c) ++ line_end
 
 -- how long so many starts waited: the longest wait, and the mean of all of them together
 abbrev pub starts_text : ℕ → ℕ → ℕ → ℕ → ℕ → List ℕ
-starts_text many entries ticks all_entries all_ticks = longest_text many entries ticks ++ mean_text many all_entries all_ticks
+starts_text many entries ticks all_entries all_ticks =
+    longest_text many entries ticks ++ mean_text many all_entries all_ticks
 
 -- how many queueings and starts there are, and how many cancelled ones, and the width
 abbrev pub opened_text : ℕ → ℕ → List ℕ
@@ -88,18 +100,23 @@ bounds_text cancels wide = named_number (codes ", cancelled ") cancels ++ named_
 
 -- how many were open and active at once, at most
 abbrev pub peaks_text : ℕ → ℕ → List ℕ
-peaks_text most_open most_active = named_number (codes ", most open ") most_open ++ named_number (codes ", most active ") most_active
+peaks_text most_open most_active = named_number (codes ", most open ") most_open
+    ++ named_number (codes ", most active ") most_active
 
 abbrev pub place_figures : Layout → List Entry → ℕ → List ℕ
 place_figures s past p =
-    opened_text (queueings_at past p) (starts_at past p) ++ (bounds_text (cancels_at past p) (width s past (p / most_cpus)) ++ peaks_text (most_open_at p past) (most_active_at s p past))
+    opened_text (queueings_at past p) (starts_at past p)
+    ++ (bounds_text (cancels_at past p) (width s past (p / most_cpus))
+    ++ peaks_text (most_open_at p past) (most_active_at s p past))
 
 abbrev pub place_waits : List Entry → ℕ → List ℕ
 place_waits past p =
-    starts_text (starts_at past p) (longest_start_entries past p) (longest_start_ticks past p) (all_start_entries past p) (all_start_ticks past p)
+    starts_text (starts_at past p) (longest_start_entries past p) (longest_start_ticks past p)
+    (all_start_entries past p) (all_start_ticks past p)
 
 abbrev pub place_row : Layout → List Entry → ℕ → List ℕ
-place_row s past p = if queueings_at past p == 0 then [] else place_name p ++ place_figures s past p ++ place_waits past p ++ line_end
+place_row s past p = if queueings_at past p == 0 then [] else place_name p ++ place_figures s past p
+    ++ place_waits past p ++ line_end
 
 abbrev pub row_text : Layout → List Entry → Table → ℕ → List ℕ
 row_text s past table.Calls k = call_row k (calls_of_kind past k)
@@ -130,7 +147,8 @@ rows_of_table s past t = rows_text (row_text s past t) (row_count s t)
 -- ---- the page
 
 abbrev pub line_of_entries : ℕ → ℕ → List ℕ
-line_of_entries entries ticks = named_number (codes "entries ") entries ++ named_number (codes ", ticks ") ticks ++ line_end
+line_of_entries entries ticks = named_number (codes "entries ") entries ++ named_number (codes ", ticks ") ticks
+    ++ line_end
 
 abbrev pub page_text : Layout → List Entry → List ℕ
 page_text s past = line_of_entries (length past) (now past) ++ flat_map (rows_of_table s past) TABLES

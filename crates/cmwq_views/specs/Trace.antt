@@ -18,7 +18,8 @@ use Rattle.cmwq_trace.specs.TraceText.{trace_text}
 unfoldable pub trace_bytes : Layout → List Entry → List ℕ
 trace_bytes s entries =
     trace_text s (length entries) (caller_lanes_in s entries) (caller_waits_of (past_of entries) (callers_of s entries))
-    (lanes_of s entries) (bars_of (past_of entries)) (sleeps_of (past_of entries) (lanes_of s entries)) (levels_of s (past_of entries) (places_in s entries))
+    (lanes_of s entries) (bars_of (past_of entries)) (sleeps_of (past_of entries) (lanes_of s entries))
+    (levels_of s (past_of entries) (places_in s entries))
 
 abbrev pub traced_text : File Entry → List ℕ
 traced_text f = trace_bytes f.layout f.items

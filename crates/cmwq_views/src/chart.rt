@@ -83,7 +83,8 @@ impl<W: Sink> View<W> for Chart {
     }
 }
 
-/// Reads all of a history of any format, and writes the picture of what the window shows of a legal one, as SVG, as `run_view` does a view.
+/// Reads all of a history of any format, and writes the picture of what the window shows of a legal one, as SVG, as
+/// `run_view` does a view.
 pub fn run_chart<S: Source, O: Sink, E: Sink>(
     alloc: Global,
     input: &mut S,

@@ -30,8 +30,12 @@ fn write_table<W: Sink>(
     progress: &Progress<'_>,
     table: Table,
 ) -> Result<(), WriteFault>
-    ensures ok { OnOk result (Appends (W.written sink.old) (W.written sink.new) (rows_of_table progress.now.layout (past_of progress.now.entries) table)) }
-    ensures err { OnErr result (AppendsFront (W.written sink.old) (W.written sink.new) (rows_of_table progress.now.layout (past_of progress.now.entries) table)) }
+    ensures ok { OnOk result
+        (Appends (W.written sink.old) (W.written sink.new)
+        (rows_of_table progress.now.layout (past_of progress.now.entries) table)) }
+    ensures err { OnErr result
+        (AppendsFront (W.written sink.old) (W.written sink.new)
+        (rows_of_table progress.now.layout (past_of progress.now.entries) table)) }
     ensures grown { W.troubles sink.old ≤ W.troubles sink.new }
     ensures fault { OnErr result (Rises (W.troubles sink.old) (W.troubles sink.new)) }
 {
@@ -42,8 +46,12 @@ fn write_table<W: Sink>(
 }
 
 fn write_tables<W: Sink>(sink: &mut W, progress: &Progress<'_>) -> Result<(), WriteFault>
-    ensures ok { OnOk result (Appends (W.written sink.old) (W.written sink.new) (flat_map (rows_of_table progress.now.layout (past_of progress.now.entries)) constants.TABLES)) }
-    ensures err { OnErr result (AppendsFront (W.written sink.old) (W.written sink.new) (flat_map (rows_of_table progress.now.layout (past_of progress.now.entries)) constants.TABLES)) }
+    ensures ok { OnOk result
+        (Appends (W.written sink.old) (W.written sink.new)
+        (flat_map (rows_of_table progress.now.layout (past_of progress.now.entries)) constants.TABLES)) }
+    ensures err { OnErr result
+        (AppendsFront (W.written sink.old) (W.written sink.new)
+        (flat_map (rows_of_table progress.now.layout (past_of progress.now.entries)) constants.TABLES)) }
     ensures grown { W.troubles sink.old ≤ W.troubles sink.new }
     ensures fault { OnErr result (Rises (W.troubles sink.old) (W.troubles sink.new)) }
 {
@@ -58,8 +66,12 @@ fn write_tables<W: Sink>(sink: &mut W, progress: &Progress<'_>) -> Result<(), Wr
 /// # Errors
 /// `WriteFault` where the sink fails, also at the flush; a front of the page has been written then.
 pub(crate) fn write_page<W: Sink>(sink: &mut W, progress: &Progress<'_>) -> Result<(), Refusal>
-    ensures ok { OnOk result (Appends (W.written sink.old) (W.written sink.new) (page_text progress.now.layout (past_of progress.now.entries))) }
-    ensures err { OnErr result (AppendsFront (W.written sink.old) (W.written sink.new) (page_text progress.now.layout (past_of progress.now.entries))) }
+    ensures ok { OnOk result
+        (Appends (W.written sink.old) (W.written sink.new)
+        (page_text progress.now.layout (past_of progress.now.entries))) }
+    ensures err { OnErr result
+        (AppendsFront (W.written sink.old) (W.written sink.new)
+        (page_text progress.now.layout (past_of progress.now.entries))) }
     ensures flushed { OnOk result (W.held sink.new ≡ 0) }
     ensures only { IfErr result (λ e. e ≡ Refusal.WriteFault) }
     ensures fault { OnErr result (Rises (W.troubles sink.old) (W.troubles sink.new)) }

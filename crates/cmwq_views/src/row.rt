@@ -46,7 +46,7 @@ impl Row {
         self.text.push_str(text);
     }
 
-    /// Spells a name and a number behind it.
+    /// Spells a name and a number after it.
     pub(crate) fn push_figure(&mut self, name: &str, number: u64)
         requires { length self.old + (length name.now + 20) ≤ 512 }
         ensures exact { self.new ≡ self.old ++ named_number name.now number }
@@ -56,7 +56,7 @@ impl Row {
         self.push(Buffer::new().format(number));
     }
 
-    /// Spells a name and a sum behind it.
+    /// Spells a name and a sum after it.
     pub(crate) fn push_sum(&mut self, name: &str, sum: u128)
         requires { length self.old + (length name.now + 40) ≤ 512 }
         ensures exact { self.new ≡ self.old ++ named_number name.now sum }

@@ -2,7 +2,10 @@
 ghost use Rattle.std.specs.Prelude.{◌≡◌, ◌+◌, ◌*◌, ◌/◌, ◌<◌, ◌≤◌, ◌++◌, length};
 ghost use Rattle.cmwq_model.specs.Prelude.{past_of, width, most_cpus, most_workers};
 ghost use Rattle.cmwq_summary.specs.Kinds.{call_kinds, reply_kinds};
-ghost use Rattle.cmwq_views.specs.Page.{call_row, reply_row, item_row, caller_row, longest_text, mean_text, starts_text, opened_text, bounds_text, peaks_text, place_figures, place_waits, span_text, worker_of_row, worker_name, worker_row, place_name, row_text, row_count};
+ghost use Rattle.cmwq_views.specs.Page.{call_row, reply_row, item_row, caller_row, longest_text, mean_text};
+ghost use Rattle.cmwq_views.specs.Page.{starts_text, opened_text, bounds_text, peaks_text, place_figures, place_waits};
+ghost use Rattle.cmwq_views.specs.Page.{span_text, worker_of_row, worker_name, worker_row, place_name, row_text};
+ghost use Rattle.cmwq_views.specs.Page.{row_count};
 ghost use Rattle.cmwq_views.specs.declared.table.Table.TheVariants as TheTable;
 
 use crate::name::{call_name, reply_name};

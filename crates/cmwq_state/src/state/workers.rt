@@ -63,7 +63,9 @@ impl State {
     /// Whether the worker is idle and may go back to the reserve.
     pub fn may_retire(&self, worker: WorkerId) -> bool
         requires { tables.IsThere self.now.layout (Worker worker) }
-        ensures { result ≡ (workers.is_idle (past_of self.now.entries) worker.pool worker.index && workers.may_retire self.now.layout (past_of self.now.entries) worker.pool) }
+        ensures { result
+            ≡ (workers.is_idle (past_of self.now.entries) worker.pool worker.index
+            && workers.may_retire self.now.layout (past_of self.now.entries) worker.pool) }
     {
         self.pools.may_retire(pool_place(worker.pool), worker.index)
     }

@@ -3,81 +3,131 @@ use Rattle.cmwq_base.specs.declared.refusal.Refusal.TheVariants.{ReadFault, Writ
 use Rattle.cmwq_base.specs.Files.{as_front}
 use Rattle.cmwq_base.specs.Gives.{Refuses}
 use Rattle.cmwq_base.specs.Stages.{stage_of, contents_of}
-use Rattle.cmwq_base.proofs.Progress.{found_so, starts, line_grows, whole_goes, whole_fails, long_fails, cut_fails, cut_no_fault, cut_gives, line_alike, too_many, end_gives, makes_sound, makes_version, makes_no_fault}
+use Rattle.cmwq_base.proofs.Progress.{found_so, starts, line_grows, whole_goes, whole_fails, long_fails, cut_fails}
+use Rattle.cmwq_base.proofs.Progress.{cut_no_fault, cut_gives, line_alike, too_many, end_gives, makes_sound}
+use Rattle.cmwq_base.proofs.Progress.{makes_version, makes_no_fault}
 use Rattle.cmwq_base.proofs.reading.read_file.Goals as goal
 
 pub loop-number-init : goal.loop-number-init
 loop-number-init g c = record {
-  progress = record { same = starts (as_front c.args.is_front g.G.Item.FileLine.kind) (g.S.Source.left c.args.source.now) _ c.in_ok-lines.ensures; count = omega arith; within = tt };
+  progress =
+      record {
+        same =
+            starts (as_front c.args.is_front g.G.Item.FileLine.kind) (g.S.Source.left c.args.source.now) _
+            c.in_ok-lines.ensures;
+        count = omega arith;
+        within = tt;
+      };
   troubles = omega arith;
 }
 
 pub returns-in_err-advance-in-Whole-clause-exact : goal.returns-in_err-advance-in-Whole-clause-exact
 returns-in_err-advance-in-Whole-clause-exact g c =
-    let p = err_from_is_err_and c.from_residual-in_err-advance-in-Whole.result c.from_residual-in_err-advance-in-Whole.ensures.1 in
+    let p = err_from_is_err_and c.from_residual-in_err-advance-in-Whole.result
+    c.from_residual-in_err-advance-in-Whole.ensures.1 in
     let line = found_so _ _ _ _ Whole c.in-Whole.is c.in_ok-next_line.ensures.ok in
-    let alike = line_alike c.args.is_front g.G.Item.FileLine.kind c.loop-number.number (stage_of g.G.Gather.layout g.G.Gather.items c.loop-number.stage) _ in
-    rw (p.1, p.2) (whole_fails (as_front c.args.is_front g.G.Item.FileLine.kind) c.loop-number.number (stage_of g.G.Gather.layout g.G.Gather.items c.loop-number.stage) _ _ _ _ c.in_err-advance-in-Whole.field-0.0 c.loop-number.invariant.progress.same
-    line (subst (Refuses c.in_err-advance-in-Whole.field-0.0) (sym alike) (rw (← c.as_slice.ensures.value) c.in_err-advance-in-Whole.ensures)))
+    let alike =
+    line_alike c.args.is_front g.G.Item.FileLine.kind c.loop-number.number
+    (stage_of g.G.Gather.layout g.G.Gather.items c.loop-number.stage) _ in
+    rw (p.1, p.2)
+    (whole_fails (as_front c.args.is_front g.G.Item.FileLine.kind) c.loop-number.number
+    (stage_of g.G.Gather.layout g.G.Gather.items c.loop-number.stage) _ _ _ _ c.in_err-advance-in-Whole.field-0.0
+    c.loop-number.invariant.progress.same
+    line (subst (Refuses c.in_err-advance-in-Whole.field-0.0) (sym alike)
+    (rw (← c.as_slice.ensures.value) c.in_err-advance-in-Whole.ensures)))
 
 pub returns-in-Long-clause-exact : goal.returns-in-Long-clause-exact
 returns-in-Long-clause-exact g c =
-    long_fails (as_front c.args.is_front g.G.Item.FileLine.kind) _ (stage_of g.G.Gather.layout g.G.Gather.items c.loop-number.stage) _ _ _ _ c.loop-number.invariant.progress.same
+    long_fails (as_front c.args.is_front g.G.Item.FileLine.kind) _
+    (stage_of g.G.Gather.layout g.G.Gather.items c.loop-number.stage) _ _ _ _ c.loop-number.invariant.progress.same
     (found_so _ _ _ _ Long c.in-Long.is c.in_ok-next_line.ensures.ok)
 
 pub returns-in-Cut-clause-exact : goal.returns-in-Cut-clause-exact
 returns-in-Cut-clause-exact g c =
-    cut_gives (as_front c.args.is_front g.G.Item.FileLine.kind) c.loop-number.number (stage_of g.G.Gather.layout g.G.Gather.items c.loop-number.stage) (contents_of g.G.Gather.layout g.G.Gather.items) c.finish.result _ _ _ _ (sym c.leaves_cut.ensures ∙ c.if-leaves_cut.true) c.loop-number.invariant.progress.same
+    cut_gives (as_front c.args.is_front g.G.Item.FileLine.kind) c.loop-number.number
+    (stage_of g.G.Gather.layout g.G.Gather.items c.loop-number.stage)
+    (contents_of g.G.Gather.layout g.G.Gather.items) c.finish.result _ _ _ _
+    (sym c.leaves_cut.ensures ∙ c.if-leaves_cut.true) c.loop-number.invariant.progress.same
     (found_so _ _ _ _ Cut c.in-Cut.is c.in_ok-next_line.ensures.ok) c.finish.ensures
 
 pub returns-in-Cut-clause-fault : goal.returns-in-Cut-clause-fault
-returns-in-Cut-clause-fault g c = λ is. absurd (makes_no_fault (contents_of g.G.Gather.layout g.G.Gather.items) c.finish.result _ ReadFault c.finish.ensures refl is)
+returns-in-Cut-clause-fault g c =
+    λ is. absurd
+    (makes_no_fault (contents_of g.G.Gather.layout g.G.Gather.items) c.finish.result _ ReadFault c.finish.ensures refl
+    is)
 
 pub returns-in-Cut-clause-nothing_written : goal.returns-in-Cut-clause-nothing_written
-returns-in-Cut-clause-nothing_written g c = makes_no_fault (contents_of g.G.Gather.layout g.G.Gather.items) c.finish.result _ WriteFault c.finish.ensures refl
+returns-in-Cut-clause-nothing_written g c =
+    makes_no_fault (contents_of g.G.Gather.layout g.G.Gather.items) c.finish.result _ WriteFault c.finish.ensures refl
 
 pub returns-in-Cut-clause-sound : goal.returns-in-Cut-clause-sound
-returns-in-Cut-clause-sound g c = makes_sound c.args.is_front g.G.Item.FileLine.kind (contents_of g.G.Gather.layout g.G.Gather.items) c.finish.result c.loop-number.number (stage_of g.G.Gather.layout g.G.Gather.items c.loop-number.stage) c.loop-number.invariant.progress.within c.finish.ensures
+returns-in-Cut-clause-sound g c =
+    makes_sound c.args.is_front g.G.Item.FileLine.kind (contents_of g.G.Gather.layout g.G.Gather.items) c.finish.result
+    c.loop-number.number (stage_of g.G.Gather.layout g.G.Gather.items c.loop-number.stage)
+    c.loop-number.invariant.progress.within c.finish.ensures
 
 pub returns-in-Cut-clause-version : goal.returns-in-Cut-clause-version
-returns-in-Cut-clause-version g c = makes_version (as_front c.args.is_front g.G.Item.FileLine.kind) (contents_of g.G.Gather.layout g.G.Gather.items) c.finish.result c.loop-number.number (stage_of g.G.Gather.layout g.G.Gather.items c.loop-number.stage) c.loop-number.invariant.progress.within c.finish.ensures
+returns-in-Cut-clause-version g c =
+    makes_version (as_front c.args.is_front g.G.Item.FileLine.kind) (contents_of g.G.Gather.layout g.G.Gather.items)
+    c.finish.result c.loop-number.number (stage_of g.G.Gather.layout g.G.Gather.items c.loop-number.stage)
+    c.loop-number.invariant.progress.within c.finish.ensures
 
 pub returns-in-Cut-2-clause-exact : goal.returns-in-Cut-2-clause-exact
 returns-in-Cut-2-clause-exact g c =
-    cut_fails (as_front c.args.is_front g.G.Item.FileLine.kind) c.loop-number.number (stage_of g.G.Gather.layout g.G.Gather.items c.loop-number.stage) _ _ _ _ c.cut.result (sym c.leaves_cut.ensures ∙ c.if-leaves_cut.false) c.loop-number.invariant.progress.same
+    cut_fails (as_front c.args.is_front g.G.Item.FileLine.kind) c.loop-number.number
+    (stage_of g.G.Gather.layout g.G.Gather.items c.loop-number.stage) _ _ _ _ c.cut.result
+    (sym c.leaves_cut.ensures ∙ c.if-leaves_cut.false) c.loop-number.invariant.progress.same
     (found_so _ _ _ _ Cut c.in-Cut-2.is c.in_ok-next_line.ensures.ok) c.cut.ensures
 
 pub returns-in-Cut-2-clause-fault : goal.returns-in-Cut-2-clause-fault
-returns-in-Cut-2-clause-fault g c = λ is. absurd (cut_no_fault c.loop-number.number (stage_of g.G.Gather.layout g.G.Gather.items c.loop-number.stage) c.cut.result ReadFault _ c.cut.ensures refl refl is)
+returns-in-Cut-2-clause-fault g c =
+    λ is. absurd
+    (cut_no_fault c.loop-number.number (stage_of g.G.Gather.layout g.G.Gather.items c.loop-number.stage) c.cut.result
+    ReadFault _ c.cut.ensures refl refl is)
 
 pub returns-in-Cut-2-clause-nothing_written : goal.returns-in-Cut-2-clause-nothing_written
-returns-in-Cut-2-clause-nothing_written g c = cut_no_fault c.loop-number.number (stage_of g.G.Gather.layout g.G.Gather.items c.loop-number.stage) c.cut.result WriteFault _ c.cut.ensures refl refl
+returns-in-Cut-2-clause-nothing_written g c =
+    cut_no_fault c.loop-number.number (stage_of g.G.Gather.layout g.G.Gather.items c.loop-number.stage) c.cut.result
+    WriteFault _ c.cut.ensures refl refl
 
 pub returns-in-End-clause-nothing_written : goal.returns-in-End-clause-nothing_written
-returns-in-End-clause-nothing_written g c = makes_no_fault (contents_of g.G.Gather.layout g.G.Gather.items) c.finish-in-End.result _ WriteFault c.finish-in-End.ensures refl
+returns-in-End-clause-nothing_written g c =
+    makes_no_fault (contents_of g.G.Gather.layout g.G.Gather.items) c.finish-in-End.result _ WriteFault
+    c.finish-in-End.ensures refl
 
 pub returns-in-End-clause-exact : goal.returns-in-End-clause-exact
 returns-in-End-clause-exact g c =
-    end_gives (as_front c.args.is_front g.G.Item.FileLine.kind) c.loop-number.number (stage_of g.G.Gather.layout g.G.Gather.items c.loop-number.stage) (contents_of g.G.Gather.layout g.G.Gather.items) c.finish-in-End.result _ _ _ _ c.loop-number.invariant.progress.same
+    end_gives (as_front c.args.is_front g.G.Item.FileLine.kind) c.loop-number.number
+    (stage_of g.G.Gather.layout g.G.Gather.items c.loop-number.stage)
+    (contents_of g.G.Gather.layout g.G.Gather.items) c.finish-in-End.result _ _ _ _
+    c.loop-number.invariant.progress.same
     (found_so _ _ _ _ End c.in-End.is c.in_ok-next_line.ensures.ok) c.finish-in-End.ensures
 
 pub returns-in-End-clause-sound : goal.returns-in-End-clause-sound
-returns-in-End-clause-sound g c = makes_sound c.args.is_front g.G.Item.FileLine.kind (contents_of g.G.Gather.layout g.G.Gather.items) c.finish-in-End.result c.loop-number.number (stage_of g.G.Gather.layout g.G.Gather.items c.loop-number.stage) c.loop-number.invariant.progress.within c.finish-in-End.ensures
+returns-in-End-clause-sound g c =
+    makes_sound c.args.is_front g.G.Item.FileLine.kind (contents_of g.G.Gather.layout g.G.Gather.items)
+    c.finish-in-End.result c.loop-number.number (stage_of g.G.Gather.layout g.G.Gather.items c.loop-number.stage)
+    c.loop-number.invariant.progress.within c.finish-in-End.ensures
 
 pub returns-in-End-clause-version : goal.returns-in-End-clause-version
-returns-in-End-clause-version g c = makes_version (as_front c.args.is_front g.G.Item.FileLine.kind) (contents_of g.G.Gather.layout g.G.Gather.items) c.finish-in-End.result c.loop-number.number (stage_of g.G.Gather.layout g.G.Gather.items c.loop-number.stage) c.loop-number.invariant.progress.within c.finish-in-End.ensures
+returns-in-End-clause-version g c =
+    makes_version (as_front c.args.is_front g.G.Item.FileLine.kind) (contents_of g.G.Gather.layout g.G.Gather.items)
+    c.finish-in-End.result c.loop-number.number (stage_of g.G.Gather.layout g.G.Gather.items c.loop-number.stage)
+    c.loop-number.invariant.progress.within c.finish-in-End.ensures
 
 pub loop-number-preserved : goal.loop-number-preserved
 loop-number-preserved g c =
     let stage = stage_of g.G.Gather.layout g.G.Gather.items c.loop-number.stage in
     let next = stage_of g.G.Gather.layout g.G.Gather.items c.advance.new.self in
-    let taken = line_alike c.args.is_front g.G.Item.FileLine.kind c.loop-number.number stage _ ∙ rw c.as_slice.ensures.value at c.in_ok-advance-in-Whole.ensures in
+    let taken = line_alike c.args.is_front g.G.Item.FileLine.kind c.loop-number.number stage _
+    ∙ rw c.as_slice.ensures.value at c.in_ok-advance-in-Whole.ensures in
     let grows = line_grows (as_front c.args.is_front g.G.Item.FileLine.kind) c.loop-number.number stage next _ taken in
     let before = c.loop-number.invariant.progress in
     let line = found_so _ _ _ _ Whole c.in-Whole.is c.in_ok-next_line.ensures.ok in
     record {
       progress = record {
-        same = whole_goes (as_front c.args.is_front g.G.Item.FileLine.kind) c.loop-number.number stage _ _ _ _ next before.same line taken;
+        same = whole_goes (as_front c.args.is_front g.G.Item.FileLine.kind) c.loop-number.number stage _ _ _ _ next
+            before.same line taken;
         count = omega (arith, grows.count, before.count);
         within = grows.within before.within;
       };

@@ -5,4 +5,5 @@ use Rattle.cmwq_base.proofs.writing.write_entries.Goals as goal
 pub returns-in_err-write_entry-clause-err : goal.returns-in_err-write_entry-clause-err
 returns-in_err-write_entry-clause-err g c =
     let p = err_from_is_err_and c.from_residual.result c.from_residual.ensures.1 in
-    rw (p.1) (front_at entry_text c.args.entries.now c.loop-entry.entry-index _ _ _ _ (omega arith) c.loop-entry.invariant.text c.in_err-write_entry.ensures.err)
+    rw (p.1) (front_at entry_text c.args.entries.now c.loop-entry.entry-index _ _ _ _ (omega arith)
+    c.loop-entry.invariant.text c.in_err-write_entry.ensures.err)

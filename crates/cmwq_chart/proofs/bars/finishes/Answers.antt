@@ -10,4 +10,6 @@ loop-k-init c =
 
 pub loop-k-preserved : goal.loop-k-preserved
 loop-k-preserved c =
-    rw c.entry_at.ensures (finish_known _ _ _ _ _ _ (sym (length_past_taken c.args.entries.now c.loop-k.k c.loop-k-test.true)) c.loop-k.invariant c.keep_finish.ensures)
+    rw c.entry_at.ensures
+    (finish_known _ _ _ _ _ _ (sym (length_past_taken c.args.entries.now c.loop-k.k c.loop-k-test.true))
+    c.loop-k.invariant c.keep_finish.ensures)

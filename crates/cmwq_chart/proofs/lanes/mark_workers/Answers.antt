@@ -10,4 +10,6 @@ loop-entry-init c =
     subst (AreMarks lane_number_by [] most_lanes) (sym empty) (none_marked lane_number_by most_lanes)
 
 pub loop-entry-preserved : goal.loop-entry-preserved
-loop-entry-preserved c = one_marked lane_number_by c.args.entries.now c.loop-entry.entry-index _ _ c.lane_number_by.result _ _ c.loop-entry-test.true c.lane_number_by.ensures c.loop-entry.invariant c.mark.ensures
+loop-entry-preserved c =
+    one_marked lane_number_by c.args.entries.now c.loop-entry.entry-index _ _ c.lane_number_by.result _ _
+    c.loop-entry-test.true c.lane_number_by.ensures c.loop-entry.invariant c.mark.ensures

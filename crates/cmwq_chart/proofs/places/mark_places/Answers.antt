@@ -11,7 +11,11 @@ loop-queueing-init c =
     subst (AreMarks level_number_of [] most_places) (sym empty) (none_marked level_number_of most_places)
 
 pub loop-queueing-preserved : goal.loop-queueing-preserved
-loop-queueing-preserved c = one_marked level_number_of c.args.queueings.now c.loop-queueing.queueing-index _ _ c.level_number_of.result _ _ c.loop-queueing-test.true c.level_number_of.ensures c.loop-queueing.invariant c.mark.ensures
+loop-queueing-preserved c =
+    one_marked level_number_of c.args.queueings.now c.loop-queueing.queueing-index _ _ c.level_number_of.result _ _
+    c.loop-queueing-test.true c.level_number_of.ensures c.loop-queueing.invariant c.mark.ensures
 
 pub returns : goal.returns
-returns c = subst (λ queueings. AreMarks level_number_of queueings most_places c.loop-queueing.marks.items) (take_all c.loop-queueing.queueing-index c.args.queueings.now c.loop-queueing-test.false) c.loop-queueing.invariant
+returns c =
+    subst (λ queueings. AreMarks level_number_of queueings most_places c.loop-queueing.marks.items)
+    (take_all c.loop-queueing.queueing-index c.args.queueings.now c.loop-queueing-test.false) c.loop-queueing.invariant

@@ -14,5 +14,8 @@ unfolding places_of
 returns-clause-inside c =
     let s = c.args.shape.now in
     let all : c.loop-queue.queue ≡ length s.queues = omega (arith, ap length c.queues-queue-end.ensures) in
-    let same = c.loop-queue.invariant.places ∙ ap (λ n. filter (has_queueings c.args.queueings.now) (flat_map (places_of_queue s) (range_with_len 0 n))) all in
+    let same =
+    c.loop-queue.invariant.places
+    ∙ ap (λ n. filter (has_queueings c.args.queueings.now) (flat_map (places_of_queue s) (range_with_len 0 n)))
+    all in
     subst (All (IsPlaceOf s)) (sym same) (places_inside s c.args.queueings.now c.counts-counts.ensures.limits)

@@ -7,6 +7,7 @@ use Rattle.cmwq_chart.proofs.places.places_of.Given as goal
 
 abbrev pub invariant-loop-queue : goal.invariant-loop-queue
 invariant-loop-queue l = record {
-  places : (l.places).items ≡ filter (has_queueings l.queueings) (flat_map (places_of_queue l.shape) (range_with_len 0 l.queue));
+  places : (l.places).items
+      ≡ filter (has_queueings l.queueings) (flat_map (places_of_queue l.shape) (range_with_len 0 l.queue));
   few : length (l.places).items ≤ most_cpus * l.queue;
 }

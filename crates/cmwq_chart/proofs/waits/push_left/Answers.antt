@@ -5,4 +5,5 @@ use Rattle.cmwq_chart.proofs.waits.push_left.Goals as goal
 
 pub loop-row-preserved : goal.loop-row-preserved
 loop-row-preserved c =
-    flat_more (wait_left c.args.rows.now c.args.caller) _ _ _ c.loop-row.row c.loop-row.invariant (c.in_ok-keep_wait.ensures ∙ ap (λ l. c.loop-row.waits.items ++ l) c.wait_left.ensures)
+    flat_more (wait_left c.args.rows.now c.args.caller) _ _ _ c.loop-row.row c.loop-row.invariant
+    (c.in_ok-keep_wait.ensures ∙ ap (λ l. c.loop-row.waits.items ++ l) c.wait_left.ensures)

@@ -7,7 +7,8 @@ loop-k-init c = record {
   rows = c.new-rows.ensures.items ∙ sym (rows_none c.args.caller);
   few = omega (arith, ap length c.new-rows.ensures.items);
   waits = sym (ap (λ l. c.args.waits.now.items ++ l) (waits_none c.args.caller) ∙ append-nil c.args.waits.now.items);
-  signs = sym (ap (λ l. c.args.signs.now.items ++ l) (wait_signs_none c.args.caller) ∙ append-nil c.args.signs.now.items);
+  signs = sym (ap (λ l. c.args.signs.now.items ++ l) (wait_signs_none c.args.caller)
+      ∙ append-nil c.args.signs.now.items);
 }
 
 pub loop-k-preserved : goal.loop-k-preserved

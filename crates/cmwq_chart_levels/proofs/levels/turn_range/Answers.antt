@@ -12,9 +12,16 @@ returns-clause-running c =
     let rest = c.split_at_mut-rest.ensures.back in
     let part = c.split_at_mut-part.ensures.front in
     let back = c.split_at_mut-part.ensures.back in
-    let low = low_stays c.args.execution.now (past_of c.args.entries.now) c.args.entry c.args.change.now c.requires.followed xs c.args.range i c.requires.only c.count_below-from.ensures.below in
-    let high = high_stays c.args.execution.now (past_of c.args.entries.now) c.args.entry c.args.change.now c.requires.followed xs c.args.range i j c.requires.only (rw rest at c.count_below-end.ensures.from) in
-    rw (front, back, rest) (range_turned c.args.execution.now (past_of c.args.entries.now) c.args.entry c.args.change.now c.requires.followed xs c.turn.new.running i j c.requires.running low high (rw (part, rest) at c.in_ok-turn.ensures.running))
+    let low =
+    low_stays c.args.execution.now (past_of c.args.entries.now) c.args.entry c.args.change.now c.requires.followed
+    xs c.args.range i c.requires.only c.count_below-from.ensures.below in
+    let high =
+    high_stays c.args.execution.now (past_of c.args.entries.now) c.args.entry c.args.change.now c.requires.followed
+    xs c.args.range i j c.requires.only (rw rest at c.count_below-end.ensures.from) in
+    rw (front, back, rest)
+    (range_turned c.args.execution.now (past_of c.args.entries.now) c.args.entry c.args.change.now
+    c.requires.followed xs c.turn.new.running i j c.requires.running low high
+    (rw (part, rest) at c.in_ok-turn.ensures.running))
 
 pub returns-clause-levels : goal.returns-clause-levels
 returns-clause-levels c =
@@ -24,6 +31,13 @@ returns-clause-levels c =
     let rest = c.split_at_mut-rest.ensures.back in
     let part = c.split_at_mut-part.ensures.front in
     let back = c.split_at_mut-part.ensures.back in
-    let low = low_stays c.args.execution.now (past_of c.args.entries.now) c.args.entry c.args.change.now c.requires.followed xs c.args.range i c.requires.only c.count_below-from.ensures.below in
-    let high = high_stays c.args.execution.now (past_of c.args.entries.now) c.args.entry c.args.change.now c.requires.followed xs c.args.range i j c.requires.only (rw rest at c.count_below-end.ensures.from) in
-    (rw (part, rest) at c.in_ok-turn.ensures.levels) ∙ ap (λ l. c.args.levels.now.items ++ l) (range_ended c.args.execution.now (past_of c.args.entries.now) c.args.entry c.args.change.now c.requires.followed xs i j low high)
+    let low =
+    low_stays c.args.execution.now (past_of c.args.entries.now) c.args.entry c.args.change.now c.requires.followed
+    xs c.args.range i c.requires.only c.count_below-from.ensures.below in
+    let high =
+    high_stays c.args.execution.now (past_of c.args.entries.now) c.args.entry c.args.change.now c.requires.followed
+    xs c.args.range i j c.requires.only (rw rest at c.count_below-end.ensures.from) in
+    (rw (part, rest) at c.in_ok-turn.ensures.levels)
+    ∙ ap (λ l. c.args.levels.now.items ++ l)
+    (range_ended c.args.execution.now (past_of c.args.entries.now) c.args.entry c.args.change.now
+    c.requires.followed xs i j low high)

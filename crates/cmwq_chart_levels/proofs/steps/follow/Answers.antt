@@ -18,4 +18,5 @@ returns-clause-change c =
 
 pub returns-clause-followed : goal.returns-clause-followed
 unfolding IsLegal
-returns-clause-followed c = c.commit.ensures.entry ∙ ap (with_entry c.args.execution.now) (c.in-Ok.ensures.plan.mark.is_next ∙ sym c.requires.1)
+returns-clause-followed c =
+    c.commit.ensures.entry ∙ ap (with_entry c.args.execution.now) (c.in-Ok.ensures.plan.mark.is_next ∙ sym c.requires.1)

@@ -5,6 +5,7 @@ use Rattle.cmwq_chart_text.proofs.band_text.write_figures.Given as goal
 
 abbrev pub invariant-loop-placed : goal.invariant-loop-placed
 invariant-loop-placed g l = record {
-  text : Appends (g.W.Sink.written l.fn.sink) (g.W.Sink.written l.sink) (figures_text l.layer l.page l.entries l.scale l.band l.from (take l.placed-index l.figures));
+  text : Appends (g.W.Sink.written l.fn.sink) (g.W.Sink.written l.sink)
+      (figures_text l.layer l.page l.entries l.scale l.band l.from (take l.placed-index l.figures));
   troubles : g.W.Sink.troubles l.fn.sink ≤ g.W.Sink.troubles l.sink;
 }

@@ -11,4 +11,5 @@ returns-in_err-write_line_at-clause-err g c =
 pub returns-in_err-write_all-clause-err : goal.returns-in_err-write_all-clause-err
 returns-in_err-write_all-clause-err g c =
     let p = err_from_is_err_and c.from_residual-in_err-write_all.result c.from_residual-in_err-write_all.ensures.1 in
-    rw (p.1) (front_after _ _ _ _ _ c.in_ok-write_line_at.ensures.ok (rw (c.as_bytes.ensures.value, c.mark_end.ensures) at c.in_err-write_all.ensures.err))
+    rw (p.1) (front_after _ _ _ _ _ c.in_ok-write_line_at.ensures.ok
+    (rw (c.as_bytes.ensures.value, c.mark_end.ensures) at c.in_err-write_all.ensures.err))

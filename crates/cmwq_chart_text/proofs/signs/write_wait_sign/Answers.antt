@@ -8,10 +8,13 @@ unfolding wait_sign_text
 returns-in_err-write_filled-clause-err g c =
     let p = err_from_is_err_and c.from_residual.result c.from_residual.ensures.1 in
     let rest = told_text c.args.entries.now c.args.sign.now.at in
-    rw (p.1) (front_before _ _ _ rest (rw (c.wait_sign_template.ensures, c.wait_sign_numbers-numbers.ensures) at c.in_err-write_filled.ensures.err))
+    rw (p.1) (front_before _ _ _ rest
+    (rw (c.wait_sign_template.ensures, c.wait_sign_numbers-numbers.ensures) at c.in_err-write_filled.ensures.err))
 
 pub returns-in_err-write_told-clause-err : goal.returns-in_err-write_told-clause-err
 unfolding wait_sign_text
 returns-in_err-write_told-clause-err g c =
     let p = err_from_is_err_and c.from_residual-in_err-write_told.result c.from_residual-in_err-write_told.ensures.1 in
-    rw (p.1) (front_after _ _ _ _ _ (rw (c.wait_sign_template.ensures, c.wait_sign_numbers-numbers.ensures) at c.in_ok-write_filled.ensures.ok) c.in_err-write_told.ensures.err)
+    rw (p.1) (front_after _ _ _ _ _
+    (rw (c.wait_sign_template.ensures, c.wait_sign_numbers-numbers.ensures) at c.in_ok-write_filled.ensures.ok)
+    c.in_err-write_told.ensures.err)

@@ -9,4 +9,5 @@ use Rattle.cmwq_cli.proofs.word.has_flag.Goals as goal
 pub returns : goal.returns
 returns c =
     c.unwrap_or.ensures ∙ truth_of_text _ _ c.get_one.result c.get_one.ensures.none c.get_one.ensures.value
-    ∙ ap (λ (text : Option (List ℕ)). option_map_or (λ t. bytes_eq t (codes "true")) text false) (one_text-rows (found_of c.args.matches.now) c.args.name.now)
+    ∙ ap (λ (text : Option (List ℕ)). option_map_or (λ t. bytes_eq t (codes "true")) text false)
+    (one_text-rows (found_of c.args.matches.now) c.args.name.now)

@@ -9,5 +9,7 @@ use Rattle.cmwq_cli.proofs.word.number_found.Goals as goal
 
 pub returns : goal.returns
 returns c =
-    number_of_found (λ bs r. ParsesUnsigned 64 10 bs r × ExplainsUnsignedError 10 bs r × HasUnsignedDigitsIfOk bs r) (λ text r g. g.0) _ c.get_one.result c.get_one.ensures.none c.get_one.ensures.value
-    ∙ ap (λ (text : Option (List ℕ)). option_and_then number_of_text text) (one_text-rows (found_of c.args.matches.now) c.args.name.now)
+    number_of_found (λ bs r. ParsesUnsigned 64 10 bs r × ExplainsUnsignedError 10 bs r × HasUnsignedDigitsIfOk bs r)
+    (λ text r g. g.0) _ c.get_one.result c.get_one.ensures.none c.get_one.ensures.value
+    ∙ ap (λ (text : Option (List ℕ)). option_and_then number_of_text text)
+    (one_text-rows (found_of c.args.matches.now) c.args.name.now)

@@ -8,7 +8,15 @@ pub returns-clause-rule : goal.returns-clause-rule
 returns-clause-rule c =
     let parser : c.value_parser.result.value_parser ≡ Some (Unsigned 0 (2 ^ 64 - 1)) = search rules in
     rw (c.help.ensures, c.value_name.ensures, c.value_parser.ensures.others, c.action.ensures, c.long.ensures)
-    (ap₂ (λ (r : Rule) p. record r { long = Some c.args.option.name.now; action = Some Set; parser = p; value_names = 1 }) c.new.ensures.rule parser)
+    (ap₂ (λ (r : Rule) p. record r {
+      long = Some c.args.option.name.now;
+      action = Some Set;
+      parser = p;
+      value_names =
+          1;
+    }) c.new.ensures.rule parser)
 
 pub returns-clause-local : goal.returns-clause-local
-returns-clause-local c = rw (c.help.ensures, c.value_name.ensures, c.value_parser.ensures.others, c.action.ensures, c.long.ensures) c.new.ensures.optional.1
+returns-clause-local c =
+    rw (c.help.ensures, c.value_name.ensures, c.value_parser.ensures.others, c.action.ensures, c.long.ensures)
+    c.new.ensures.optional.1

@@ -8,5 +8,6 @@ with_command-requires c = c.in_ok-word.ensures.globals ∙ neither _ _ c.bare_wo
 
 pub returns : goal.returns
 returns c =
-    let flagged = c.in_ok-word.ensures.shape c.rule.ensures.local ∙ ap₂ with_rule c.bare_word.ensures.shape c.rule.ensures.rule in
+    let flagged = c.in_ok-word.ensures.shape c.rule.ensures.local
+    ∙ ap₂ with_rule c.bare_word.ensures.shape c.rule.ensures.rule in
     of_word (app_of c.args.program) c.with_command.result flagged c.with_command.ensures

@@ -10,6 +10,8 @@ with_command-requires c =
 
 pub returns : goal.returns
 returns c =
-    let first = c.in_ok-word.ensures.shape c.number_rule.ensures.local ∙ ap₂ with_rule c.bare_word.ensures.shape c.number_rule.ensures.rule in
-    let second = c.in_ok-word-2.ensures.shape c.number_rule-2.ensures.local ∙ ap₂ with_rule first c.number_rule-2.ensures.rule in
+    let first = c.in_ok-word.ensures.shape c.number_rule.ensures.local
+    ∙ ap₂ with_rule c.bare_word.ensures.shape c.number_rule.ensures.rule in
+    let second = c.in_ok-word-2.ensures.shape c.number_rule-2.ensures.local
+    ∙ ap₂ with_rule first c.number_rule-2.ensures.rule in
     of_word (app_of c.args.program) c.with_command.result second c.with_command.ensures

@@ -6,5 +6,6 @@ append-requires-clause-room c = leb-true _ _ (and_parts _ _ (sym c.has_room.ensu
 
 pub append-requires-clause-time : goal.append-requires-clause-time
 append-requires-clause-time c =
-    subst (λ (e : Entry). has_time (past_of c.args.state.now.entries) e.call ≡ true) (sym c.effect_of-effect.ensures.entry)
+    subst (λ (e : Entry). has_time (past_of c.args.state.now.entries) e.call ≡ true)
+    (sym c.effect_of-effect.ensures.entry)
     (and_parts _ _ (sym c.has_room.ensures ∙ c.if-has_room.true)).0

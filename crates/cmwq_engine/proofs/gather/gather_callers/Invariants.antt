@@ -8,6 +8,7 @@ invariant-loop g l =
     let calls = g.C.Crew.calls l.fn.crew in
     (length l.callers.items + l.counter ≡ length l.fn.callers.items)
     × (l.all.parts ≡ l.fn.all.parts + l.counter) × (l.all.amount ≡ l.fn.all.amount + l.answered)
-    × ((k : ℕ) (e : _) → slice_get l.callers.items k ≡ Some e → IfOk e.outcome (λ full. CalledAt s calls k full e.caller))
+    × ((k : ℕ) (e : _) → slice_get l.callers.items k ≡ Some e
+    → IfOk e.outcome (λ full. CalledAt s calls k full e.caller))
     × AllCalled s calls (length l.callers.items) l.counter l.full l.fn.monitor.history
     × ((k : ℕ) (e : _) → slice_get l.callers.items k ≡ Some e → IfErr e.outcome (λ f. breaks_off f ≡ true))

@@ -1,4 +1,6 @@
-use Rattle.cmwq_engine.specs.Common.{◌≡◌, ℕ, ◌<◌, true, length, get_or, arith, ap, sym, ◌∙◌, subst, slice_get, Some, IfOk, IfErr, breaks_off, slice_get_within, slice_get-get_or, get_or_from_slice_get, Worker, newcomer, worker_by_number, Places, Roster}
+use Rattle.cmwq_engine.specs.Common.{◌≡◌, ℕ, ◌<◌, true, length, get_or, arith, ap, sym, ◌∙◌, subst, slice_get, Some}
+use Rattle.cmwq_engine.specs.Common.{IfOk, IfErr, breaks_off, slice_get_within, slice_get-get_or, get_or_from_slice_get}
+use Rattle.cmwq_engine.specs.Common.{Worker, newcomer, worker_by_number, Places, Roster}
 use Rattle.cmwq_engine.specs.Ended.{AreNewcomers, CalledAt, WorkedFrom, used}
 use Rattle.cmwq_engine.proofs.running.run_all.Goals as goal
 
@@ -37,7 +39,8 @@ returns-clause-run g c =
         faults = (λ k e at.
             let lt = slice_get_within rs k e at in
             let within : k < length hs = (let l = len in omega (arith, lt, l)) in
-            subst (λ z. IfErr z.outcome (λ f. breaks_off f ≡ true)) (get_or_from_slice_get rs k e e at) (joined.each k e (subst (λ (n : ℕ). k < n) (sym of_callers.0) within)).1.kept.1);
+            subst (λ z. IfErr z.outcome (λ f. breaks_off f ≡ true)) (get_or_from_slice_get rs k e e at)
+            (joined.each k e (subst (λ (n : ℕ). k < n) (sym of_callers.0) within)).1.kept.1);
         called = (λ k e at.
             let lt = slice_get_within rs k e at in
             let within : k < length hs = (let l = len in omega (arith, lt, l)) in
@@ -48,14 +51,16 @@ returns-clause-run g c =
             let p = started.each k h there in
             subst (λ z. IfOk z.outcome (λ full. CalledAt s calls k full z.caller)) (get_or_from_slice_get rs k e e at)
             (subst (λ n. IfOk y.outcome (λ full. CalledAt s calls n full y.caller)) p.0
-            (subst (λ v. IfOk y.outcome (λ full. CalledAt s (g.C.Crew.calls v) h.promise.number full y.caller)) p.1 keeps.kept.0)));
+            (subst (λ v. IfOk y.outcome (λ full. CalledAt s (g.C.Crew.calls v) h.promise.number full y.caller)) p.1
+            keeps.kept.0)));
       };
       workers = record {
         all = ap (worker_by_number s) len_workers ∙ working.all.0;
         faults = (λ k e at.
             let lt = slice_get_within xs k e at in
             let within : k < length ws = (let l = len_workers in omega (arith, lt, l)) in
-            subst (λ z. IfErr z.outcome (λ f. breaks_off f ≡ true)) (get_or_from_slice_get xs k e e at) (ended.each k e (subst (λ (n : ℕ). k < n) (sym of_workers.0) within)).1.kept.1);
+            subst (λ z. IfErr z.outcome (λ f. breaks_off f ≡ true)) (get_or_from_slice_get xs k e e at)
+            (ended.each k e (subst (λ (n : ℕ). k < n) (sym of_workers.0) within)).1.kept.1);
         worked = (λ k e at x there.
             let lt = slice_get_within xs k e at in
             let within : k < length ws = (let l = len_workers in omega (arith, lt, l)) in
@@ -64,9 +69,11 @@ returns-clause-run g c =
             let h = keeps.handle in
             let started_at : slice_get ws k ≡ Some h = slice_get-get_or ws k h within ∙ ap Some (sym keeps.handle_is) in
             let p = working.each k h started_at x there in
-            subst (λ z. IfOk z.outcome (λ _. WorkedFrom s does (newcomer (Worker x)) z.worker)) (get_or_from_slice_get xs k e e at)
+            subst (λ z. IfOk z.outcome (λ _. WorkedFrom s does (newcomer (Worker x)) z.worker))
+            (get_or_from_slice_get xs k e e at)
             (subst (λ v. IfOk y.outcome (λ _. WorkedFrom s does v y.worker)) p.0
-            (subst (λ w. IfOk y.outcome (λ _. WorkedFrom s (g.W.Work.does w s) h.promise.worker.value y.worker)) p.1 keeps.kept.0)));
+            (subst (λ w. IfOk y.outcome (λ _. WorkedFrom s (g.W.Work.does w s) h.promise.worker.value y.worker)) p.1
+            keeps.kept.0)));
       };
       idle = subst (λ (n : ℕ). AreNewcomers s n c.in_ok-idle.idle.items) callers_are c.in_ok-idle.ensures.all;
       parts = (let a = c.into_rest.ensures.0 in

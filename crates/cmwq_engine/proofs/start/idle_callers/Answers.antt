@@ -1,4 +1,5 @@
-use Rattle.cmwq_engine.specs.Common.{◌≡◌, ◌+◌, ◌++◌, ◌∷◌, [], length, length-append, arith, ap, ◌∙◌, subst, slice_get, Some, newcomer, Places}
+use Rattle.cmwq_engine.specs.Common.{◌≡◌, ◌+◌, ◌++◌, ◌∷◌, [], length, length-append, arith, ap, ◌∙◌, subst, slice_get}
+use Rattle.cmwq_engine.specs.Common.{Some, newcomer, Places}
 use Rattle.cmwq_engine.specs.Conduct.{caller_numbered}
 use Rattle.cmwq_engine.proofs.Gathering.{all_push}
 use Rattle.cmwq_engine.proofs.start.idle_callers.Goals as goal
@@ -14,6 +15,7 @@ loop-preserved g c =
       (let n = ap (λ (p : Places). p.callers) given.2 in let i = inv.0 in let m = more in omega (arith, n, i, m)),
       ap (λ (p : Places). p.workers) given.2 ∙ inv.1,
       (λ k x at.
-          all_push (λ k x. x ≡ newcomer (caller_numbered (c.args.participants.now.callers + k))) cs one inv.2 (given.0 ∙ ap (λ n. newcomer (caller_numbered n)) inv.0)
+          all_push (λ k x. x ≡ newcomer (caller_numbered (c.args.participants.now.callers + k))) cs one inv.2
+          (given.0 ∙ ap (λ n. newcomer (caller_numbered n)) inv.0)
           k x (subst (λ l. slice_get l k ≡ Some x) items at)),
     )

@@ -14,8 +14,12 @@ loop-index-preserved c =
     record {
       size = rw pushed.items (omega arith);
       room = rw pushed.capacity i.room;
-      each = λ items. rw pushed.items (All-push (λ (f : Flushes). IsQueueRight items [] [] f × (book_by items [] [] f ≡ new_book items)) c.loop-index.made.items c.in_ok-new.field-0 (i.each items) (c.in_ok-new.ensures items));
+      each = λ items. rw pushed.items
+          (All-push (λ (f : Flushes). IsQueueRight items [] [] f × (book_by items [] [] f ≡ new_book items))
+          c.loop-index.made.items c.in_ok-new.field-0 (i.each items) (c.in_ok-new.ensures items));
     }
 
 pub returns : goal.returns
-returns c = λ items. books_at_first items c.args.queues c.loop-index.made.items (let size = c.loop-index.invariant.size in omega arith) (c.loop-index.invariant.each items)
+returns c =
+    λ items. books_at_first items c.args.queues c.loop-index.made.items (let size = c.loop-index.invariant.size in
+    omega arith) (c.loop-index.invariant.each items)

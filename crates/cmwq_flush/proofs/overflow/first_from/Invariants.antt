@@ -7,5 +7,6 @@ use Rattle.cmwq_flush.proofs.overflow.first_from.Given as goal
 abbrev pub invariant-loop-index : goal.invariant-loop-index
 invariant-loop-index l = record {
   here : l.at ≡ slice_get (list_at l.lists.lists l.list) l.index;
-  left : find (is_from l.tickets l.ticket) (list_at l.lists.lists l.list) ≡ find (is_from l.tickets l.ticket) (drop l.index (list_at l.lists.lists l.list));
+  left : find (is_from l.tickets l.ticket) (list_at l.lists.lists l.list)
+      ≡ find (is_from l.tickets l.ticket) (drop l.index (list_at l.lists.lists l.list));
 }

@@ -6,4 +6,5 @@ stays : (v : ℕ) → 2 ≤ v → max v 2 ≡ v
 stays v new = omega arith
 
 pub returns : goal.returns
-returns c = λ text f read new. ap (λ v. text_of_format v f.layout f.items) (stays f.version new) ∙ sym (histories_have_one_text text f read)
+returns c = λ text f read new. ap (λ v. text_of_format v f.layout f.items) (stays f.version new)
+    ∙ sym (histories_have_one_text text f read)

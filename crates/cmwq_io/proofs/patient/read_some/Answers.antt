@@ -10,7 +10,8 @@ returns-in-Ok-clause-calls g c =
 pub returns-in-Err-Failed-clause-calls : goal.returns-in-Err-Failed-clause-calls
 returns-in-Err-Failed-clause-calls g c =
     let few : c.loop-read._read ≤ 1000 = omega (arith, c.loop-read-test.true) in
-    failed _ _ _ c.loop-read._read _ few c.in-Err-Failed.field-0-is c.loop-read.invariant.calls c.in-Err-Failed.ensures.outcome
+    failed _ _ _ c.loop-read._read _ few c.in-Err-Failed.field-0-is c.loop-read.invariant.calls
+    c.in-Err-Failed.ensures.outcome
 
 pub returns-clause-calls : goal.returns-clause-calls
 returns-clause-calls g c =

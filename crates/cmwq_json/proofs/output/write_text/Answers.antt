@@ -10,4 +10,7 @@ returns-in_err-flush_all-clause-err g c =
     let p = err_from_is_err_and c.from_residual-in_err-flush_all.result c.from_residual-in_err-flush_all.ensures.1 in
     let text = c.args.text.now in
     let whole = rw c.as_bytes.ensures.value at c.in_ok-write_all.ensures.ok in
-    rw (p.1) (length text, subst (Appends _ _) (sym (take-length text)) (Appends-kept _ _ _ text whole c.in_err-flush_all.ensures.bytes))
+    rw (p.1) (
+      length text,
+      subst (Appends _ _) (sym (take-length text)) (Appends-kept _ _ _ text whole c.in_err-flush_all.ensures.bytes),
+    )

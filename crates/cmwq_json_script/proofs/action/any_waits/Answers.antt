@@ -10,5 +10,6 @@ use Rattle.cmwq_json_script.proofs.action.any_waits.Goals as goal
 
 pub returns : goal.returns
 returns c =
-    any_from_yields_List (λ (actions : Vec Action Global). list_any spec.is_wait actions.items) _ _ _ c.any.ensures.ran (YieldsList-from_slice c.args.does.now (cc)) (λ x b q k. search (rules, tests))
+    any_from_yields_List (λ (actions : Vec Action Global). list_any spec.is_wait actions.items) _ _ _ c.any.ensures.ran
+    (YieldsList-from_slice c.args.does.now (cc)) (λ x b q k. search (rules, tests))
     ∙ sym (any_unmapped (list_any spec.is_wait) (λ (actions : Vec Action Global). actions.items) c.args.does.now)

@@ -1,19 +1,37 @@
-use Rattle.cmwq_json_script.specs.Common.{◌∙◌, [], Some, None, sym, ap, arith, if◌then◌else◌, result_ok, view, items_view, in_turn, went_on, stopped, done, array_said}
+use Rattle.cmwq_json_script.specs.Common.{◌∙◌, [], Some, None, sym, ap, arith, if◌then◌else◌, result_ok, view}
+use Rattle.cmwq_json_script.specs.Common.{items_view, in_turn, went_on, stopped, done, array_said}
 use Rattle.cmwq_json_script.specs.Callers.{add_call}
 use Rattle.cmwq_json_script.proofs.caller.read_calls.Goals as goal
 
 pub returns-then-not-branch : goal.returns-then-not-branch
 returns-then-not-branch c =
-    sym (ap result_ok (stopped (add_call c.args.names.now) (in_turn (add_call c.args.names.now) 0 [] (items_view c.deref-part-items.result.now)) c.deref-part-items.result.now c.loop-part.part-index c.loop-part.calls.items c.loop-part.invariant
-    c.part-item.result c.part-item.result (omega arith) (sym c.part-item.is) (c.in_ok-add_call.ensures ∙ ap (λ added. if added then Some c.add_call.new.calls.items else None) c.if-not-branch.true)))
-    ∙ array_said c.deref-part-items.result.now c.in-Some.parts.now.items (view c.args.value.now) (λ ds. result_ok (in_turn (add_call c.args.names.now) 0 [] ds)) c.deref-part-items.ensures.value c.in-Some.ensures
+    sym (ap result_ok
+    (stopped (add_call c.args.names.now)
+    (in_turn (add_call c.args.names.now) 0 [] (items_view c.deref-part-items.result.now))
+    c.deref-part-items.result.now c.loop-part.part-index c.loop-part.calls.items c.loop-part.invariant
+    c.part-item.result c.part-item.result (omega arith) (sym c.part-item.is)
+    (c.in_ok-add_call.ensures
+    ∙ ap (λ added. if added then Some c.add_call.new.calls.items else None) c.if-not-branch.true)))
+    ∙ array_said c.deref-part-items.result.now c.in-Some.parts.now.items (view c.args.value.now)
+    (λ ds. result_ok (in_turn (add_call c.args.names.now) 0 [] ds)) c.deref-part-items.ensures.value
+    c.in-Some.ensures
 
 pub loop-part-preserved : goal.loop-part-preserved
 loop-part-preserved c =
-    went_on (add_call c.args.names.now) (in_turn (add_call c.args.names.now) 0 [] (items_view c.deref-part-items.result.now)) c.deref-part-items.result.now c.loop-part.part-index c.loop-part.calls.items c.loop-part.invariant
-    c.part-item.result c.part-item.result c.add_call.new.calls.items (omega arith) (sym c.part-item.is) (c.in_ok-add_call.ensures ∙ ap (λ added. if added then Some c.add_call.new.calls.items else None) c.if-not-branch.false)
+    went_on (add_call c.args.names.now)
+    (in_turn (add_call c.args.names.now) 0 [] (items_view c.deref-part-items.result.now))
+    c.deref-part-items.result.now c.loop-part.part-index c.loop-part.calls.items c.loop-part.invariant
+    c.part-item.result c.part-item.result c.add_call.new.calls.items (omega arith) (sym c.part-item.is)
+    (c.in_ok-add_call.ensures
+    ∙ ap (λ added. if added then Some c.add_call.new.calls.items else None) c.if-not-branch.false)
 
 pub returns : goal.returns
 returns c =
-    sym (ap result_ok (done (add_call c.args.names.now) (in_turn (add_call c.args.names.now) 0 [] (items_view c.deref-part-items.result.now)) c.deref-part-items.result.now c.loop-part.part-index c.loop-part.calls.items c.loop-part.invariant (omega arith)))
-    ∙ array_said c.deref-part-items.result.now c.in-Some.parts.now.items (view c.args.value.now) (λ ds. result_ok (in_turn (add_call c.args.names.now) 0 [] ds)) c.deref-part-items.ensures.value c.in-Some.ensures
+    sym (ap result_ok
+    (done (add_call c.args.names.now)
+    (in_turn (add_call c.args.names.now) 0 [] (items_view c.deref-part-items.result.now))
+    c.deref-part-items.result.now c.loop-part.part-index c.loop-part.calls.items c.loop-part.invariant
+    (omega arith)))
+    ∙ array_said c.deref-part-items.result.now c.in-Some.parts.now.items (view c.args.value.now)
+    (λ ds. result_ok (in_turn (add_call c.args.names.now) 0 [] ds)) c.deref-part-items.ensures.value
+    c.in-Some.ensures

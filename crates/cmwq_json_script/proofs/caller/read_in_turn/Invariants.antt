@@ -4,4 +4,5 @@ use Rattle.cmwq_json_script.specs.Views.{calls_of}
 use Rattle.cmwq_json_script.proofs.caller.read_in_turn.Given as goal
 
 abbrev pub invariant-loop-index : goal.invariant-loop-index
-invariant-loop-index l = in_turn (add_caller l.most l.names) 0 [] (items_view l.values) ≡ in_turn (add_caller l.most l.names) l.index (calls_of l.callers) (items_view (drop l.index l.values))
+invariant-loop-index l = in_turn (add_caller l.most l.names) 0 [] (items_view l.values)
+    ≡ in_turn (add_caller l.most l.names) l.index (calls_of l.callers) (items_view (drop l.index l.values))

@@ -4,4 +4,5 @@ use Rattle.cmwq_json_script.specs.Views.{work_of}
 use Rattle.cmwq_json_script.proofs.item.read_in_turn.Given as goal
 
 abbrev pub invariant-loop-index : goal.invariant-loop-index
-invariant-loop-index l = in_turn (add_item l.most l.names) 0 no_work (items_view l.values) ≡ in_turn (add_item l.most l.names) l.index (work_of l.items) (items_view (drop l.index l.values))
+invariant-loop-index l = in_turn (add_item l.most l.names) 0 no_work (items_view l.values)
+    ≡ in_turn (add_item l.most l.names) l.index (work_of l.items) (items_view (drop l.index l.values))

@@ -3,4 +3,5 @@ use Rattle.cmwq_json_script.specs.Queues.{add_queue}
 use Rattle.cmwq_json_script.proofs.queue.read_in_turn.Given as goal
 
 abbrev pub invariant-loop-index : goal.invariant-loop-index
-invariant-loop-index l = in_turn (add_queue l.most) 0 nobody (items_view l.values) ≡ in_turn (add_queue l.most) l.index (named_of l.queues) (items_view (drop l.index l.values))
+invariant-loop-index l = in_turn (add_queue l.most) 0 nobody (items_view l.values)
+    ≡ in_turn (add_queue l.most) l.index (named_of l.queues) (items_view (drop l.index l.values))

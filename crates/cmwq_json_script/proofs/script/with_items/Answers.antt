@@ -15,9 +15,13 @@ script_of-requires-clause-within c =
     let w = work_of c.args.items in
     let known = sym c.requires.known in
     let most : c.from-most.result ≡ callers_in t.version - waits_in t w = omega arith in
-    let callers = ap (λ (n : ℕ). some_of refused.callers length (in_turn (add_caller n c.args.names.now) 0 [] t.callers)) (sym most)
+    let callers =
+    ap (λ (n : ℕ). some_of refused.callers length (in_turn (add_caller n c.args.names.now) 0 [] t.callers))
+    (sym most)
     ∙ sym c.in_ok-callers.ensures ∙ ap (map_ok calls_of) c.in-Ok.is in
     is_within t (queues_of c.args.names.now c.args.queues) w (calls_of c.in-Ok.callers) c.requires.queues
     (ap (λ (k : Known). items_said k t) known ∙ c.requires.items)
     (ap (λ (k : Known). callers_said k t w) known ∙ callers)
-    c.args.top.now.limits (subst (λ (n : ℕ). n < callers_in t.version) c.waits_in-waits.ensures.is c.waits_in-waits.ensures.few) c.args.top.now.recorded
+    c.args.top.now.limits
+    (subst (λ (n : ℕ). n < callers_in t.version) c.waits_in-waits.ensures.is c.waits_in-waits.ensures.few)
+    c.args.top.now.recorded

@@ -3,4 +3,5 @@ use Rattle.cmwq_plain.specs.Past.{upto}
 use Rattle.cmwq_plain.proofs.fate.is_cancelled.Given as goal
 
 abbrev pub invariant-loop-k : goal.invariant-loop-k
-invariant-loop-k l = (l.cancelled ≡ is_cancelled (upto l.past l.k) l.item l.number) × (l.started ≡ is_started (upto l.past l.k) l.number)
+invariant-loop-k l = (l.cancelled ≡ is_cancelled (upto l.past l.k) l.item l.number)
+    × (l.started ≡ is_started (upto l.past l.k) l.number)

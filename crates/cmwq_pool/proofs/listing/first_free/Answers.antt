@@ -7,12 +7,15 @@ use Rattle.cmwq_pool.proofs.listing.first_free.Goals as goal
 pub returns-then-not-run_item-clause-first : goal.returns-then-not-run_item-clause-first
 returns-then-not-run_item-clause-first c =
     let xs = list_at c.args.lists.now.lists c.args.list in
-    found_here (λ i. not (slots_run_item c.args.workers.now i)) xs c.loop-index.index c.in_ok-item.item (sym c.loop-index.invariant.here ∙ c.in_ok-item.was) c.loop-index.invariant.left (ap not (sym c.run_item.ensures ∙ c.if-not-run_item.true))
+    found_here (λ i. not (slots_run_item c.args.workers.now i)) xs c.loop-index.index c.in_ok-item.item
+    (sym c.loop-index.invariant.here ∙ c.in_ok-item.was) c.loop-index.invariant.left
+    (ap not (sym c.run_item.ensures ∙ c.if-not-run_item.true))
 
 pub next-at-requires : goal.next-at-requires
 next-at-requires c =
     let xs = list_at c.args.lists.now.lists c.args.list in
-    c.len-index-end.ensures.once.known c.in_ok-item.item c.args.list (has_there xs c.loop-index.index c.in_ok-item.item (sym c.loop-index.invariant.here ∙ c.in_ok-item.was))
+    c.len-index-end.ensures.once.known c.in_ok-item.item c.args.list
+    (has_there xs c.loop-index.index c.in_ok-item.item (sym c.loop-index.invariant.here ∙ c.in_ok-item.was))
 
 pub loop-index-preserved : goal.loop-index-preserved
 loop-index-preserved c =
@@ -20,5 +23,6 @@ loop-index-preserved c =
     let at = sym c.loop-index.invariant.here ∙ c.in_ok-item.was in
     record {
       here = c.next-at.ensures c.args.list c.loop-index.index at;
-      left = left_more (λ i. not (slots_run_item c.args.workers.now i)) xs c.loop-index.index c.in_ok-item.item at c.loop-index.invariant.left (ap not (sym c.run_item.ensures ∙ c.if-not-run_item.false));
+      left = left_more (λ i. not (slots_run_item c.args.workers.now i)) xs c.loop-index.index c.in_ok-item.item at
+          c.loop-index.invariant.left (ap not (sym c.run_item.ensures ∙ c.if-not-run_item.false));
     }

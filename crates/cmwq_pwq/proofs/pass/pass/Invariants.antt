@@ -12,7 +12,10 @@ invariant-loop-index l = record {
   places : l.waiting.places ≡ l.initial.waiting.places;
   many : vec_len l.counts ≡ vec_len l.initial.counts;
   activated_capacity : vec_capacity l.activated ≡ vec_capacity l.initial.activated;
-  passed : (rest : List Queueing) × (l.waiting.queueings ≡ rest ++ drop l.index l.initial.waiting.queueings) × (length rest + vec_len l.activated ≡ l.index)
-      × ((way : Queueing → Bool) → AreBelowMaxActive way (width_by l.queues l.most l.frozen) l.initial.counts.items l.initial.waiting.queueings
-      → Passes way (take l.index l.initial.waiting.queueings) l.initial.counts.items l.counts.items rest l.activated.items);
+  passed : (rest : List Queueing) × (l.waiting.queueings ≡ rest ++ drop l.index l.initial.waiting.queueings)
+      × (length rest + vec_len l.activated ≡ l.index)
+      × ((way : Queueing → Bool)
+      → AreBelowMaxActive way (width_by l.queues l.most l.frozen) l.initial.counts.items l.initial.waiting.queueings
+      → Passes way (take l.index l.initial.waiting.queueings) l.initial.counts.items l.counts.items rest
+      l.activated.items);
 }

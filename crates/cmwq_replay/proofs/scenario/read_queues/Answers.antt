@@ -1,4 +1,5 @@
-use Rattle.cmwq_replay.specs.Common.{◌∙◌, Some, None, sym, ap, arith, if◌then◌else◌, items_view, in_turn, nobody, named_of, went_on, stopped, done}
+use Rattle.cmwq_replay.specs.Common.{◌∙◌, Some, None, sym, ap, arith, if◌then◌else◌, items_view, in_turn, nobody}
+use Rattle.cmwq_replay.specs.Common.{named_of, went_on, stopped, done}
 use Rattle.cmwq_replay.specs.Scenarios.{add_sim_queue}
 use Rattle.cmwq_replay.proofs.scenario.read_queues.Goals as goal
 
@@ -7,13 +8,22 @@ loop-index-init c = ap (λ m. in_turn add_sim_queue 0 m (items_view c.args.value
 
 pub returns-then-not-branch : goal.returns-then-not-branch
 returns-then-not-branch c =
-    sym (stopped add_sim_queue (in_turn add_sim_queue 0 nobody (items_view c.args.values.now)) c.args.values.now c.loop-index.index (named_of c.loop-index.queues) c.loop-index.invariant
-    c.index-values-index.result c.index-values-index.result (omega arith) (sym c.index-values-index.is) (c.in_ok-add_queue.ensures ∙ ap (λ added. if added then Some (named_of c.add_queue.new.queues) else None) c.if-not-branch.true))
+    sym (stopped add_sim_queue (in_turn add_sim_queue 0 nobody (items_view c.args.values.now)) c.args.values.now
+    c.loop-index.index (named_of c.loop-index.queues) c.loop-index.invariant
+    c.index-values-index.result c.index-values-index.result (omega arith) (sym c.index-values-index.is)
+    (c.in_ok-add_queue.ensures ∙ ap (λ added. if added then Some (named_of c.add_queue.new.queues) else None)
+    c.if-not-branch.true))
 
 pub loop-index-preserved : goal.loop-index-preserved
 loop-index-preserved c =
-    went_on add_sim_queue (in_turn add_sim_queue 0 nobody (items_view c.args.values.now)) c.args.values.now c.loop-index.index (named_of c.loop-index.queues) c.loop-index.invariant
-    c.index-values-index.result c.index-values-index.result (named_of c.add_queue.new.queues) (omega arith) (sym c.index-values-index.is) (c.in_ok-add_queue.ensures ∙ ap (λ added. if added then Some (named_of c.add_queue.new.queues) else None) c.if-not-branch.false)
+    went_on add_sim_queue (in_turn add_sim_queue 0 nobody (items_view c.args.values.now)) c.args.values.now
+    c.loop-index.index (named_of c.loop-index.queues) c.loop-index.invariant
+    c.index-values-index.result c.index-values-index.result (named_of c.add_queue.new.queues) (omega arith)
+    (sym c.index-values-index.is)
+    (c.in_ok-add_queue.ensures ∙ ap (λ added. if added then Some (named_of c.add_queue.new.queues) else None)
+    c.if-not-branch.false)
 
 pub returns : goal.returns
-returns c = sym (done add_sim_queue (in_turn add_sim_queue 0 nobody (items_view c.args.values.now)) c.args.values.now c.loop-index.index (named_of c.loop-index.queues) c.loop-index.invariant (omega arith))
+returns c =
+    sym (done add_sim_queue (in_turn add_sim_queue 0 nobody (items_view c.args.values.now)) c.args.values.now
+    c.loop-index.index (named_of c.loop-index.queues) c.loop-index.invariant (omega arith))

@@ -11,7 +11,9 @@ returns-in-Ok-Some g c =
     let v = c.args.participant.now in
     let w = c.start.new.participant in
     let item = c.in-Ok-Some.item in
-    let started : (item.0 < s.items) × StartsOne s v item w = subst (λ o. MatchOption o (w ≡ v) (λ i. (i.0 < s.items) × StartsOne s v i w)) c.in-Ok-Some.field-0-is c.in-Ok-Some.ensures.started in
+    let started : (item.0 < s.items) × StartsOne s v item w =
+    subst (λ o. MatchOption o (w ≡ v) (λ i. (i.0 < s.items) × StartsOne s v i w)) c.in-Ok-Some.field-0-is
+    c.in-Ok-Some.ensures.started in
     let (r, taken, starts) = started.1 in
     record { fault = tt; next = started; later = later_made s v w calls.Take r taken }
 
@@ -32,7 +34,9 @@ returns-then-not-is_over g c =
     let s = g.N.HubName.layout in
     let v = c.args.participant.now in
     let w = c.start.new.participant in
-    let kept : w ≡ v = subst (λ o. MatchOption o (w ≡ v) (λ i. (i.0 < s.items) × StartsOne s v i w)) c.in-Ok-None.field-0-is c.in-Ok-None.ensures.started in
+    let kept : w ≡ v =
+    subst (λ o. MatchOption o (w ≡ v) (λ i. (i.0 < s.items) × StartsOne s v i w)) c.in-Ok-None.field-0-is
+    c.in-Ok-None.ensures.started in
     record { fault = tt; next = kept; later = subst (Later v) (sym kept) (later_self v) }
 
 pub returns-in-Ok-clause-next : goal.returns-in-Ok-clause-next
@@ -41,7 +45,9 @@ returns-in-Ok-clause-next g c =
     let v = c.args.participant.now in
     let m = c.start.new.participant in
     let w = c.settle-settled.new.participant in
-    let kept : m ≡ v = subst (λ o. MatchOption o (m ≡ v) (λ i. (i.0 < s.items) × StartsOne s v i m)) c.in-Ok-None.field-0-is c.in-Ok-None.ensures.started in
+    let kept : m ≡ v =
+    subst (λ o. MatchOption o (m ≡ v) (λ i. (i.0 < s.items) × StartsOne s v i m)) c.in-Ok-None.field-0-is
+    c.in-Ok-None.ensures.started in
     let idle : active_in s w.seen ≡ 0 = search rules in
     (idle, subst (λ (u : View). Settles w.seen u w) kept (settles_seen _ m w c.in-Ok.ensures.settled))
 
@@ -50,6 +56,13 @@ returns-in-Err-settled g c =
     let s = g.N.HubName.layout in
     let v = c.args.participant.now in
     let m = c.start.new.participant in
-    let kept : m ≡ v = subst (λ o. MatchOption o (m ≡ v) (λ i. (i.0 < s.items) × StartsOne s v i m)) c.in-Ok-None.field-0-is c.in-Ok-None.ensures.started in
+    let kept : m ≡ v =
+    subst (λ o. MatchOption o (m ≡ v) (λ i. (i.0 < s.items) × StartsOne s v i m)) c.in-Ok-None.field-0-is
+    c.in-Ok-None.ensures.started in
     let stranger = c.in-Err-settled.ensures.stranger in
-    record { fault = stranger_breaks_off m c.in-Err-settled.fault stranger.1; next = tt; later = subst (Later v) (sym (stranger.0 ∙ kept)) (later_self v) }
+    record {
+      fault = stranger_breaks_off m c.in-Err-settled.fault stranger.1;
+      next = tt;
+      later =
+          subst (Later v) (sym (stranger.0 ∙ kept)) (later_self v);
+    }

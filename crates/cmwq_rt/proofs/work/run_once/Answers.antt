@@ -8,4 +8,5 @@ pub returns-clause-later : goal.returns-clause-later
 returns-clause-later g c =
     let ended = c.end_run-ended.new.self.participant in
     subst (λ (w : View). Later c.args.participant w) (sym (ap (λ (r : Running). r.participant) c.context.view_is))
-    (later_trans c.args.participant c.run.new.context.participant ended c.run.ensures.later c.end_run-ended.ensures.later)
+    (later_trans c.args.participant c.run.new.context.participant ended c.run.ensures.later
+    c.end_run-ended.ensures.later)

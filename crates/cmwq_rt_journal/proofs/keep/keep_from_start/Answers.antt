@@ -11,5 +11,7 @@ returns-in-Err-write_batch-clause-broke g c =
     let start = g.O.Sink.written c.args.output.now in
     let before = g.O.Sink.written c.loop.output in
     let end = g.O.Sink.written c.write_batch.new.output in
-    let broke = batch_breaks s old new.batch new.seen start before end c.in-Ok.ensures.batch c.loop.invariant.text (subst (λ l. AppendsFront before end (entries_text l)) c.batch.ensures c.in-Err-write_batch.ensures.err) in
+    let broke =
+    batch_breaks s old new.batch new.seen start before end c.in-Ok.ensures.batch c.loop.invariant.text
+    (subst (λ l. AppendsFront before end (entries_text l)) c.batch.ensures c.in-Err-write_batch.ensures.err) in
     (c.requires, subst (λ n. BreaksOff s new.seen n start end) (sym c.len-written.ensures.len) broke)

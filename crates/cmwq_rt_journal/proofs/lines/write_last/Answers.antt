@@ -1,4 +1,5 @@
-use Rattle.cmwq_rt_journal.specs.Common.{err_from_is_err_and, Appends-trans, front_before, front_after, front_whole, last_text}
+use Rattle.cmwq_rt_journal.specs.Common.{err_from_is_err_and, Appends-trans, front_before, front_after, front_whole}
+use Rattle.cmwq_rt_journal.specs.Common.{last_text}
 use Rattle.cmwq_rt_journal.proofs.lines.write_last.Goals as goal
 
 pub returns-in_err-write_entries-clause-err : goal.returns-in_err-write_entries-clause-err

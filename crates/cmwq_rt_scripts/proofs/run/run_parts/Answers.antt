@@ -9,8 +9,11 @@ use Rattle.cmwq_rt_scripts.proofs.run.run_parts.Goals as goal
 pub returns-in-Err-clause-fails : goal.returns-in-Err-clause-fails
 returns-in-Err-clause-fails g c =
     let all = c.args.scripts.now in
-    let given = subst (λ o. IfErr o (CrewFails c.args.parts.shape (follows all) (roles all c.args.lent))) c.in-Err.is c.run-rest.ensures.fails in
-    subst (λ (s : Layout). FailsAs s (map (λ x. x.items) all) c.args.lent c.in-Err.fault) c.requires.shape (fails c.args.parts.shape all c.args.lent c.in-Err.fault given)
+    let given =
+    subst (λ o. IfErr o (CrewFails c.args.parts.shape (follows all) (roles all c.args.lent))) c.in-Err.is
+    c.run-rest.ensures.fails in
+    subst (λ (s : Layout). FailsAs s (map (λ x. x.items) all) c.args.lent c.in-Err.fault) c.requires.shape
+    (fails c.args.parts.shape all c.args.lent c.in-Err.fault given)
 
 pub returns-clause-left : goal.returns-clause-left
 returns-clause-left g c =
@@ -20,10 +23,14 @@ returns-clause-left g c =
     let tally = c.in-Ok.tally in
     let first = c.run-rest.result.0.first in
     let entries = c.run-rest.result.0.entries.items in
-    let rest = subst (λ o. IfOk o (λ t. IsRestOfLeft s (does s) (follows all) (roles all c.args.lent) t.answered t.full first entries)) c.in-Ok.is c.run-rest.ensures.left in
+    let rest =
+    subst (λ o.
+    IfOk o (λ t. IsRestOfLeft s (does s) (follows all) (roles all c.args.lent) t.answered t.full first entries))
+    c.in-Ok.is c.run-rest.ensures.left in
     let same = all_is_rest rest.history entries first rest.rest_is c.if-first-ne0.false in
     let left = subst (λ h. CrewLeaves s (does s) (follows all) (roles all c.args.lent) tally.full h) same rest.left in
-    subst (λ (s : Layout). IsLeft s (does s) (map (λ x. x.items) all) c.args.lent tally.full entries) c.requires.shape (leaves s (does s) all c.args.lent tally.full entries left)
+    subst (λ (s : Layout). IsLeft s (does s) (map (λ x. x.items) all) c.args.lent tally.full entries) c.requires.shape
+    (leaves s (does s) all c.args.lent tally.full entries left)
 
 pub returns-clause-counted : goal.returns-clause-counted
 returns-clause-counted g c =
@@ -32,5 +39,8 @@ returns-clause-counted g c =
     let does = g.W.Work.does c.args.work.now s in
     let first = c.run-rest.result.0.first in
     let entries = c.run-rest.result.0.entries.items in
-    let rest = subst (λ o. IfOk o (λ t. IsRestOfLeft s does (follows all) (roles all c.args.lent) t.answered t.full first entries)) c.in-Ok.is c.run-rest.ensures.left in
+    let rest =
+    subst (λ o.
+    IfOk o (λ t. IsRestOfLeft s does (follows all) (roles all c.args.lent) t.answered t.full first entries))
+    c.in-Ok.is c.run-rest.ensures.left in
     rest.counted ∙ ap length (all_is_rest rest.history entries first rest.rest_is c.if-first-ne0.false)

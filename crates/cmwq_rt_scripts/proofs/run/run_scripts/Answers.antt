@@ -11,7 +11,10 @@ pub returns-clause-worked : goal.returns-clause-worked
 returns-clause-worked g c = if_ok _ _ c.run_scripts_lending.result (λ r x. x.worked) c.run_scripts_lending.ensures.left
 
 pub returns-clause-silent : goal.returns-clause-silent
-returns-clause-silent g c = if_ok _ _ c.run_scripts_lending.result (λ r x. silent_of c.args.shape.now c.args.scripts.now r.history.items x.silent) c.run_scripts_lending.ensures.left
+returns-clause-silent g c =
+    if_ok _ _ c.run_scripts_lending.result
+    (λ r x. silent_of c.args.shape.now c.args.scripts.now r.history.items x.silent) c.run_scripts_lending.ensures.left
 
 pub returns-clause-finished : goal.returns-clause-finished
-returns-clause-finished g c = if_ok _ _ c.run_scripts_lending.result (λ r x. x.finished) c.run_scripts_lending.ensures.left
+returns-clause-finished g c =
+    if_ok _ _ c.run_scripts_lending.result (λ r x. x.finished) c.run_scripts_lending.ensures.left

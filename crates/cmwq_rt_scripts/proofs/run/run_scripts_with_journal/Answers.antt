@@ -4,7 +4,11 @@ use Rattle.cmwq_rt_scripts.proofs.run.run_scripts_with_journal.Goals as goal
 pub returns-clause-whole : goal.returns-clause-whole
 returns-clause-whole g c =
     let s = c.args.shape.now in
-    if_ok _ _ c.run_with_journal.result (λ w x. writes s (g.W.Work.does c.args.work.now s) c.args.scripts.now c.args.lent w.answered w.full _ _ x) c.run_with_journal.ensures.whole
+    if_ok _ _ c.run_with_journal.result
+    (λ w x. writes s (g.W.Work.does c.args.work.now s) c.args.scripts.now c.args.lent w.answered w.full _ _ x)
+    c.run_with_journal.ensures.whole
 
 pub returns-clause-tells : goal.returns-clause-tells
-returns-clause-tells g c = if_err _ _ c.run_with_journal.result (λ f x. tells c.args.shape.now c.args.scripts.now c.args.lent f x) c.run_with_journal.ensures.tells
+returns-clause-tells g c =
+    if_err _ _ c.run_with_journal.result (λ f x. tells c.args.shape.now c.args.scripts.now c.args.lent f x)
+    c.run_with_journal.ensures.tells

@@ -8,4 +8,5 @@ returns-clause-same g c = c.call_from.ensures.goes.0 ∙ ap (λ (v : View). v.wh
 
 pub returns-clause-called : goal.returns-clause-called
 returns-clause-called g c =
-    has_called g.N.HubName.layout g.S.Service.calls c.args.number c.args.caller c.call_from.result.0 c.call_from.result.1 c.requires c.call_from.ensures.goes c.call_from.ensures.did
+    has_called g.N.HubName.layout g.S.Service.calls c.args.number c.args.caller c.call_from.result.0
+    c.call_from.result.1 c.requires c.call_from.ensures.goes c.call_from.ensures.did

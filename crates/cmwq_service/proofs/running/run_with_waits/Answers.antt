@@ -7,10 +7,17 @@ use Rattle.cmwq_service.proofs.running.run_with_waits.Goals as goal
 
 pub returns-in-Ok-new-clause-served : goal.returns-in-Ok-new-clause-served
 returns-in-Ok-new-clause-served g c =
-    subst (λ (s : Layout). IfOk c.run_served.result (λ history. IsServed s c.args.waits g.S.Service.calls g.S.Service.does history.items)) c.in-Ok-new.ensures.shape (subst (λ w. IfOk c.run_served.result (λ history. IsServed c.in-Ok-new.parts.shape w g.S.Service.calls g.S.Service.does history.items)) c.in-Ok.ensures c.run_served.ensures.served)
+    subst (λ (s : Layout). IfOk c.run_served.result
+    (λ history. IsServed s c.args.waits g.S.Service.calls g.S.Service.does history.items)) c.in-Ok-new.ensures.shape
+    (subst (λ w.
+    IfOk c.run_served.result
+    (λ history. IsServed c.in-Ok-new.parts.shape w g.S.Service.calls g.S.Service.does history.items))
+    c.in-Ok.ensures c.run_served.ensures.served)
 
 pub returns-in-Ok-new-clause-stopped : goal.returns-in-Ok-new-clause-stopped
-returns-in-Ok-new-clause-stopped g c = subst (λ (s : Layout). IfErr c.run_served.result (λ t. IsReliable s (past_of t.history.items))) c.in-Ok-new.ensures.shape c.run_served.ensures.stopped
+returns-in-Ok-new-clause-stopped g c =
+    subst (λ (s : Layout). IfErr c.run_served.result (λ t. IsReliable s (past_of t.history.items)))
+    c.in-Ok-new.ensures.shape c.run_served.ensures.stopped
 
 pub returns-in-Err-clause-stopped : goal.returns-in-Err-clause-stopped
 returns-in-Err-clause-stopped g c = c.stopped_at_first.ensures c.args.shape.now

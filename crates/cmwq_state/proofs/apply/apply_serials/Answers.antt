@@ -17,10 +17,24 @@ overflow_add-entry c =
     omega arith
 
 pub index_mut-requires : goal.index_mut-requires
-index_mut-requires c = grind (arith, who_below, effect_there, c.requires.0, c.requires.2.inside, c.requires.1, c.requires.2.effect, c.requires.3.many, c.args.serials.now.ok.0)
+index_mut-requires c =
+    grind (
+      arith,
+      who_below,
+      effect_there,
+      c.requires.0,
+      c.requires.2.inside,
+      c.requires.1,
+      c.requires.2.effect,
+      c.requires.3.many,
+      c.args.serials.now.ok.0,
+    )
 
 pub returns : goal.returns
 returns c s past next are =
     let f = c.args.effect.now in
-    subst (AreSerials s (f.entry ∷ past)) (sym (ap₂ (λ p n. set c.args.serials.now.items p (n + 1)) c.who_place.ensures (effect_serial s past f next.effect)))
-    (serials_applied s f.entry past c.args.serials.now.items (limits_of s next.inside) (effect_there s past f next.effect) are)
+    subst (AreSerials s (f.entry ∷ past))
+    (sym (ap₂ (λ p n. set c.args.serials.now.items p (n + 1)) c.who_place.ensures
+    (effect_serial s past f next.effect)))
+    (serials_applied s f.entry past c.args.serials.now.items (limits_of s next.inside)
+    (effect_there s past f next.effect) are)

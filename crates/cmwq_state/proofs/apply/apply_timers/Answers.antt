@@ -10,4 +10,6 @@ set_timers-requires c = rw c.requires.3 (may_set_timers c.requires.0 c.requires.
 pub returns : goal.returns
 returns c s past next are =
     let f = c.args.effect.now in
-    c.set_timers.ensures ∙ (ap (λ rows. timers.timers_after_settling (item_number f.settled) f.booked rows) are ∙ timers_applied s past f next.effect)
+    c.set_timers.ensures
+    ∙ (ap (λ rows. timers.timers_after_settling (item_number f.settled) f.booked rows) are
+    ∙ timers_applied s past f next.effect)

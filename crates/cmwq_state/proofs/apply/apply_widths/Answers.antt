@@ -5,7 +5,9 @@ use Rattle.cmwq_state.proofs.WidthSteps.{widths_applied}
 use Rattle.cmwq_state.proofs.apply.apply_widths.Goals as goal
 
 pub set_width-requires : goal.set_width-requires
-set_width-requires c = may_set_width c.requires.0 c.requires.1 c.args.effect.now c.args.most.now.items c.requires.2.effect c.requires.3.many
+set_width-requires c =
+    may_set_width c.requires.0 c.requires.1 c.args.effect.now c.args.most.now.items c.requires.2.effect
+    c.requires.3.many
 
 pub returns : goal.returns
 returns c s past next are =

@@ -7,5 +7,15 @@ pub returns : goal.returns
 unfolding counts_text
 returns c =
     let n = c.args.counts.now in
-    rw (c.push-2.ensures.exact, c.push_numbers.ensures.exact, c.push.ensures.exact, c.new-line.ensures, c.into.ensures, c.into-2.ensures, c.into-3.ensures, c.into-4.ensures)
-    (line_is (codes "shape") (decimal n.cpus ∷ decimal n.workers ∷ decimal n.callers ∷ decimal n.items ∷ decimal n.room ∷ []))
+    rw (
+      c.push-2.ensures.exact,
+      c.push_numbers.ensures.exact,
+      c.push.ensures.exact,
+      c.new-line.ensures,
+      c.into.ensures,
+      c.into-2.ensures,
+      c.into-3.ensures,
+      c.into-4.ensures,
+    )
+    (line_is (codes "shape") (decimal n.cpus ∷ decimal n.workers ∷ decimal n.callers ∷ decimal n.items ∷ decimal n.room
+    ∷ []))

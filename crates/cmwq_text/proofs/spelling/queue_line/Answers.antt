@@ -8,5 +8,15 @@ unfolding queue_text
 returns c =
     let q = c.args.queue.now in
     let f : List ℕ = flags_text (flags_in q) in
-    rw (c.push-4.ensures.exact, c.push-3.ensures.exact, c.flags_text.ensures.exact, c.push-2.ensures.exact, c.push_numbers.ensures.exact, c.push.ensures.exact, c.new-line.ensures, c.into.ensures)
-    (ap (λ (t : List ℕ). t ++ 10 ∷ []) (behind (codes "wq") (decimal q.max_active ∷ []) f) ∙ line_is (codes "wq") (decimal q.max_active ∷ f ∷ []))
+    rw (
+      c.push-4.ensures.exact,
+      c.push-3.ensures.exact,
+      c.flags_text.ensures.exact,
+      c.push-2.ensures.exact,
+      c.push_numbers.ensures.exact,
+      c.push.ensures.exact,
+      c.new-line.ensures,
+      c.into.ensures,
+    )
+    (ap (λ (t : List ℕ). t ++ 10 ∷ []) (behind (codes "wq") (decimal q.max_active ∷ []) f)
+    ∙ line_is (codes "wq") (decimal q.max_active ∷ f ∷ []))

@@ -7,4 +7,15 @@ use Rattle.cmwq_theory_steps.proofs.Owing.{owed_goes_on, nothing_owed}
 use Rattle.cmwq_theory_steps.proofs.room_steps.owed_goes_on.Goals as goal
 
 pub returns : goal.returns
-returns c = assumption (waiting_counted, runs_counted, sleepers_counted, booked_counted, tickets_counted, promised_need_no_more, frozen_counted, owed_goes_on, nothing_owed)
+returns c =
+    assumption (
+      waiting_counted,
+      runs_counted,
+      sleepers_counted,
+      booked_counted,
+      tickets_counted,
+      promised_need_no_more,
+      frozen_counted,
+      owed_goes_on,
+      nothing_owed,
+    )

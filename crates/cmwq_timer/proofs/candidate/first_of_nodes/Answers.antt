@@ -9,7 +9,9 @@ loop-below-preserved c =
     let nodes = node_at c.args.level.now in
     let below = c.min-below-end.ensures in
     let turns = c.loop-below-test.true in (
-      rw c.sooner_node-first.ensures (soonest_more nodes (16 * c.args.node) c.loop-below.below c.loop-below.auto.below (option_and_then nodes c.loop-below.first) c.loop-below.invariant.0),
+      rw c.sooner_node-first.ensures
+          (soonest_more nodes (16 * c.args.node) c.loop-below.below c.loop-below.auto.below
+          (option_and_then nodes c.loop-below.first) c.loop-below.invariant.0),
       omega (arith, below, turns),
     )
 

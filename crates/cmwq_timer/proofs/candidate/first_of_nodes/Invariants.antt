@@ -4,4 +4,5 @@ use Rattle.cmwq_timer.specs.Tournament.{node_at, IsSoonest}
 use Rattle.cmwq_timer.proofs.candidate.first_of_nodes.Given as goal
 
 abbrev pub invariant-loop-below : goal.invariant-loop-below
-invariant-loop-below l = IsSoonest (node_at l.level) (16 * l.node) l.below (option_and_then (node_at l.level) l.first) × (l.below ≤ 16 * l.node + 16)
+invariant-loop-below l = IsSoonest (node_at l.level) (16 * l.node) l.below (option_and_then (node_at l.level) l.first)
+    × (l.below ≤ 16 * l.node + 16)

@@ -9,7 +9,9 @@ loop-row-preserved c =
     let nodes = candidate_at c.args.rows.now in
     let below = c.min-row-end.ensures in
     let turns = c.loop-row-test.true in (
-      rw c.sooner_row-first.ensures (soonest_more nodes (16 * c.args.node) c.loop-row.row c.loop-row.auto.row (option_and_then nodes c.loop-row.first) c.loop-row.invariant.0),
+      rw c.sooner_row-first.ensures
+          (soonest_more nodes (16 * c.args.node) c.loop-row.row c.loop-row.auto.row
+          (option_and_then nodes c.loop-row.first) c.loop-row.invariant.0),
       omega (arith, below, turns),
     )
 

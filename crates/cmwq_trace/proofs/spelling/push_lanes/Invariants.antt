@@ -4,4 +4,5 @@ use Rattle.cmwq_trace.specs.TraceText.{texts_behind_commas}
 use Rattle.cmwq_trace.proofs.spelling.push_lanes.Given as goal
 
 abbrev pub invariant-loop-worker : goal.invariant-loop-worker
-invariant-loop-worker l = string_bytes l.text ≡ string_bytes l.initial.text ++ texts_behind_commas (map lane_event (take l.worker-index l.lanes))
+invariant-loop-worker l = string_bytes l.text ≡ string_bytes l.initial.text
+    ++ texts_behind_commas (map lane_event (take l.worker-index l.lanes))

@@ -16,7 +16,8 @@ returns-in_err-write_all-clause-err g c =
 
 pub returns-in_err-write_tables-clause-err : goal.returns-in_err-write_tables-clause-err
 returns-in_err-write_tables-clause-err g c =
-    let p = err_from_is_err_and c.from_residual-in_err-write_tables.result c.from_residual-in_err-write_tables.ensures.1 in
+    let p = err_from_is_err_and c.from_residual-in_err-write_tables.result
+    c.from_residual-in_err-write_tables.ensures.1 in
     let head = rw (c.as_bytes.ensures, c.head.ensures) at c.in_ok-write_all.ensures.ok in
     rw (p.1) (front_after _ _ _ _ _ head c.in_err-write_tables.ensures.err)
 

@@ -6,7 +6,12 @@ use Rattle.cmwq_views.proofs.RowTexts.{front_of_rows, one_more_row, nothing_writ
 use Rattle.cmwq_views.proofs.page.write_table.Goals as goal
 
 pub loop-at-init : goal.loop-at-init
-loop-at-init g c = record { text = nothing_written (row_text c.args.progress.now.layout (past_of c.args.progress.now.entries) c.args.table) _; troubles = omega arith }
+loop-at-init g c =
+    record {
+      text =
+          nothing_written (row_text c.args.progress.now.layout (past_of c.args.progress.now.entries) c.args.table) _;
+      troubles = omega arith;
+    }
 
 pub loop-at-preserved : goal.loop-at-preserved
 loop-at-preserved g c =
@@ -20,4 +25,5 @@ returns-in_err-write_all-clause-err g c =
     let p = err_from_is_err_and c.from_residual.result c.from_residual.ensures.1 in
     let row = row_text c.args.progress.now.layout (past_of c.args.progress.now.entries) c.args.table in
     let front = rw (c.as_bytes.ensures, c.row.ensures) at c.in_err-write_all.ensures.err in
-    rw (p.1) (front_of_rows row c.loop-at.at _ _ _ _ (rw (← c.rows_in-at-end.ensures) c.loop-at-test.true) c.loop-at.invariant.text front)
+    rw (p.1) (front_of_rows row c.loop-at.at _ _ _ _ (rw (← c.rows_in-at-end.ensures) c.loop-at-test.true)
+    c.loop-at.invariant.text front)

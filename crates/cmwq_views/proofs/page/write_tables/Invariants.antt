@@ -8,6 +8,7 @@ use Rattle.cmwq_views.proofs.page.write_tables.Given as goal
 
 abbrev pub invariant-loop-table : goal.invariant-loop-table
 invariant-loop-table g l = record {
-  text : Appends (g.W.Sink.written l.fn.sink) (g.W.Sink.written l.sink) (flat_map (rows_of_table l.progress.layout (past_of l.progress.entries)) (take l.table-index TABLES));
+  text : Appends (g.W.Sink.written l.fn.sink) (g.W.Sink.written l.sink)
+      (flat_map (rows_of_table l.progress.layout (past_of l.progress.entries)) (take l.table-index TABLES));
   troubles : g.W.Sink.troubles l.fn.sink ≤ g.W.Sink.troubles l.sink;
 }

@@ -6,4 +6,5 @@ use Rattle.cmwq_views.proofs.rows.push_bounds.Goals as goal
 pub returns-clause-exact : goal.returns-clause-exact
 returns-clause-exact c =
     let width = named_number (codes ", width ") c.args.wide in
-    c.push_figure-2.ensures.exact ∙ ap (λ l. l ++ width) c.push_figure.ensures.exact ∙ append_assoc c.args.row.now (named_number (codes ", cancelled ") c.args.cancels) width
+    c.push_figure-2.ensures.exact ∙ ap (λ l. l ++ width) c.push_figure.ensures.exact
+    ∙ append_assoc c.args.row.now (named_number (codes ", cancelled ") c.args.cancels) width

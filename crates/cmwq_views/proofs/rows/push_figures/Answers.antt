@@ -9,15 +9,22 @@ use Rattle.cmwq_views.proofs.rows.push_figures.Goals as goal
 
 pub returns-clause-exact : goal.returns-clause-exact
 returns-clause-exact c =
-    let past = past_of c.args.progress.now.entries in let s = c.args.progress.now.layout in let p = c.args.place in let row = c.args.row.now in
-    let queueings : c.queueings_at.result ≡ queueings_at past p = rw c.summary-summary.ensures at c.queueings_at.ensures in
+    let past = past_of c.args.progress.now.entries in let s = c.args.progress.now.layout in let p = c.args.place in
+    let row = c.args.row.now in
+    let queueings : c.queueings_at.result ≡ queueings_at past p =
+    rw c.summary-summary.ensures at c.queueings_at.ensures in
     let starts : c.starts_at.result ≡ starts_at past p = rw c.summary-summary.ensures at c.starts_at.ensures in
     let cancels : c.cancels_at.result ≡ cancels_at past p = rw c.summary-summary.ensures at c.cancels_at.ensures in
     let wide : c.into.result ≡ width s past (p / most_cpus) = c.into.ensures ∙ c.width_at-wide.ensures in
     let open_ones : c.most_open.result ≡ most_open_at p past = rw c.summary-summary.ensures at c.most_open.ensures in
-    let active : c.most_active.result ≡ most_active_at s p past = rw c.summary-summary.ensures at c.most_active.ensures in
+    let active : c.most_active.result ≡ most_active_at s p past =
+    rw c.summary-summary.ensures at c.most_active.ensures in
     let first = c.push_opened.ensures.exact ∙ ap (λ l. row ++ l) (ap₂ opened_text queueings starts) in
     let second = c.push_bounds.ensures.exact ∙ ap₂ (λ l k. l ++ k) first (ap₂ bounds_text cancels wide) in
     let third = c.push_peaks.ensures.exact ∙ ap₂ (λ l k. l ++ k) second (ap₂ peaks_text open_ones active) in
-    third ∙ append_assoc (row ++ opened_text (queueings_at past p) (starts_at past p)) (bounds_text (cancels_at past p) (width s past (p / most_cpus))) (peaks_text (most_open_at p past) (most_active_at s p past))
-    ∙ append_assoc row (opened_text (queueings_at past p) (starts_at past p)) (bounds_text (cancels_at past p) (width s past (p / most_cpus)) ++ peaks_text (most_open_at p past) (most_active_at s p past))
+    third ∙ append_assoc (row ++ opened_text (queueings_at past p) (starts_at past p))
+    (bounds_text (cancels_at past p) (width s past (p / most_cpus)))
+    (peaks_text (most_open_at p past) (most_active_at s p past))
+    ∙ append_assoc row (opened_text (queueings_at past p) (starts_at past p))
+    (bounds_text (cancels_at past p) (width s past (p / most_cpus))
+    ++ peaks_text (most_open_at p past) (most_active_at s p past))

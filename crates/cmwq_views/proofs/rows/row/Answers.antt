@@ -11,4 +11,6 @@ returns-in-Workers c =
     rw c.in-Workers.is (c.worker_row.ensures ∙ ap₂ (worker_row past) c.worker_at.ensures.is starts)
 
 pub returns-in-Callers : goal.returns-in-Callers
-returns-in-Callers c = rw c.in-Callers.is (c.caller_row.ensures ∙ ap (caller_row (past_of c.args.progress.now.entries)) c.caller_at.ensures)
+returns-in-Callers c =
+    rw c.in-Callers.is
+    (c.caller_row.ensures ∙ ap (caller_row (past_of c.args.progress.now.entries)) c.caller_at.ensures)

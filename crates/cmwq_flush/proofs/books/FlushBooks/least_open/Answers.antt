@@ -13,5 +13,11 @@ returns-clause-first c = grind (arith, opened_of, c.args.queue.0, c.self.invaria
 pub returns-clause-least : goal.returns-clause-least
 returns-clause-least c =
     let b = c.self.inside in
-    rw (← c.self.view_is, opened_of (length b.openings.opened) b.openings.rows b.overflow.queues b.queues.items c.args.queue.0 c.self.invariant.0.many c.self.invariant.0.lists)
-    (first_is_least (rows_at b.openings.rows c.args.queue.0) c.first.result c.first.ensures (rows_rise (length b.openings.opened) b.openings.rows b.overflow.queues b.queues.items c.self.invariant.0 c.args.queue.0))
+    rw (
+      ← c.self.view_is,
+      opened_of (length b.openings.opened) b.openings.rows b.overflow.queues b.queues.items
+          c.args.queue.0 c.self.invariant.0.many c.self.invariant.0.lists,
+    )
+    (first_is_least (rows_at b.openings.rows c.args.queue.0) c.first.result c.first.ensures
+    (rows_rise (length b.openings.opened) b.openings.rows b.overflow.queues b.queues.items c.self.invariant.0
+    c.args.queue.0))

@@ -11,5 +11,9 @@ index-colour-requires c = grind (arith, node_within)
 pub returns : goal.returns
 returns c =
     let s = c.self.inside in
-    let low : c.args.node < length s.numbers.items = node_within s.numbers.items s.colours.items c.args.node c.self.invariant (rw (← c.self.view_is) at c.requires) in
-    rw (← c.self.view_is) (node_read _ s.numbers.items s.colours.items c.args.node c.self.invariant low c.index-number.ensures c.index-colour.ensures)
+    let low : c.args.node < length s.numbers.items =
+    node_within s.numbers.items s.colours.items c.args.node c.self.invariant
+    (rw (← c.self.view_is) at c.requires) in
+    rw (← c.self.view_is)
+    (node_read _ s.numbers.items s.colours.items c.args.node c.self.invariant low c.index-number.ensures
+    c.index-colour.ensures)

@@ -11,15 +11,19 @@ insert_reserved-key-requires c =
     let rows = c.self.inside.rows.items in
     let i = c.args.queueing.item.0 in
     let within = row_within slab rows i (rw (← c.self.view_is) at c.requires.known) in
-    room_for_one slab rows i c.self.invariant within (no_unstarted_key slab rows i c.self.invariant (rw (← c.self.view_is) at c.requires.none))
+    room_for_one slab rows i c.self.invariant within
+    (no_unstarted_key slab rows i c.self.invariant (rw (← c.self.view_is) at c.requires.none))
 
 leaves : (c : After-index_mut)
-    → Leaves c.insert_reserved-key.new.self (with_keys c.self.inside.rows.items c.from.result c.index_mut.result.now.run c.some.result)
+    → Leaves c.insert_reserved-key.new.self
+    (with_keys c.self.inside.rows.items c.from.result c.index_mut.result.now.run c.some.result)
     (flights_with_open (flights_by c.self.inside.queueings c.self.inside.rows.items) c.args.queueing)
 leaves c =
     let slab = c.self.inside.queueings in
     let opens = c.insert_reserved-key.ensures in
-    rw c.some.ensures (opened_leaves slab c.insert_reserved-key.new.self c.self.inside.rows.items c.from.result c.insert_reserved-key.result c.args.queueing c.index_mut.result.now c.self.invariant
+    rw c.some.ensures
+    (opened_leaves slab c.insert_reserved-key.new.self c.self.inside.rows.items c.from.result
+    c.insert_reserved-key.result c.args.queueing c.index_mut.result.now c.self.invariant
     (record { vacant = opens.was_vacant; updates = opens.updates; more = opens.len; capacity = opens.capacity })
     c.from.ensures
     (rw (← c.self.view_is) at c.requires.known)

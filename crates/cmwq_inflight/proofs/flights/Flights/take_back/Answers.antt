@@ -6,11 +6,13 @@ use Rattle.cmwq_inflight.proofs.flights.Flights.take_back.Goals as goal
 use Rattle.cmwq_inflight.proofs.flights.Flights.take_back.Goals.{After-remove}
 
 leaves : (c : After-remove)
-    → Leaves c.remove.new.self (with_keys c.self.inside.rows.items c.from.result c.index_mut.result.now.run c.take.new.self)
+    → Leaves c.remove.new.self
+    (with_keys c.self.inside.rows.items c.from.result c.index_mut.result.now.run c.take.new.self)
     (flights_without_open (flights_by c.self.inside.queueings c.self.inside.rows.items) c.args.item.0)
 leaves c =
     rw c.take.ensures.after
-    (taken_back_leaves c.self.inside.queueings c.remove.new.self c.self.inside.rows.items c.from.result c.args.item.0 c.in-Some.key c.index_mut.result.now c.self.invariant
+    (taken_back_leaves c.self.inside.queueings c.remove.new.self c.self.inside.rows.items c.from.result c.args.item.0
+    c.in-Some.key c.index_mut.result.now c.self.invariant
     (record { updates = c.remove.ensures.updates; less = c.remove.ensures.len; capacity = c.remove.ensures.capacity })
     c.from.ensures
     (rw (← c.self.view_is) at c.requires)

@@ -3,7 +3,8 @@ use Rattle.cmwq_io.proofs.buffered.BufferedSink.hand_all_on.Given as goal
 
 abbrev pub invariant-loop-self : goal.invariant-loop-self
 invariant-loop-self g l = record {
-  kept : Keeps (append_known (g.W.Sink.written l.initial.self.inner) l.initial.self.buffer.items) (append_known (g.W.Sink.written l.self.inner) l.self.buffer.items);
+  kept : Keeps (append_known (g.W.Sink.written l.initial.self.inner) l.initial.self.buffer.items)
+      (append_known (g.W.Sink.written l.self.inner) l.self.buffer.items);
   count : g.W.Sink.troubles l.self.inner ≡ g.W.Sink.troubles l.initial.self.inner;
   outcomes : l.self.outcomes ≡ l.initial.self.outcomes;
 }

@@ -5,5 +5,6 @@ use Rattle.cmwq_io.proofs.lines.Lines.is_short.Goals as goal
 
 pub returns-then-ahead-le-LINE_LIMIT : goal.returns-then-ahead-le-LINE_LIMIT
 returns-then-ahead-le-LINE_LIMIT c =
-    short_by_near _ c.feed_in.result c.is_none.result c.if-ahead-le-LINE_LIMIT.true c.feed_in.ensures.place c.is_none.ensures
+    short_by_near _ c.feed_in.result c.is_none.result c.if-ahead-le-LINE_LIMIT.true c.feed_in.ensures.place
+    c.is_none.ensures
     ∙ ap is_line_short c.ahead-ahead.ensures.value

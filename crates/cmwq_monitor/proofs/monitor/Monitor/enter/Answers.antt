@@ -13,5 +13,9 @@ returns-in-Err-clause-short g c =
     let log_is = c.prefix.ensures ∙ c.self.invariant.3 ∙ held in
     let w_is : c.see.new.self ≡ record v { seen = log } = c.see.ensures.seen ∙ rw log_is refl in
     let full : has_room s s.room (past_of log) v.who c.args.call ≡ false =
-    room_is s c.self.inside.execution log c.who-who.result v.who c.args.call false c.self.invariant.1 c.self.invariant.2 held c.who-who.ensures.who (sym (ap is_ok c.in-Err.is) ∙ c.plan-planned.ensures.room) in
-    (rw w_is (gains_seen v log c.serial-own.ensures.own c.requires.step (subst (IsPrefix v.seen) log_is c.see.ensures.older)), (rw w_is full, refl))
+    room_is s c.self.inside.execution log c.who-who.result v.who c.args.call false c.self.invariant.1 c.self.invariant.2
+    held c.who-who.ensures.who (sym (ap is_ok c.in-Err.is) ∙ c.plan-planned.ensures.room) in (
+      rw w_is (gains_seen v log c.serial-own.ensures.own c.requires.step
+          (subst (IsPrefix v.seen) log_is c.see.ensures.older)),
+      (rw w_is full, refl),
+    )

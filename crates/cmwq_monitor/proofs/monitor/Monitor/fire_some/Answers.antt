@@ -3,7 +3,8 @@ use Rattle.cmwq_model.specs.declared.call.Call.TheVariants as calls
 use Rattle.cmwq_monitor.specs.Participants.{is_caller}
 use Rattle.cmwq_monitor.specs.Steps.{Lacks}
 use Rattle.cmwq_monitor.specs.declared.fault.Shortage.TheVariants.{Room}
-use Rattle.cmwq_monitor.proofs.Firing.{up_to_none, up_to_more, up_to_last, up_to_full, up_to_all, up_to_some, up_to_rest}
+use Rattle.cmwq_monitor.proofs.Firing.{up_to_none, up_to_more, up_to_last, up_to_full, up_to_all, up_to_some}
+use Rattle.cmwq_monitor.proofs.Firing.{up_to_rest}
 use Rattle.cmwq_monitor.proofs.Fitting.{caller_fits}
 use Rattle.cmwq_monitor.proofs.monitor.Monitor.fire_some.Goals as goal
 
@@ -18,31 +19,41 @@ loop-init g c = (
 )
 
 pub enter-requires-clause-fits : goal.enter-requires-clause-fits
-enter-requires-clause-fits g c = caller_fits g.N.HubName.layout c.loop.participant.who calls.Fire c.loop.invariant.2 c.who-who.ensures.there refl refl
+enter-requires-clause-fits g c =
+    caller_fits g.N.HubName.layout c.loop.participant.who calls.Fire c.loop.invariant.2 c.who-who.ensures.there refl
+    refl
 
 pub enter-requires-clause-step : goal.enter-requires-clause-step
 enter-requires-clause-step g c = c.loop.invariant.1
 
 pub returns-then-is_nothing-clause-fired : goal.returns-then-is_nothing-clause-fired
 returns-then-is_nothing-clause-fired g c = λ v so.
-    up_to_last g.N.HubName.layout c.args.left c.loop.counter v c.loop.participant c.enter.new.participant c.in-Ok.reply (let less = c.loop-test.true in let most = c.loop.invariant.3 in omega (arith, less, most))
+    up_to_last g.N.HubName.layout c.args.left c.loop.counter v c.loop.participant c.enter.new.participant c.in-Ok.reply
+    (let less = c.loop-test.true in let most = c.loop.invariant.3 in omega (arith, less, most))
     (sym c.is_nothing.ensures ∙ c.if-is_nothing.true) (c.loop.invariant.0 v so) c.in-Ok.ensures.made
 
 pub returns-in-Err-Room-clause-fired : goal.returns-in-Err-Room-clause-fired
 returns-in-Err-Room-clause-fired g c = λ v so.
     let s = g.N.HubName.layout in
-    let short : Lacks s c.loop.self c.enter.new.participant calls.Fire Room c.enter.new.self = subst (λ what. Lacks s c.loop.self c.enter.new.participant calls.Fire what c.enter.new.self) c.in-Err-Room.field-0-is c.in-Err-Room.ensures.short.1 in
-    up_to_full s c.args.left c.loop.counter v c.loop.participant c.enter.new.participant (let less = c.loop-test.true in let most = c.loop.invariant.3 in omega (arith, less, most)) (c.loop.invariant.0 v so)
+    let short : Lacks s c.loop.self c.enter.new.participant calls.Fire Room c.enter.new.self =
+    subst (λ what. Lacks s c.loop.self c.enter.new.participant calls.Fire what c.enter.new.self)
+    c.in-Err-Room.field-0-is c.in-Err-Room.ensures.short.1 in
+    up_to_full s c.args.left c.loop.counter v c.loop.participant c.enter.new.participant (let less = c.loop-test.true in
+    let most = c.loop.invariant.3 in omega (arith, less, most)) (c.loop.invariant.0 v so)
     c.in-Err-Room.ensures.short.0 short.0 c.seen-legal.ensures.legal
 
 pub returns-in-Err-Memory-clause-stopped : goal.returns-in-Err-Memory-clause-stopped
-returns-in-Err-Memory-clause-stopped g c =
-    (inl refl, (λ v so. up_to_some g.N.HubName.layout c.args.left c.loop.counter v c.loop.participant c.enter.new.participant (c.loop.invariant.0 v so) c.in-Err-Memory.ensures.short.0))
+returns-in-Err-Memory-clause-stopped g c = (
+  inl refl,
+  (λ v so. up_to_some g.N.HubName.layout c.args.left c.loop.counter v c.loop.participant c.enter.new.participant
+      (c.loop.invariant.0 v so) c.in-Err-Memory.ensures.short.0),
+)
 
 pub loop-preserved : goal.loop-preserved
 loop-preserved g c = (
   (λ v so.
-      up_to_more g.N.HubName.layout c.args.left c.loop.counter v c.loop.participant c.enter.new.participant c.in-Ok.reply (let less = c.loop-test.true in let most = c.loop.invariant.3 in omega (arith, less, most))
+      up_to_more g.N.HubName.layout c.args.left c.loop.counter v c.loop.participant c.enter.new.participant
+      c.in-Ok.reply (let less = c.loop-test.true in let most = c.loop.invariant.3 in omega (arith, less, most))
       (sym c.is_nothing.ensures ∙ c.if-is_nothing.false) (c.loop.invariant.0 v so) c.in-Ok.ensures.made),
   c.enter.ensures.step,
   ap is_caller c.in-Ok.ensures.made.gains.same ∙ c.loop.invariant.2,
@@ -53,8 +64,11 @@ loop-preserved g c = (
 
 pub returns-then-left-most-clause-fired : goal.returns-then-left-most-clause-fired
 returns-then-left-most-clause-fired g c = λ v so.
-    up_to_rest g.N.HubName.layout c.args.left c.loop.counter _ v c.loop.participant (let done = c.loop-test.false in let most = c.loop.invariant.3 in let at = c.loop.invariant.4 in omega (arith, done, most, at)) (c.loop.invariant.0 v so)
+    up_to_rest g.N.HubName.layout c.args.left c.loop.counter _ v c.loop.participant (let done = c.loop-test.false in
+    let most = c.loop.invariant.3 in let at = c.loop.invariant.4 in omega (arith, done, most, at))
+    (c.loop.invariant.0 v so)
 
 pub returns-else-left-most-clause-fired : goal.returns-else-left-most-clause-fired
 returns-else-left-most-clause-fired g c = λ v so.
-    up_to_all g.N.HubName.layout c.args.left c.loop.counter v c.loop.participant (let done = c.loop-test.false in let none = c.if-left-most.false in omega (arith, done, none)) (c.loop.invariant.0 v so)
+    up_to_all g.N.HubName.layout c.args.left c.loop.counter v c.loop.participant (let done = c.loop-test.false in
+    let none = c.if-left-most.false in omega (arith, done, none)) (c.loop.invariant.0 v so)

@@ -10,5 +10,7 @@ use Rattle.cmwq_pool.proofs.counts.WorkerCounts.new.Goals as goal
 pub returns : goal.returns
 returns c =
     let n = c.args.workers in
-    same_counts (record { idle = c.min.result; occupied = 0; running = 0; holding = 0 }) (counts_of (map new_slot (range_with_len 0 n)))
-    (c.min.ensures ∙ sym (idle_new n)) (none_new slot_is_occupied n (λ x. and_false (nat_eq x 0))) (none_new slot_has_run n (λ x. refl)) (none_new slot_is_holding n (λ x. refl))
+    same_counts (record { idle = c.min.result; occupied = 0; running = 0; holding = 0 })
+    (counts_of (map new_slot (range_with_len 0 n)))
+    (c.min.ensures ∙ sym (idle_new n)) (none_new slot_is_occupied n (λ x. and_false (nat_eq x 0)))
+    (none_new slot_has_run n (λ x. refl)) (none_new slot_is_holding n (λ x. refl))

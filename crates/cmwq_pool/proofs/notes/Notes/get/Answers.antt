@@ -12,7 +12,9 @@ index-requires-2 c = grind (arith, note_within)
 pub returns : goal.returns
 returns c =
     let s = c.self.inside in
-    let low : c.args.item < length s.numbers.items = note_within s.numbers.items s.intensive.items c.args.item c.self.invariant (rw (← c.self.view_is) at c.requires) in
+    let low : c.args.item < length s.numbers.items =
+    note_within s.numbers.items s.intensive.items c.args.item c.self.invariant
+    (rw (← c.self.view_is) at c.requires) in
     rw (← c.self.view_is) (noted s.numbers.items s.intensive.items c.args.item c.self.invariant low _
     (c.index.ensures ∙ get_or_default s.numbers.items c.args.item _ 0 low)
     (c.index-2.ensures ∙ get_or_default s.intensive.items c.args.item _ false (omega (arith, low, c.self.invariant))))

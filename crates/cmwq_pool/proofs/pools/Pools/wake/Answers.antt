@@ -10,14 +10,20 @@ index_mut-requires c = grind (arith, there)
 pub wake-requires : goal.wake-requires
 wake-requires c =
     let s = c.self.inside in
-    let low : c.args.pool < length s.workers.items = there s.lists s.notes s.workers.items c.args.self.now c.args.pool c.self.view_is c.requires.pool in
-    let same = slots_at s.lists s.notes s.workers.items c.args.self.now c.args.pool c.from.result c.index_mut.result.now c.self.view_is low c.from.ensures c.index_mut.ensures.value in
+    let low : c.args.pool < length s.workers.items =
+    there s.lists s.notes s.workers.items c.args.self.now c.args.pool c.self.view_is c.requires.pool in
+    let same =
+    slots_at s.lists s.notes s.workers.items c.args.self.now c.args.pool c.from.result c.index_mut.result.now
+    c.self.view_is low c.from.ensures c.index_mut.ensures.value in
     let h = subst (λ slots. slot_runs_asleep (slot_at slots c.args.worker) ≡ true) same c.requires.asleep in
     in_range slot_runs_asleep c.index_mut.result.now c.args.worker refl h
 
 pub returns : goal.returns
 returns c =
     let s = c.self.inside in
-    let low : c.args.pool < length s.workers.items = there s.lists s.notes s.workers.items c.args.self.now c.args.pool c.self.view_is c.requires.pool in
-    rw (← c.self.view_is) (slots_changed s.lists s.notes s.workers.items c.args.pool low (with_slot slot_awake c.args.worker) _
-    (placed s.workers.items c.args.pool c.from.result c.index_mut.result.now c.wake.new.self (with_slot slot_awake c.args.worker) low c.from.ensures c.index_mut.ensures.value c.wake.ensures))
+    let low : c.args.pool < length s.workers.items =
+    there s.lists s.notes s.workers.items c.args.self.now c.args.pool c.self.view_is c.requires.pool in
+    rw (← c.self.view_is)
+    (slots_changed s.lists s.notes s.workers.items c.args.pool low (with_slot slot_awake c.args.worker) _
+    (placed s.workers.items c.args.pool c.from.result c.index_mut.result.now c.wake.new.self
+    (with_slot slot_awake c.args.worker) low c.from.ensures c.index_mut.ensures.value c.wake.ensures))

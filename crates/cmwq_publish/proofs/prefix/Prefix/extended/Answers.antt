@@ -13,5 +13,7 @@ compare_exchange-found-requires g c =
       book,
       pen.0 ∙ book,
       offer.0,
-      rw (ap (λ w. w.key) h, pen.1, offer.1, offer.3) (adds_moves c.again-seen.result.log c.args.entry c.self.inside.len (ap (λ s. length s.log) seen ∙ sym c.self.invariant.0)),
+      rw (ap (λ w. w.key) h, pen.1, offer.1, offer.3)
+          (adds_moves c.again-seen.result.log c.args.entry c.self.inside.len
+          (ap (λ s. length s.log) seen ∙ sym c.self.invariant.0)),
     )

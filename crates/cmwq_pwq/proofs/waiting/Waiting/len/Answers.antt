@@ -15,5 +15,6 @@ returns c =
     rw (← c.self.view_is) (record {
       len = len.len ∙ sym many;
       few = omega arith;
-      known = All-from_recursion (λ x. x.item.0 < length s.rows) (map (row_of s.rows) xs) (known_items s.rows xs c.self.invariant.each);
+      known = All-from_recursion (λ x. x.item.0 < length s.rows) (map (row_of s.rows) xs)
+          (known_items s.rows xs c.self.invariant.each);
     })

@@ -10,4 +10,5 @@ returns-then-waits-clause-rest c =
 pub returns-else-waits-clause-rest : goal.returns-else-waits-clause-rest
 returns-else-waits-clause-rest c =
     let now = c.args.self.now in
-    ap (λ ys. record now { queueings = ys }) (rest_of_none c.args.queueing.number now.queueings (sym c.waits-waits.ensures.waits ∙ c.if-waits.false))
+    ap (λ ys. record now { queueings = ys })
+    (rest_of_none c.args.queueing.number now.queueings (sym c.waits-waits.ensures.waits ∙ c.if-waits.false))

@@ -11,16 +11,21 @@ returns-then-at-queueing-clause-waits c =
     let s = c.self.inside in let x = c.args.queueing in
     let r = rw (← c.self.view_is) at c.requires in
     let read : c.at.result ≡ row_of s.rows x.item.0 = c.at.ensures ∙ ap (row_of s.rows) c.from-item.ensures in
-    let here : is_in_row s.rows x ≡ true = eq-eqb (row_of s.rows x.item.0).number x.number (ap (λ y. y.number) (sym read) ∙ c.if-at-queueing.true) in
-    let listed : c.is_some.result ≡ is_some (list_of s.all.lists x.item.0) = c.is_some.ensures ∙ ap is_some (c.list_of.ensures ∙ ap (list_of s.all.lists) c.from-item.ensures) in
-    rw (← c.self.view_is) (listed ∙ (ap (λ b. b && is_some (list_of s.all.lists x.item.0)) (sym here) ∙ waits_in_row s.rows x s.all s.pwqs c.self.invariant r.number))
+    let here : is_in_row s.rows x ≡ true =
+    eq-eqb (row_of s.rows x.item.0).number x.number (ap (λ y. y.number) (sym read) ∙ c.if-at-queueing.true) in
+    let listed : c.is_some.result ≡ is_some (list_of s.all.lists x.item.0) =
+    c.is_some.ensures ∙ ap is_some (c.list_of.ensures ∙ ap (list_of s.all.lists) c.from-item.ensures) in
+    rw (← c.self.view_is)
+    (listed ∙ (ap (λ b. b && is_some (list_of s.all.lists x.item.0)) (sym here)
+    ∙ waits_in_row s.rows x s.all s.pwqs c.self.invariant r.number))
 
 pub returns-then-at-queueing-clause-others : goal.returns-then-at-queueing-clause-others
 returns-then-at-queueing-clause-others c =
     let s = c.self.inside in let x = c.args.queueing in
     let r = rw (← c.self.view_is) at c.requires in
     let read : c.at.result ≡ row_of s.rows x.item.0 = c.at.ensures ∙ ap (row_of s.rows) c.from-item.ensures in
-    let here : is_in_row s.rows x ≡ true = eq-eqb (row_of s.rows x.item.0).number x.number (ap (λ y. y.number) (sym read) ∙ c.if-at-queueing.true) in
+    let here : is_in_row s.rows x ≡ true =
+    eq-eqb (row_of s.rows x.item.0).number x.number (ap (λ y. y.number) (sym read) ∙ c.if-at-queueing.true) in
     rw (← c.self.view_is) (λ waits. rest_by_number s.rows x s.all s.pwqs c.self.invariant r.number here)
 
 pub returns-else-at-queueing-clause-waits : goal.returns-else-at-queueing-clause-waits
@@ -28,5 +33,8 @@ returns-else-at-queueing-clause-waits c =
     let s = c.self.inside in let x = c.args.queueing in
     let r = rw (← c.self.view_is) at c.requires in
     let read : c.at.result ≡ row_of s.rows x.item.0 = c.at.ensures ∙ ap (row_of s.rows) c.from-item.ensures in
-    let fails : is_in_row s.rows x ≡ false = ne_eqb (row_of s.rows x.item.0).number x.number (λ e. c.if-at-queueing.false (ap (λ y. y.number) read ∙ e)) in
-    rw (read, ← c.self.view_is) (fails ∙ (ap (λ b. b && is_some (list_of s.all.lists x.item.0)) (sym fails) ∙ waits_in_row s.rows x s.all s.pwqs c.self.invariant r.number))
+    let fails : is_in_row s.rows x ≡ false =
+    ne_eqb (row_of s.rows x.item.0).number x.number (λ e. c.if-at-queueing.false (ap (λ y. y.number) read ∙ e)) in
+    rw (read, ← c.self.view_is)
+    (fails ∙ (ap (λ b. b && is_some (list_of s.all.lists x.item.0)) (sym fails)
+    ∙ waits_in_row s.rows x s.all s.pwqs c.self.invariant r.number))

@@ -11,9 +11,13 @@ returns-clause-own g c =
     let found = c.in_ok-found.found in
     let who_is : whos.Caller c.in-Caller.caller ≡ v.who = c.in-Caller.ensures.who in
     let there : IsThere s (whos.Caller c.in-Caller.caller) = subst (IsThere s) (sym who_is) c.in-Caller.ensures.there in
-    let count : found.serial ≡ serial_of (past_of found.prefix) (whos.Caller c.in-Caller.caller) = c.in_ok-found.ensures.1 there in
+    let count : found.serial ≡ serial_of (past_of found.prefix) (whos.Caller c.in-Caller.caller) =
+    c.in_ok-found.ensures.1 there in
     let own : serial_of (past_of found.prefix) v.who ≡ v.serial =
-    ap (serial_of (past_of found.prefix)) (sym who_is) ∙ sym count ∙ c.if-found-own.false ∙ c.serial-own.ensures.serial in
-    let longer : length v.seen ≤ length found.prefix = (let len = c.len.ensures.len in let seen = c.seen-seen.ensures.seen in let le = c.if-len-seen.false in omega (arith, len, seen, le)) in
+    ap (serial_of (past_of found.prefix)) (sym who_is) ∙ sym count ∙ c.if-found-own.false
+    ∙ c.serial-own.ensures.serial in
+    let longer : length v.seen ≤ length found.prefix =
+    (let len = c.len.ensures.len in let seen = c.seen-seen.ensures.seen in let le = c.if-len-seen.false in
+    omega (arith, len, seen, le)) in
     subst (λ (u : View). Gains u [] c.see.new.self) c.self.view_is
     (rw c.see.ensures.seen (gains_seen v found.prefix c.serial-own.ensures.own (own, longer) c.see.ensures.older))

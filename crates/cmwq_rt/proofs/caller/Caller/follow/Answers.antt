@@ -10,7 +10,8 @@ loop-k-init g c = (followed_none g.N.HubName.layout c.args.self.now, omega arith
 
 pub returns-clause-followed : goal.returns-clause-followed
 returns-clause-followed g c =
-    subst (λ (xs : List Call). HasFollowed g.N.HubName.layout xs c.loop-k.full c.args.self.now c.loop-k.self) (take_all c.loop-k.k c.args.script.now c.loop-k-test.false) c.loop-k.invariant.0
+    subst (λ (xs : List Call). HasFollowed g.N.HubName.layout xs c.loop-k.full c.args.self.now c.loop-k.self)
+    (take_all c.loop-k.k c.args.script.now c.loop-k-test.false) c.loop-k.invariant.0
 
 pub returns-then-not-is_full-clause-stopped : goal.returns-then-not-is_full-clause-stopped
 returns-then-not-is_full-clause-stopped g c =
@@ -18,7 +19,8 @@ returns-then-not-is_full-clause-stopped g c =
     let m = c.loop-k.self in
     let w = c.make_locked-held.new.self in
     let broke = IfErr-at_err _ c.in-Err.is c.make_locked-held.ensures.broke in
-    stopped_at s c.args.script.now c.loop-k.k _ c.loop-k.full c.args.self.now m w c.in-Err.fault c.loop-k-test.true (sym c.is_full.ensures ∙ c.if-not-is_full.true) c.loop-k.invariant.0 broke
+    stopped_at s c.args.script.now c.loop-k.k _ c.loop-k.full c.args.self.now m w c.in-Err.fault c.loop-k-test.true
+    (sym c.is_full.ensures ∙ c.if-not-is_full.true) c.loop-k.invariant.0 broke
 
 pub returns-then-not-is_full-clause-same : goal.returns-then-not-is_full-clause-same
 returns-then-not-is_full-clause-same g c =
@@ -38,14 +40,17 @@ loop-k-preserved g c =
     elim c.match-answer.branch [
       | in-Ok b ↦ (
           let done = IfOk-at_ok _ b.in-Ok.is c.make_locked-held.ensures.done in (
-            rw b.full-is (followed_call s script c.loop-k.k _ c.loop-k.full c.args.self.now m w _ c.loop-k-test.true i.0 done),
+            rw b.full-is
+                (followed_call s script c.loop-k.k _ c.loop-k.full c.args.self.now m w _ c.loop-k-test.true i.0 done),
             (let n = b.full-is in let k = i.1 in omega (arith, n, k)),
             done.gains.same ∙ i.2,
           ))
       | in-Err+else-not-is_full b ↦ (
           let full = told_full b.in-Err.fault (sym b.is_full.ensures ∙ b.if-not-is_full.false) in
           let broke = IfErr-at_err _ b.in-Err.is c.make_locked-held.ensures.broke in (
-            rw b.full-is (followed_skip s script c.loop-k.k _ c.loop-k.full c.args.self.now m w _ c.loop-k-test.true full i.0 broke),
+            rw b.full-is
+                (followed_skip s script c.loop-k.k _ c.loop-k.full c.args.self.now m w _ c.loop-k-test.true full i.0
+                broke),
             (let n = b.full-is in let k = i.1 in omega (arith, n, k)),
             broke_same s m w _ _ broke ∙ i.2,
           ))

@@ -11,7 +11,8 @@ returns-in-Err-ended-clause-broke g c =
     let w = c.until_ended-monitor.new.participant in
     let stopped = IfErr-at_err _ c.in-Err-ended.is c.until_ended-monitor.ensures.stopped in
     subst (λ (u : View). BrokeOff s u c.args.call c.in-Err-ended.fault w) c.self.view_is
-    (ended_broke s v m w c.args.call c.in-Ok.reply c.in-Some.ticket c.in-Err-ended.fault c.requires.waits (sym c.ticket_in.ensures ∙ c.in-Some.is) c.in-Ok.ensures.made.0 stopped)
+    (ended_broke s v m w c.args.call c.in-Ok.reply c.in-Some.ticket c.in-Err-ended.fault c.requires.waits
+    (sym c.ticket_in.ensures ∙ c.in-Some.is) c.in-Ok.ensures.made.0 stopped)
 
 pub returns-clause-done : goal.returns-clause-done
 returns-clause-done g c =
@@ -21,4 +22,5 @@ returns-clause-done g c =
     let w = c.until_ended-monitor.new.participant in
     let ended = IfOk-at_ok _ c.in-Ok-ended.is c.until_ended-monitor.ensures.ended in
     subst (λ (u : View). Completes s u c.args.call c.in-Ok.reply w) c.self.view_is
-    (ended_completes s v m w c.args.call c.in-Ok.reply c.in-Some.ticket c.requires.waits (sym c.ticket_in.ensures ∙ c.in-Some.is) c.in-Ok.ensures.made.0 ended)
+    (ended_completes s v m w c.args.call c.in-Ok.reply c.in-Some.ticket c.requires.waits
+    (sym c.ticket_in.ensures ∙ c.in-Some.is) c.in-Ok.ensures.made.0 ended)

@@ -4,13 +4,16 @@ use Rattle.cmwq_rt.proofs.Running.{refused_breaks_off}
 use Rattle.cmwq_rt.proofs.hub.Hub.go_on.Goals as goal
 
 pub with_room-requires : goal.with_room-requires
-with_room-requires g c = refused_breaks_off g.N.HubName.layout c.args.participant.now c.call.new.participant calls.Finish c.in-Err.fault c.in-Err.ensures.refused
+with_room-requires g c =
+    refused_breaks_off g.N.HubName.layout c.args.participant.now c.call.new.participant calls.Finish c.in-Err.fault
+    c.in-Err.ensures.refused
 
 pub returns-in-Err : goal.returns-in-Err
 returns-in-Err g c = record {
   fault = c.with_room.ensures;
   next = tt;
-  later = later_refused g.N.HubName.layout c.args.participant.now c.call.new.participant calls.Finish c.in-Err.fault c.in-Err.ensures.refused;
+  later = later_refused g.N.HubName.layout c.args.participant.now c.call.new.participant calls.Finish c.in-Err.fault
+      c.in-Err.ensures.refused;
 }
 
 pub returns-in-Err-retire : goal.returns-in-Err-retire
@@ -24,7 +27,9 @@ returns-in-Err-retire g c =
     record {
       fault = refused_breaks_off s finished retired calls.Retire f refused c.in-Err-retire.ensures.room;
       next = tt;
-      later = later_trans v finished retired (later_made s v finished calls.Finish c.in_default.field-0 c.in_default.ensures.made.0) (later_refused s finished retired calls.Retire f refused);
+      later = later_trans v finished retired
+          (later_made s v finished calls.Finish c.in_default.field-0 c.in_default.ensures.made.0)
+          (later_refused s finished retired calls.Retire f refused);
     }
 
 pub returns-clause-fault : goal.returns-clause-fault
@@ -36,5 +41,8 @@ returns-clause-later g c =
     let v = c.args.participant.now in
     let finished = c.call.new.participant in
     let retired = c.retire.new.participant in
-    later_trans v finished c.until_start.new.participant (later_made s v finished calls.Finish c.in_default.field-0 c.in_default.ensures.made.0)
-    (later_trans finished retired c.until_start.new.participant (later_retired s finished retired c.retire.result c.retire.ensures.retired c.retire.ensures.refused) c.until_start.ensures.later)
+    later_trans v finished c.until_start.new.participant
+    (later_made s v finished calls.Finish c.in_default.field-0 c.in_default.ensures.made.0)
+    (later_trans finished retired c.until_start.new.participant
+    (later_retired s finished retired c.retire.result c.retire.ensures.retired c.retire.ensures.refused)
+    c.until_start.ensures.later)

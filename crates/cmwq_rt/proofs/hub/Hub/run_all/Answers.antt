@@ -19,5 +19,10 @@ loop-preserved g c =
       inv.1,
       later_trans v started w inv.2 later,
       ap is_caller later.0 ∙ inv.3,
-      (suc n, ended, (before, started, ran, c.in-Some-next.item, runs, starts.1, c.in_ok-run_in.ensures.ran, ends), after),
+      (
+        suc n,
+        ended,
+        (before, started, ran, c.in-Some-next.item, runs, starts.1, c.in_ok-run_in.ensures.ran, ends),
+        after,
+      ),
     )

@@ -8,9 +8,12 @@ use Rattle.cmwq_rt.proofs.hub.Hub.until_done.Goals as goal
 
 pub returns-in-Ok-true-clause-done : goal.returns-in-Ok-true-clause-done
 returns-in-Ok-true-clause-done g c =
-    subst (λ (v : View). Extends g.N.HubName.layout v (calls.End c.args.ticket) replies.Done c.end_ticket.new.participant) c.loop.invariant.2
+    subst (λ (v : View). Extends g.N.HubName.layout v (calls.End c.args.ticket) replies.Done
+    c.end_ticket.new.participant) c.loop.invariant.2
     (when_true _ c.in-Ok-true.field-0 c.in-Ok-true.field-0-test c.in-Ok-true.ensures.done).0
 
 pub returns-in-Err-clause-stopped : goal.returns-in-Err-clause-stopped
-returns-in-Err-clause-stopped g c =
-    (c.in-Err.ensures.stopped.0 ∙ c.loop.invariant.2, subst (λ (v : View). Stops v (Some c.args.ticket) c.in-Err.fault) c.loop.invariant.2 c.in-Err.ensures.stopped.1)
+returns-in-Err-clause-stopped g c = (
+  c.in-Err.ensures.stopped.0 ∙ c.loop.invariant.2,
+  subst (λ (v : View). Stops v (Some c.args.ticket) c.in-Err.fault) c.loop.invariant.2 c.in-Err.ensures.stopped.1,
+)

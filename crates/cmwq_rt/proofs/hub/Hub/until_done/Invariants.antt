@@ -2,4 +2,5 @@ use Rattle.std.proofs.Common.{◌≡◌}
 use Rattle.cmwq_rt.proofs.hub.Hub.until_done.Given as goal
 
 abbrev pub invariant-loop : goal.invariant-loop
-invariant-loop g l = (goal.iterator-loop g).can_next l.iterator' × (goal.iterator-loop g).is_finite l.iterator' × (l.participant ≡ l.fn.participant)
+invariant-loop g l = (goal.iterator-loop g).can_next l.iterator' × (goal.iterator-loop g).is_finite l.iterator'
+    × (l.participant ≡ l.fn.participant)

@@ -11,10 +11,13 @@ returns-clause-later g c =
 
 pub returns-clause-waited : goal.returns-clause-waited
 returns-clause-waited g c =
-    subst (λ (v : View). IfOk c.sleep_through-answer.result (λ reply. SleepsThrough g.N.HubName.layout v c.args.call reply c.sleep_through-answer.new.worker)) (ap (λ (r : Running). r.participant) c.self.view_is)
+    subst (λ (v : View). IfOk c.sleep_through-answer.result
+    (λ reply. SleepsThrough g.N.HubName.layout v c.args.call reply c.sleep_through-answer.new.worker))
+    (ap (λ (r : Running). r.participant) c.self.view_is)
     c.sleep_through-answer.ensures.waited
 
 pub returns-clause-refused : goal.returns-clause-refused
 returns-clause-refused g c =
-    subst (λ (v : View). IfErr c.sleep_through-answer.result (λ f. is_refusal f ≡ true → c.sleep_through-answer.new.worker ≡ v)) (ap (λ (r : Running). r.participant) c.self.view_is)
+    subst (λ (v : View). IfErr c.sleep_through-answer.result (λ f. is_refusal f ≡ true
+    → c.sleep_through-answer.new.worker ≡ v)) (ap (λ (r : Running). r.participant) c.self.view_is)
     c.sleep_through-answer.ensures.refused

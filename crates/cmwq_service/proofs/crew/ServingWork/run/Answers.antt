@@ -5,4 +5,6 @@ use Rattle.cmwq_rt.specs.Running.{Running}
 use Rattle.cmwq_service.proofs.crew.ServingWork.run.Goals as goal
 
 pub returns-in-Err-clause-later : goal.returns-in-Err-clause-later
-returns-in-Err-clause-later g c = subst (λ (v : View). Later c.args.context.now.participant v) (sym (ap (λ (r : Running). r.participant) c.break_off.ensures)) c.run_in-outcome.ensures.later
+returns-in-Err-clause-later g c =
+    subst (λ (v : View). Later c.args.context.now.participant v)
+    (sym (ap (λ (r : Running). r.participant) c.break_off.ensures)) c.run_in-outcome.ensures.later

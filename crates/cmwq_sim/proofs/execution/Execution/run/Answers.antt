@@ -8,4 +8,6 @@ pub returns : goal.returns
 unfolding scenario_lines
 returns c =
     let done : c.loop-at.at ≡ suc (whole_time (plan_of c.args.scenario.now)) = omega arith in
-    ap (λ told. map event_of told.items) c.replace.ensures.value ∙ ap (λ (m : Moment). m.lines) c.loop-at.invariant.moment ∙ ap (λ n. (moment_after (plan_of c.args.scenario.now) n).lines) done
+    ap (λ told. map event_of told.items) c.replace.ensures.value
+    ∙ ap (λ (m : Moment). m.lines) c.loop-at.invariant.moment
+    ∙ ap (λ n. (moment_after (plan_of c.args.scenario.now) n).lines) done

@@ -5,7 +5,8 @@ use Rattle.cmwq_sim.proofs.Executions.{HaveStarted}
 use Rattle.cmwq_sim.proofs.execution.Execution.start.Given as goal
 
 abbrev pub invariant-loop-index : goal.invariant-loop-index
-invariant-loop-index l = HaveStarted (plan_of l.scenario) (moment_in (plan_of l.scenario) l.fn.self) l.self l.items.items
+invariant-loop-index l =
+    HaveStarted (plan_of l.scenario) (moment_in (plan_of l.scenario) l.fn.self) l.self l.items.items
 
 abbrev pub decreases-loop-index : goal.decreases-loop-index
 decreases-loop-index l = length (moment_in (plan_of l.scenario) l.self).ready

@@ -7,4 +7,7 @@ use Rattle.cmwq_sim.proofs.execution.Execution.wake.Goals as goal
 
 pub loop-item-preserved : goal.loop-item-preserved
 loop-item-preserved c =
-    subst (StandsAt (plan_of c.args.scenario.now) _) (ap (λ m. wake_item (plan_of c.args.scenario.now) c.args.at m c.loop-item.item) c.loop-item.invariant.moment ∙ sym (one_more (wake_item (plan_of c.args.scenario.now) c.args.at) (moment_in (plan_of c.args.scenario.now) c.args.self.now) c.loop-item.item)) c.in_ok-wake_item.ensures
+    subst (StandsAt (plan_of c.args.scenario.now) _)
+    (ap (λ m. wake_item (plan_of c.args.scenario.now) c.args.at m c.loop-item.item) c.loop-item.invariant.moment
+    ∙ sym (one_more (wake_item (plan_of c.args.scenario.now) c.args.at)
+    (moment_in (plan_of c.args.scenario.now) c.args.self.now) c.loop-item.item)) c.in_ok-wake_item.ensures

@@ -5,4 +5,6 @@ use Rattle.cmwq_sim.specs.Standing.{moment_in, StandsAt}
 use Rattle.cmwq_sim.proofs.execution.Execution.wake.Given as goal
 
 abbrev pub invariant-loop-item : goal.invariant-loop-item
-invariant-loop-item l = StandsAt (plan_of l.scenario) l.self (fold (wake_item (plan_of l.scenario) l.at) (moment_in (plan_of l.scenario) l.fn.self) (range_with_len 0 l.item))
+invariant-loop-item l =
+    StandsAt (plan_of l.scenario) l.self
+    (fold (wake_item (plan_of l.scenario) l.at) (moment_in (plan_of l.scenario) l.fn.self) (range_with_len 0 l.item))

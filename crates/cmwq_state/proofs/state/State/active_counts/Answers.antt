@@ -7,4 +7,8 @@ pub returns : goal.returns
 returns c =
     let b = c.self.inside in let are = c.self.invariant.parts_are.pwqs in
     let s = layout_of b.counts b.queues.items in let past = past_of b.entries in
-    rw (← c.self.view_is, c.counts.ensures) record { many = are.many; each = λ q k here there. are.counts q k here there ∙ sym (active_counted s past q k) }
+    rw (← c.self.view_is, c.counts.ensures) record {
+      many = are.many;
+      each = λ q k here there. are.counts q k here there
+          ∙ sym (active_counted s past q k);
+    }

@@ -13,15 +13,24 @@ pub apply_pwqs-requires : goal.apply_pwqs-requires
 apply_pwqs-requires c =
     let r = rw (← c.self.view_is) at c.requires in let b = c.self.inside in
     let s = layout_of b.counts b.queues.items in let past = past_of b.entries in let are = c.self.invariant.parts_are in
-    let next = next_effect s b.room b.entries _ c.args.effect c.self.invariant r.is in
-    (s, past, next, c.deref.ensures.value, rw c.deref-2.ensures.value (c.apply_widths-self-inside.ensures s past next are.widths), are.pwqs)
+    let next = next_effect s b.room b.entries _ c.args.effect c.self.invariant r.is in (
+      s,
+      past,
+      next,
+      c.deref.ensures.value,
+      rw c.deref-2.ensures.value (c.apply_widths-self-inside.ensures s past next are.widths),
+      are.pwqs,
+    )
 
 pub apply_pools-requires : goal.apply_pools-requires
 apply_pools-requires c =
     let r = rw (← c.self.view_is) at c.requires in let b = c.self.inside in
     let s = layout_of b.counts b.queues.items in let past = past_of b.entries in let are = c.self.invariant.parts_are in
     let next = next_effect s b.room b.entries _ c.args.effect c.self.invariant r.is in
-    let newly = c.activated.ensures ∙ (c.apply_pwqs.ensures s past next c.deref.ensures.value (rw c.deref-2.ensures.value (c.apply_widths-self-inside.ensures s past next are.widths)) are.pwqs).1 in
+    let newly =
+    c.activated.ensures
+    ∙ (c.apply_pwqs.ensures s past next c.deref.ensures.value
+    (rw c.deref-2.ensures.value (c.apply_widths-self-inside.ensures s past next are.widths)) are.pwqs).1 in
     (s, past, next, c.deref-3.ensures.value, newly, are.pools)
 
 pub apply_books-requires : goal.apply_books-requires

@@ -4,4 +4,8 @@ use Rattle.cmwq_state.proofs.state.State.is_being_destroyed.Goals as goal
 
 pub returns : goal.returns
 returns c = let b = c.self.inside in
-    rw (← c.self.view_is) (c.is_being_destroyed.ensures ∙ (ap (λ (b : TicketBook). any_destroys b.rows c.args.queue.0) c.self.invariant.parts_are.tickets ∙ destroyed_alike (layout_of b.counts b.queues.items) (past_of b.entries) c.args.queue.0 c.self.invariant.legal))
+    rw (← c.self.view_is)
+    (c.is_being_destroyed.ensures
+    ∙ (ap (λ (b : TicketBook). any_destroys b.rows c.args.queue.0) c.self.invariant.parts_are.tickets
+    ∙ destroyed_alike (layout_of b.counts b.queues.items) (past_of b.entries) c.args.queue.0
+    c.self.invariant.legal))

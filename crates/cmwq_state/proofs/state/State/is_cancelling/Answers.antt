@@ -4,4 +4,8 @@ use Rattle.cmwq_state.proofs.state.State.is_cancelling.Goals as goal
 
 pub returns : goal.returns
 returns c = let b = c.self.inside in
-    rw (← c.self.view_is) (c.is_cancelling.ensures ∙ (ap (λ (b : TicketBook). any_cancels b.rows c.args.item.0) c.self.invariant.parts_are.tickets ∙ cancelling_alike (layout_of b.counts b.queues.items) (past_of b.entries) c.args.item.0 c.self.invariant.legal))
+    rw (← c.self.view_is)
+    (c.is_cancelling.ensures
+    ∙ (ap (λ (b : TicketBook). any_cancels b.rows c.args.item.0) c.self.invariant.parts_are.tickets
+    ∙ cancelling_alike (layout_of b.counts b.queues.items) (past_of b.entries) c.args.item.0
+    c.self.invariant.legal))

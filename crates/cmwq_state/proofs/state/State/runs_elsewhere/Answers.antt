@@ -4,4 +4,5 @@ use Rattle.cmwq_state.proofs.state.State.runs_elsewhere.Goals as goal
 
 pub returns-in-None : goal.returns-in-None
 returns-in-None c = let b = c.args.self.now in
-    elsewhere_none b.layout (past_of b.entries) c.args.item.0 c.args.queue.0 c.item_run.ensures.legal (sym c.item_run.ensures.is ∙ c.in-None.is)
+    elsewhere_none b.layout (past_of b.entries) c.args.item.0 c.args.queue.0 c.item_run.ensures.legal
+    (sym c.item_run.ensures.is ∙ c.in-None.is)

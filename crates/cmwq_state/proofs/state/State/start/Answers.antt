@@ -8,5 +8,8 @@ invariant_of-result c =
     let items = c.in_ok-of_items in let flushes = c.in_ok-of_flushes in let queues = c.in_ok-of_queues in
     let books = flushes.ensures.books in
     rw (c.new-entries.ensures, queues.ensures.queues)
-    (book_made s c.args.room items.of_items.pools flushes.of_flushes.books items.of_items.timers items.of_items.serials.items items.of_items.flights flushes.of_flushes.tickets queues.of_queues.gone.items queues.of_queues.pwqs queues.of_queues.most.items
-    c.requires.inside c.requires.few items.ensures.pools books items.ensures.timers items.ensures.serials items.ensures.flights flushes.ensures.tickets queues.ensures.gone queues.ensures.pwqs queues.ensures.most)
+    (book_made s c.args.room items.of_items.pools flushes.of_flushes.books items.of_items.timers
+    items.of_items.serials.items items.of_items.flights flushes.of_flushes.tickets queues.of_queues.gone.items
+    queues.of_queues.pwqs queues.of_queues.most.items
+    c.requires.inside c.requires.few items.ensures.pools books items.ensures.timers items.ensures.serials
+    items.ensures.flights flushes.ensures.tickets queues.ensures.gone queues.ensures.pwqs queues.ensures.most)

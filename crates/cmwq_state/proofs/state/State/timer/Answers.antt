@@ -7,4 +7,7 @@ timer-requires c = let b = c.self.inside in let here = rw (← c.self.view_is) a
 
 pub returns-clause-is : goal.returns-clause-is
 returns-clause-is c = let b = c.self.inside in let here = rw (← c.self.view_is) at c.requires in
-    rw (← c.self.view_is) (c.timer.ensures ∙ (ap (λ (rows : TimerRows). timer_of rows c.args.item.0) c.self.invariant.parts_are.timers ∙ row_at (layout_of b.counts b.queues.items) (past_of b.entries) c.args.item.0 here))
+    rw (← c.self.view_is)
+    (c.timer.ensures
+    ∙ (ap (λ (rows : TimerRows). timer_of rows c.args.item.0) c.self.invariant.parts_are.timers
+    ∙ row_at (layout_of b.counts b.queues.items) (past_of b.entries) c.args.item.0 here))

@@ -11,6 +11,8 @@ pub returns : goal.returns
 returns c s many = record {
   calls = rw (c.in_ok-calls.ensures, c.into.ensures, ← many) (none_tallied by_calling s.callers);
   tickets = rw (c.in_ok-tickets.ensures, c.into-2.ensures, ← many) (none_tallied by_ticket s.callers);
-  longest = rw (c.in_ok-longest.ensures, c.into-3.ensures, ← many) (none_longest by_ticket_ended (ended_wait each_entry) (ended_wait each_tick) s.callers);
+  longest =
+      rw (c.in_ok-longest.ensures, c.into-3.ensures, ← many)
+      (none_longest by_ticket_ended (ended_wait each_entry) (ended_wait each_tick) s.callers);
   givings = c.in_ok-givings.ensures ∙ rw (← many) (sym (none_given s));
 }

@@ -7,6 +7,9 @@ use Rattle.cmwq_summary.proofs.peaks.Peaks.new.Goals as goal
 pub returns : goal.returns
 returns c s many = record {
   open_ones = rw (c.in_ok-open.ensures, ← many) (none_measured open_count_at (most_cpus * length s.queues) none_open);
-  most_open = rw (c.in_ok-most_open.ensures, ← many) (none_measured most_open_at (most_cpus * length s.queues) none_most_open);
-  most_active = rw (c.in_ok-most_active.ensures, ← many) (none_measured (most_active_at s) (most_cpus * length s.queues) (none_most_active s));
+  most_open =
+      rw (c.in_ok-most_open.ensures, ← many) (none_measured most_open_at (most_cpus * length s.queues) none_most_open);
+  most_active =
+      rw (c.in_ok-most_active.ensures, ← many)
+      (none_measured (most_active_at s) (most_cpus * length s.queues) (none_most_active s));
 }

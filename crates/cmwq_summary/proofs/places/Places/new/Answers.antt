@@ -14,6 +14,9 @@ returns c = record {
   starts = rw (c.in_ok-starts.ensures) (none_tallied by_place_started (most_cpus * c.args.queues));
   cancels = rw (c.in_ok-cancels.ensures) (none_tallied by_place_cancelled (most_cpus * c.args.queues));
   openings = rw (c.in_ok-openings.ensures) (none_opened c.args.items);
-  longest = rw (c.in_ok-longest.ensures) (none_longest by_place_started (start_wait each_entry) (start_wait each_tick) (most_cpus * c.args.queues));
-  totals = rw (c.in_ok-totals.ensures) (none_totals by_place_started (start_wait each_entry) (start_wait each_tick) (most_cpus * c.args.queues));
+  longest =
+      rw (c.in_ok-longest.ensures)
+      (none_longest by_place_started (start_wait each_entry) (start_wait each_tick) (most_cpus * c.args.queues));
+  totals = rw (c.in_ok-totals.ensures)
+      (none_totals by_place_started (start_wait each_entry) (start_wait each_tick) (most_cpus * c.args.queues));
 }

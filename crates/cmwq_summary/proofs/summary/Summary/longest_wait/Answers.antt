@@ -23,10 +23,15 @@ returns c =
     let r = rw (← c.self.view_is) at c.requires in let b = c.self.inside in let past = past_of b.entries in
     let callers = c.self.invariant.callers_are in
     let span : c.span.result ≡ behind past = rw (← c.self.view_is) at c.span.ensures.is in
-    let waits : c.waits-waits.result ≡ waits_since (givings_of b.shape past) c.args.caller.0 c.span.result = rw (c.from-caller.ensures, callers.givings) at c.waits-waits.ensures in
+    let waits : c.waits-waits.result ≡ waits_since (givings_of b.shape past) c.args.caller.0 c.span.result =
+    rw (c.from-caller.ensures, callers.givings) at c.waits-waits.ensures in
     let ended : c.of.result ≡ span_at b.callers.longest c.args.caller.0 = rw c.from-caller.ensures at c.of.ensures in
     let unended = unended_waits_are b.shape past c.args.caller.0 c.span.result r span in
     rw (← c.self.view_is) record {
-      entries = ap (λ (x : Span). x.entries) c.longer.ensures ∙ ap₂ max (ap (λ (x : Span). x.entries) ended ∙ callers.longest.each_entries c.args.caller.0 r) (ap (λ (x : Span). x.entries) waits ∙ unended.0);
-      ticks = ap (λ (x : Span). x.ticks) c.longer.ensures ∙ ap₂ max (ap (λ (x : Span). x.ticks) ended ∙ callers.longest.each_ticks c.args.caller.0 r) (ap (λ (x : Span). x.ticks) waits ∙ unended.1);
+      entries = ap (λ (x : Span). x.entries) c.longer.ensures
+          ∙ ap₂ max (ap (λ (x : Span). x.entries) ended ∙ callers.longest.each_entries c.args.caller.0 r)
+          (ap (λ (x : Span). x.entries) waits ∙ unended.0);
+      ticks = ap (λ (x : Span). x.ticks) c.longer.ensures
+          ∙ ap₂ max (ap (λ (x : Span). x.ticks) ended ∙ callers.longest.each_ticks c.args.caller.0 r)
+          (ap (λ (x : Span). x.ticks) waits ∙ unended.1);
     }

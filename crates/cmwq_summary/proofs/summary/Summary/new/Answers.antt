@@ -9,8 +9,10 @@ invariant_of-result c = rw c.new-entries.ensures record {
   soon = omega arith;
   kinds_are = c.in_ok-kinds.ensures;
   items_are = rw (← ap (λ (s : Layout). s.items) c.counts-counts.ensures.counts) (c.in_ok-items.ensures);
-  callers_are = c.in_ok-callers.ensures c.args.shape (sym (ap (λ (s : Layout). s.callers) c.counts-counts.ensures.counts));
+  callers_are =
+      c.in_ok-callers.ensures c.args.shape (sym (ap (λ (s : Layout). s.callers) c.counts-counts.ensures.counts));
   workers_are = rw (← ap (λ (s : Layout). s.cpus) c.counts-counts.ensures.counts) (c.in_ok-workers.ensures);
   peaks_are = c.in_ok-peaks.ensures c.args.shape (sym (ap length c.queues-2.ensures));
-  places_are = rw (← c.queues.ensures, ← ap (λ (s : Layout). s.items) c.counts-counts.ensures.counts) (c.in_ok-places.ensures);
+  places_are =
+      rw (← c.queues.ensures, ← ap (λ (s : Layout). s.items) c.counts-counts.ensures.counts) (c.in_ok-places.ensures);
 }

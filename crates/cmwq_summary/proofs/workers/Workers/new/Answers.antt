@@ -8,5 +8,6 @@ use Rattle.cmwq_summary.proofs.workers.Workers.new.Goals as goal
 pub returns : goal.returns
 returns c = record {
   runs = rw (c.in_ok-runs.ensures, c.from.ensures) (none_tallied by_starter (2 * most_workers * c.args.cpus));
-  activities = rw (c.in_ok-activities.ensures.items_if_clones_equal (λ y same. same), c.from.ensures) (idle_all c.args.cpus);
+  activities =
+      rw (c.in_ok-activities.ensures.items_if_clones_equal (λ y same. same), c.from.ensures) (idle_all c.args.cpus);
 }

@@ -7,4 +7,5 @@ returns g c =
     let first = c.call_at_random.new.context.participant in
     let second = c.call_at_random-2.new.context.participant in
     let third = c.call_at_random-3.new.context.participant in
-    later_trans v second third (later_trans v first second c.call_at_random.ensures c.call_at_random-2.ensures) c.call_at_random-3.ensures
+    later_trans v second third (later_trans v first second c.call_at_random.ensures c.call_at_random-2.ensures)
+    c.call_at_random-3.ensures

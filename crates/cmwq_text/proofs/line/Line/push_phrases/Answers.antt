@@ -6,4 +6,5 @@ use Rattle.cmwq_text.proofs.line.Line.push_phrases.Goals as goal
 pub returns-clause-exact : goal.returns-clause-exact
 returns-clause-exact c =
     let a = c.args in
-    rw (c.push_phrase-2.ensures.exact, c.push_phrase.ensures.exact) (in_a_row a.self.now (phrase a.first (a.number ∷ [])) (phrase a.second a.numbers.now))
+    rw (c.push_phrase-2.ensures.exact, c.push_phrase.ensures.exact)
+    (in_a_row a.self.now (phrase a.first (a.number ∷ [])) (phrase a.second a.numbers.now))

@@ -6,4 +6,6 @@ pub returns : goal.returns
 returns c =
     let inside = c.self.inside in
     let at = rw (c.from.ensures, c.destroys.ensures) at c.has_some.ensures in
-    rw (← c.self.view_is) (at ∙ any_counted is_destroy_of inside.counts.destroys inside.rows.items c.self.invariant.exact.destroys c.args.queue.0)
+    rw (← c.self.view_is)
+    (at ∙ any_counted is_destroy_of inside.counts.destroys inside.rows.items c.self.invariant.exact.destroys
+    c.args.queue.0)

@@ -6,4 +6,6 @@ pub returns : goal.returns
 returns c =
     let inside = c.self.inside in
     let at = rw (c.from.ensures, c.cancels.ensures) at c.has_some.ensures in
-    rw (← c.self.view_is) (at ∙ any_counted is_cancel_sync_of inside.counts.cancels inside.rows.items c.self.invariant.exact.cancels c.args.item.0)
+    rw (← c.self.view_is)
+    (at ∙ any_counted is_cancel_sync_of inside.counts.cancels inside.rows.items c.self.invariant.exact.cancels
+    c.args.item.0)

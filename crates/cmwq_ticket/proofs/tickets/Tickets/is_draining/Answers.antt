@@ -6,4 +6,6 @@ pub returns : goal.returns
 returns c =
     let inside = c.self.inside in
     let at = rw (c.from.ensures, c.drains.ensures) at c.has_some.ensures in
-    rw (← c.self.view_is) (at ∙ any_counted is_drain_of inside.counts.drains inside.rows.items c.self.invariant.exact.drains c.args.queue.0)
+    rw (← c.self.view_is)
+    (at ∙ any_counted is_drain_of inside.counts.drains inside.rows.items c.self.invariant.exact.drains
+    c.args.queue.0)

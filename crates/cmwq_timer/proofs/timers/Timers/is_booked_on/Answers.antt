@@ -8,5 +8,7 @@ pub returns : goal.returns
 returns c =
     let small : c.args.queue.0 < 256 = search rules in
     let counts = c.self.inside.booked.items in
-    let read : c.index.result.now ≡ slice_index counts c.args.queue.0 = get_or_read counts c.args.queue.0 c.index.result.now (rw c.self.invariant.many small) (rw c.from.ensures at c.index.ensures) 0 in
+    let read : c.index.result.now ≡ slice_index counts c.args.queue.0 =
+    get_or_read counts c.args.queue.0 c.index.result.now (rw c.self.invariant.many small)
+    (rw c.from.ensures at c.index.ensures) 0 in
     rw (← c.self.view_is, read) (booked_on c.self.inside.timers counts c.args.queue.0 c.self.invariant small)

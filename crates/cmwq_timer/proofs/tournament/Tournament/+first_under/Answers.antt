@@ -1,6 +1,7 @@
 use Rattle.std.proofs.Common.{arith}
 use Rattle.cmwq_timer.proofs.Under.{above_le, one_row_held, none_due_yet, first_below_more}
-use Rattle.cmwq_timer.proofs.tournament.Tournament.+first_under.Goals.{then-level-eq0-via-then-level-eq0, then-level-eq0-via-else-level-eq0+then-now-soonest}
+use Rattle.cmwq_timer.proofs.tournament.Tournament.+first_under.Goals.{then-level-eq0-via-then-level-eq0}
+use Rattle.cmwq_timer.proofs.tournament.Tournament.+first_under.Goals.{then-level-eq0-via-else-level-eq0+then-now-soonest}
 use Rattle.cmwq_timer.proofs.tournament.Tournament.+first_under.Goals as goal
 
 pub returns-then-level-eq0 : goal.returns-then-level-eq0

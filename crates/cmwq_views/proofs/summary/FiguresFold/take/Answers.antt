@@ -12,4 +12,6 @@ add-requires c =
     })
 
 pub returns : goal.returns
-returns c = rw (c.add.ensures, c.effect-effect.ensures.effect) (is_after c.args.step.now c.args.self.now.summary c.requires c.effect-effect.ensures.next)
+returns c =
+    rw (c.add.ensures, c.effect-effect.ensures.effect)
+    (is_after c.args.step.now c.args.self.now.summary c.requires c.effect-effect.ensures.next)
