@@ -11,7 +11,9 @@ ghost use Rattle.cmwq_text.specs.ShapeText.{queue_text};
 use crate::refusal::Refusal;
 use cmwq_io::{Sink, WriteFault, write_all};
 use cmwq_model::{Entry, QueueShape, Shape};
-use cmwq_text::{Line, counts_line, end_line, needs_end, queue_line, spell_entry, version_line};
+use cmwq_text::{
+    LineText, counts_line, end_line, needs_end, queue_line, spell_entry, version_line,
+};
 
 /// Writes the line of an entry. Takes no memory.
 ///
@@ -25,7 +27,7 @@ pub fn write_entry<W: Sink>(sink: &mut W, entry: &Entry) -> Result<(), Refusal>
     ensures grown { W.troubles sink.old ≤ W.troubles sink.new }
     ensures fault { OnErr result (Rises (W.troubles sink.old) (W.troubles sink.new)) }
 {
-    let mut line = Line::new();
+    let mut line = LineText::new();
     spell_entry(&mut line, entry);
     write_all(sink, line.as_bytes())?;
     Ok(())

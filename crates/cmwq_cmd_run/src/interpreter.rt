@@ -10,7 +10,7 @@ ghost use Rattle.cmwq_json_script.specs.declared.action.Action.TheVariants as ac
 ghost use Rattle.cmwq_cmd_run.specs.Interpreted.{Acts, ActInTurn, SleepsOnce};
 ghost use Rattle.cmwq_cmd_run.specs.Run.{IsNamed};
 
-use crate::refusals::{Place, Refusals, RefusedWaits};
+use crate::refusals::{ActionId, Refusals, RefusedWaits};
 use cmwq_json_script::Action;
 use cmwq_model::{Call, ItemId, Reply};
 use cmwq_rt::{Gate, Gates, HubName, RunCtx, RunFault, WaitFault, Work};
@@ -81,7 +81,7 @@ impl<'a> Interpreter<'a> {
     fn unless_refused<R: Wait>(
         &self,
         rt: &R,
-        place: Place,
+        place: ActionId,
         answer: Result<Reply, WaitFault>,
     ) -> Result<(), RunFault>
         ensures passes { IfOk result (λ _. IfErr answer (λ f. (is_refusal f ≡ true) ⊎ (f ≡ waits.Run Full))) }
@@ -107,7 +107,7 @@ impl<'a> Interpreter<'a> {
     fn call<N: HubName, R: Wait>(
         &self,
         context: &mut RunCtx<N, R>,
-        place: Place,
+        place: ActionId,
         call: Call,
     ) -> Result<(), RunFault>
         requires { context.old.fault ≡ None }
@@ -150,7 +150,7 @@ impl<'a> Interpreter<'a> {
     fn act<N: HubName, R: Wait>(
         &self,
         context: &mut RunCtx<N, R>,
-        place: Place,
+        place: ActionId,
         action: Action,
     ) -> Result<(), RunFault>
         requires { context.old.fault ≡ None }
@@ -184,7 +184,7 @@ impl<'a> Interpreter<'a> {
         ensures broke { IfErr result (λ f. context.new.fault ≡ Some f) }
     {
         for k in 0..actions.len() {
-            self.act(context, Place { item, action: k }, actions[k])?;
+            self.act(context, ActionId { item, action: k }, actions[k])?;
         }
         Ok(())
     }

@@ -14,7 +14,7 @@ type ItemName = ArrayString<16>;
 
 /// An action of an item, by the numbers of both.
 #[derive(Clone, Copy, Debug)]
-pub struct Place {
+pub struct ActionId {
     pub item: ItemId,
     pub action: usize,
 }
@@ -22,7 +22,7 @@ pub struct Place {
 /// The first wait that was refused, if any was, and how many were.
 #[derive(Clone, Copy, Drop)]
 struct Tally {
-    first: Option<(Place, WaitFault)>,
+    first: Option<(ActionId, WaitFault)>,
     count: u64,
 }
 
@@ -44,7 +44,7 @@ impl Refusals {
     }
 
     /// One more, by the action at this place.
-    pub fn add<R: Wait>(&self, rt: &R, place: Place, fault: WaitFault) {
+    pub fn add<R: Wait>(&self, rt: &R, place: ActionId, fault: WaitFault) {
         let mut tally = self.tally.lock(rt);
         if tally.first.is_none() {
             tally.first = Some((place, fault));

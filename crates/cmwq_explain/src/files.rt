@@ -6,7 +6,7 @@ use crate::form::{Form, Reader};
 use crate::head::{Input, tell_first_queue, tell_shape};
 use crate::kept::MOST_KEPT;
 use crate::looks::tell_bytes;
-use crate::place::{Place, line_of, stage_before};
+use crate::place::{InputLine, line_of, stage_before};
 use crate::rooms::{tell_long, tell_no_room};
 use crate::shapes::{Sizes, tell_misfit};
 use crate::text::Text;
@@ -158,12 +158,12 @@ fn tell_end<T: FileLine + Drop>(
 /// Tells what is wrong with a line, by what stands before it.
 fn tell_place<T: FileLine + Drop>(
     text: &mut Text,
-    place: Place<'_>,
+    place: InputLine<'_>,
     stage: &Stage<Listed<T>>,
     input: Input,
     word: &str,
 ) {
-    let Place { number, bytes, .. } = place;
+    let InputLine { number, bytes, .. } = place;
     if let Stage::Ended { .. } = stage {
         text.place(number, 0);
         text.say("nothing may stand after the last line");

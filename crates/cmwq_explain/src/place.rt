@@ -6,7 +6,7 @@ use std::alloc::Global;
 
 /// A line of an input: its bytes, where it begins, and whether a line feed ends it.
 #[derive(Clone, Copy)]
-pub struct Place<'a> {
+pub struct InputLine<'a> {
     pub number: u64,
     pub start: usize,
     pub bytes: &'a [u8],
@@ -14,17 +14,17 @@ pub struct Place<'a> {
 }
 
 /// The bytes of a line that begins here.
-fn line_from(number: u64, bytes: &[u8], start: usize) -> Option<Place<'_>> {
+fn line_from(number: u64, bytes: &[u8], start: usize) -> Option<InputLine<'_>> {
     let rest = bytes.get(start..)?;
     match rest.iter().position(|byte| *byte == b'\n') {
-        Some(end) => Some(Place {
+        Some(end) => Some(InputLine {
             number,
             start,
             bytes: rest.get(..end)?,
             is_ended: true,
         }),
         None if rest.is_empty() => None,
-        None => Some(Place {
+        None => Some(InputLine {
             number,
             start,
             bytes: rest,
@@ -34,7 +34,7 @@ fn line_from(number: u64, bytes: &[u8], start: usize) -> Option<Place<'_>> {
 }
 
 /// The line of an input with this number, from 1. None: it ends before that.
-pub fn line_of(bytes: &[u8], number: u64) -> Option<Place<'_>> {
+pub fn line_of(bytes: &[u8], number: u64) -> Option<InputLine<'_>> {
     let mut count = 1u64;
     let mut start = 0usize;
     for (at, byte) in bytes.iter().enumerate() {

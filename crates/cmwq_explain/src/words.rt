@@ -7,26 +7,26 @@ pub type Built = ArrayVec<u8, 512>;
 
 /// Where a word begins, and where it ends.
 #[derive(Clone, Copy)]
-pub struct Span {
+pub struct WordSpan {
     pub start: usize,
     pub end: usize,
 }
 
 /// Where a word of a line stands. There is one more than there are spaces.
-pub fn span_of(line: &[u8], index: usize) -> Option<Span> {
+pub fn span_of(line: &[u8], index: usize) -> Option<WordSpan> {
     let mut start = 0usize;
     let mut number = 0usize;
     for (at, byte) in line.iter().enumerate() {
         if *byte == b' ' {
             if number == index {
-                return Some(Span { start, end: at });
+                return Some(WordSpan { start, end: at });
             }
             number = number.saturating_add(1);
             start = at.saturating_add(1);
         }
     }
     if number == index {
-        Some(Span {
+        Some(WordSpan {
             start,
             end: line.len(),
         })

@@ -15,7 +15,7 @@ pub enum Grammar {
 
 /// An object of an input.
 #[derive(Clone, Copy, PartialEq, Eq)]
-pub enum Place {
+pub enum ObjectKind {
     Top,
     Queue,
     Item,
@@ -58,14 +58,14 @@ const SCENARIO_ITEM: [Member; 3] = [("name", "\"i\""), ("queue", "\"q\""), ("ms"
 
 impl Grammar {
     /// The members of an object, in the order in which they are read.
-    pub fn members(self, place: Place) -> &'static [Member] {
+    pub fn members(self, place: ObjectKind) -> &'static [Member] {
         match (self, place) {
-            (Grammar::Script, Place::Top) => &SCRIPT,
-            (Grammar::Script, Place::Queue) => &SCRIPT_QUEUE,
-            (Grammar::Script, Place::Item) => &SCRIPT_ITEM,
-            (Grammar::Scenario, Place::Top) => &SCENARIO,
-            (Grammar::Scenario, Place::Queue) => &SCENARIO_QUEUE,
-            (Grammar::Scenario, Place::Item) => &SCENARIO_ITEM,
+            (Grammar::Script, ObjectKind::Top) => &SCRIPT,
+            (Grammar::Script, ObjectKind::Queue) => &SCRIPT_QUEUE,
+            (Grammar::Script, ObjectKind::Item) => &SCRIPT_ITEM,
+            (Grammar::Scenario, ObjectKind::Top) => &SCENARIO,
+            (Grammar::Scenario, ObjectKind::Queue) => &SCENARIO_QUEUE,
+            (Grammar::Scenario, ObjectKind::Item) => &SCENARIO_ITEM,
         }
     }
 

@@ -1,6 +1,6 @@
 //! Limits of numbers and of lengths, found by trying which a reader takes.
 
-use crate::grammar::Place;
+use crate::grammar::ObjectKind;
 use crate::objects::World;
 use crate::values::Json;
 use itoa::Buffer;
@@ -21,7 +21,7 @@ impl World<'_> {
     /// Whether an object is taken with this number.
     pub fn fits_number(
         self,
-        place: Place,
+        place: ObjectKind,
         key: &str,
         trial: Trial<'_>,
         number: u64,
@@ -47,7 +47,7 @@ impl World<'_> {
     /// The greatest number up to `high` that is taken, where 1 is.
     pub fn greatest(
         self,
-        place: Place,
+        place: ObjectKind,
         key: &str,
         trial: Trial<'_>,
         high: u64,
@@ -66,7 +66,7 @@ impl World<'_> {
     }
 
     /// The least number that is taken, up to 3.
-    pub fn least(self, place: Place, key: &str, trial: Trial<'_>) -> Result<u64, AllocError> {
+    pub fn least(self, place: ObjectKind, key: &str, trial: Trial<'_>) -> Result<u64, AllocError> {
         for number in 0..3u64 {
             if self.fits_number(place, key, trial, number)? {
                 return Ok(number);

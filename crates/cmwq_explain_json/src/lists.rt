@@ -1,7 +1,7 @@
 //! Lists: those of the top, the parts of an item of a scenario, and the actions of an item of a script.
 
 use crate::calls::{CallSite, Maker, tell_call, tell_count};
-use crate::grammar::{Grammar, Place};
+use crate::grammar::{Grammar, ObjectKind};
 use crate::limits::Trial;
 use crate::members::{Path, say_limit, say_value};
 use crate::objects::World;
@@ -13,7 +13,7 @@ use std::alloc::AllocError;
 pub fn tell_list(
     text: &mut Text,
     world: World<'_>,
-    place: Place,
+    place: ObjectKind,
     path: Path<'_>,
     key: &str,
     value: &Value,
@@ -28,9 +28,9 @@ pub fn tell_list(
         return Ok(true);
     };
     match (place, world.grammar) {
-        (Place::Item, Grammar::Scenario) => tell_parts(text, world, path, key, list),
-        (Place::Item, Grammar::Script) => tell_actions(text, world, path, list),
-        (Place::Top | Place::Queue, _) => Ok(false),
+        (ObjectKind::Item, Grammar::Scenario) => tell_parts(text, world, path, key, list),
+        (ObjectKind::Item, Grammar::Script) => tell_actions(text, world, path, list),
+        (ObjectKind::Top | ObjectKind::Queue, _) => Ok(false),
     }
 }
 
@@ -49,7 +49,7 @@ fn tell_parts(
     for (index, part) in parts.iter().enumerate() {
         let number = part.as_u64();
         let fits = match number {
-            Some(number) => world.fits_number(Place::Item, key, Trial::Element, number)?,
+            Some(number) => world.fits_number(ObjectKind::Item, key, Trial::Element, number)?,
             None => false,
         };
         if !fits {
@@ -59,7 +59,14 @@ fn tell_parts(
             text.say(": ");
             say_value(text, world, part)?;
             match number {
-                Some(number) => say_limit(text, world, Place::Item, key, Trial::Element, number)?,
+                Some(number) => say_limit(
+                    text,
+                    world,
+                    ObjectKind::Item,
+                    key,
+                    Trial::Element,
+                    number,
+                )?,
                 None => text.say(" is no whole number"),
             }
             return Ok(true);
@@ -78,7 +85,7 @@ fn tell_length(
     length: usize,
 ) -> Result<bool, AllocError> {
     let count = length as u64;
-    if world.fits_number(Place::Item, key, Trial::Count(sample), count)? {
+    if world.fits_number(ObjectKind::Item, key, Trial::Count(sample), count)? {
         return Ok(false);
     }
     path.say(text);
@@ -87,7 +94,14 @@ fn tell_length(
     text.say(": ");
     text.number(count);
     text.say(" of them");
-    say_limit(text, world, Place::Item, key, Trial::Count(sample), count)?;
+    say_limit(
+        text,
+        world,
+        ObjectKind::Item,
+        key,
+        Trial::Count(sample),
+        count,
+    )?;
     Ok(true)
 }
 

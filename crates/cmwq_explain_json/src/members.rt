@@ -1,6 +1,6 @@
 //! The first member of an object that is wrong.
 
-use crate::grammar::{Member, Place};
+use crate::grammar::{Member, ObjectKind};
 use crate::limits::Trial;
 use crate::lists::tell_list;
 use crate::names::say_names;
@@ -31,7 +31,7 @@ impl Path<'_> {
 pub fn tell_object(
     text: &mut Text,
     world: World<'_>,
-    place: Place,
+    place: ObjectKind,
     path: Path<'_>,
     value: &Value,
 ) -> Result<bool, AllocError> {
@@ -80,7 +80,7 @@ fn keys_of<'k>(
 fn tell_key(
     text: &mut Text,
     world: World<'_>,
-    place: Place,
+    place: ObjectKind,
     path: Path<'_>,
     value: &Value,
 ) -> Result<bool, AllocError> {
@@ -105,7 +105,7 @@ fn tell_key(
 fn tell_missing(
     text: &mut Text,
     world: World<'_>,
-    place: Place,
+    place: ObjectKind,
     path: Path<'_>,
     value: &Value,
 ) -> Result<bool, AllocError> {
@@ -125,7 +125,7 @@ fn tell_missing(
 fn tell_member(
     text: &mut Text,
     world: World<'_>,
-    place: Place,
+    place: ObjectKind,
     path: Path<'_>,
     member: Member,
     found: &Value,
@@ -164,7 +164,7 @@ fn is_number(sample: &str) -> bool {
 pub fn say_limit(
     text: &mut Text,
     world: World<'_>,
-    place: Place,
+    place: ObjectKind,
     key: &str,
     trial: Trial<'_>,
     number: u64,
@@ -184,14 +184,14 @@ pub fn say_limit(
 fn say_wanted(
     text: &mut Text,
     world: World<'_>,
-    place: Place,
+    place: ObjectKind,
     member: Member,
     found: &Value,
 ) -> Result<(), AllocError> {
     let (key, sample) = member;
     match sample {
         "true" => text.say(": expected is true or false"),
-        "\"q\"" if place == Place::Item => {
+        "\"q\"" if place == ObjectKind::Item => {
             text.say(": there is no such queue");
             let names = names_in(world, "queues")?;
             say_names(text, names.as_slice(), found.as_str().unwrap_or(""));

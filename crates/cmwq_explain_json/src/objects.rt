@@ -1,6 +1,6 @@
 //! Whole inputs round one object of them, and whether they are taken.
 
-use crate::grammar::{Grammar, Place};
+use crate::grammar::{Grammar, ObjectKind};
 use crate::values::Json;
 use serde_json::Value;
 use std::alloc::{AllocError, Global};
@@ -16,9 +16,9 @@ pub struct World<'a> {
 impl World<'_> {
     /// Whether an object is taken at its place with this value at a key, and else with the values of a sample; of the
     /// top with the numbers of the whole before the key.
-    pub fn fits(self, place: Place, key: &str, value: &str) -> Result<bool, AllocError> {
+    pub fn fits(self, place: ObjectKind, key: &str, value: &str) -> Result<bool, AllocError> {
         let mut json = Json::new(self.alloc);
-        if place == Place::Top {
+        if place == ObjectKind::Top {
             self.put_top(&mut json, key, value);
         } else {
             self.put_with_object(&mut json, place, key, Some(value));
@@ -27,9 +27,9 @@ impl World<'_> {
     }
 
     /// Whether an object is refused without a key, with the values of a sample.
-    pub fn needs(self, place: Place, key: &str) -> Result<bool, AllocError> {
+    pub fn needs(self, place: ObjectKind, key: &str) -> Result<bool, AllocError> {
         let mut json = Json::new(self.alloc);
-        if place == Place::Top {
+        if place == ObjectKind::Top {
             self.put_with_lists(&mut json, key);
         } else {
             self.put_with_object(&mut json, place, key, None);
@@ -40,7 +40,7 @@ impl World<'_> {
     /// Puts the top of a sample without a key.
     fn put_with_lists(self, json: &mut Json, key: &str) {
         json.put("{");
-        for (name, sample) in self.grammar.members(Place::Top) {
+        for (name, sample) in self.grammar.members(ObjectKind::Top) {
             if *name != key {
                 self.put_sample(json, name, sample);
             }
@@ -62,7 +62,7 @@ impl World<'_> {
     fn put_top(self, json: &mut Json, key: &str, value: &str) {
         let mut is_before = true;
         json.put("{");
-        for (name, sample) in self.grammar.members(Place::Top) {
+        for (name, sample) in self.grammar.members(ObjectKind::Top) {
             if *name == key {
                 is_before = false;
                 json.put_member(name, value);
@@ -99,9 +99,9 @@ impl World<'_> {
 
     /// Puts a sample with an object at its place, which has another value at one key, or lacks that where there is
     /// none; where its queue is tried, with the queues of the whole.
-    fn put_with_object(self, json: &mut Json, place: Place, key: &str, value: Option<&str>) {
+    fn put_with_object(self, json: &mut Json, place: ObjectKind, key: &str, value: Option<&str>) {
         json.put("{");
-        for (name, sample) in self.grammar.members(Place::Top) {
+        for (name, sample) in self.grammar.members(ObjectKind::Top) {
             if place_of(name) == Some(place) {
                 json.put_key(name);
                 json.put("[");
@@ -141,10 +141,10 @@ impl World<'_> {
 }
 
 /// What the objects are of the list at a key of the top.
-fn place_of(name: &str) -> Option<Place> {
+fn place_of(name: &str) -> Option<ObjectKind> {
     match name {
-        "queues" => Some(Place::Queue),
-        "items" => Some(Place::Item),
+        "queues" => Some(ObjectKind::Queue),
+        "items" => Some(ObjectKind::Item),
         _ => None,
     }
 }

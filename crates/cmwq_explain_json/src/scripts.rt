@@ -2,7 +2,7 @@
 
 use crate::calls::{CallSite, Maker, any_waits, tell_call, tell_count};
 use crate::gates::tell_gates;
-use crate::grammar::Place;
+use crate::grammar::ObjectKind;
 use crate::members::{Path, say_value, tell_object};
 use crate::objects::World;
 use cmwq_explain::Text;
@@ -18,12 +18,12 @@ pub fn tell_refused(text: &mut Text, world: World<'_>, refused: Refused) -> Resu
                 list: "top",
                 index: 0,
             };
-            let _told = tell_object(text, world, Place::Top, path, world.whole)?;
+            let _told = tell_object(text, world, ObjectKind::Top, path, world.whole)?;
             return Ok(());
         }
-        Part::Queues => ("queues", Place::Queue),
-        Part::Items => ("items", Place::Item),
-        Part::Callers => ("callers", Place::Top),
+        Part::Queues => ("queues", ObjectKind::Queue),
+        Part::Items => ("items", ObjectKind::Item),
+        Part::Callers => ("callers", ObjectKind::Top),
     };
     let path = Path {
         list,
@@ -47,12 +47,12 @@ pub fn tell_refused(text: &mut Text, world: World<'_>, refused: Refused) -> Resu
 fn tell_member(
     text: &mut Text,
     world: World<'_>,
-    place: Place,
+    place: ObjectKind,
     path: Path<'_>,
     members: &[Value],
     member: &Value,
 ) -> Result<(), AllocError> {
-    let is_told = if place == Place::Top {
+    let is_told = if place == ObjectKind::Top {
         tell_caller(text, world, path, member)?
     } else {
         tell_object(text, world, place, path, member)? || tell_twice(text, path, members, member)
@@ -61,7 +61,7 @@ fn tell_member(
         path.say(text);
         text.say(": one too many; at most ");
         text.number(path.index as u64);
-        if place == Place::Top {
+        if place == ObjectKind::Top {
             say_waits(text, world);
         }
     }

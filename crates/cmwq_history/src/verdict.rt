@@ -8,9 +8,9 @@ ghost use Rattle.cmwq_history.specs.Verdicts.{check_status, verdict_line_text};
 
 use crate::told::refusal_status;
 use cmwq_base::{Illegal, Refusal, Sink, flush_all, write_all};
-use cmwq_text::{Line, illegal_line, legal_line};
+use cmwq_text::{LineText, illegal_line, legal_line};
 
-fn verdict_line(entries: u64, illegal: Option<Illegal>) -> Line
+fn verdict_line(entries: u64, illegal: Option<Illegal>) -> LineText
     ensures { result ≡ verdict_line_text entries illegal }
 {
     match illegal {

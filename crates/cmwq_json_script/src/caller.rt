@@ -69,7 +69,7 @@ fn add_caller(
 }
 
 /// The callers in turn, or the place of the first that is refused.
-fn read_in_turn(
+fn add_callers(
     alloc: Global,
     most: usize,
     names: &Names,
@@ -102,7 +102,7 @@ pub fn read_callers(
         part: Part::Callers,
         index,
     };
-    match read_in_turn(alloc, most, names, values)? {
+    match add_callers(alloc, most, names, values)? {
         Ok(callers) if callers.is_empty() => Ok(Err(refuse(0))),
         Ok(callers) => Ok(Ok(callers)),
         Err(index) => Ok(Err(refuse(index))),

@@ -63,7 +63,7 @@ fn add_item(
 }
 
 /// The items in turn, or the place of the first that is refused.
-fn read_in_turn(
+fn add_items(
     alloc: Global,
     most: usize,
     names: &Names,
@@ -100,7 +100,7 @@ pub fn read_items(
         part: Part::Items,
         index,
     };
-    match read_in_turn(alloc, most, names, values)? {
+    match add_items(alloc, most, names, values)? {
         Ok(items) if items.members.values.is_empty() => Ok(Err(refuse(0))),
         Ok(items) => Ok(Ok(items)),
         Err(index) => Ok(Err(refuse(index))),

@@ -72,7 +72,7 @@ fn add_queue(
 }
 
 /// The queues in turn, or the place of the first that is refused.
-fn read_in_turn(
+fn add_queues(
     alloc: Global,
     most: usize,
     values: &[Value],
@@ -103,7 +103,7 @@ pub fn read_queues(
         part: Part::Queues,
         index,
     };
-    match read_in_turn(alloc, most, values)? {
+    match add_queues(alloc, most, values)? {
         Ok(queues) if queues.values.is_empty() => Ok(Err(refuse(0))),
         Ok(queues) => Ok(Ok(queues)),
         Err(index) => Ok(Err(refuse(index))),

@@ -1,4 +1,4 @@
-//! What a hub keeps under its lock: the Book, the published history, the ledger of entries, and who sleeps.
+//! What a hub keeps under its lock: the execution, the published history, the ledger of entries, and who sleeps.
 ghost use Rattle.std.specs.Prelude.{◌≡◌, ◌≤◌, ◌<◌, ◌+◌, ◌++◌, ◌∷◌, [], drop, length, OnErr, true, false, IsTrue, IfOk};
 ghost use Rattle.std.specs.Prelude.{IfErr, IfSome, MatchOption, MatchBool, Some, None};
 ghost use Rattle.cmwq_model.specs.declared.call.Call.{Call};
@@ -32,7 +32,7 @@ use std::sync::{Wait, ledger};
 /// How many timers are fired in one hold of the lock, at most.
 pub const MOST_FIRES: u16 = 128;
 
-/// What a hub keeps under its lock. Contracts see its history, which is legal and is the Book's and the published one,
+/// What a hub keeps under its lock. Contracts see its history, which is legal and is the execution's and the published one,
 /// whether it is closed, and whether it has failed.
 pub struct Monitor<N: HubName> {
     shape: Shape,
@@ -89,7 +89,7 @@ impl<N: HubName> Monitor<N> {
         }
     }
 
-    /// Makes the entry that was planned: it is published, then it is the Book's, and its participant has seen it.
+    /// Makes the entry that was planned: it is published, then the execution makes it, and its participant has seen it.
     #[inline(always)]
     fn make<R: Wait>(
         &mut self,

@@ -6,7 +6,7 @@ use crate::log::{Head, Length, Log, Token};
 use crate::name::HubName;
 use crate::prefix::Prefix;
 use crate::publisher::Publisher;
-use crate::publishing::put_out;
+use crate::publishing::publish_mark;
 use crate::reader::Readers;
 use crate::versions::{BitsReader, BitsWriter, Notes, Publish, Versions};
 use cmwq_model::{NoMemory, Shape};
@@ -62,7 +62,7 @@ fn opened_writer<R: Wait>(
         len: 0,
         seen: seen.again(),
     };
-    if put_out(rt, &mut writer, nothing).is_err() {
+    if publish_mark(rt, &mut writer, nothing).is_err() {
         writer.take(rt);
         return Err(NoMemory);
     }

@@ -6,7 +6,7 @@ ghost use Rattle.cmwq_publish.specs.Published.{IsOut};
 use crate::log::Head;
 use crate::name::HubName;
 use crate::prefix::Prefix;
-use crate::publishing::put_out;
+use crate::publishing::publish_mark;
 use crate::versions::{BitsWriter, Publish};
 use cmwq_model::{CallerId, Mark, NoMemory, Who};
 use std::marker::Model;
@@ -84,7 +84,7 @@ impl<N: HubName> Publisher<N> {
                 len: prefix.len(),
                 seen: prefix.token(),
             };
-            let Ok(()) = put_out(rt, &mut self.writer, publish) else {
+            let Ok(()) = publish_mark(rt, &mut self.writer, publish) else {
                 return Err(NoMemory);
             };
         }

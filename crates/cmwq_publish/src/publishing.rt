@@ -11,7 +11,7 @@ use std::sync::Wait;
 
 // Readers see the bits that the mark leaves, or that they saw before.
 #[inline(always)]
-pub(crate) fn put_out<R: Wait>(
+pub(crate) fn publish_mark<R: Wait>(
     rt: &R,
     writer: &mut BitsWriter,
     mark: Publish,

@@ -1,4 +1,4 @@
-//! A hub: the Book shared by threads. Callers make calls, workers run what is queued, and all of it stands in one
+//! A hub: an execution shared by threads. Callers make calls, workers run what is queued, and all of it stands in one
 //! history.
 //!
 //! Whoever uses a hub needs this crate alone: it passes on the types of calls, entries and shapes, and `check` with its

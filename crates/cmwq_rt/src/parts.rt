@@ -79,7 +79,7 @@ fn copies_of(alloc: Global, shape: &Shape) -> Result<(Shape, Shape), NoMemory>
 }
 
 impl HubParts {
-    /// The Book, the published history with a reader for each caller, a condvar for each caller and worker, and the
+    /// The execution, the published history with a reader for each caller, a condvar for each caller and worker, and the
     /// ledger of entries.
     ///
     /// # Errors

@@ -4,7 +4,7 @@ use Rattle.cmwq_sim.specs.declared.scenario.SimQueue.{SimQueue}
 use Rattle.cmwq_sim.specs.declared.scenario.SimItem.{SimItem}
 use Rattle.cmwq_sim.specs.declared.scenario.Scenario.{Scenario}
 use Rattle.cmwq_sim.specs.declared.scenario.LineKind.{LineKind}
-use Rattle.cmwq_sim.specs.declared.scenario.Line.{Line}
+use Rattle.cmwq_sim.specs.declared.scenario.TableLine.{TableLine}
 
 -- an item with its queue, and its burns and sleeps in turn
 pub record Item : Type 0 where
@@ -27,7 +27,7 @@ pub record Event : Type 0 where
   pub kind : LineKind
   pub items : List ℕ
 
-abbrev pub event_of : Line → Event
+abbrev pub event_of : TableLine → Event
 event_of l = record { at = l.at; kind = l.kind; items = l.items.items }
 
 -- what stands for what the plan doesn't have

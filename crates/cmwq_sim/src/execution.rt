@@ -15,7 +15,7 @@ ghost use Rattle.cmwq_sim.specs.Takers.{IsTaker, NoTaker};
 ghost use Rattle.cmwq_sim.specs.Standing.{moment_in, Stands, StandsAt, started_one, starts_lines, LessFirst};
 ghost use Rattle.cmwq_sim.specs.Rooms.{IsRoomy};
 
-use crate::scenario::{Line, LineKind, Scenario, SimQueue};
+use crate::scenario::{LineKind, Scenario, SimQueue, TableLine};
 use crate::times::{item_count, part_at, queue_of, whole_time};
 use cmwq_core::Book;
 use cmwq_model::{
@@ -48,7 +48,7 @@ struct Execution {
     cpu: Vec<Running>,
     sleeping: Vec<Asleep>,
     slots: [u8; 8],
-    lines: Vec<Line>,
+    lines: Vec<TableLine>,
 }
 
 const POOL: PoolId = PoolId {
@@ -76,7 +76,7 @@ fn call(book: &mut Book, who: Who, call: Call)
 
 fn tell(
     alloc: Global,
-    lines: &mut Vec<Line>,
+    lines: &mut Vec<TableLine>,
     at: u32,
     kind: LineKind,
     item: u8,
@@ -86,16 +86,16 @@ fn tell(
 {
     let mut items = Vec::new(alloc);
     items.push(item)?;
-    lines.push(Line { at, kind, items })?;
+    lines.push(TableLine { at, kind, items })?;
     Ok(())
 }
 
 /// One line for all that start.
-fn tell_starts(lines: &mut Vec<Line>, at: u32, items: Vec<u8>) -> Result<(), AllocError>
+fn tell_starts(lines: &mut Vec<TableLine>, at: u32, items: Vec<u8>) -> Result<(), AllocError>
     ensures { OnOk result (map event_of lines.new.items ≡ map event_of lines.old.items ++ starts_lines at items.items) }
 {
     if !items.is_empty() {
-        lines.push(Line {
+        lines.push(TableLine {
             at,
             kind: LineKind::Starts,
             items,
@@ -402,7 +402,7 @@ impl Execution {
     }
 
     /// Each millisecond, until all items have ended. The lines are handed out.
-    fn run(&mut self, alloc: Global, scenario: &Scenario) -> Result<Vec<Line>, NoMemory>
+    fn run(&mut self, alloc: Global, scenario: &Scenario) -> Result<Vec<TableLine>, NoMemory>
         requires { StandsAt (plan_of scenario.now) self.old (lines.queued_at_first (plan_of scenario.now)) }
         ensures { IfOk result (λ told. map event_of told.items ≡ lines.scenario_lines (plan_of scenario.now)) }
     {
@@ -415,7 +415,7 @@ impl Execution {
 
 /// The lines of a scenario: what befalls its items on one CPU with a pool of eight workers, until all have ended. The
 /// error says that memory ran out.
-pub fn replay(alloc: Global, scenario: &Scenario) -> Result<Vec<Line>, NoMemory>
+pub fn replay(alloc: Global, scenario: &Scenario) -> Result<Vec<TableLine>, NoMemory>
     requires { IsWithinLimits (plan_of scenario.now) }
     ensures { IfOk result (λ told. map event_of told.items ≡ lines.scenario_lines (plan_of scenario.now)) }
 {

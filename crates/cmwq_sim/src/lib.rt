@@ -10,7 +10,7 @@ mod times;
 
 pub use execution::replay;
 pub use laws::{all_items_end, each_ends_once};
-pub use scenario::{Line, LineKind, Scenario, SimItem, SimQueue};
+pub use scenario::{LineKind, Scenario, SimItem, SimQueue, TableLine};
 pub use tables::{
     tables_with_intensive, tables_with_one_active, tables_with_three_active, tables_with_two_active,
 };

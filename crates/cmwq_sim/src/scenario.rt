@@ -31,7 +31,7 @@ pub enum LineKind {
 
 /// A line of the table.
 #[derive(Debug, Drop)]
-pub struct Line {
+pub struct TableLine {
     pub at: u32,
     pub kind: LineKind,
     pub items: Vec<u8>,

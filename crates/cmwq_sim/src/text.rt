@@ -5,7 +5,7 @@ ghost use Rattle.std.specs.List.{flat_map};
 ghost use Rattle.cmwq_sim.specs.Plan.{event_of};
 ghost use Rattle.cmwq_sim.specs.Text as spec;
 
-use crate::scenario::{Line, LineKind};
+use crate::scenario::{LineKind, TableLine};
 use itoa::Buffer;
 use std::alloc::{AllocError, Global};
 
@@ -54,7 +54,7 @@ fn deed_text(kind: LineKind, many: bool) -> &'static str
     }
 }
 
-fn push_line(text: &mut String, names: &[String], line: &Line) -> Result<(), AllocError>
+fn push_line(text: &mut String, names: &[String], line: &TableLine) -> Result<(), AllocError>
     ensures { OnOk result
         (string_bytes text.new ≡ string_bytes text.old
         ++ spec.event_text (map string_bytes names.now) (event_of line.now)) }
@@ -69,7 +69,11 @@ fn push_line(text: &mut String, names: &[String], line: &Line) -> Result<(), All
 
 /// The table of lines, with the items' names: a heading, and then a line for each. What has no name is spelled as
 /// nothing.
-pub fn spell_lines(alloc: Global, names: &[String], lines: &[Line]) -> Result<String, AllocError>
+pub fn spell_lines(
+    alloc: Global,
+    names: &[String],
+    lines: &[TableLine],
+) -> Result<String, AllocError>
     ensures { IfOk result
         (λ text. string_bytes text ≡ spec.lines_text (map string_bytes names.now) (map event_of lines.now)) }
 {

@@ -1,6 +1,6 @@
 use cmwq_model::{Booking, Entry, ItemId, Queueing, Ticket};
 
-/// An entry, with what it does to what stands: found once, and applied to each part.
+/// An entry, with what it does to what stands. `effect_of` finds it, and each part of the state is given what it needs.
 #[derive(Clone, Copy)]
 pub struct Effect {
     pub entry: Entry,

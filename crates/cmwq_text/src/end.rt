@@ -2,7 +2,7 @@
 ghost use Rattle.std.specs.Prelude.{◌≡◌};
 ghost use Rattle.cmwq_text.specs.EndText.{end_text, end_of};
 
-use crate::line::Line;
+use crate::line::LineText;
 use crate::word::{Words, wide_in};
 
 /// How many entries the last line of a history says, without its line feed. None: it is no such line, or the number is
@@ -19,10 +19,10 @@ pub fn read_end(line: &[u8]) -> Option<u64>
 
 /// The last line of a history with so many entries, with its line feed.
 #[tactic(auto, unfolding(crate::specs::EndText::end_text))]
-pub fn end_line(entries: u64) -> Line
+pub fn end_line(entries: u64) -> LineText
     ensures { result ≡ end_text entries }
 {
-    let mut line = Line::new();
+    let mut line = LineText::new();
     line.push("end");
     line.push_numbers(&[entries]);
     line.push("\n");

@@ -29,7 +29,7 @@ pub use laws::{
     ends_spelled_so, entries_read_again, entries_spelled_so, entries_stand_apart, lines_are_short,
     queues_read_again, queues_spelled_so,
 };
-pub use line::Line;
+pub use line::LineText;
 pub use reply::reply_fits;
 pub use shape::{begins_queue, read_counts, read_queue_of_calls, read_queue_of_history};
 pub use spelling::{counts_line, entry_line, queue_line, spell_entry, version_line};

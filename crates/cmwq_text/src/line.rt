@@ -37,12 +37,12 @@ fn short_digit_count(number: u64) -> usize
 
 /// The text of a line, with its line feed. It takes no memory but its own, which holds twice what the longest line has.
 #[derive(Drop)]
-pub struct Line {
+pub struct LineText {
     bytes: [u8; 240],
     len: usize,
 }
 
-impl Model for Line {
+impl Model for LineText {
     ghost use Rattle.std.specs.Prelude.{◌≤◌, ℕ, List, take};
 
     ghost Value = { List ℕ };
@@ -52,7 +52,7 @@ impl Model for Line {
     ghost invariant = { λ line. line.len ≤ 240 };
 }
 
-impl Line {
+impl LineText {
     /// Its bytes.
     #[inline(always)]
     pub fn as_bytes(&self) -> &[u8]
@@ -63,10 +63,10 @@ impl Line {
 
     /// An empty line.
     #[inline(always)]
-    pub fn new() -> Line
+    pub fn new() -> LineText
         ensures { result ≡ [] }
     {
-        Line {
+        LineText {
             bytes: [0; 240],
             len: 0,
         }

@@ -10,11 +10,11 @@ ghost use Rattle.cmwq_text.specs.HistoryText.{version_text};
 ghost use Rattle.cmwq_text.specs.ShapeText.{flags_in, flags_text, counts_text, queue_text};
 
 use crate::keyword::Keyword;
-use crate::line::Line;
+use crate::line::LineText;
 use cmwq_model::{Call, Counts, Entry, QueueShape, Reply, Who};
 
 #[inline]
-fn push_who(line: &mut Line, who: Who)
+fn push_who(line: &mut LineText, who: Who)
     requires { length line.old + 42 ≤ 240 }
     ensures exact { line.new ≡ line.old ++ who_text who }
     ensures short { length line.new ≤ length line.old + 42 }
@@ -67,7 +67,7 @@ fn call_keyword(call: Call) -> Keyword
 /// Each word after a space.
 #[tactic(auto, unfolding(crate::specs::CallText::call_words))]
 #[inline]
-fn push_call(line: &mut Line, call: Call)
+fn push_call(line: &mut LineText, call: Call)
     requires { length line.old + 98 ≤ 240 }
     ensures exact { line.new ≡ line.old ++ space_words (call_words call) }
     ensures short { length line.new ≤ length line.old + 98 }
@@ -157,7 +157,7 @@ fn reply_keyword(reply: Reply) -> Keyword
 /// Each word after a space.
 #[tactic(auto, unfolding(crate::specs::ReplyText::reply_words))]
 #[inline]
-pub(crate) fn push_reply(line: &mut Line, reply: Reply)
+pub(crate) fn push_reply(line: &mut LineText, reply: Reply)
     requires { length line.old + 70 ≤ 240 }
     ensures exact { line.new ≡ line.old ++ space_words (reply_words reply) }
     ensures short { length line.new ≤ length line.old + 70 }
@@ -192,7 +192,7 @@ pub(crate) fn push_reply(line: &mut Line, reply: Reply)
 /// Spells the line of an entry, with its line feed, in the place of what the line holds.
 #[tactic(auto, unfolding(crate::specs::EntryText::entry_text))]
 #[inline]
-pub fn spell_entry(line: &mut Line, entry: &Entry)
+pub fn spell_entry(line: &mut LineText, entry: &Entry)
     ensures { line.new ≡ entry_text entry.now }
 {
     line.clear();
@@ -205,20 +205,20 @@ pub fn spell_entry(line: &mut Line, entry: &Entry)
 }
 
 /// The line of an entry, with its line feed.
-pub fn entry_line(entry: &Entry) -> Line
+pub fn entry_line(entry: &Entry) -> LineText
     ensures { result ≡ entry_text entry.now }
 {
-    let mut line = Line::new();
+    let mut line = LineText::new();
     spell_entry(&mut line, entry);
     line
 }
 
 /// The first line of a history of this format, with its line feed.
-pub fn version_line(version: u8) -> Line
+pub fn version_line(version: u8) -> LineText
     requires { 2 ≤ version }
     ensures { result ≡ version_text version }
 {
-    let mut line = Line::new();
+    let mut line = LineText::new();
     line.push(if version == 3 {
         "history 3\n"
     } else {
@@ -229,10 +229,10 @@ pub fn version_line(version: u8) -> Line
 
 /// The line of a shape's counts, with its line feed.
 #[tactic(auto, unfolding(crate::specs::ShapeText::counts_text))]
-pub fn counts_line(counts: &Counts) -> Line
+pub fn counts_line(counts: &Counts) -> LineText
     ensures { result ≡ counts_text counts.now }
 {
-    let mut line = Line::new();
+    let mut line = LineText::new();
     line.push("shape");
     line.push_numbers(&[
         counts.cpus.into(),
@@ -263,10 +263,10 @@ fn flags_text(queue: &QueueShape) -> &'static str
 
 /// The line of a queue, with its line feed.
 #[tactic(auto, unfolding(crate::specs::ShapeText::queue_text))]
-pub fn queue_line(queue: &QueueShape) -> Line
+pub fn queue_line(queue: &QueueShape) -> LineText
     ensures { result ≡ queue_text queue.now }
 {
-    let mut line = Line::new();
+    let mut line = LineText::new();
     line.push("wq");
     line.push_numbers(&[queue.max_active.into()]);
     line.push(" ");

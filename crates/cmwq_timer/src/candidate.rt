@@ -202,7 +202,7 @@ fn known_first(first: Option<Candidate>, was: Option<Candidate>, now: Option<Can
 /// What becomes of the first of the sixteen rows below a node, of which one was written. They are looked at where it is
 /// lost.
 #[inline(always)]
-pub(crate) fn first_with_row(
+pub(crate) fn updated_first_of_rows(
     rows: &[Option<Timer>],
     node: usize,
     first: Option<Candidate>,
@@ -224,7 +224,7 @@ pub(crate) fn first_with_row(
 
 /// What becomes of the first of the sixteen nodes below a node, of which one was written.
 #[inline(always)]
-pub(crate) fn first_with_node(
+pub(crate) fn updated_first_of_nodes(
     level: &[Option<Candidate>],
     node: usize,
     first: Option<Candidate>,

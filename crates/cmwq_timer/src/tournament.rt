@@ -8,7 +8,8 @@ ghost use Rattle.cmwq_timer.specs.Rows.{timer_of};
 ghost use Rattle.cmwq_timer.specs.Tournament.{IsFirstUnder, any_timer};
 
 use crate::candidate::{
-    Candidate, FAN, First, candidate_at, first_with_node, first_with_row, node_at, sooner,
+    Candidate, FAN, First, candidate_at, node_at, sooner, updated_first_of_nodes,
+    updated_first_of_rows,
 };
 use crate::timer::Timer;
 use cmwq_model::ItemId;
@@ -86,20 +87,21 @@ impl Tournament {
         self.rows[row] = timer;
         let now_row = candidate_at(&self.rows, row);
         let was_low = node_at(&self.low, low);
-        let First::Becomes(now_low) = first_with_row(&self.rows, low, was_low, was_row, now_row)
-        else {
+        let First::Becomes(now_low) = updated_first_of_rows(
+            &self.rows, low, was_low, was_row, now_row,
+        ) else {
             return;
         };
         self.low[low] = now_low;
         let was_middle = node_at(&self.middle, middle);
-        let First::Becomes(now_middle) = first_with_node(
+        let First::Becomes(now_middle) = updated_first_of_nodes(
             &self.low, middle, was_middle, was_low, now_low,
         ) else {
             return;
         };
         self.middle[middle] = now_middle;
         let was_high = node_at(&self.high, high);
-        let First::Becomes(now_high) = first_with_node(
+        let First::Becomes(now_high) = updated_first_of_nodes(
             &self.middle,
             high,
             was_high,
@@ -109,7 +111,7 @@ impl Tournament {
             return;
         };
         self.high[high] = now_high;
-        if let First::Becomes(now_last) = first_with_node(
+        if let First::Becomes(now_last) = updated_first_of_nodes(
             &self.high, 0, self.last, was_high, now_high,
         ) {
             self.last = now_last;

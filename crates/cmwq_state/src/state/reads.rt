@@ -44,7 +44,7 @@ impl State {
         width_by(&self.queues, &self.most, self.frozen, queue)
     }
 
-    /// How many queueings of each queue are active on each CPU: four numbers a queue.
+    /// How many queueings of each queue are active on each CPU: `MOST_CPUS` numbers a queue.
     pub fn active_counts(&self) -> &[u32]
         ensures { AreActiveCounts self.now.layout (past_of self.now.entries) result.now }
     {

@@ -6,8 +6,8 @@ use Rattle.cmwq_publish.proofs.Legally.{serial_below}
 use Rattle.cmwq_publish.proofs.Marking.{next_follows}
 use Rattle.cmwq_publish.proofs.publisher.Publisher.publish.Goals as goal
 
-pub put_out-requires-clause-follows : goal.put_out-requires-clause-follows
-put_out-requires-clause-follows g c =
+pub publish_mark-requires-clause-follows : goal.publish_mark-requires-clause-follows
+publish_mark-requires-clause-follows g c =
     let mark = c.args.mark.now in
     let op : Publish =
     record {

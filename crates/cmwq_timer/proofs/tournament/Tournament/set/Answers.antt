@@ -19,8 +19,8 @@ invariant_of-self c =
           (rw (c.deref-4.ensures.value, c.from-row.ensures) at c.in_default.ensures))),
     )
 
-pub invariant_of-self-in_default-first_with_node : goal.invariant_of-self-in_default-first_with_node
-invariant_of-self-in_default-first_with_node c =
+pub invariant_of-self-in_default-updated_first_of_nodes : goal.invariant_of-self-in_default-updated_first_of_nodes
+invariant_of-self-in_default-updated_first_of_nodes c =
     let t = c.self.inside in
     let are = c.self.invariant.1 in
     let i = c.args.item.0 in
@@ -38,11 +38,11 @@ invariant_of-self-in_default-first_with_node c =
           c.node_at-was_low.result o1 c.node_at-was_middle.result
           are.middle (low_inside rows lows middles highs t.last i are here) refl (others_at lows (i / 16) o1)
           (search rules) (search rules) (search rules)
-          (rw (c.deref-6.ensures.value, c.from-row.ensures) at c.in_default-first_with_node.ensures))),
+          (rw (c.deref-6.ensures.value, c.from-row.ensures) at c.in_default-updated_first_of_nodes.ensures))),
     )
 
-pub invariant_of-self-in_default-first_with_node-2 : goal.invariant_of-self-in_default-first_with_node-2
-invariant_of-self-in_default-first_with_node-2 c =
+pub invariant_of-self-in_default-updated_first_of_nodes-2 : goal.invariant_of-self-in_default-updated_first_of_nodes-2
+invariant_of-self-in_default-updated_first_of_nodes-2 c =
     let t = c.self.inside in
     let are = c.self.invariant.1 in
     let i = c.args.item.0 in
@@ -54,24 +54,24 @@ invariant_of-self-in_default-first_with_node-2 c =
     c.candidate_at-was_row.result c.candidate_at-now_row.result c.node_at-was_low.result
     are.low here refl (others_booked rows i c.args.timer) (search rules) (search rules) (search rules)
     (rw (c.deref-4.ensures.value, c.from-row.ensures) at c.in-Becomes.ensures) in
-    let o2 = c.in-Becomes-first_with_node.now_middle in
+    let o2 = c.in-Becomes-updated_first_of_nodes.now_middle in
     let middle =
     kept_first (length lows) (node_at lows) (node_at (set lows (i / 16) o1)) middles (i / 16) (i / 16 / 16) o2
     c.node_at-was_low.result o1 c.node_at-was_middle.result
     are.middle (low_inside rows lows middles highs t.last i are here) refl (others_at lows (i / 16) o1) (search rules)
     (search rules) (search rules)
-    (rw (c.deref-6.ensures.value, c.from-row.ensures) at c.in-Becomes-first_with_node.ensures) in (
+    (rw (c.deref-6.ensures.value, c.from-row.ensures) at c.in-Becomes-updated_first_of_nodes.ensures) in (
       c.self.invariant.0,
       rw c.from-row.ensures (high_stays rows lows middles highs t.last i c.args.timer are here o1 low o2 middle (
           stays_first (length middles) (node_at middles) (node_at (set middles (i / 16 / 16) o2)) highs (i / 16 / 16)
           (i / 16 / 16 / 16) c.node_at-was_middle.result o2 c.node_at-was_high.result
           are.high (middle_inside rows lows middles highs t.last i are here) refl (others_at middles (i / 16 / 16) o2)
           (search rules) (search rules) (search rules)
-          (rw (c.deref-8.ensures.value, c.from-row.ensures) at c.in_default-first_with_node-2.ensures))),
+          (rw (c.deref-8.ensures.value, c.from-row.ensures) at c.in_default-updated_first_of_nodes-2.ensures))),
     )
 
-pub invariant_of-self-in-Becomes-first_with_node-3 : goal.invariant_of-self-in-Becomes-first_with_node-3
-invariant_of-self-in-Becomes-first_with_node-3 c =
+pub invariant_of-self-in-Becomes-updated_first_of_nodes-3 : goal.invariant_of-self-in-Becomes-updated_first_of_nodes-3
+invariant_of-self-in-Becomes-updated_first_of_nodes-3 c =
     let t = c.self.inside in
     let are = c.self.invariant.1 in
     let i = c.args.item.0 in
@@ -83,21 +83,21 @@ invariant_of-self-in-Becomes-first_with_node-3 c =
     c.candidate_at-was_row.result c.candidate_at-now_row.result c.node_at-was_low.result
     are.low here refl (others_booked rows i c.args.timer) (search rules) (search rules) (search rules)
     (rw (c.deref-4.ensures.value, c.from-row.ensures) at c.in-Becomes.ensures) in
-    let o2 = c.in-Becomes-first_with_node.now_middle in
+    let o2 = c.in-Becomes-updated_first_of_nodes.now_middle in
     let middle =
     kept_first (length lows) (node_at lows) (node_at (set lows (i / 16) o1)) middles (i / 16) (i / 16 / 16) o2
     c.node_at-was_low.result o1 c.node_at-was_middle.result
     are.middle (low_inside rows lows middles highs t.last i are here) refl (others_at lows (i / 16) o1) (search rules)
     (search rules) (search rules)
-    (rw (c.deref-6.ensures.value, c.from-row.ensures) at c.in-Becomes-first_with_node.ensures) in
-    let o3 = c.in-Becomes-first_with_node-2.now_high in
+    (rw (c.deref-6.ensures.value, c.from-row.ensures) at c.in-Becomes-updated_first_of_nodes.ensures) in
+    let o3 = c.in-Becomes-updated_first_of_nodes-2.now_high in
     let high =
     kept_first (length middles) (node_at middles) (node_at (set middles (i / 16 / 16) o2)) highs (i / 16 / 16)
     (i / 16 / 16 / 16) o3 c.node_at-was_middle.result o2 c.node_at-was_high.result
     are.high (middle_inside rows lows middles highs t.last i are here) refl (others_at middles (i / 16 / 16) o2)
     (search rules) (search rules) (search rules)
-    (rw (c.deref-8.ensures.value, c.from-row.ensures) at c.in-Becomes-first_with_node-2.ensures) in
-    let o4 = c.in-Becomes-first_with_node-3.now_last in (
+    (rw (c.deref-8.ensures.value, c.from-row.ensures) at c.in-Becomes-updated_first_of_nodes-2.ensures) in
+    let o4 = c.in-Becomes-updated_first_of_nodes-3.now_last in (
       c.self.invariant.0,
       rw c.from-row.ensures
           (levels_written rows lows middles highs t.last i c.args.timer are here o1 low o2 middle o3 o4 high (
@@ -106,11 +106,11 @@ invariant_of-self-in-Becomes-first_with_node-3 c =
           are.last (high_inside rows lows middles highs t.last i are here)
           (last_node rows lows middles highs t.last i are here) (others_at highs (i / 16 / 16 / 16) o3)
           (search rules) (search rules) refl
-          (rw (c.deref-9.ensures.value, c.from-row.ensures) at c.in-Becomes-first_with_node-3.ensures))),
+          (rw (c.deref-9.ensures.value, c.from-row.ensures) at c.in-Becomes-updated_first_of_nodes-3.ensures))),
     )
 
-pub invariant_of-self-in_default-first_with_node-3 : goal.invariant_of-self-in_default-first_with_node-3
-invariant_of-self-in_default-first_with_node-3 c =
+pub invariant_of-self-in_default-updated_first_of_nodes-3 : goal.invariant_of-self-in_default-updated_first_of_nodes-3
+invariant_of-self-in_default-updated_first_of_nodes-3 c =
     let t = c.self.inside in
     let are = c.self.invariant.1 in
     let i = c.args.item.0 in
@@ -122,20 +122,20 @@ invariant_of-self-in_default-first_with_node-3 c =
     c.candidate_at-was_row.result c.candidate_at-now_row.result c.node_at-was_low.result
     are.low here refl (others_booked rows i c.args.timer) (search rules) (search rules) (search rules)
     (rw (c.deref-4.ensures.value, c.from-row.ensures) at c.in-Becomes.ensures) in
-    let o2 = c.in-Becomes-first_with_node.now_middle in
+    let o2 = c.in-Becomes-updated_first_of_nodes.now_middle in
     let middle =
     kept_first (length lows) (node_at lows) (node_at (set lows (i / 16) o1)) middles (i / 16) (i / 16 / 16) o2
     c.node_at-was_low.result o1 c.node_at-was_middle.result
     are.middle (low_inside rows lows middles highs t.last i are here) refl (others_at lows (i / 16) o1) (search rules)
     (search rules) (search rules)
-    (rw (c.deref-6.ensures.value, c.from-row.ensures) at c.in-Becomes-first_with_node.ensures) in
-    let o3 = c.in-Becomes-first_with_node-2.now_high in
+    (rw (c.deref-6.ensures.value, c.from-row.ensures) at c.in-Becomes-updated_first_of_nodes.ensures) in
+    let o3 = c.in-Becomes-updated_first_of_nodes-2.now_high in
     let high =
     kept_first (length middles) (node_at middles) (node_at (set middles (i / 16 / 16) o2)) highs (i / 16 / 16)
     (i / 16 / 16 / 16) o3 c.node_at-was_middle.result o2 c.node_at-was_high.result
     are.high (middle_inside rows lows middles highs t.last i are here) refl (others_at middles (i / 16 / 16) o2)
     (search rules) (search rules) (search rules)
-    (rw (c.deref-8.ensures.value, c.from-row.ensures) at c.in-Becomes-first_with_node-2.ensures) in (
+    (rw (c.deref-8.ensures.value, c.from-row.ensures) at c.in-Becomes-updated_first_of_nodes-2.ensures) in (
       c.self.invariant.0,
       rw c.from-row.ensures
           (levels_written rows lows middles highs t.last i c.args.timer are here o1 low o2 middle o3 t.last high (
@@ -144,5 +144,5 @@ invariant_of-self-in_default-first_with_node-3 c =
           are.last (high_inside rows lows middles highs t.last i are here)
           (last_node rows lows middles highs t.last i are here) (others_at highs (i / 16 / 16 / 16) o3)
           (search rules) (search rules) refl
-          (rw (c.deref-9.ensures.value, c.from-row.ensures) at c.in_default-first_with_node-3.ensures))),
+          (rw (c.deref-9.ensures.value, c.from-row.ensures) at c.in_default-updated_first_of_nodes-3.ensures))),
     )

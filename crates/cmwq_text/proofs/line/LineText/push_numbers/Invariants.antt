@@ -1,6 +1,6 @@
 use Rattle.cmwq_text.specs.Common.{◌≡◌, ◌+◌, ◌*◌, ◌≤◌, ◌++◌, length, take, map, decimal}
 use Rattle.cmwq_text.specs.Words.{space_words}
-use Rattle.cmwq_text.proofs.line.Line.push_numbers.Given as goal
+use Rattle.cmwq_text.proofs.line.LineText.push_numbers.Given as goal
 
 abbrev pub invariant-loop-number : goal.invariant-loop-number
 invariant-loop-number l =

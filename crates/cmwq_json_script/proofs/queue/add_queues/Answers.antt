@@ -1,7 +1,7 @@
 use Rattle.cmwq_json_script.specs.Common.{◌∙◌, Some, None, sym, ap, arith, if◌then◌else◌, items_view, in_turn, nobody}
 use Rattle.cmwq_json_script.specs.Common.{named_of, went_on, stopped, done}
 use Rattle.cmwq_json_script.specs.Queues.{add_queue}
-use Rattle.cmwq_json_script.proofs.queue.read_in_turn.Goals as goal
+use Rattle.cmwq_json_script.proofs.queue.add_queues.Goals as goal
 
 pub loop-index-init : goal.loop-index-init
 loop-index-init c =

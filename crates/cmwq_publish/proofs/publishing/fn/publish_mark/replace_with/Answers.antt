@@ -1,6 +1,6 @@
 use Rattle.std.proofs.Common.{drop}
 use Rattle.cmwq_publish.proofs.Marking.{made_by, turns_by}
-use Rattle.cmwq_publish.proofs.publishing.fn.put_out.replace_with.Goals as goal
+use Rattle.cmwq_publish.proofs.publishing.fn.publish_mark.replace_with.Goals as goal
 
 pub publish_as-requires : goal.publish_as-requires
 publish_as-requires g c next is =

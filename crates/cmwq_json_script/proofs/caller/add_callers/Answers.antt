@@ -2,7 +2,7 @@ use Rattle.cmwq_json_script.specs.Common.{◌∙◌, Some, None, sym, ap, arith,
 use Rattle.cmwq_json_script.specs.Common.{went_on, stopped, done}
 use Rattle.cmwq_json_script.specs.Callers.{add_caller}
 use Rattle.cmwq_json_script.specs.Views.{calls_of}
-use Rattle.cmwq_json_script.proofs.caller.read_in_turn.Goals as goal
+use Rattle.cmwq_json_script.proofs.caller.add_callers.Goals as goal
 
 pub loop-index-init : goal.loop-index-init
 loop-index-init c =

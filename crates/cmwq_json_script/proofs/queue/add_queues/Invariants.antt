@@ -1,6 +1,6 @@
 use Rattle.cmwq_json_script.specs.Common.{◌≡◌, drop, items_view, in_turn, nobody, named_of}
 use Rattle.cmwq_json_script.specs.Queues.{add_queue}
-use Rattle.cmwq_json_script.proofs.queue.read_in_turn.Given as goal
+use Rattle.cmwq_json_script.proofs.queue.add_queues.Given as goal
 
 abbrev pub invariant-loop-index : goal.invariant-loop-index
 invariant-loop-index l = in_turn (add_queue l.most) 0 nobody (items_view l.values)

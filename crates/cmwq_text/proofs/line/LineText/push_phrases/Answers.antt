@@ -1,7 +1,7 @@
 use Rattle.std.specs.Prelude.{◌∷◌, []}
 use Rattle.cmwq_text.specs.CallText.{phrase}
 use Rattle.cmwq_text.proofs.Spacing.{in_a_row}
-use Rattle.cmwq_text.proofs.line.Line.push_phrases.Goals as goal
+use Rattle.cmwq_text.proofs.line.LineText.push_phrases.Goals as goal
 
 pub returns-clause-exact : goal.returns-clause-exact
 returns-clause-exact c =

@@ -2,7 +2,7 @@ use Rattle.cmwq_json_script.specs.Common.{◌∙◌, Some, None, sym, ap, ap₂,
 use Rattle.cmwq_json_script.specs.Common.{map_named, went_on, stopped, done}
 use Rattle.cmwq_json_script.specs.Items.{no_work, add_item}
 use Rattle.cmwq_json_script.specs.Views.{work_of}
-use Rattle.cmwq_json_script.proofs.item.read_in_turn.Goals as goal
+use Rattle.cmwq_json_script.proofs.item.add_items.Goals as goal
 
 pub loop-index-init : goal.loop-index-init
 loop-index-init c =

@@ -1,6 +1,6 @@
 use Rattle.std.proofs.Common.{arith}
 use Rattle.cmwq_text.proofs.Spacing.{nothing_yet, one_more}
-use Rattle.cmwq_text.proofs.line.Line.push_numbers.Goals as goal
+use Rattle.cmwq_text.proofs.line.LineText.push_numbers.Goals as goal
 
 pub loop-number-init : goal.loop-number-init
 loop-number-init c = record { exact = nothing_yet c.args.self.now; short = omega arith }

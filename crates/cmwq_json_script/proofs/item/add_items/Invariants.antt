@@ -1,7 +1,7 @@
 use Rattle.cmwq_json_script.specs.Common.{◌≡◌, drop, items_view, in_turn}
 use Rattle.cmwq_json_script.specs.Items.{no_work, add_item}
 use Rattle.cmwq_json_script.specs.Views.{work_of}
-use Rattle.cmwq_json_script.proofs.item.read_in_turn.Given as goal
+use Rattle.cmwq_json_script.proofs.item.add_items.Given as goal
 
 abbrev pub invariant-loop-index : goal.invariant-loop-index
 invariant-loop-index l = in_turn (add_item l.most l.names) 0 no_work (items_view l.values)
