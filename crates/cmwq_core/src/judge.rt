@@ -66,6 +66,14 @@ impl Judge {
         self.state.len()
     }
 
+    /// What stands after the entries that were right: all that a state can be asked.
+    pub fn state(&self) -> &State
+        ensures layout { result.now.layout ≡ self.now.layout }
+        ensures entries { result.now.entries ≡ self.now.entries }
+    {
+        &self.state
+    }
+
     /// Judges one entry more. An entry that is the one that its call gets after those that were right is taken, and
     /// what it does is returned. Of any other, what should stand there is: the serial, or if the serial is right the
     /// reply.

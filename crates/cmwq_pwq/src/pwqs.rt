@@ -1,6 +1,7 @@
 ghost use Rattle.std.specs.Prelude.{◌≡◌, ℕ, ◌+◌, ◌*◌, ◌<◌, ◌≤◌, true, false, [], length, IfOk, IfSome};
 ghost use Rattle.cmwq_model.specs.Prelude.{most_cpus};
 ghost use Rattle.cmwq_pwq.specs.Pwqs.{AreBehind, ArePlaced, IsPassed, IsPlacedIf, PwqState, MayEnd, MayEndInPwqs};
+ghost use Rattle.cmwq_pwq.specs.Pwqs.{IsNumberOfItem};
 ghost use Rattle.cmwq_pwq.specs.Pwqs.{MayOpen, MayOpenInPwqs, NoneWaitsAnew, count_of_same_pwq, pwqs_without_open};
 ghost use Rattle.cmwq_pwq.specs.Pwqs.{is_waiting, new_pwq_state, pwqs_with_open, place_of, pwqs_after_end};
 ghost use Rattle.cmwq_pwq.specs.Pwqs.{pwqs_after_opening, width_by};
@@ -213,6 +214,15 @@ impl Pwqs {
             &mut self.counts,
             &mut self.activated,
         );
+    }
+
+    /// Whether a queueing waits to become active (`inactive_works`).
+    pub fn waits(&self, queueing: Queueing) -> bool
+        requires item { queueing.item.0 < self.now.items }
+        requires number { IsNumberOfItem queueing self.now.waiting }
+        ensures { result ≡ is_waiting self.now queueing }
+    {
+        self.waiting.waits(queueing)
     }
 
     /// How many wait.

@@ -104,7 +104,7 @@ impl Waiting {
     }
 
     /// Whether a queueing waits: it is then what waits of its item.
-    fn waits(&self, queueing: Queueing) -> bool
+    pub(crate) fn waits(&self, queueing: Queueing) -> bool
         requires item { queueing.item.0 < self.now.items }
         requires number { IsNumberOfItem queueing self.now.queueings }
         ensures waits { result ≡ list_any (has_number queueing.number) self.now.queueings }

@@ -1,4 +1,5 @@
-ghost use Rattle.std.specs.Prelude.{◌≡◌, ◌++◌, ◌∷◌, [], ◌<◌, length, filter, find, nat_lt, vec_capacity, IfOk};
+ghost use Rattle.std.specs.Prelude.{◌≡◌, ◌++◌, ◌∷◌, [], ◌<◌, length, filter, find, nat_lt, slice_get, vec_capacity};
+ghost use Rattle.std.specs.Prelude.{IfOk};
 ghost use Rattle.std.specs.List.{list_all};
 ghost use Rattle.cmwq_ticket.specs.Rows.{is_numbered, is_other_ticket, comes_before};
 ghost use Rattle.cmwq_ticket.specs.Waits.{AreOfCaller, is_other_wait, is_wait_numbered, ticket_by};
@@ -73,6 +74,14 @@ impl Row {
         ensures { result ≡ find (is_numbered number) self.now }
     {
         let wait = find_wait(&self.waits, number)?;
+        Some(wait.ticket(self.caller))
+    }
+
+    /// The ticket at this index, if there is one.
+    pub(crate) fn get(&self, index: usize) -> Option<Ticket>
+        ensures { result ≡ slice_get self.now index }
+    {
+        let wait = self.waits.get(index)?;
         Some(wait.ticket(self.caller))
     }
 

@@ -1,6 +1,8 @@
-ghost use Rattle.std.specs.Prelude.{◌≡◌, ℕ, ◌<◌, ◌↔◌, [], IfOk, IsSome, IsTrue, length, nat_lt, replicate, slice_index};
+ghost use Rattle.std.specs.Prelude.{◌≡◌, ℕ, ◌<◌, ◌↔◌, [], IfOk, IsSome, IsTrue, length, nat_lt, replicate, slice_get};
+ghost use Rattle.std.specs.Prelude.{slice_index};
 ghost use Rattle.cmwq_ticket.specs.Rows.{any_ticket, count, new_tickets, tickets_without, tickets_with, any_destroys};
 ghost use Rattle.cmwq_ticket.specs.Rows.{any_cancels, is_row_crowded, any_drains, may_give, ticket_of_caller};
+ghost use Rattle.cmwq_ticket.specs.Rows.{tickets_of_caller};
 
 use crate::counts::{Counts, has_some};
 use crate::row::{Row, TICKETS_OF_CALLER};
@@ -68,6 +70,15 @@ impl Tickets {
     {
         let row = &self.rows[usize::from(caller.0)];
         row.find(number)
+    }
+
+    /// A caller's unended ticket at this index, in the order of their numbers. None: it has no more.
+    pub fn get(&self, caller: CallerId, index: usize) -> Option<Ticket>
+        requires { caller.0 < length self.now.rows }
+        ensures { result ≡ slice_get (tickets_of_caller self.now.rows caller.0) index }
+    {
+        let row = &self.rows[usize::from(caller.0)];
+        row.get(index)
     }
 
     /// The unended ticket with this number, of whichever caller.

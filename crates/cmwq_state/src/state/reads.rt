@@ -1,8 +1,9 @@
 //! What is read off the other parts, in the words of the definitions.
 
-ghost use Rattle.std.specs.Prelude.{◌≡◌, ◌<◌, find, length};
+ghost use Rattle.std.specs.Prelude.{◌≡◌, ◌<◌, Contains, find, length, slice_get};
 ghost use Rattle.cmwq_model.specs.declared.id.Who.TheVariants.{Worker};
-ghost use Rattle.cmwq_model.specs.Prelude.{IsLegal, past_of, is_booked_on, is_shut, may_call, runs_on};
+ghost use Rattle.cmwq_model.specs.Prelude.{IsLegal, past_of, is_active, is_booked_on, is_shut, may_call};
+ghost use Rattle.cmwq_model.specs.Prelude.{runs_on, still_open};
 ghost use Rattle.cmwq_model.specs.Bookings as bookings;
 ghost use Rattle.cmwq_model.specs.Queueings as queueings;
 ghost use Rattle.cmwq_model.specs.Runs as runs;
@@ -10,6 +11,7 @@ ghost use Rattle.cmwq_model.specs.Tickets as waits;
 ghost use Rattle.cmwq_model.specs.Widths as widths;
 ghost use Rattle.std.specs.List.{list_any};
 ghost use Rattle.cmwq_theory_steps.specs.ItemQueueings.{queueing_run};
+ghost use Rattle.cmwq_refinement.specs.Tickets.{tickets_held};
 ghost use Rattle.cmwq_refinement.specs.Timers.{item_due, timer_row};
 ghost use Rattle.cmwq_state.specs.Flights.{run_open};
 ghost use Rattle.cmwq_state.specs.History.{ticket_has_number};
@@ -17,7 +19,7 @@ ghost use Rattle.cmwq_state.specs.Pwqs.{AreActiveCounts};
 ghost use Rattle.cmwq_state.specs.Tables as tables;
 
 use crate::state::State;
-use cmwq_model::{ItemId, Number, QueueId, Queueing, Ticket, Who, WorkerId};
+use cmwq_model::{CallerId, ItemId, Number, QueueId, Queueing, Ticket, Who, WorkerId};
 use cmwq_pwq::width_by;
 use cmwq_timer::Timer;
 
@@ -49,6 +51,15 @@ impl State {
         ensures { AreActiveCounts self.now.layout (past_of self.now.entries) result.now }
     {
         self.pwqs.counts()
+    }
+
+    /// Whether an open queueing is active, and so may start or runs. One that isn't waits until fewer are active than
+    /// its queue's `max_active` (`inactive_works`).
+    pub fn is_active(&self, queueing: Queueing) -> bool
+        requires { Contains (still_open (past_of self.now.entries)) queueing }
+        ensures { result ≡ is_active self.now.layout (past_of self.now.entries) queueing }
+    {
+        !self.pwqs.waits(queueing)
     }
 
     /// What an item runs.
@@ -180,6 +191,14 @@ impl State {
             Who::Caller(caller) => self.tickets.find(caller, number),
             Who::Worker(_) => None,
         }
+    }
+
+    /// The unended ticket of a caller at this index, in the order in which they were given. None: it has no more.
+    pub fn unended(&self, caller: CallerId, index: usize) -> Option<Ticket>
+        requires { caller.0 < self.now.layout.callers }
+        ensures { result ≡ slice_get (tickets_held (waits.unended_tickets (past_of self.now.entries)) caller.0) index }
+    {
+        self.tickets.get(caller, index)
     }
 
     /// The unended ticket with this number.
