@@ -41,7 +41,7 @@ fn first_level(shape: &Shape, queue: u8, cpu: u8) -> Level
         height: Height {
             open_count: 0,
             active_count: 0,
-            width: shape.queues()[usize::from(queue)].max_active,
+            width: shape.queues()[usize::from(queue)].max_active.into(),
         },
         from: 0,
         to: None,
