@@ -1,22 +1,19 @@
 -- All places of a layout, and those of them that had queueings.
 use Rattle.std.proofs.Common.{◌≡◌, ℕ, zero, suc, ◌+◌, ◌*◌, ◌<◌, ◌≤◌, Bool, true, false, cond, List, [], ◌∷◌, ◌++◌}
 use Rattle.std.proofs.Common.{length}
-use Rattle.std.proofs.Common.{get_or, filter, map, Option, Some, None, option_to_list, refl, sym, ap, ap₂, ◌∙◌, subst}
-use Rattle.std.proofs.Common.{append-nil, arith, slice_get}
+use Rattle.std.proofs.Common.{get_or, filter, map, Some, None, option_to_list, refl, sym, ap, ap₂, ◌∙◌, subst}
+use Rattle.std.proofs.Common.{append_assoc, append-nil, arith, length-append, take}
 use Rattle.std.specs.Prelude.{IsTrue, flat_map}
-use Rattle.std.specs.List.{All, AllByRecursion, list_any, range_with_len}
+use Rattle.std.specs.List.{AllByRecursion, range_with_len}
 use Rattle.std.specs.Option.{option_map_or}
 use Rattle.std.proofs.lemmas.Bool.Decides.{nat_tests}
-use Rattle.std.proofs.lemmas.List.{length-map}
-use Rattle.std.proofs.lemmas.List.Elements.{filter-append}
-use Rattle.std.proofs.lemmas.List.Folds.{list_any-append}
-use Rattle.std.proofs.lemmas.List.FromFn.{length-range_with_len}
+use Rattle.std.proofs.lemmas.List.{length-map, map-append}
+use Rattle.std.proofs.lemmas.List.Elements.{filter-append, filter_more}
+use Rattle.std.proofs.lemmas.List.FromFn.{length-range_with_len, map-range_with_len_more}
 use Rattle.std.proofs.lemmas.List.Concat.{flat_map-cons}
-use Rattle.std.proofs.lemmas.Grind.{flat_map-append, length-append}
-use Rattle.cmwq_lemmas.proofs.Filters.{filter_same}
-use Rattle.cmwq_lemmas.proofs.Lists.{All_append, All_flat, all_mapped, filter_shorter, range_more}
-use Rattle.cmwq_lemmas.proofs.Passing.{filter_mapped, last_any}
-use Rattle.cmwq_lemmas.proofs.Truth.{or_false}
+use Rattle.std.proofs.lemmas.Grind.{flat_map-append}
+use Rattle.cmwq_lemmas.proofs.Lists.{All_append, filter_shorter}
+use Rattle.cmwq_lemmas.proofs.Passing.{last_any}
 use Rattle.cmwq_model.specs.declared.entry.Entry.{Entry}
 use Rattle.cmwq_model.specs.declared.record.Place.{Place}
 use Rattle.cmwq_model.specs.declared.record.Queueing.{Queueing}
@@ -30,8 +27,9 @@ use Rattle.cmwq_chart.specs.Levels.{levels_ended}
 use Rattle.cmwq_chart.specs.Levels.{level_until, levels_left, levels_of}
 use Rattle.cmwq_chart.specs.Marks.{AreMarks, IsMarked}
 use Rattle.cmwq_chart.proofs.Marked.{marked}
+use Rattle.cmwq_chart.proofs.Steps.{range_more}
 use Rattle.cmwq_chart_levels.specs.declared.seen.Seen.{Seen}
-use Rattle.cmwq_chart_levels.specs.Seen.{AreLevels, IsSeen, is_used, place_in, is_level_used}
+use Rattle.cmwq_chart_levels.specs.Seen.{IsSeen, is_used, place_in, is_level_used}
 
 -- ---- all places
 
@@ -193,3 +191,38 @@ module _ (s : Layout) (past : List Entry) (seen : Seen) (inside : IsTrue (is_lay
       is.levels.ended_are is.levels.running_are
       ∙ sym (levels_kept s (is_used seen.used.items) past (all_places s))
       ∙ ap (levels_of s past) (used_are (queueings past) seen.used.items is.used s inside)
+
+-- ---- one more of each
+
+pub one_kept : {X : Type 0} (p : X → Bool) (xs : List X) (i : ℕ) (d : X) (b : Bool) (base old new : List X)
+    → i < length xs → old ≡ base ++ filter p (take i xs) → b ≡ p (get_or xs i d)
+    → new ≡ old ++ cond b (get_or xs i d ∷ []) [] → new ≡ base ++ filter p (take (i + 1) xs)
+one_kept p xs i d b base old new less so_far passes more =
+    let x = get_or xs i d in
+    more ∙ ap₂ (λ l c. l ++ cond c (x ∷ []) []) so_far passes
+    ∙ append_assoc base (filter p (take i xs)) (cond (p x) (x ∷ []) []) ∙ ap (λ l. base ++ l) (sym (filter_more p xs i d less))
+
+pub one_first : (s : Layout) (q n : ℕ) (base old new : List Level) (l : Level)
+    → old ≡ base ++ levels_left s [] (map (place_on q) (range_with_len 0 n)) → new ≡ old ++ l ∷ []
+    → l ≡ level_until s [] None (place_on q n)
+    → new ≡ base ++ levels_left s [] (map (place_on q) (range_with_len 0 (n + 1)))
+one_first s q n base old new l so_far more is =
+    let first = level_until s [] None in
+    let before = map (place_on q) (range_with_len 0 n) in
+    let next = ap (map first) (map-range_with_len_more (place_on q) 0 n n (omega arith))
+    ∙ map-append first before (place_on q n ∷ []) in
+    more ∙ ap₂ (λ a b. a ++ b ∷ []) so_far is ∙ append_assoc base (map first before) (first (place_on q n) ∷ [])
+    ∙ ap (λ k. base ++ k) (sym next)
+
+pub queue_first : (s : Layout) (n : ℕ) (old new : List Level)
+    → old ≡ levels_left s [] (flat_map (places_of_queue s) (range_with_len 0 n))
+    → new ≡ old ++ levels_left s [] (places_of_queue s n)
+    → new ≡ levels_left s [] (flat_map (places_of_queue s) (range_with_len 0 (n + 1)))
+queue_first s n old new so_far more =
+    let first = level_until s [] None in
+    let next = ap (λ l. map first (flat_map (places_of_queue s) l)) (range_more n)
+    ∙ ap (map first) (flat_map-append (places_of_queue s) (range_with_len 0 n) (n ∷ [])
+    ∙ ap (λ l. flat_map (places_of_queue s) (range_with_len 0 n) ++ l)
+    (flat_map-cons (places_of_queue s) n [] ∙ append-nil (places_of_queue s n)))
+    ∙ map-append first (flat_map (places_of_queue s) (range_with_len 0 n)) (places_of_queue s n) in
+    more ∙ ap (λ l. l ++ levels_left s [] (places_of_queue s n)) so_far ∙ sym next

@@ -89,8 +89,9 @@ fn mark_opened(used: &mut Vec<bool>, opened: Option<Queueing>)
     ensures { (queueings : List TheQueueing) → AreMarks spec.level_number_of queueings spec.most_places used.old.items
         → AreMarks spec.level_number_of (queueings ++ option_to_list opened) spec.most_places used.new.items }
 {
-    if let Some(queueing) = opened {
-        mark(used, place_number_of(queueing));
+    match opened {
+        Some(queueing) => mark(used, place_number_of(queueing)),
+        None => {}
     }
 }
 

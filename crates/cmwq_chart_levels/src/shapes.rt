@@ -1,5 +1,5 @@
 //! The shapes of a history.
-ghost use Rattle.std.specs.Prelude.{◌≡◌, ◌≤◌, ◌++◌, filter, length, map, IfOk, OnOk};
+ghost use Rattle.std.specs.Prelude.{◌≡◌, ◌≤◌, ◌∷◌, ◌++◌, [], if◌then◌else◌, filter, length, map, IfOk, OnOk};
 ghost use Rattle.std.specs.List.{All};
 ghost use Rattle.cmwq_model.specs.Prelude.{most_callers, most_tickets, past_of};
 ghost use Rattle.cmwq_chart.specs.Lanes.{most_lanes};
@@ -35,16 +35,25 @@ fn used_places(alloc: Global, used: &[bool], levels: &[Level]) -> Result<Vec<Pla
         .collect(alloc)
 }
 
+/// Adds a level after the others, if it is to be there.
+fn keep(levels: &mut Vec<Level>, level: Level, is_there: bool) -> Result<(), AllocError>
+    ensures { OnOk result (levels.new.items ≡ levels.old.items ++ (if is_there then level ∷ [] else [])) }
+{
+    if is_there {
+        levels.push(level)?;
+    }
+    Ok(())
+}
+
 /// Adds those of these levels whose places the table marks after the others.
 fn push_used(levels: &mut Vec<Level>, used: &[bool], those: &[Level]) -> Result<(), AllocError>
     ensures { OnOk result (levels.new.items ≡ levels.old.items ++ filter (spec.is_level_used used.now) those.now) }
 {
-    levels.extend(
-        those
-            .iter()
-            .filter(|level| is_used(used, level.place))
-            .copied(),
-    )
+    for level in those {
+        let is_there = is_used(used, level.place);
+        keep(levels, *level, is_there)?;
+    }
+    Ok(())
 }
 
 /// The queues on CPUs that had queueings, by queue and CPU.
@@ -55,7 +64,9 @@ fn places_of(alloc: Global, shape: &Shape, seen: &Seen) -> Result<Vec<Place>, No
 {
     // it shows that the queues and CPUs are few
     let _counts = shape.counts();
-    let places = used_places(alloc, &seen.used, &seen.running)?;
+    let used = seen.used.as_slice();
+    let running = seen.running.as_slice();
+    let places = used_places(alloc, used, running)?;
     Ok(places)
 }
 
@@ -67,9 +78,12 @@ fn levels_of(alloc: Global, shape: &Shape, seen: &Seen) -> Result<Vec<Level>, No
         ≡ levels_of shape.now (past_of seen.now.entries.items) (places_in shape.now seen.now.entries.items)) }
 {
     let _counts = shape.counts();
+    let used = seen.used.as_slice();
+    let ended = seen.ended.as_slice();
+    let running = seen.running.as_slice();
     let mut levels = Vec::new(alloc);
-    push_used(&mut levels, &seen.used, &seen.ended)?;
-    push_used(&mut levels, &seen.used, &seen.running)?;
+    push_used(&mut levels, used, ended)?;
+    push_used(&mut levels, used, running)?;
     Ok(levels)
 }
 

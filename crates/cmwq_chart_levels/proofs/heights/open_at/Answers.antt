@@ -1,7 +1,5 @@
-use Rattle.std.proofs.Common.{◌∷◌, length, sym, ap, ◌∙◌, arith}
-use Rattle.cmwq_model.specs.Prelude.{still_open}
+use Rattle.std.proofs.Common.{◌∷◌, arith}
 use Rattle.cmwq_chart_levels.proofs.Counts.{open_step, open_few}
-use Rattle.cmwq_chart_levels.specs.Turns.{is_one_of_place}
 use Rattle.cmwq_chart_levels.proofs.heights.open_at.Goals as goal
 
 pub open_after-requires : goal.open_after-requires
@@ -13,7 +11,7 @@ open_after-requires c =
     (rw c.effect-effect.ensures.effect at c.is_of_place-is_opened.ensures)
     (rw c.effect-effect.ensures.effect at c.is_of_place-is_ended.ensures) in
     let few = open_few (s.effect.entry ∷ s.past) c.args.place in
-    record { few = omega (arith, step, few, c.open_count-_all.ensures); some = omega (arith, step) }
+    record { few = omega (arith, step, few, c.open_count-all.ensures); some = omega (arith, step) }
 
 pub returns : goal.returns
 returns c =

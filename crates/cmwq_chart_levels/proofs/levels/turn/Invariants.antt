@@ -1,4 +1,4 @@
-use Rattle.std.proofs.Common.{◌≡◌, ◌∷◌, ◌++◌, length, map, take, drop}
+use Rattle.std.proofs.Common.{◌≡◌, ◌++◌, length, map, take, drop}
 use Rattle.std.specs.Prelude.{flat_map}
 use Rattle.cmwq_history.specs.Steps.{after}
 use Rattle.cmwq_chart_levels.specs.Turns.{ended_levels, level_after}

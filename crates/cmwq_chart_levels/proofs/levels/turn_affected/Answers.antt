@@ -6,7 +6,7 @@ pub returns-in-Nowhere-clause-running : goal.returns-in-Nowhere-clause-running
 returns-in-Nowhere-clause-running c =
     let stay =
     none_affected c.args.step.now.layout c.args.step.now.past c.args.step.now.effect c.requires.effect
-    c.args.running.now c.requires.running c.in-Nowhere.ensures in
+    c.args.running.now c.requires.running (rw c.effect-effect.ensures.effect at c.in-Nowhere.ensures) in
     sym (all_stay c.args.step.now.layout c.args.step.now.past c.args.step.now.effect c.requires.effect
     c.args.running.now c.requires.running stay)
 
@@ -14,7 +14,7 @@ pub returns-in-Nowhere-clause-levels : goal.returns-in-Nowhere-clause-levels
 returns-in-Nowhere-clause-levels c =
     let stay =
     none_affected c.args.step.now.layout c.args.step.now.past c.args.step.now.effect c.requires.effect
-    c.args.running.now c.requires.running c.in-Nowhere.ensures in
+    c.args.running.now c.requires.running (rw c.effect-effect.ensures.effect at c.in-Nowhere.ensures) in
     sym (ap (λ l. c.args.levels.now.items ++ l)
     (none_end c.args.step.now.layout c.args.step.now.past c.args.step.now.effect c.requires.effect
     c.args.running.now stay) ∙ append-nil c.args.levels.now.items)

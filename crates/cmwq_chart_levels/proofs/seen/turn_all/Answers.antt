@@ -14,7 +14,7 @@ pub turn_affected-requires : goal.turn_affected-requires
 turn_affected-requires c =
     let s = c.args.step.now.layout in
     let past = c.args.step.now.past in
-    let next = c.effect-_effect.ensures.next in
+    let next = c.effect-effect.ensures.next in
     let now = c.deref_mut.ensures.value ∙ c.requires.levels.running_are in
     record {
       short = c.requires.short;
@@ -38,6 +38,6 @@ returns c =
     record {
       ended_are =
           levels_next s past e (all_places s) _ _ _ now i.ended_are c.in_ok-turn_affected.ensures.levels;
-      running_are = all_written c.turn_affected.new.running c.args.running.now.items c.args.running.now.len _ long
+      running_are = all_written c.turn_affected.new.running c.args.running.now.items c.args.running.now.len c.args.running.now.ok.0 long
           ∙ running_next s past e (all_places s) _ _ now c.in_ok-turn_affected.ensures.running;
     }
