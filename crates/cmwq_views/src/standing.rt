@@ -4,8 +4,8 @@ ghost use Rattle.cmwq_model.specs.Prelude.{most_workers, now, past_of};
 ghost use Rattle.cmwq_model.specs.Tickets.{most_tickets};
 ghost use Rattle.cmwq_views.specs.Open.{place_text, said_if, queue_state, queue_line, queueing_text, run_text};
 ghost use Rattle.cmwq_views.specs.Open.{run_line};
-ghost use Rattle.cmwq_views.specs.Open.{pending_text, pending_line, booked_line, call_text, cause_text, wait_text};
-ghost use Rattle.cmwq_views.specs.Open.{wait_line, line_count, line_text};
+ghost use Rattle.cmwq_views.specs.Open.{pending_text, pending_line, booked_text, booked_line, call_text, cause_text};
+ghost use Rattle.cmwq_views.specs.Open.{wait_text, wait_line, line_count, line_text};
 
 use crate::number::{OF_POOL, caller_at, item_at, queue_at, worker_at};
 use crate::row::Row;
@@ -123,15 +123,14 @@ fn push_place(row: &mut Row, place: Place)
     row.push_figure(" on CPU ", place.cpu.0.into());
 }
 
-/// Spells a queueing.
+/// Spells the item and the number of a queueing.
 fn push_queueing(row: &mut Row, queueing: Queueing)
-    requires { length row.old + 112 ≤ 512 }
+    requires { length row.old + 56 ≤ 512 }
     ensures exact { row.new ≡ row.old ++ queueing_text queueing }
-    ensures short { length row.new ≤ length row.old + 112 }
+    ensures short { length row.new ≤ length row.old + 56 }
 {
     row.push_figure("item ", queueing.item.0.into());
     row.push_figure(", queueing ", queueing.number);
-    push_place(row, queueing.place);
 }
 
 /// Spells whether a queue is frozen, drains, or is gone.
@@ -175,6 +174,7 @@ fn run_text(run: Option<Queueing>, worker: WorkerId, is_asleep: bool) -> Row
         push_worker(&mut row, worker);
         row.push(" runs ");
         push_queueing(&mut row, queueing);
+        push_place(&mut row, queueing.place);
         push_if(&mut row, is_asleep, ", asleep");
         row.push("\n");
     }
@@ -204,6 +204,7 @@ fn pending_text(queueing: Queueing, is_active: bool) -> Row
     let mut row = Row::new();
     row.push("pending ");
     push_queueing(&mut row, queueing);
+    push_place(&mut row, queueing.place);
     row.push(if is_active { ", active" } else { ", inactive" });
     row.push("\n");
     row
