@@ -1,6 +1,7 @@
 //! What `bench/run` times beside the words of `cmwq`. At a number from 1 to 4: so many callers, each on a thread of its
 //! own, that look at an item over and over, without a lock. At `ticks`, a number of callers and one of readers: so many
-//! callers that tick one hub, of which so many may look. At `steps`: the calls of a file, made in a Book.
+//! callers that tick one hub, of which so many may look. At `jobs`: the runs of a service. At `steps`: the calls of a
+//! file, made in a Book.
 #![tactic(auto)]
 
 mod jobs;
