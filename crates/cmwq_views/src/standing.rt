@@ -2,13 +2,14 @@
 ghost use Rattle.std.specs.Prelude.{◌≡◌, ◌+◌, ◌*◌, ◌<◌, ◌≤◌, ◌++◌, length};
 ghost use Rattle.cmwq_model.specs.Prelude.{most_workers, now, past_of};
 ghost use Rattle.cmwq_model.specs.Tickets.{most_tickets};
+ghost use Rattle.cmwq_views.specs.Page.{line_of_entries};
 ghost use Rattle.cmwq_views.specs.Open.{place_text, said_if, queue_state, queue_line, queueing_text, run_text};
 ghost use Rattle.cmwq_views.specs.Open.{run_line};
 ghost use Rattle.cmwq_views.specs.Open.{pending_text, pending_line, booked_text, booked_line, call_text, cause_text};
 ghost use Rattle.cmwq_views.specs.Open.{wait_text, wait_line, line_count, line_text};
 
 use crate::number::{OF_POOL, caller_at, item_at, queue_at, worker_at};
-use crate::row::Row;
+use crate::row::{Row, head};
 use crate::rows::push_worker;
 use crate::write::Rows;
 use cmwq_base::{Shape, WorkerId};
@@ -87,18 +88,11 @@ impl<'a> Standing<'a> {
         self.state
     }
 
-    /// How many entries there are.
-    pub(crate) fn entries(&self) -> u64
-        ensures { result ≡ length self.now.entries }
+    /// The line of how many entries there are, and how many ticks went by.
+    pub(crate) fn first_row(&self) -> Row
+        ensures { result ≡ line_of_entries (length (past_of self.now.entries)) (now (past_of self.now.entries)) }
     {
-        self.state.len()
-    }
-
-    /// How many ticks went by.
-    pub(crate) fn ticks(&self) -> u64
-        ensures { result ≡ now (past_of self.now.entries) }
-    {
-        self.state.time()
+        head(self.state.len(), self.state.time())
     }
 }
 
@@ -308,7 +302,7 @@ pub(crate) struct SectionLines<'a, 'b> {
 impl<'a, 'b> Rows for SectionLines<'a, 'b> {
     ghost count = { λ lines. line_count lines.standing.now.layout lines.section };
 
-    ghost row_of = { λ lines. line_text lines.standing.layout (past_of lines.standing.now.entries) lines.section };
+    ghost row_of = { λ lines. line_text lines.standing.now.layout (past_of lines.standing.now.entries) lines.section };
 
     fn len(&self) -> usize {
         let shape = self.standing.shape();

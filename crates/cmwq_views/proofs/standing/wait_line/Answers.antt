@@ -1,7 +1,5 @@
 use Rattle.std.proofs.Common.{◌∙◌, sym}
 use Rattle.std.specs.Prelude.{◌%◌, Contains}
-use Rattle.cmwq_model.specs.declared.entry.Entry.{Entry}
-use Rattle.cmwq_model.specs.declared.record.Ticket.{Ticket}
 use Rattle.cmwq_model.specs.Prelude.{past_of}
 use Rattle.cmwq_model.specs.Tickets.{is_held_by, unended_tickets}
 use Rattle.cmwq_refinement.specs.Tickets.{the_caller, tickets_held}
