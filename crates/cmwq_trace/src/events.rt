@@ -5,7 +5,7 @@ ghost use Rattle.cmwq_trace.specs.Events as spec;
 ghost use Rattle.cmwq_trace.specs.declared.event.Event.TheVariants as TheEvent;
 
 use crate::event::Event;
-use cmwq_chart::{CallerLane, Shapes};
+use cmwq_chart::{Bar, CallerLane, CallerWait, Level, Shapes, Sleep};
 use cmwq_model::{CpuId, Shape, WorkerId};
 use std::alloc::{AllocError, Global};
 
@@ -13,15 +13,20 @@ use std::alloc::{AllocError, Global};
 fn push_cpus(events: &mut Vec<Event>, cpus: u8) -> Result<(), AllocError>
     ensures { OnOk result (events.new.items ≡ events.old.items ++ map spec.cpu_event (range_with_len 0 cpus)) }
 {
-    events.extend((0..cpus).map(|cpu| Event::Cpu(CpuId(cpu))))
+    for cpu in 0..cpus {
+        events.push(Event::Cpu(CpuId(cpu)))?;
+    }
+    Ok(())
 }
 
 /// Names the rows of a caller's waits.
 fn push_rows(events: &mut Vec<Event>, lane: CallerLane) -> Result<(), AllocError>
     ensures { OnOk result (events.new.items ≡ events.old.items ++ spec.rows_events lane) }
 {
-    let caller = lane.caller;
-    events.extend((0..lane.rows).map(|row| Event::Row(caller, row)))
+    for row in 0..lane.rows {
+        events.push(Event::Row(lane.caller, row))?;
+    }
+    Ok(())
 }
 
 fn push_callers(events: &mut Vec<Event>, callers: &[CallerLane]) -> Result<(), AllocError>
@@ -29,6 +34,51 @@ fn push_callers(events: &mut Vec<Event>, callers: &[CallerLane]) -> Result<(), A
 {
     for lane in callers {
         push_rows(events, *lane)?;
+    }
+    Ok(())
+}
+
+fn push_lanes(events: &mut Vec<Event>, lanes: &[WorkerId]) -> Result<(), AllocError>
+    ensures { OnOk result (events.new.items ≡ events.old.items ++ map TheEvent.Lane lanes.now) }
+{
+    for worker in lanes {
+        events.push(Event::Lane(*worker))?;
+    }
+    Ok(())
+}
+
+fn push_waits(events: &mut Vec<Event>, waits: &[CallerWait]) -> Result<(), AllocError>
+    ensures { OnOk result (events.new.items ≡ events.old.items ++ map TheEvent.Wait waits.now) }
+{
+    for wait in waits {
+        events.push(Event::Wait(*wait))?;
+    }
+    Ok(())
+}
+
+fn push_runs(events: &mut Vec<Event>, bars: &[Bar]) -> Result<(), AllocError>
+    ensures { OnOk result (events.new.items ≡ events.old.items ++ map TheEvent.Run bars.now) }
+{
+    for bar in bars {
+        events.push(Event::Run(*bar))?;
+    }
+    Ok(())
+}
+
+fn push_sleeps(events: &mut Vec<Event>, sleeps: &[Sleep]) -> Result<(), AllocError>
+    ensures { OnOk result (events.new.items ≡ events.old.items ++ map TheEvent.Sleep sleeps.now) }
+{
+    for sleep in sleeps {
+        events.push(Event::Sleep(*sleep))?;
+    }
+    Ok(())
+}
+
+fn push_levels(events: &mut Vec<Event>, levels: &[Level]) -> Result<(), AllocError>
+    ensures { OnOk result (events.new.items ≡ events.old.items ++ map TheEvent.Level levels.now) }
+{
+    for level in levels {
+        events.push(Event::Level(*level))?;
     }
     Ok(())
 }
@@ -46,7 +96,7 @@ fn names_of(
     names.push(Event::Head)?;
     push_cpus(&mut names, cpus)?;
     push_callers(&mut names, callers)?;
-    names.extend(lanes.iter().map(|worker| Event::Lane(*worker)))?;
+    push_lanes(&mut names, lanes)?;
     Ok(names)
 }
 
@@ -60,10 +110,10 @@ pub fn events_of(alloc: Global, shape: &Shape, shapes: &Shapes) -> Result<Vec<Ev
 {
     let cpus = shape.counts().cpus;
     let mut events = names_of(alloc, cpus, &shapes.callers.lanes, &shapes.lanes)?;
-    events.extend(shapes.callers.waits.iter().map(|wait| Event::Wait(*wait)))?;
-    events.extend(shapes.bars.iter().map(|bar| Event::Run(*bar)))?;
-    events.extend(shapes.sleeps.iter().map(|sleep| Event::Sleep(*sleep)))?;
-    events.extend(shapes.levels.iter().map(|level| Event::Level(*level)))?;
+    push_waits(&mut events, &shapes.callers.waits)?;
+    push_runs(&mut events, &shapes.bars)?;
+    push_sleeps(&mut events, &shapes.sleeps)?;
+    push_levels(&mut events, &shapes.levels)?;
     events.push(Event::End)?;
     Ok(events)
 }
