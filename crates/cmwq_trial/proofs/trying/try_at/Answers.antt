@@ -10,4 +10,5 @@ returns-in-Err-clause-failed g c =
 
 pub returns-in-Err-in_turns-clause-failed : goal.returns-in-Err-in_turns-clause-failed
 returns-in-Err-in_turns-clause-failed g c =
-    (c.stopped_at_first-in-Err-in_turns.ensures.reliable c.args.shape.now, c.stopped_at_first-in-Err-in_turns.ensures.same)
+    let ensures = c.stopped_at_first-in-Err-in_turns.ensures in
+    (ensures.reliable c.args.shape.now, ensures.same)
