@@ -16,7 +16,7 @@ struct Both {
     never: Completion,
 }
 
-fn both(fails: bool) -> Both {
+fn make_both(fails: bool) -> Both {
     Both {
         fails,
         times: Completion::new(),
@@ -92,18 +92,18 @@ impl Service for Both {
 #[test]
 fn completions_count(rt: HostRuntime) {
     let shape = shape(&rt, 0);
-    assert!(rt; run(&rt, rt.alloc(), &shape, &both(false)).is_ok());
+    assert!(rt; run(&rt, rt.alloc(), &shape, &make_both(false)).is_ok());
     for seed in 0..SEEDS {
-        assert!(rt; trial(&rt, rt.alloc(), &shape, &both(false), seed).is_ok());
+        assert!(rt; trial(&rt, rt.alloc(), &shape, &make_both(false), seed).is_ok());
     }
 }
 
 #[test]
 fn a_fault_ends_a_wait_for_a_completion(rt: HostRuntime) {
     let shape = shape(&rt, 0);
-    let stopped = run(&rt, rt.alloc(), &shape, &both(true)).err();
+    let stopped = run(&rt, rt.alloc(), &shape, &make_both(true)).err();
     assert_eq!(rt; stopped.expect(&rt, "a fault").fault, Fault::Own(7));
     for seed in 0..20 {
-        assert!(rt; trial(&rt, rt.alloc(), &shape, &both(true), seed).is_err());
+        assert!(rt; trial(&rt, rt.alloc(), &shape, &make_both(true), seed).is_err());
     }
 }

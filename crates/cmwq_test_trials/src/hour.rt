@@ -58,7 +58,7 @@ impl Service for Hours {
     }
 }
 
-fn hours(is_late: bool) -> Hours {
+fn make_hours(is_late: bool) -> Hours {
     Hours {
         is_late,
         done: Completion::new(),
@@ -69,7 +69,7 @@ fn hours(is_late: bool) -> Hours {
 fn hours_take_no_time(rt: HostRuntime) {
     let shape = shape(&rt, 0);
     for seed in 0..20 {
-        let (first, second) = (hours(false), hours(false));
+        let (first, second) = (make_hours(false), make_hours(false));
         let tried = trial(&rt, rt.alloc(), &shape, &first, seed);
         let tried = tried.expect(&rt, "a history");
         let again = trial(&rt, rt.alloc(), &shape, &second, seed);
@@ -82,7 +82,7 @@ fn hours_take_no_time(rt: HostRuntime) {
 /// The completion never comes, but the clock goes on until there is no room.
 #[test]
 fn a_clock_alone_fills_the_room(rt: HostRuntime) {
-    let (shape, service) = (shape(&rt, 0), hours(true));
+    let (shape, service) = (shape(&rt, 0), make_hours(true));
     let failure = trial(&rt, rt.alloc(), &shape, &service, 3);
     let failure = failure.err().expect(&rt, "a failure");
     assert!(rt; matches!(failure, Failure::Stopped { .. }), "{failure}");

@@ -24,7 +24,7 @@ struct Runs {
     refused: AtomicU64,
 }
 
-fn runs(task: Task) -> Runs {
+fn make_runs(task: Task) -> Runs {
     Runs {
         task,
         refused: AtomicU64::new(0),
@@ -85,12 +85,12 @@ fn runs_wait_in_trials(rt: HostRuntime) {
     let shape = shape(&rt, 2);
     let mut refused = 0u64;
     for seed in 0..SEEDS {
-        let service = runs(Task::Wait);
+        let service = make_runs(Task::Wait);
         let tried = trial_with(&rt, rt.alloc(), &shape, &service, &WAITS, seed);
         let tried = tried.expect(&rt, "a history");
         assert!(rt; is_legal(&rt, &shape, &tried.history));
         assert_eq!(rt; service.refused.load(Ordering::SeqCst), 0);
-        let service = runs(Task::Ring);
+        let service = make_runs(Task::Ring);
         let tried = trial_with(&rt, rt.alloc(), &shape, &service, &WAITS, seed);
         assert!(rt; tried.is_ok());
         let now = service.refused.load(Ordering::SeqCst);
@@ -114,7 +114,7 @@ fn a_fault_stops_a_trial(rt: HostRuntime) {
             },
         ),
     ] {
-        let service = runs(task);
+        let service = make_runs(task);
         let failure = trial(&rt, rt.alloc(), &shape, &service, 5);
         let Err(
             Failure::Stopped {
