@@ -45,7 +45,7 @@ schedules_found rows =
     if has_flag (codes "all") rows
     then all_schedules (option_or (option_or (number_found (codes "seed") rows) (number_found (codes "times") rows)) (number_found (codes "pct") rows)) (number_found (codes "moves") rows) (has_flag (codes "merge") rows) (has_flag (codes "histories") rows)
     else seeded_schedules (number_found (codes "seed") rows) (number_found (codes "times") rows) (number_found (codes "pct") rows)
-        (is_some (number_found (codes "moves") rows) || has_flag (codes "merge") rows || has_flag (codes "histories") rows)
+    (is_some (number_found (codes "moves") rows) || has_flag (codes "merge") rows || has_flag (codes "histories") rows)
 
 -- the word with this name and these matches
 abbrev pub word_found : Text × List Row → Option Word

@@ -49,9 +49,15 @@ pub enum Word {
 #[derive(Clone, Copy, Debug, PartialEq, Eq)]
 pub enum Schedules {
     /// The one of a seed, chosen by so many priority changes less one, or else uniformly.
-    OfSeed { seed: u64, pct: Option<u64> },
+    OfSeed {
+        seed: u64,
+        pct: Option<u64>,
+    },
     /// Those of so many seeds.
-    OfSeeds { times: u64, pct: Option<u64> },
+    OfSeeds {
+        times: u64,
+        pct: Option<u64>,
+    },
     /// All, up to so many moves; states that stand alike once, or the histories of all that end.
     All {
         moves: Option<u64>,
@@ -502,7 +508,8 @@ fn seeded_word<'a>(alloc: Global) -> Result<Command<'a>, AllocError>
     ensures shape { IfOk result (λ c. app_of c ≡ seeded_word) }
     ensures local { IfOk result (λ c. (fields_of c).has_globals ≡ false) }
 {
-    let about = "Reads a script in JSON from standard input and plays schedules of it in one thread";
+    let about =
+        "Reads a script in JSON from standard input and plays schedules of it in one thread";
     let word = bare_word(alloc, "explore", about, EXPLORE_HELP);
     let help = "Plays the schedule of this seed, and writes its history";
     let word = with_number(alloc, word, "seed", help)?;

@@ -19,9 +19,15 @@ const MOVES: u64 = 100_000_000;
 #[derive(Clone, Copy, Debug)]
 pub enum Task {
     /// The one of a seed: its history. The number is that of priority changes and one more, or None: uniformly.
-    OfSeed { seed: u64, pct: Option<u64> },
+    OfSeed {
+        seed: u64,
+        pct: Option<u64>,
+    },
     /// Those of so many seeds, from 0 on: how many ended, and the shortest that got stuck.
-    OfSeeds { times: u64, pct: Option<u64> },
+    OfSeeds {
+        times: u64,
+        pct: Option<u64>,
+    },
     /// All: the same, or the history of each that ended.
     All {
         moves: Option<u64>,
@@ -160,7 +166,9 @@ fn explore_seeds<O: Sink, E: Sink>(
     let mut found = Found::nothing();
     let mut shortest: Option<StuckSeed> = None;
     for seed in 0..times {
-        let stuck = play_seed(alloc, &setup, &mut play, seed, chooser, &mut found, watching)?;
+        let stuck = play_seed(
+            alloc, &setup, &mut play, seed, chooser, &mut found, watching,
+        )?;
         shortest = shorter(shortest, stuck);
     }
     watching.end_progress();

@@ -44,7 +44,10 @@ pub(crate) fn write_found<O: Sink>(
 ) -> Result<(), Fault> {
     let (states, moves) = (found.states, found.moves);
     let line = if merge {
-        format!(in alloc; "states {states}, met again {}, moves {moves}\n", found.met_again)?
+        format!(in alloc;
+            "states {states}, met again {}, moves {moves}\n",
+            found.met_again
+        )?
     } else {
         let schedules = found.ended.saturating_add(found.stuck);
         let schedules = schedules.saturating_add(found.cut);

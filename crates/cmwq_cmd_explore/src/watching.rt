@@ -1,9 +1,9 @@
 //! What is written while schedules are played: how far it is, and histories.
 
+use arrayvec::ArrayString;
 use cmwq_cmd_history::write_history;
 use cmwq_explore::{Found, Play, Standing, Watch};
 use cmwq_io::{Sink, flush_all, write_all};
-use arrayvec::ArrayString;
 use std::fmt;
 use std::fmt::Write;
 

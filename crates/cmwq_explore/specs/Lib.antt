@@ -1,3 +1,4 @@
+pub mod Counts
 pub mod Machines
 pub mod Searches
 pub mod Stands

@@ -12,5 +12,5 @@ start_of s = record {
   callers = s.callers.items;
   workers = s.workers.items;
   gates = replicate 16 false;
-  free = s.lent.items
+  free = s.lent.items;
 }

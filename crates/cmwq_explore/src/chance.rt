@@ -1,9 +1,10 @@
 //! Schedules by chance: whose move comes next is a function of a seed.
 
+ghost use Rattle.std.specs.Prelude.{◌<◌, max};
+
 use crate::play::{Play, Setup};
 use crate::search::MOST_MOVES;
-use cmwq_model::NoMemory;
-use std::alloc::Global;
+use std::alloc::{AllocError, Global};
 
 /// How the next to move is chosen.
 #[derive(Clone, Copy, Debug, PartialEq, Eq)]
@@ -31,8 +32,17 @@ impl Generator {
     }
 
     /// A number below this one, which isn't 0.
-    fn below(&mut self, limit: u64) -> u64 {
+    fn below(&mut self, limit: u64) -> u64
+        ensures { result < max limit 1 }
+    {
         self.draw() % limit.max(1)
+    }
+}
+
+/// Exchanges two of a list.
+fn swap(list: &mut Vec<u64>, one: usize, other: usize) {
+    if one < list.len() && other < list.len() {
+        list.swap(one, other);
     }
 }
 
@@ -51,22 +61,18 @@ impl Order {
         generator: &mut Generator,
         depth: u64,
         moves: u64,
-    ) -> Result<Order, NoMemory> {
+    ) -> Result<Order, AllocError> {
         let mut priorities = Vec::new(alloc);
         for k in 0..parties {
-            if priorities.push(depth.saturating_add(k as u64)).is_err() {
-                return Err(NoMemory);
-            }
+            priorities.push(depth.saturating_add(k as u64))?;
         }
         for k in 1..parties {
             let other = generator.below(k as u64 + 1) as usize;
-            priorities.swap(k, other);
+            swap(&mut priorities, k, other);
         }
         let mut changes = Vec::new(alloc);
         for _ in 1..depth {
-            if changes.push(generator.below(moves)).is_err() {
-                return Err(NoMemory);
-            }
+            changes.push(generator.below(moves))?;
         }
         Ok(Order {
             priorities,
@@ -114,7 +120,7 @@ pub fn play_by<'a>(
     play: &mut Play<'a>,
     seed: u64,
     chooser: Chooser,
-) -> Result<u64, NoMemory> {
+) -> Result<u64, AllocError> {
     play.restart(setup)?;
     let mut generator = Generator { state: seed };
     match chooser {
@@ -126,7 +132,7 @@ pub fn play_by<'a>(
     }
 }
 
-fn play_uniform(play: &mut Play<'_>, generator: &mut Generator) -> Result<u64, NoMemory> {
+fn play_uniform(play: &mut Play<'_>, generator: &mut Generator) -> Result<u64, AllocError> {
     for number in 0..MOST_MOVES {
         let movers = play.movers()?;
         if movers.is_empty() {
@@ -140,7 +146,7 @@ fn play_uniform(play: &mut Play<'_>, generator: &mut Generator) -> Result<u64, N
     Ok(MOST_MOVES as u64)
 }
 
-fn play_in_order(play: &mut Play<'_>, order: Order) -> Result<u64, NoMemory> {
+fn play_in_order(play: &mut Play<'_>, order: Order) -> Result<u64, AllocError> {
     let mut order = order;
     for number in 0..MOST_MOVES {
         let movers = play.movers()?;
@@ -160,6 +166,6 @@ pub fn length_of_first<'a>(
     alloc: Global,
     setup: &'a Setup<'a>,
     play: &mut Play<'a>,
-) -> Result<u64, NoMemory> {
+) -> Result<u64, AllocError> {
     play_by(alloc, setup, play, 0, Chooser::Uniform)
 }

@@ -4,10 +4,8 @@
 
 use crate::place::{CallerAt, Doing, WorkerAt};
 use crate::play::Play;
-use cmwq_model::{
-    Call, CpuId, Entry, ItemId, MOST_CPUS, NoMemory, Number, QueueId, Reply, Who, WorkerId,
-};
-use std::alloc::Global;
+use cmwq_model::{Call, CpuId, Entry, ItemId, MOST_CPUS, Number, QueueId, Reply, Who, WorkerId};
+use std::alloc::{AllocError, Global};
 
 /// Something that stands: a queueing, a booking or a ticket.
 #[derive(Clone, Copy)]
@@ -29,7 +27,10 @@ enum Thing {
         due: u64,
     },
     /// A wait.
-    Ticket { who: Who, call: Call },
+    Ticket {
+        who: Who,
+        call: Call,
+    },
 }
 
 #[derive(Clone, Copy)]
@@ -58,8 +59,7 @@ fn pending_of(list: &[Standing], item: ItemId) -> Option<usize> {
                 ..
             }
             | Thing::Booking { item: its, .. }
-                if its == item =>
-            {
+                if its == item => {
                 return Some(k);
             }
             _ => {}
@@ -103,8 +103,7 @@ fn place_of(list: &[Standing], item: ItemId) -> Option<(QueueId, CpuId)> {
 
 impl Things {
     fn remove_number(&mut self, number: Number) {
-        self.list
-            .retain(|s| s.number != number || matches!(s.thing, Thing::Ticket { .. }));
+        self.list.retain(|s| s.number != number || matches!(s.thing, Thing::Ticket { .. }));
     }
 
     fn remove_pending(&mut self, item: ItemId) {
@@ -118,15 +117,13 @@ impl Things {
         self.remove_number(number);
     }
 
-    fn push(&mut self, number: Number, thing: Thing) -> Result<(), NoMemory> {
-        if self.list.push(Standing { number, thing }).is_err() {
-            return Err(NoMemory);
-        }
+    fn push(&mut self, number: Number, thing: Thing) -> Result<(), AllocError> {
+        self.list.push(Standing { number, thing })?;
         Ok(())
     }
 
     /// The item is queued, where its call says or its booking said.
-    fn queue(&mut self, number: Number, entry: &Entry) -> Result<(), NoMemory> {
+    fn queue(&mut self, number: Number, entry: &Entry) -> Result<(), AllocError> {
         let Some(item) = entry.item() else {
             return Ok(());
         };
@@ -148,7 +145,7 @@ impl Things {
         self.push(number, thing)
     }
 
-    fn book(&mut self, number: Number, entry: &Entry, due: u64) -> Result<(), NoMemory> {
+    fn book(&mut self, number: Number, entry: &Entry, due: u64) -> Result<(), AllocError> {
         let (Some(item), Some(place)) = (entry.item(), entry.call.place_called()) else {
             return Ok(());
         };
@@ -190,7 +187,7 @@ impl Things {
         }
     }
 
-    fn start(&mut self, number: Number, who: Who, enlists: Option<u8>) -> Result<(), NoMemory> {
+    fn start(&mut self, number: Number, who: Who, enlists: Option<u8>) -> Result<(), AllocError> {
         let Who::Worker(own) = who else {
             return Ok(());
         };
@@ -220,14 +217,12 @@ impl Things {
                 pool: own.pool,
                 index,
             };
-            if self.enlisted.push(new).is_err() {
-                return Err(NoMemory);
-            }
+            self.enlisted.push(new)?;
         }
         Ok(())
     }
 
-    fn ticket(&mut self, number: Number, entry: &Entry) -> Result<(), NoMemory> {
+    fn ticket(&mut self, number: Number, entry: &Entry) -> Result<(), AllocError> {
         let thing = Thing::Ticket {
             who: entry.who,
             call: entry.call,
@@ -235,7 +230,7 @@ impl Things {
         self.push(number, thing)
     }
 
-    fn end(&mut self, ticket: Number) -> Result<(), NoMemory> {
+    fn end(&mut self, ticket: Number) -> Result<(), AllocError> {
         for k in 0..self.list.len() {
             let standing = self.list[k];
             if standing.number == ticket {
@@ -244,18 +239,15 @@ impl Things {
                     ..
                 } = standing.thing
                 {
-                    if self.gone.push(queue).is_err() {
-                        return Err(NoMemory);
-                    }
+                    self.gone.push(queue)?;
                 }
             }
         }
-        self.list
-            .retain(|s| !(s.number == ticket && matches!(s.thing, Thing::Ticket { .. })));
+        self.list.retain(|s| !(s.number == ticket && matches!(s.thing, Thing::Ticket { .. })));
         Ok(())
     }
 
-    fn take(&mut self, number: Number, entry: &Entry) -> Result<(), NoMemory> {
+    fn take(&mut self, number: Number, entry: &Entry) -> Result<(), AllocError> {
         match entry.reply {
             Reply::Yes(k) | Reply::Again(k) | Reply::Fired(_, k) => self.queue(k, entry)?,
             Reply::Booked(due) | Reply::Rebooked(due) => self.book(number, entry, due)?,
@@ -298,9 +290,7 @@ impl Things {
             Reply::Width(width) => {
                 if let Call::SetMax { queue, .. } = entry.call {
                     self.widths.retain(|w| w.0 != queue);
-                    if self.widths.push((queue, width)).is_err() {
-                        return Err(NoMemory);
-                    }
+                    self.widths.push((queue, width))?;
                 }
             }
             Reply::Frozen => self.frozen = true,
@@ -311,14 +301,12 @@ impl Things {
     }
 }
 
-fn put(key: &mut Vec<u8>, byte: u8) -> Result<(), NoMemory> {
-    if key.push(byte).is_err() {
-        return Err(NoMemory);
-    }
+fn put(key: &mut Vec<u8>, byte: u8) -> Result<(), AllocError> {
+    key.push(byte)?;
     Ok(())
 }
 
-fn put_worker(key: &mut Vec<u8>, worker: Option<WorkerId>) -> Result<(), NoMemory> {
+fn put_worker(key: &mut Vec<u8>, worker: Option<WorkerId>) -> Result<(), AllocError> {
     match worker {
         None => put(key, 255),
         Some(worker) => {
@@ -329,14 +317,14 @@ fn put_worker(key: &mut Vec<u8>, worker: Option<WorkerId>) -> Result<(), NoMemor
     }
 }
 
-fn put_number(key: &mut Vec<u8>, number: u64) -> Result<(), NoMemory> {
+fn put_number(key: &mut Vec<u8>, number: u64) -> Result<(), AllocError> {
     for byte in number.to_le_bytes() {
         put(key, byte)?;
     }
     Ok(())
 }
 
-fn put_call(key: &mut Vec<u8>, call: Call) -> Result<(), NoMemory> {
+fn put_call(key: &mut Vec<u8>, call: Call) -> Result<(), AllocError> {
     match call {
         Call::Flush { queue } => {
             put(key, 1)?;
@@ -362,7 +350,7 @@ fn put_call(key: &mut Vec<u8>, call: Call) -> Result<(), NoMemory> {
     }
 }
 
-fn put_thing(key: &mut Vec<u8>, thing: Thing, now: u64) -> Result<(), NoMemory> {
+fn put_thing(key: &mut Vec<u8>, thing: Thing, now: u64) -> Result<(), AllocError> {
     match thing {
         Thing::Queueing {
             item,
@@ -402,12 +390,12 @@ fn put_thing(key: &mut Vec<u8>, thing: Thing, now: u64) -> Result<(), NoMemory> 
     }
 }
 
-fn put_caller_at(key: &mut Vec<u8>, at: &CallerAt) -> Result<(), NoMemory> {
+fn put_caller_at(key: &mut Vec<u8>, at: &CallerAt) -> Result<(), AllocError> {
     put_number(key, at.next as u64)?;
     put(key, u8::from(at.wait.is_some()))
 }
 
-fn put_doing(key: &mut Vec<u8>, doing: Doing) -> Result<(), NoMemory> {
+fn put_doing(key: &mut Vec<u8>, doing: Doing) -> Result<(), AllocError> {
     let (kind, number) = match doing {
         Doing::Acts => (0, 0),
         Doing::AtGate { slept: false, .. } => (1, 0),
@@ -420,7 +408,11 @@ fn put_doing(key: &mut Vec<u8>, doing: Doing) -> Result<(), NoMemory> {
     put(key, number)
 }
 
-fn put_worker_at(key: &mut Vec<u8>, at: &WorkerAt, enlisted: &[WorkerId]) -> Result<(), NoMemory> {
+fn put_worker_at(
+    key: &mut Vec<u8>,
+    at: &WorkerAt,
+    enlisted: &[WorkerId],
+) -> Result<(), AllocError> {
     match at.run {
         None => put(key, 255)?,
         Some(run) => {
@@ -428,11 +420,14 @@ fn put_worker_at(key: &mut Vec<u8>, at: &WorkerAt, enlisted: &[WorkerId]) -> Res
             put_doing(key, run.doing)?;
         }
     }
-    put(key, u8::from(enlisted.iter().any(|worker| *worker == at.id)))
+    put(
+        key,
+        u8::from(enlisted.iter().any(|worker| *worker == at.id)),
+    )
 }
 
 /// How many queueings are active of each queue on each CPU: since those are the oldest, it says which are.
-fn put_active_counts(key: &mut Vec<u8>, play: &Play<'_>) -> Result<(), NoMemory> {
+fn put_active_counts(key: &mut Vec<u8>, play: &Play<'_>) -> Result<(), AllocError> {
     let counts = play.machine().execution().active_counts();
     let cpus = play.machine().shape().counts().cpus;
     for queue in 0..play.machine().shape().queues().len() {
@@ -448,7 +443,11 @@ fn put_active_counts(key: &mut Vec<u8>, play: &Play<'_>) -> Result<(), NoMemory>
 }
 
 /// Where callers and workers stand, and what they share beside the history.
-fn put_parties(key: &mut Vec<u8>, play: &Play<'_>, enlisted: &[WorkerId]) -> Result<(), NoMemory> {
+fn put_parties(
+    key: &mut Vec<u8>,
+    play: &Play<'_>,
+    enlisted: &[WorkerId],
+) -> Result<(), AllocError> {
     for at in play.callers() {
         put_caller_at(key, at)?;
     }
@@ -465,7 +464,7 @@ fn put_parties(key: &mut Vec<u8>, play: &Play<'_>, enlisted: &[WorkerId]) -> Res
 }
 
 /// What was changed of queues.
-fn put_queues(key: &mut Vec<u8>, things: &Things) -> Result<(), NoMemory> {
+fn put_queues(key: &mut Vec<u8>, things: &Things) -> Result<(), AllocError> {
     put(key, u8::from(things.frozen))?;
     for queue in &things.gone {
         put(key, queue.0)?;
@@ -484,7 +483,7 @@ pub(crate) fn key_of(
     alloc: Global,
     play: &Play<'_>,
     counts_entries: bool,
-) -> Result<Vec<u8>, NoMemory> {
+) -> Result<Vec<u8>, AllocError> {
     let mut things = Things {
         list: Vec::new(alloc),
         now: 0,

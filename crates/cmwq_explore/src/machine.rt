@@ -1,14 +1,16 @@
 //! The runtime of a play, with its history: calls that make no sense there change nothing.
 
 ghost use Rattle.std.specs.Prelude.{◌≡◌, [], IfOk, IfSome};
-ghost use Rattle.cmwq_model.specs.Prelude.{IsLegal};
+ghost use Rattle.cmwq_model.specs.Prelude.{IsLegal, is_done};
 ghost use Rattle.cmwq_core.specs.History.{past_in};
 ghost use Rattle.cmwq_explore.specs.Machines as spec;
 
 use crate::place::Ticketed;
 use cmwq_core::{Execution, Full};
-use cmwq_model::{Call, CallerId, Entry, ItemId, NoMemory, Number, Queueing, Reply, Shape, Who, WorkerId};
-use std::alloc::Global;
+use cmwq_model::{
+    Call, CallerId, Entry, ItemId, NoMemory, Number, Queueing, Reply, Shape, Who, WorkerId,
+};
+use std::alloc::{AllocError, Global};
 use std::marker::Model;
 
 /// A runtime with all its entries.
@@ -55,28 +57,51 @@ fn ticket_in(reply: Reply) -> Option<Number>
     }
 }
 
+fn is_nothing(reply: Reply) -> bool
+    ensures { result ≡ spec.is_nothing reply }
+{
+    matches!(reply, Reply::Nothing)
+}
+
+fn is_done(reply: Reply) -> bool
+    ensures { result ≡ is_done reply }
+{
+    matches!(reply, Reply::Done)
+}
+
+fn is_retired(reply: Reply) -> bool
+    ensures { result ≡ spec.is_retired reply }
+{
+    matches!(reply, Reply::Retired)
+}
+
+fn is_tick(call: Call) -> bool
+    ensures { result ≡ spec.is_tick call }
+{
+    matches!(call, Call::Tick { .. })
+}
+
+fn is_drain(call: Call) -> bool
+    ensures { result ≡ spec.is_drain call }
+{
+    matches!(call, Call::Drain { .. })
+}
+
 impl<'a> Machine<'a> {
     /// A runtime of this shape, with no entries.
-    pub fn new(alloc: Global, shape: &'a Shape) -> Result<Machine<'a>, NoMemory>
+    pub fn new(alloc: Global, shape: &'a Shape) -> Result<Machine<'a>, AllocError>
         ensures { IfOk result (λ m. m ≡ record { layout = shape.now; room = shape.now.room; entries = [] }) }
     {
         let room = shape.counts().room;
+        let execution = match Execution::new(alloc, shape, room) {
+            Ok(execution) => execution,
+            Err(NoMemory) => return Err(AllocError),
+        };
         Ok(Machine {
             shape,
-            execution: Execution::new(alloc, shape, room)?,
+            execution,
             entries: Vec::new(alloc),
         })
-    }
-
-    /// Forgets all entries.
-    pub fn restart(&mut self, alloc: Global) -> Result<(), NoMemory>
-        ensures { IfOk result (λ _. self.new ≡ record self.old { room = self.old.layout.room; entries = [] }) }
-    {
-        let room = self.shape.counts().room;
-        let execution = Execution::new(alloc, self.shape, room)?;
-        self.execution = execution;
-        self.entries.clear();
-        Ok(())
     }
 
     pub fn shape(&self) -> &'a Shape
@@ -116,16 +141,15 @@ impl<'a> Machine<'a> {
     }
 
     /// Makes a call of one entry, if there is room for it.
-    pub fn step(&mut self, who: Who, call: Call) -> Result<Option<Reply>, NoMemory>
+    #[tactic(auto, unfolding(crate::specs::Machines::stepped, crate::specs::Machines::replied))]
+    pub fn step(&mut self, who: Who, call: Call) -> Result<Option<Reply>, AllocError>
         ensures history { IfOk result (λ _. self.new ≡ spec.stepped self.old who call) }
         ensures reply { IfOk result (λ reply. reply ≡ spec.replied self.old who call) }
     {
         if !self.shape.fits(who, call) {
             return Ok(None);
         }
-        if self.entries.reserve(1).is_err() {
-            return Err(NoMemory);
-        }
+        self.entries.reserve(1)?;
         match self.execution.next(who, call) {
             Ok(entry) => {
                 self.entries.push_reserved(entry);
@@ -136,6 +160,7 @@ impl<'a> Machine<'a> {
     }
 
     /// What a call of one entry would be answered, if there is room for it.
+    #[tactic(auto, unfolding(crate::specs::Machines::replied))]
     pub fn would(&self, who: Who, call: Call) -> Option<Reply>
         ensures { result ≡ spec.replied self.now who call }
     {
@@ -150,6 +175,7 @@ impl<'a> Machine<'a> {
     }
 
     /// The item that an idle worker would start.
+    #[tactic(auto, unfolding(crate::specs::Machines::starts, crate::specs::Machines::replied))]
     pub fn would_start(&self, worker: WorkerId) -> Option<ItemId>
         ensures { result ≡ spec.starts self.now worker }
     {
@@ -191,55 +217,66 @@ impl<'a> Machine<'a> {
     }
 
     /// Whether a wait would end now.
+    #[tactic(auto, unfolding(crate::specs::Machines::ends))]
     pub fn would_end(&self, who: Who, ticket: Number) -> bool
         ensures { result ≡ spec.ends self.now who ticket }
     {
-        matches!(self.would(who, Call::End { ticket }), Some(Reply::Done))
+        match self.would(who, Call::End { ticket }) {
+            Some(reply) => is_done(reply),
+            None => false,
+        }
     }
 
     /// Whether the worker would be sent to the reserve.
+    #[tactic(auto, unfolding(crate::specs::Machines::retires))]
     pub fn would_retire(&self, worker: WorkerId) -> bool
         ensures { result ≡ spec.retires self.now worker }
     {
-        matches!(
-            self.would(Who::Worker(worker), Call::Retire),
-            Some(Reply::Retired)
-        )
+        match self.would(Who::Worker(worker), Call::Retire) {
+            Some(reply) => is_retired(reply),
+            None => false,
+        }
     }
 
     /// Fires what is due, as far as there is room, and at most as many times as there are items.
-    pub fn fire_all(&mut self, who: Who) -> Result<(), NoMemory>
+    pub fn fire_all(&mut self, who: Who) -> Result<(), AllocError>
         ensures { IfOk result (λ _. self.new ≡ spec.fired self.old.layout.items self.old who) }
     {
-        for _ in 0..self.shape.counts().items {
-            match self.step(who, Call::Fire)? {
-                Some(Reply::Nothing) | None => return Ok(()),
-                Some(_) => {}
+        let items = self.shape.counts().items;
+        for _ in 0..items {
+            let Some(reply) = self.step(who, Call::Fire)? else {
+                return Ok(());
+            };
+            if is_nothing(reply) {
+                return Ok(());
             }
         }
         Ok(())
     }
 
     /// Ends a wait; after that of a drain it fires what is due.
-    pub fn end(&mut self, who: Who, wait: Ticketed) -> Result<(), NoMemory>
+    #[tactic(auto, unfolding(crate::specs::Machines::ended))]
+    pub fn end(&mut self, who: Who, wait: Ticketed) -> Result<(), AllocError>
         ensures { IfOk result (λ _. self.new ≡ spec.ended self.old who wait) }
     {
         let ticket = wait.ticket;
         self.step(who, Call::End { ticket })?;
-        match wait.call {
-            Call::Drain { .. } => self.fire_all(who),
-            _ => Ok(()),
+        if is_drain(wait.call) {
+            self.fire_all(who)
+        } else {
+            Ok(())
         }
     }
 
     /// Makes a whole call: a tick fires what is due, and a wait ends if it may end at once.
-    pub fn call(&mut self, who: Who, call: Call) -> Result<Called, NoMemory>
+    #[tactic(auto, unfolding(crate::specs::Machines::called))]
+    pub fn call(&mut self, who: Who, call: Call) -> Result<Called, AllocError>
         ensures { IfOk result (λ called. record { history = self.new; outcome = called } ≡ spec.called self.old who call) }
     {
         let Some(reply) = self.step(who, call)? else {
             return Ok(Called::NoRoom);
         };
-        if matches!(call, Call::Tick { .. }) {
+        if is_tick(call) {
             self.fire_all(who)?;
             return Ok(Called::Whole);
         }
@@ -250,7 +287,7 @@ impl<'a> Machine<'a> {
     }
 
     /// A wait has begun: it ends if it may end at once.
-    fn begin(&mut self, who: Who, wait: Ticketed) -> Result<Called, NoMemory>
+    fn begin(&mut self, who: Who, wait: Ticketed) -> Result<Called, AllocError>
         ensures { IfOk result (λ called. record { history = self.new; outcome = called } ≡ spec.begun self.old who wait) }
     {
         if self.would_end(who, wait.ticket) {

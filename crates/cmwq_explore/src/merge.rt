@@ -5,8 +5,7 @@ use crate::key::key_of;
 use crate::place::Step;
 use crate::play::{Play, Setup};
 use crate::search::{Found, Limits, MOST_MOVES, Search, Watch};
-use cmwq_model::NoMemory;
-use std::alloc::Global;
+use std::alloc::{AllocError, Global};
 use std::collections::HashMap;
 
 /// A state that was met: the one before it, the step from there, and how many steps lead to it.
@@ -50,7 +49,7 @@ impl States {
     }
 
     /// The steps that lead to this state.
-    fn path_to(&self, state: usize) -> Result<Vec<Step>, NoMemory> {
+    fn path_to(&self, state: usize) -> Result<Vec<Step>, AllocError> {
         let mut path = Vec::new(self.alloc);
         let mut at = state;
         for _ in 0..=MOST_MOVES {
@@ -60,24 +59,20 @@ impl States {
             if met.depth == 0 {
                 break;
             }
-            if path.push(met.step).is_err() {
-                return Err(NoMemory);
-            }
+            path.push(met.step)?;
             at = met.before;
         }
         path.reverse();
         Ok(path)
     }
 
-    fn add(&mut self, met: Met) -> Result<(), NoMemory> {
-        if self.met.push(met).is_err() {
-            return Err(NoMemory);
-        }
+    fn add(&mut self, met: Met) -> Result<(), AllocError> {
+        self.met.push(met)?;
         Ok(())
     }
 
     /// Whether a state that stands alike was met before.
-    fn is_seen(&mut self, play: &Play<'_>, found: &mut Found) -> Result<bool, NoMemory> {
+    fn is_seen(&mut self, play: &Play<'_>, found: &mut Found) -> Result<bool, AllocError> {
         let key = key_of(self.alloc, play, self.counts_entries)?;
         let movers = play.movers()?;
         let digest = digest(&movers);
@@ -88,9 +83,7 @@ impl States {
             found.met_again = found.met_again.saturating_add(1);
             return Ok(true);
         }
-        if self.seen.insert(key, digest).is_err() {
-            return Err(NoMemory);
-        }
+        self.seen.insert(key, digest)?;
         Ok(false)
     }
 }
@@ -103,7 +96,7 @@ fn visit<'a, W: Watch>(
     play: &mut Play<'a>,
     state: usize,
     watch: &mut W,
-) -> Result<(), NoMemory> {
+) -> Result<(), AllocError> {
     search.count_state();
     let path = states.path_to(state)?;
     play.replay(setup, &path)?;
@@ -145,7 +138,7 @@ pub fn search_merged<'a, W: Watch>(
     setup: &'a Setup<'a>,
     limits: Limits,
     watch: &mut W,
-) -> Result<(Found, Option<Vec<Step>>), NoMemory> {
+) -> Result<(Found, Option<Vec<Step>>), AllocError> {
     let mut search = Search::new(alloc, limits);
     let mut states = States::new(alloc, crate::room::may_fill(setup.script()));
     let mut play = Play::new(alloc, setup)?;

@@ -47,7 +47,10 @@ struct Awaited {
 #[derive(Clone, Copy)]
 enum State {
     /// A caller of the script waits.
-    Calls { caller: u8, wait: Awaited },
+    Calls {
+        caller: u8,
+        wait: Awaited,
+    },
     /// A run waits at a gate.
     AtGate {
         worker: WorkerId,
@@ -62,9 +65,14 @@ enum State {
         wait: Awaited,
     },
     /// A run goes on.
-    Runs { worker: WorkerId, item: ItemId },
+    Runs {
+        worker: WorkerId,
+        item: ItemId,
+    },
     /// A queueing hasn't started.
-    Unstarted { queueing: Queueing },
+    Unstarted {
+        queueing: Queueing,
+    },
 }
 
 /// One who has something left to do, and what it waits for.

@@ -25,7 +25,7 @@ use cmwq_model::{
     Call, CallerId, CpuId, Entry, ItemId, NoMemory, PoolId, Queueing, Shape, Ticket, Who, WorkerId,
 };
 use cmwq_waits::RunWaits;
-use std::alloc::Global;
+use std::alloc::{AllocError, Global};
 use std::marker::Model;
 
 /// How a play stands.
@@ -79,7 +79,7 @@ impl<'a> Model for Play<'a> {
     ghost view = { λ p. record { scripts = calls_of p.setup.now.script.now.callers; does = map (λ d. d.items) p.setup.now.script.now.does.items; history = p.machine; callers = p.callers.items; workers = p.workers.items; gates = p.gates.items; free = p.free.items } };
 }
 
-fn workers_at(alloc: Global, shape: &Shape) -> Result<Vec<WorkerAt>, NoMemory> {
+fn workers_at(alloc: Global, shape: &Shape) -> Result<Vec<WorkerAt>, AllocError> {
     let counts = shape.counts();
     let mut workers = Vec::new(alloc);
     for cpu in 0..counts.cpus {
@@ -90,9 +90,7 @@ fn workers_at(alloc: Global, shape: &Shape) -> Result<Vec<WorkerAt>, NoMemory> {
                     high,
                 };
                 let id = WorkerId { pool, index };
-                if workers.push(WorkerAt { id, run: None }).is_err() {
-                    return Err(NoMemory);
-                }
+                workers.push(WorkerAt { id, run: None })?;
             }
         }
     }
@@ -100,7 +98,7 @@ fn workers_at(alloc: Global, shape: &Shape) -> Result<Vec<WorkerAt>, NoMemory> {
 }
 
 /// The callers of the script, before their first calls.
-fn callers_at(alloc: Global, count: usize) -> Result<Vec<CallerAt>, NoMemory> {
+fn callers_at(alloc: Global, count: usize) -> Result<Vec<CallerAt>, AllocError> {
     let mut callers = Vec::new(alloc);
     for k in 0..count {
         let at = CallerAt {
@@ -108,31 +106,27 @@ fn callers_at(alloc: Global, count: usize) -> Result<Vec<CallerAt>, NoMemory> {
             next: 0,
             wait: None,
         };
-        if callers.push(at).is_err() {
-            return Err(NoMemory);
-        }
+        callers.push(at)?;
     }
     Ok(callers)
 }
 
 /// The callers behind those of the script, which are lent.
-fn lent_callers(alloc: Global, script: &Script) -> Result<Vec<u8>, NoMemory> {
+fn lent_callers(alloc: Global, script: &Script) -> Result<Vec<u8>, AllocError> {
     let mut free = Vec::with_capacity(alloc, usize::from(script.waits))?;
     let first = script.callers.len();
     for k in 0..script.waits {
         let Ok(caller) = u8::try_from(first.saturating_add(usize::from(k))) else {
             return Ok(free);
         };
-        if free.push(caller).is_err() {
-            return Err(NoMemory);
-        }
+        free.push(caller)?;
     }
     Ok(free)
 }
 
 impl<'a> Setup<'a> {
     /// The callers and workers of a script.
-    pub fn new(alloc: Global, script: &'a Script) -> Result<Setup<'a>, NoMemory> {
+    pub fn new(alloc: Global, script: &'a Script) -> Result<Setup<'a>, AllocError> {
         Ok(Setup {
             script,
             callers: callers_at(alloc, script.callers.len())?,
@@ -148,10 +142,14 @@ impl<'a> Setup<'a> {
 
 impl<'a> Play<'a> {
     /// A script before its first move.
-    pub fn new(alloc: Global, setup: &'a Setup<'a>) -> Result<Play<'a>, NoMemory>
+    pub fn new(alloc: Global, setup: &'a Setup<'a>) -> Result<Play<'a>, AllocError>
         ensures { IfOk result (λ play. play ≡ start_of setup.now) }
     {
         let shape = &setup.script.shape;
+        let waits = match RunWaits::new(alloc, shape) {
+            Ok(waits) => waits,
+            Err(NoMemory) => return Err(AllocError),
+        };
         Ok(Play {
             alloc,
             setup,
@@ -160,14 +158,14 @@ impl<'a> Play<'a> {
             workers: setup.workers.to_vec(alloc)?,
             gates: vec![in alloc; false; MOST_GATES]?,
             free: setup.lent.to_vec(alloc)?,
-            waits: RunWaits::new(alloc, shape)?,
+            waits,
             left_out: 0,
             refused: 0,
         })
     }
 
     /// The script of this setup, before its first move.
-    pub fn restart(&mut self, setup: &'a Setup<'a>) -> Result<(), NoMemory>
+    pub fn restart(&mut self, setup: &'a Setup<'a>) -> Result<(), AllocError>
         ensures { IfOk result (λ _. self.new ≡ start_of setup.now) }
     {
         let play = Play::new(self.alloc, setup)?;
@@ -325,14 +323,14 @@ impl<'a> Play<'a> {
     }
 
     /// Those who may move, in order.
-    pub fn movers(&self) -> Result<Vec<usize>, NoMemory>
+    pub fn movers(&self) -> Result<Vec<usize>, AllocError>
         ensures all { IfOk result (λ movers. (k : ℕ) → spec.may self.now k ≡ true → Contains movers.items k) }
         ensures sound { IfOk result (λ movers. All (λ k. spec.may self.now k ≡ true) movers.items) }
     {
         let mut movers = Vec::new(self.alloc);
         for party in 0..self.parties() {
-            if self.may_move(party) && movers.push(party).is_err() {
-                return Err(NoMemory);
+            if self.may_move(party) {
+                movers.push(party)?;
             }
         }
         Ok(movers)
@@ -422,9 +420,10 @@ impl<'a> Play<'a> {
         let Doing::Borrows { caller } = run.doing else {
             return false;
         };
-        let (Some(Action::Call(call)), Some(queueing)) =
-            (self.action_of(run), self.machine.run_of(id))
-        else {
+        let (Some(Action::Call(call)), Some(queueing)) = (
+            self.action_of(run),
+            self.machine.run_of(id),
+        ) else {
             return false;
         };
         self.waits
@@ -449,7 +448,7 @@ impl<'a> Play<'a> {
 
     /// Makes a step, whose party may move.
     #[tactic(auto, unfolding(crate::specs::Stands::moved))]
-    pub fn make_move(&mut self, step: Step) -> Result<(), NoMemory>
+    pub fn make_move(&mut self, step: Step) -> Result<(), AllocError>
         ensures { IfOk result (λ _. self.new ≡ spec.moved self.old step) }
     {
         let callers = self.callers.len();
@@ -466,7 +465,7 @@ impl<'a> Play<'a> {
     }
 
     /// Plays these steps of the script of this setup from the start.
-    pub fn replay(&mut self, setup: &'a Setup<'a>, steps: &[Step]) -> Result<(), NoMemory>
+    pub fn replay(&mut self, setup: &'a Setup<'a>, steps: &[Step]) -> Result<(), AllocError>
         ensures { IfOk result (λ _. self.new ≡ after (start_of setup.now) steps.now) }
     {
         self.restart(setup)?;
@@ -491,7 +490,7 @@ impl<'a> Play<'a> {
     }
 
     #[tactic(auto, unfolding(crate::specs::Stands::caller_moved))]
-    fn move_caller(&mut self, k: usize, at: CallerAt) -> Result<(), NoMemory>
+    fn move_caller(&mut self, k: usize, at: CallerAt) -> Result<(), AllocError>
         requires { k < length self.old.callers }
         ensures { IfOk result (λ _. self.new ≡ spec.caller_moved self.old k at) }
     {
@@ -506,7 +505,7 @@ impl<'a> Play<'a> {
         }
     }
 
-    fn make_call(&mut self, k: usize, at: CallerAt, call: Call) -> Result<(), NoMemory>
+    fn make_call(&mut self, k: usize, at: CallerAt, call: Call) -> Result<(), AllocError>
         requires { k < length self.old.callers }
         ensures { IfOk result (λ _. self.new ≡ spec.after_call self.old k at (machines.called self.old.history (who.Caller at.id) call)) }
     {
@@ -536,7 +535,7 @@ impl<'a> Play<'a> {
     }
 
     #[tactic(auto, unfolding(crate::specs::Stands::worker_moved))]
-    fn move_worker(&mut self, k: usize, at: WorkerAt, is_refused: bool) -> Result<(), NoMemory>
+    fn move_worker(&mut self, k: usize, at: WorkerAt, is_refused: bool) -> Result<(), AllocError>
         requires { k < length self.old.workers }
         ensures { IfOk result (λ _. self.new ≡ spec.worker_moved self.old k at is_refused) }
     {
@@ -548,7 +547,7 @@ impl<'a> Play<'a> {
 
     /// Starts a run, if the worker would start one now.
     #[tactic(auto, unfolding(crate::specs::Stands::started))]
-    fn start(&mut self, k: usize, id: WorkerId) -> Result<(), NoMemory>
+    fn start(&mut self, k: usize, id: WorkerId) -> Result<(), AllocError>
         requires { k < length self.old.workers }
         ensures { IfOk result (λ _. self.new ≡ spec.started self.old k id) }
     {
@@ -567,7 +566,7 @@ impl<'a> Play<'a> {
     }
 
     /// Sends the worker to the reserve, if it would be sent there now.
-    fn rest(&mut self, id: WorkerId) -> Result<(), NoMemory>
+    fn rest(&mut self, id: WorkerId) -> Result<(), AllocError>
         ensures { IfOk result (λ _. self.new ≡ spec.with_history self.old (spec.rested self.old.history id)) }
     {
         if self.machine.would_retire(id) {
@@ -578,7 +577,7 @@ impl<'a> Play<'a> {
 
     /// Ends a run, and starts the next one, if there is one now.
     #[tactic(auto, unfolding(crate::specs::Stands::finished))]
-    fn finish(&mut self, k: usize, id: WorkerId) -> Result<(), NoMemory>
+    fn finish(&mut self, k: usize, id: WorkerId) -> Result<(), AllocError>
         requires { k < length self.old.workers }
         ensures { IfOk result (λ _. self.new ≡ spec.finished self.old k id) }
     {
@@ -602,7 +601,7 @@ impl<'a> Play<'a> {
         id: WorkerId,
         run: RunAt,
         is_refused: bool,
-    ) -> Result<(), NoMemory>
+    ) -> Result<(), AllocError>
         requires { k < length self.old.workers }
         ensures { IfOk result (λ _. self.new ≡ spec.run_moved self.old k id run is_refused) }
     {
@@ -619,13 +618,7 @@ impl<'a> Play<'a> {
     }
 
     /// The run passes a gate, and wakes if it slept.
-    fn pass(
-        &mut self,
-        k: usize,
-        id: WorkerId,
-        run: RunAt,
-        slept: bool,
-    ) -> Result<(), NoMemory>
+    fn pass(&mut self, k: usize, id: WorkerId, run: RunAt, slept: bool) -> Result<(), AllocError>
         requires { k < length self.old.workers }
         ensures { IfOk result (λ _. self.new ≡ spec.did self.old k id run false (doing.AtGate 0 slept)) }
     {
@@ -643,25 +636,17 @@ impl<'a> Play<'a> {
         id: WorkerId,
         run: RunAt,
         caller: u8,
-    ) -> Result<(), NoMemory>
+    ) -> Result<(), AllocError>
         requires { k < length self.old.workers }
         ensures { IfOk result (λ _. self.new ≡ spec.did self.old k id run false (doing.Returns caller)) }
     {
-        if self.free.push(caller).is_err() {
-            return Err(NoMemory);
-        }
+        self.free.push(caller)?;
         self.put_run(k, id, Some(after_action(run)));
         Ok(())
     }
 
     #[tactic(auto, unfolding(crate::specs::Stands::acted))]
-    fn act(
-        &mut self,
-        k: usize,
-        id: WorkerId,
-        run: RunAt,
-        action: Action,
-    ) -> Result<(), NoMemory>
+    fn act(&mut self, k: usize, id: WorkerId, run: RunAt, action: Action) -> Result<(), AllocError>
         requires { k < length self.old.workers }
         ensures { IfOk result (λ _. self.new ≡ spec.acted self.old k id run action) }
     {
@@ -729,7 +714,7 @@ impl<'a> Play<'a> {
         run: RunAt,
         caller: u8,
         is_refused: bool,
-    ) -> Result<(), NoMemory>
+    ) -> Result<(), AllocError>
         requires { k < length self.old.workers }
         ensures { IfOk result (λ _. self.new ≡ spec.did self.old k id run is_refused (doing.Borrows caller)) }
     {
@@ -753,7 +738,7 @@ impl<'a> Play<'a> {
         run: RunAt,
         caller: u8,
         call: Call,
-    ) -> Result<(), NoMemory>
+    ) -> Result<(), AllocError>
         requires { k < length self.old.workers }
         ensures { IfOk result (λ _. self.new ≡ spec.wait_begun self.old k id run caller call) }
     {
@@ -784,7 +769,7 @@ impl<'a> Play<'a> {
         run: RunAt,
         caller: u8,
         called: Called,
-    ) -> Result<(), NoMemory>
+    ) -> Result<(), AllocError>
         requires { k < length self.old.workers }
         ensures { IfOk result (λ _. self.new ≡ spec.after_begin self.old k id run caller self.old.history called) }
     {
@@ -810,7 +795,7 @@ impl<'a> Play<'a> {
         run: RunAt,
         caller: u8,
         wait: Ticketed,
-    ) -> Result<(), NoMemory>
+    ) -> Result<(), AllocError>
         requires { k < length self.old.workers }
         ensures { IfOk result (λ _. self.new ≡ spec.did self.old k id run false (doing.Waits caller wait)) }
     {

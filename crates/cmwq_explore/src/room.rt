@@ -4,6 +4,7 @@ use cmwq_json_script::{Action, Script};
 use cmwq_model::{Call, ItemId};
 
 /// The most entries of one run of an item, with those of the runs that it may start: so deep, or None.
+#[cycle(counting)]
 fn of_run(script: &Script, item: ItemId, depth: u16) -> Option<u64> {
     // take, finish, retire, and a fire that queued it
     let mut entries = 4u64;
@@ -22,6 +23,7 @@ fn of_run(script: &Script, item: ItemId, depth: u16) -> Option<u64> {
 }
 
 /// The most entries that come of a call.
+#[cycle(counting)]
 fn of_call(script: &Script, call: Call, depth: u16) -> Option<u64> {
     let own = 3u64;
     match call {

@@ -1,14 +1,15 @@
 //! All schedules of a script, depth first.
 
-ghost use Rattle.std.specs.Prelude.{◌≡◌, ◌≤◌, IfOk};
+ghost use Rattle.std.specs.Prelude.{◌≡◌, ◌≤◌, length, IfOk, IfSome, OnOk};
 ghost use Rattle.cmwq_explore.specs.Stands as spec;
 ghost use Rattle.cmwq_explore.specs.Searches.{AllEnd, after};
+ghost use Rattle.cmwq_explore.specs.Counts.{CountsEnd, CountsStuck};
+ghost use Rattle.cmwq_explore.specs.declared.play.Standing.TheVariants as standing;
 ghost use Rattle.cmwq_explore.specs.Starts.{start_of};
 
 use crate::place::Step;
 use crate::play::{Play, Setup, Standing};
-use cmwq_model::NoMemory;
-use std::alloc::Global;
+use std::alloc::{AllocError, Global};
 
 /// How many moves a schedule has at most; a longer one is cut off.
 pub const MOST_MOVES: usize = 2_000;
@@ -64,9 +65,10 @@ impl Found {
 
     /// How a play ended that may not go on.
     pub fn count_end(&mut self, play: &Play<'_>) -> Standing
-        ensures done { self.new.stuck ≡ 0 → spec.IsDone play.now }
+        ensures ended { result ≡ standing.Ended → CountsEnd self.old self.new × spec.IsDone play.now }
+        ensures stuck { result ≡ standing.Stuck → CountsStuck self.old self.new × (spec.IsDone play.now → ⊥) }
+        ensures goes { result ≡ standing.Goes → ⊥ }
         ensures cut { self.new.cut ≡ self.old.cut }
-        ensures stuck { self.old.stuck ≤ self.new.stuck }
     {
         let standing = play.standing_still();
         match standing {
@@ -103,7 +105,7 @@ pub(crate) struct Search {
 }
 
 /// The steps, copied.
-fn copy_of(alloc: Global, steps: &[Step]) -> Result<Vec<Step>, NoMemory> {
+fn copy_of(alloc: Global, steps: &[Step]) -> Result<Vec<Step>, AllocError> {
     Ok(steps.to_vec(alloc)?)
 }
 
@@ -146,10 +148,11 @@ impl Search {
         play: &Play<'_>,
         path: &[Step],
         watch: &mut W,
-    ) -> Result<(), NoMemory>
+    ) -> Result<(), AllocError>
         ensures done { self.new.found.stuck ≡ 0 → spec.IsDone play.now }
         ensures cut { self.new.found.cut ≡ self.old.found.cut }
         ensures stuck { self.old.found.stuck ≤ self.new.found.stuck }
+        ensures shortest { OnOk result ((spec.IsDone play.now → ⊥) → IfSome self.new.shortest (λ s. length s.items ≤ length path.now)) }
     {
         let standing = self.found.count_end(play);
         watch.ends(play, standing);
@@ -172,6 +175,7 @@ impl Search {
     }
 
     /// Visits all states to which the path leads, at the end of which the play stands.
+    #[cycle(visiting)]
     fn visit<'a, W: Watch>(
         &mut self,
         setup: &'a Setup<'a>,
@@ -179,7 +183,7 @@ impl Search {
         path: &mut Vec<Step>,
         depth: usize,
         watch: &mut W,
-    ) -> Result<(), NoMemory>
+    ) -> Result<(), AllocError>
         requires { play.old ≡ after (start_of setup.now) path.old.items }
         ensures all { IfOk result (λ _. self.new.found.cut ≡ 0 → self.new.found.stuck ≡ 0 → AllEnd depth play.old) }
         ensures path { IfOk result (λ _. path.new.items ≡ path.old.items) }
@@ -211,6 +215,7 @@ impl Search {
     }
 
     /// Makes a step, and visits all states behind it.
+    #[cycle(visiting)]
     fn go_on<'a, W: Watch>(
         &mut self,
         setup: &'a Setup<'a>,
@@ -219,7 +224,7 @@ impl Search {
         depth: usize,
         step: Step,
         watch: &mut W,
-    ) -> Result<(), NoMemory>
+    ) -> Result<(), AllocError>
         requires { play.old ≡ after (start_of setup.now) path.old.items }
         ensures all { IfOk result (λ _. self.new.found.cut ≡ 0 → self.new.found.stuck ≡ 0 → AllEnd depth (spec.moved play.old step)) }
         ensures path { IfOk result (λ _. path.new.items ≡ path.old.items) }
@@ -228,9 +233,7 @@ impl Search {
     {
         play.make_move(step)?;
         self.count_moves(1, watch);
-        if path.push(step).is_err() {
-            return Err(NoMemory);
-        }
+        path.push(step)?;
         self.visit(setup, play, path, depth, watch)?;
         path.pop();
         Ok(())
@@ -247,7 +250,7 @@ pub fn search_all<'a, W: Watch>(
     setup: &'a Setup<'a>,
     limits: Limits,
     watch: &mut W,
-) -> Result<(Found, Option<Vec<Step>>), NoMemory>
+) -> Result<(Found, Option<Vec<Step>>), AllocError>
     ensures { IfOk result (λ r. r.0.cut ≡ 0 → r.0.stuck ≡ 0 → AllEnd MOST_MOVES (start_of setup.now)) }
 {
     let mut search = Search::new(alloc, limits);
