@@ -127,8 +127,8 @@ impl<'a> Machine<'a> {
 
     /// The entries, the oldest first.
     pub fn into_entries(self) -> Vec<Entry>
-        ensures entries { result.items ≡ self.entries }
-        ensures legal { IsLegal self.layout (past_in self) }
+        ensures entries { result.items ≡ self.entry.entries }
+        ensures legal { IsLegal self.entry.layout (past_in self.entry) }
     {
         let Machine {
             shape: _,

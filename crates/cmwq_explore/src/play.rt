@@ -201,8 +201,8 @@ impl<'a> Play<'a> {
 
     /// The entries, the oldest first.
     pub fn into_history(self) -> Vec<Entry>
-        ensures entries { result.items ≡ self.history.entries }
-        ensures legal { IsLegal self.history.layout (past_in self.history) }
+        ensures entries { result.items ≡ self.entry.history.entries }
+        ensures legal { IsLegal self.entry.history.layout (past_in self.entry.history) }
     {
         let Play {
             alloc: _,
