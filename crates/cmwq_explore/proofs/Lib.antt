@@ -1,2 +1,3 @@
 pub mod Firing
+pub mod Moving
 pub mod Searching

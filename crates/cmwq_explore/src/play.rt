@@ -4,7 +4,7 @@
 //! fires, and with its end where that is done at once; the end of a caller's wait; a worker's start, action, or end of a
 //! run with the next start. A run that waits takes a caller, makes its call, ends it, and gives the caller back.
 
-ghost use Rattle.std.specs.Prelude.{◌≡◌, ◌<◌, ℕ, true, false, length, All, Contains, IfOk, slice_set};
+ghost use Rattle.std.specs.Prelude.{◌≡◌, ◌<◌, ◌+◌, ℕ, true, false, length, All, Contains, IfOk, slice_set};
 ghost use Rattle.std.specs.List.{list_any};
 ghost use Rattle.cmwq_model.specs.Prelude.{IsLegal};
 ghost use Rattle.cmwq_core.specs.History.{past_in};
@@ -174,8 +174,10 @@ impl<'a> Play<'a> {
     }
 
     /// How many take part: the callers of the script, and behind them all workers.
-    pub fn parties(&self) -> usize {
-        self.callers.len().saturating_add(self.workers.len())
+    pub fn parties(&self) -> usize
+        ensures { result ≡ length self.now.callers + length self.now.workers }
+    {
+        self.callers.len() + self.workers.len()
     }
 
     /// The name of one who takes part.
@@ -233,24 +235,34 @@ impl<'a> Play<'a> {
         self.refused
     }
 
-    pub fn callers(&self) -> &[CallerAt] {
+    pub fn callers(&self) -> &[CallerAt]
+        ensures { result.now ≡ self.now.callers }
+    {
         &self.callers
     }
 
-    pub fn workers(&self) -> &[WorkerAt] {
+    pub fn workers(&self) -> &[WorkerAt]
+        ensures { result.now ≡ self.now.workers }
+    {
         &self.workers
     }
 
-    pub fn gates(&self) -> &[bool] {
+    pub fn gates(&self) -> &[bool]
+        ensures { result.now ≡ self.now.gates }
+    {
         &self.gates
     }
 
     /// The callers that may be lent.
-    pub fn free(&self) -> &[u8] {
+    pub fn free(&self) -> &[u8]
+        ensures { result.now ≡ self.now.free }
+    {
         &self.free
     }
 
-    pub fn machine(&self) -> &Machine<'a> {
+    pub fn machine(&self) -> &Machine<'a>
+        ensures { result.now ≡ self.now.history }
+    {
         &self.machine
     }
 
@@ -323,6 +335,7 @@ impl<'a> Play<'a> {
     }
 
     /// Those who may move, in order.
+    #[tactic(auto, using(crate::proofs::Moving::may_within))]
     pub fn movers(&self) -> Result<Vec<usize>, AllocError>
         ensures all { IfOk result (λ movers. (k : ℕ) → spec.may self.now k ≡ true → Contains movers.items k) }
         ensures sound { IfOk result (λ movers. All (λ k. spec.may self.now k ≡ true) movers.items) }
@@ -383,6 +396,7 @@ impl<'a> Play<'a> {
     }
 
     /// How it stands.
+    #[tactic(auto, using(crate::proofs::Moving::may_within))]
     pub fn standing(&self) -> Standing
         ensures ended { result ≡ standing.Ended → Rests self.now × spec.IsDone self.now }
         ensures stuck { result ≡ standing.Stuck → Rests self.now × (spec.IsDone self.now → ⊥) }

@@ -1,0 +1,21 @@
+-- Who may move takes part.
+use Rattle.std.proofs.Common.{ℕ, ◌≡◌, ◌<◌, ◌≤◌, ◌+◌, ◌-◌, Bool, true, false, length, nat_lt, slice_get, None, refl, ap, sym, ◌∙◌, arith, if◌then◌else◌}
+use Rattle.std.specs.Option.{option_map_or}
+use Rattle.std.proofs.lemmas.Bool.{lt-ltb, ltb-true, ltb-false, le-ltb}
+use Rattle.std.proofs.lemmas.Option.{slice_get_past}
+use Rattle.cmwq_explore.specs.Stands.{Stand, may, may_call, may_work}
+
+none_past : (p : Stand) (k : ℕ) → length p.callers + length p.workers ≤ k → may p k ≡ false
+unfolding may
+none_past p k past =
+    let behind : length p.callers ≤ k = omega arith in
+    let over : length p.workers ≤ k - length p.callers = omega arith in
+    rw (le-ltb k (length p.callers) behind, slice_get_past p.workers (k - length p.callers) over) refl
+
+-- behind them nobody may move
+pub may_within : (p : Stand) (k : ℕ) → may p k ≡ true → k < length p.callers + length p.workers
+may_within p k is = here (nat_lt k (length p.callers + length p.workers)) refl
+  where
+    here : (b : Bool) → nat_lt k (length p.callers + length p.workers) ≡ b → k < length p.callers + length p.workers
+    here true lt = ltb-true k (length p.callers + length p.workers) lt
+    here false not = let none = none_past p k (ltb-false k (length p.callers + length p.workers) not) in cc
