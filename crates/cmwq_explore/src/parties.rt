@@ -145,30 +145,77 @@ impl<'a> Party<'a> {
     }
 }
 
-fn write_worker<W: Write>(f: &mut Formatter<W>, worker: WorkerId) -> fmt::Result {
-    let pool = if worker.pool.high { 'h' } else { 'n' };
-    write!(f, "w{}{}{}", worker.pool.cpu.0, pool, worker.index)
+/// The name of a worker: `w0n1`.
+#[derive(Clone, Copy)]
+struct WorkerName {
+    id: WorkerId,
 }
 
-fn write_wait<W: Write>(f: &mut Formatter<W>, names: Names<'_>, wait: Awaited) -> fmt::Result {
-    match wait.call {
-        Call::Flush { queue } => write!(f, "the flush of queue {}", queue.0)?,
-        Call::Drain { queue } => write!(f, "the drain of queue {}", queue.0)?,
-        Call::Destroy { queue } => write!(f, "the destruction of queue {}", queue.0)?,
-        Call::FlushItem { item } | Call::FlushDelayed { item } => {
-            write!(f, "the flush of item {}", names.item(item))?
-        }
-        Call::CancelSync { item } => write!(f, "the cancelling of item {}", names.item(item))?,
-        _ => f.write_str("a call")?,
+impl Display for WorkerName {
+    fn fmt<W: Write>(&self, f: &mut Formatter<W>) -> fmt::Result {
+        let WorkerId { pool, index } = self.id;
+        let letter = if pool.high { 'h' } else { 'n' };
+        write!(f, "w{}{letter}{index}", pool.cpu.0)
     }
-    match wait.queueing {
-        Some((number, Some(item))) => write!(
-            f,
-            ", which waits for queueing {number} of item {}",
-            names.item(item)
-        ),
-        Some((number, None)) => write!(f, ", which waits for queueing {number}"),
-        None => Ok(()),
+}
+
+/// What a call waits for.
+#[derive(Clone, Copy)]
+struct CallWords<'a> {
+    names: Names<'a>,
+    call: Call,
+}
+
+impl<'a> Display for CallWords<'a> {
+    fn fmt<W: Write>(&self, f: &mut Formatter<W>) -> fmt::Result {
+        match self.call {
+            Call::Flush { queue } => write!(f, "the flush of queue {}", queue.0),
+            Call::Drain { queue } => write!(f, "the drain of queue {}", queue.0),
+            Call::Destroy { queue } => write!(f, "the destruction of queue {}", queue.0),
+            Call::FlushItem { item } | Call::FlushDelayed { item } => {
+                write!(f, "the flush of item {}", self.names.item(item))
+            }
+            Call::CancelSync { item } => {
+                write!(f, "the cancelling of item {}", self.names.item(item))
+            }
+            _ => f.write_str("a call"),
+        }
+    }
+}
+
+/// Which queueing that waits for.
+#[derive(Clone, Copy)]
+struct QueueingWords<'a> {
+    names: Names<'a>,
+    queueing: Option<(Number, Option<ItemId>)>,
+}
+
+impl<'a> Display for QueueingWords<'a> {
+    fn fmt<W: Write>(&self, f: &mut Formatter<W>) -> fmt::Result {
+        match self.queueing {
+            Some((number, Some(item))) => {
+                let name = self.names.item(item);
+                write!(f, ", which waits for queueing {number} of item {name}")
+            }
+            Some((number, None)) => write!(f, ", which waits for queueing {number}"),
+            None => Ok(()),
+        }
+    }
+}
+
+impl<'a> Party<'a> {
+    fn call_words(&self, wait: Awaited) -> CallWords<'a> {
+        CallWords {
+            names: self.names,
+            call: wait.call,
+        }
+    }
+
+    fn queueing_words(&self, wait: Awaited) -> QueueingWords<'a> {
+        QueueingWords {
+            names: self.names,
+            queueing: wait.queueing,
+        }
     }
 }
 
@@ -176,17 +223,15 @@ impl<'a> Display for Party<'a> {
     fn fmt<W: Write>(&self, f: &mut Formatter<W>) -> fmt::Result {
         match self.state {
             State::Calls { caller, wait } => {
-                write!(f, "caller c{caller} waits for ")?;
-                write_wait(f, self.names, wait)
+                let (call, queueing) = (self.call_words(wait), self.queueing_words(wait));
+                write!(f, "caller c{caller} waits for {call}{queueing}")
             }
             State::AtGate { worker, item, gate } => {
-                f.write_str("worker ")?;
-                write_worker(f, worker)?;
+                let worker = WorkerName { id: worker };
+                let (item, gate) = (self.names.item(item), self.names.gate(gate));
                 write!(
                     f,
-                    " runs item {} and waits at gate {}",
-                    self.names.item(item),
-                    self.names.gate(gate)
+                    "worker {worker} runs item {item} and waits at gate {gate}"
                 )
             }
             State::Waits {
@@ -195,26 +240,25 @@ impl<'a> Display for Party<'a> {
                 caller,
                 wait,
             } => {
-                f.write_str("worker ")?;
-                write_worker(f, worker)?;
+                let (worker, item) = (WorkerName { id: worker }, self.names.item(item));
+                let (call, queueing) = (self.call_words(wait), self.queueing_words(wait));
                 write!(
                     f,
-                    " runs item {} and waits, by caller c{caller}, for ",
-                    self.names.item(item)
-                )?;
-                write_wait(f, self.names, wait)
+                    "worker {worker} runs item {item} and waits, by caller c{caller}, for {call}{queueing}"
+                )
             }
             State::Runs { worker, item } => {
-                f.write_str("worker ")?;
-                write_worker(f, worker)?;
-                write!(f, " runs item {}", self.names.item(item))
+                let (worker, item) = (WorkerName { id: worker }, self.names.item(item));
+                write!(f, "worker {worker} runs item {item}")
             }
-            State::Unstarted { queueing } => write!(
-                f,
-                "queueing {} of item {} has not started",
-                queueing.number,
-                self.names.item(queueing.item)
-            ),
+            State::Unstarted { queueing } => {
+                let item = self.names.item(queueing.item);
+                write!(
+                    f,
+                    "queueing {} of item {item} has not started",
+                    queueing.number
+                )
+            }
         }
     }
 }
@@ -235,7 +279,7 @@ impl Display for PartyName {
     fn fmt<W: Write>(&self, f: &mut Formatter<W>) -> fmt::Result {
         match self.who {
             Who::Caller(caller) => write!(f, "c{}", caller.0),
-            Who::Worker(worker) => write_worker(f, worker),
+            Who::Worker(id) => write!(f, "{}", WorkerName { id }),
         }
     }
 }
