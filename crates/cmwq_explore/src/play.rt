@@ -396,7 +396,7 @@ impl<'a> Play<'a> {
     }
 
     /// How it stands.
-    #[tactic(auto, using(crate::proofs::Moving::may_within))]
+    #[tactic(none)]
     pub fn standing(&self) -> Standing
         ensures ended { result ≡ standing.Ended → Rests self.now × spec.IsDone self.now }
         ensures stuck { result ≡ standing.Stuck → Rests self.now × (spec.IsDone self.now → ⊥) }

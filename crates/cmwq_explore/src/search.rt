@@ -176,7 +176,7 @@ impl Search {
 
     /// Visits all states to which the path leads, at the end of which the play stands.
     #[cycle(visiting)]
-    #[tactic(auto, using(crate::proofs::Searching::end_here, crate::proofs::Searching::all_tried))]
+    #[tactic(none)]
     fn visit<'a, W: Watch>(
         &mut self,
         setup: &'a Setup<'a>,
@@ -217,7 +217,7 @@ impl Search {
 
     /// Makes a step, and visits all states behind it.
     #[cycle(visiting)]
-    #[tactic(auto, using(crate::proofs::Searching::after_more))]
+    #[tactic(none)]
     fn go_on<'a, W: Watch>(
         &mut self,
         setup: &'a Setup<'a>,
