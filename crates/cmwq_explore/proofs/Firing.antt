@@ -1,5 +1,5 @@
 -- What one more fire makes of a history.
-use Rattle.std.proofs.Common.{ℕ, suc, zero, ◌≡◌, Bool, true, false, List, Option, Some, None, refl, ap, ◌∙◌, if◌then◌else◌}
+use Rattle.std.proofs.Common.{ℕ, suc, zero, ◌≡◌, ◌<◌, ◌+◌, ◌-◌, Bool, true, false, List, Option, Some, None, refl, sym, ap, ◌∙◌, arith, if◌then◌else◌}
 use Rattle.std.specs.Option.{option_map_or}
 use Rattle.cmwq_model.specs.declared.id.Who.{Who}
 use Rattle.cmwq_model.specs.declared.call.Call.{Call}
@@ -29,3 +29,21 @@ pub fired_more : (n : ℕ) (h : History) (who : Who) (r : Reply) → replied h w
     → fired (suc n) h who ≡ fired n (stepped h who call.Fire) who
 unfolding fired
 fired_more n h who r some other = rw (some, other) refl
+
+-- ---- a loop of fires, of which so many are made, and which is to leave this history
+
+-- the last one found no room, or nothing to fire
+pub last_none : (items k : ℕ) (h goal : History) (who : Who) → k < items → ((n : ℕ) → k + n ≡ items → fired n h who ≡ goal) → replied h who call.Fire ≡ None
+    → stepped h who call.Fire ≡ goal
+last_none items k h goal who less so none = stepped_none h who call.Fire none ∙ sym (fired_none (items - suc k) h who none) ∙ so (suc (items - suc k)) (omega arith)
+
+pub last_nothing : (items k : ℕ) (h goal : History) (who : Who) (r : Reply) → k < items → ((n : ℕ) → k + n ≡ items → fired n h who ≡ goal)
+    → replied h who call.Fire ≡ Some r → is_nothing r ≡ true → stepped h who call.Fire ≡ goal
+last_nothing items k h goal who r less so some nothing = sym (fired_last (items - suc k) h who r some nothing) ∙ so (suc (items - suc k)) (omega arith)
+
+pub one_more : (items k : ℕ) (h goal : History) (who : Who) (r : Reply) → ((n : ℕ) → k + n ≡ items → fired n h who ≡ goal) → replied h who call.Fire ≡ Some r → is_nothing r ≡ false
+    → (n : ℕ) → suc k + n ≡ items → fired n (stepped h who call.Fire) who ≡ goal
+one_more items k h goal who r so some other n e = sym (fired_more n h who r some other) ∙ so (suc n) (omega arith)
+
+pub all_made : (items k : ℕ) (h goal : History) (who : Who) → k ≡ items → ((n : ℕ) → k + n ≡ items → fired n h who ≡ goal) → h ≡ goal
+all_made items k h goal who e so = sym (fired_zero h who) ∙ so zero (omega arith)
