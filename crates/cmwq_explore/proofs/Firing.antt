@@ -11,7 +11,11 @@ use Rattle.cmwq_explore.specs.Machines.{stepped, replied, fired, is_made, is_not
 -- where there is no reply, nothing is changed
 pub stepped_none : (h : History) (who : Who) (c : Call) → replied h who c ≡ None → stepped h who c ≡ h
 unfolding replied stepped
-stepped_none h who c none = cc
+stepped_none h who c none = here (is_made h who c) refl
+  where
+    here : (b : Bool) → is_made h who c ≡ b → stepped h who c ≡ h
+    here true made = let no = rw made at none in cc
+    here false not = rw not refl
 
 pub fired_zero : (h : History) (who : Who) → fired zero h who ≡ h
 unfolding fired

@@ -1,3 +1,5 @@
+pub mod Calling
 pub mod Firing
 pub mod Moving
 pub mod Searching
+pub mod Starting
