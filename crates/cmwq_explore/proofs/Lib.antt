@@ -3,3 +3,4 @@ pub mod Firing
 pub mod Moving
 pub mod Searching
 pub mod Starting
+pub mod Waiting

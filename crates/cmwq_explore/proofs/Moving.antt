@@ -1,5 +1,7 @@
 -- Who may move takes part.
-use Rattle.std.proofs.Common.{ℕ, ◌≡◌, ◌<◌, ◌≤◌, ◌+◌, ◌-◌, Bool, true, false, length, nat_lt, slice_get, None, refl, ap, sym, ◌∙◌, arith, if◌then◌else◌, suc, subst}
+use Rattle.std.proofs.Common.{ℕ, ◌≡◌, ◌<◌, ◌≤◌, ◌+◌, ◌-◌, Bool, true, false, length, nat_lt, slice_get, None, refl, ap, sym, ◌∙◌, arith, if◌then◌else◌, suc, subst, List, [], ◌∷◌, ◌++◌}
+use Rattle.std.specs.Prelude.{Contains}
+use Rattle.std.proofs.lemmas.List.Elements.{Contains-append_left, Contains-push}
 use Rattle.std.specs.Option.{option_map_or}
 use Rattle.std.proofs.lemmas.Bool.{lt-ltb, ltb-true, ltb-false, le-ltb}
 use Rattle.std.proofs.lemmas.Option.{slice_get_past}
@@ -42,3 +44,28 @@ rests_past p n past before k = at (nat_lt k n) refl
         let behind = ltb-false k n not in
         let over : length p.callers + length p.workers ≤ k = omega arith in
         none_past p k over
+
+-- the list of those before this one who may move, where it may not
+pub all_before : (p : Stand) (k : ℕ) (xs : List ℕ) → ((j : ℕ) → j < k → may p j ≡ true → Contains xs j) → may p k ≡ false
+    → (j : ℕ) → j < suc k → may p j ≡ true → Contains xs j
+all_before p k xs before not_it j less is = at (nat_lt j k) refl
+  where
+    at : (b : Bool) → nat_lt j k ≡ b → Contains xs j
+    at true lt = before j (ltb-true j k lt) is
+    at false not =
+        let past = ltb-false j k not in
+        let same : j ≡ k = omega arith in
+        let no = rw same at is in
+        absurd cc
+
+-- the same where it may
+pub all_with : (p : Stand) (k : ℕ) (xs : List ℕ) → ((j : ℕ) → j < k → may p j ≡ true → Contains xs j)
+    → (j : ℕ) → j < suc k → may p j ≡ true → Contains (xs ++ k ∷ []) j
+all_with p k xs before j less is = at (nat_lt j k) refl
+  where
+    at : (b : Bool) → nat_lt j k ≡ b → Contains (xs ++ k ∷ []) j
+    at true lt = Contains-append_left xs (k ∷ []) j (before j (ltb-true j k lt) is)
+    at false not =
+        let past = ltb-false j k not in
+        let same : k ≡ j = omega arith in
+        subst (Contains (xs ++ k ∷ [])) same (Contains-push xs k)
