@@ -6,11 +6,10 @@ mod journal;
 mod monitor;
 mod participant;
 mod sleepers;
-mod waits;
 
 pub use fault::{RunFault, Shortage};
 pub use journal::{Journal, Rest};
 pub use monitor::{MOST_FIRES, Monitor};
 pub use participant::Participant;
 pub use sleepers::{Sleepers, Wakes};
-pub use waits::Stuck;
+pub use cmwq_waits::Stuck;

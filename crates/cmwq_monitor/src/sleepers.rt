@@ -2,12 +2,12 @@
 
 ghost use Rattle.std.specs.Prelude.{◌≡◌};
 
-use crate::waits::{RunWaits, Stuck};
 use cmwq_core::Execution;
 use cmwq_model::{
     Call, CallerId, CpuId, Entry, NoMemory, PoolId, QueueId, Queueing, Reply, Shape, Ticket, Who,
     WorkerId,
 };
+use cmwq_waits::{RunWaits, Stuck};
 use std::alloc::Global;
 
 /// How many callers, and how many workers, are named where they are to be woken. Where there are more, all are woken.
