@@ -5,10 +5,11 @@
 use clap::error::ErrorKind;
 use cmwq_base::{BufferedSink, FromStd, Sink, Source};
 use cmwq_cli::{Asked, Word, word_of};
-use cmwq_cmd_history::{run_check, run_front_check, run_step, run_step_live, run_upgrade};
+use cmwq_cmd_history::{run_step, run_step_live};
 use cmwq_cmd_run::run_run;
 use cmwq_explain::{Kept, explain_calls, explain_history, explain_unkept};
 use cmwq_explain_json::{explain_scenario, explain_script};
+use cmwq_history::{run_check, run_front_check, run_upgrade};
 use cmwq_replay::run_replay;
 use cmwq_views::{Window, run_chart, run_summary, run_trace};
 use std::alloc::{AllocError, Global};

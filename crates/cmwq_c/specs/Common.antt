@@ -37,7 +37,8 @@ pub use types.Logic.{Logic, sem}
 pub use types.Part.{agg, sub, whole}
 pub use types.Run.{and_then, blocks, enter, exec, first, fld, lit, no_more, of_opd, returns, stop}
 pub use Rattle.cmwq_base.specs.Kinds.{history_file_of}
-pub use Rattle.cmwq_cmd_history.specs.Check.{CheckEnds, IsVerdict, check_status, verdict_line_text}
+pub use Rattle.cmwq_history.specs.Check.{CheckEnds}
+pub use Rattle.cmwq_history.specs.Verdicts.{IsVerdict, check_status, verdict_line_text}
 pub use Rattle.cmwq_model.specs.Prelude.{Layout, fits, layout_of}
 pub use Rattle.cmwq_model.specs.declared.call.Call.{Call}
 pub use Rattle.cmwq_model.specs.declared.entry.Entry.{Entry}

@@ -4,13 +4,14 @@ ghost use Rattle.cmwq_io.specs.Memory.{bytes_of};
 ghost use Rattle.cmwq_model.specs.declared.verdict.Illegal.{Illegal};
 ghost use Rattle.cmwq_base.specs.declared.refusal.Refusal.{Refusal};
 ghost use Rattle.cmwq_base.specs.Kinds.{history_file_of};
-ghost use Rattle.cmwq_cmd_history.specs.Check.{CheckEnds, check_status};
+ghost use Rattle.cmwq_history.specs.Check.{CheckEnds};
+ghost use Rattle.cmwq_history.specs.Verdicts.{check_status};
 ghost use Rattle.cmwq_c.specs.Statuses.{IsTextWritten};
 ghost use Rattle.cmwq_c.specs.Verdicts.{Judges};
 
 use crate::status::{DONE, ILLEGAL, NO_MEMORY, REFUSED, SHORT};
 use crate::taken::put;
-use cmwq_cmd_history::run_check;
+use cmwq_history::run_check;
 use cmwq_io::Memory;
 use cmwq_model::NoMemory;
 use std::alloc::Global;

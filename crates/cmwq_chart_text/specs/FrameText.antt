@@ -1,5 +1,5 @@
 -- The text of what stands around the shapes: the head with its style, the numbers of the entries, and the end.
-use Rattle.std.specs.Prelude.{ℕ, ◌+◌, ◌-◌, ◌%◌, Bool, ◌==◌, if◌then◌else◌, List, [], ◌∷◌, codes, flat_map, nat_le}
+use Rattle.std.specs.Prelude.{ℕ, ◌+◌, ◌-◌, ◌*◌, ◌/◌, ◌%◌, Bool, ◌==◌, ◌&&◌, ◌||◌, if◌then◌else◌, List, [], ◌∷◌, codes, flat_map, nat_le}
 use Rattle.std.specs.List.{range_with_len}
 use Rattle.cmwq_chart_text.specs.declared.page.Page.{Page}
 use Rattle.cmwq_chart_text.specs.Filled.{filled_template}
@@ -11,12 +11,12 @@ head_template = codes "<svg xmlns=\"http://www.w3.org/2000/svg\" width=\"1200\" 
 unfoldable pub picture_head : Page → ℕ → List ℕ
 picture_head p height = filled_template head_template (height ∷ height ∷ height ∷ p.first ∷ p.end ∷ [])
 
--- a line and a number at every fifth entry, or where columns are narrow at every tenth
+-- a line and a number at every fifth entry, or where columns are narrow at every tenth; at the first entry that is shown, where no fifth one is
 unfoldable pub number_template : List ℕ
 number_template = codes "<path class=\"grid\" d=\"M$ $v$\"/><text class=\"entry\" x=\"$\" y=\"$\">$</text>\n"
 
 unfoldable pub has_its_number : Page → ℕ → Bool
-has_its_number p place = place % (if nat_le (entries_shown p) 90 then 5 else 10) == 0
+has_its_number p place = (place % (if nat_le (entries_shown p) 90 then 5 else 10) == 0) || ((place == p.first) && nat_le p.end ((p.first + 4) / 5 * 5))
 
 -- in a band with its upper edge there and rows of this height
 abbrev pub number_numbers : Page → ℕ → ℕ → ℕ → List ℕ

@@ -51,7 +51,8 @@ fn has_its_number(page: &Page, place: u64) -> bool
     } else {
         10
     };
-    place % every == 0
+    let first = u64::from(page.first);
+    place % every == 0 || (place == first && u64::from(page.end) <= (first + 4) / 5 * 5)
 }
 
 /// What the template of an entry's number is filled with, in a band with its upper edge there and rows of this height.

@@ -1,6 +1,4 @@
-pub mod Ends
-pub mod Judged
-pub mod Timely
+pub mod Answer
 pub mod Steps
 pub mod Lived
 pub mod Reached

@@ -4,7 +4,7 @@ use Rattle.std.proofs.Math.Seq.{take-append-add}
 use Rattle.cmwq_io.specs.FirstLine.{first_line as line_of, after_line as rest_of, is_line_long as is_text_long}
 use Rattle.cmwq_base.specs.declared.refusal.Refusal.TheVariants as refusal
 use Rattle.cmwq_base.specs.Gives.{Refuses, Fails}
-use Rattle.cmwq_cmd_history.specs.Ends.{written_version}
+use Rattle.cmwq_history.specs.Ends.{written_version}
 use Rattle.cmwq_cmd_history.specs.Step.{steps_in, answer_text}
 use Rattle.cmwq_cmd_history.specs.Live.{or_stay, stage_reached, stage_after, last_stage, live_text, left_out_by, LiveEnds, live_steps, new_of, rest_text}
 use Rattle.cmwq_cmd_history.proofs.Lived.{lived_steps}

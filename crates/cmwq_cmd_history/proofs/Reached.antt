@@ -5,7 +5,7 @@ use Rattle.std.specs.Str.{bytes_eq}
 use Rattle.cmwq_io.specs.FirstLine.{first_line as line_of, after_line as rest_of, is_line_long as is_text_long}
 use Rattle.cmwq_text.specs.ShapeText.{begins_queue}
 use Rattle.cmwq_base.specs.declared.refusal.Refusal.TheVariants as refusal
-use Rattle.cmwq_cmd_history.specs.Ends.{written_version}
+use Rattle.cmwq_history.specs.Ends.{written_version}
 use Rattle.cmwq_cmd_history.specs.Live.{or_stay, stage_reached, live_text, left_out_by, live_steps, made_text, first_text, new_of}
 use Rattle.cmwq_cmd_history.proofs.Lived.{lived_steps, lived_text}
 

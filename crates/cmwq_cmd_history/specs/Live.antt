@@ -2,7 +2,7 @@
 use Rattle.std.specs.Prelude.{◌≡◌, ◌⊎◌, ◌+◌, ◌≤◌, ◌==◌, if◌then◌else◌, ◌∷◌, ◌++◌}
 use Rattle.cmwq_cmd_history.specs.Common.{ℕ, List, [], length, take, fold, reverse, Result, Ok, Err, Option, None, Some, Appends, AppendsFront, Who, Call, Entry, Layout, entry_for, past_of, Steps, step, steps, none, has_room, History, past_in, entry_text, head_text, body_text, last_text, Refusal, pieces, Kind, Stage, begin, opened, head, body, ended, is_long, after_whole_line, calls_kind, call_file_of}
 use Rattle.cmwq_base.specs.declared.refusal.Refusal.TheVariants as refusal
-use Rattle.cmwq_cmd_history.specs.Ends.{written_version, refusal_status}
+use Rattle.cmwq_history.specs.Ends.{written_version, refusal_status}
 use Rattle.cmwq_cmd_history.specs.Step.{StepEnds}
 
 -- goes on with what a line makes of the stage, or stays where it was refused

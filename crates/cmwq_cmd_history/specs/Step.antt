@@ -1,7 +1,7 @@
 -- What a run of `step` reads, writes and answers.
 use Rattle.std.specs.Prelude.{◌≡◌}
 use Rattle.cmwq_cmd_history.specs.Common.{ℕ, zero, suc, List, Result, Ok, Err, Option, reverse, Who, Call, Steps, steps, text_of_format, Refusal, File, call_file_of}
-use Rattle.cmwq_cmd_history.specs.Ends.{Word, RunEnds, written_version, refusal_status}
+use Rattle.cmwq_history.specs.Ends.{Word, RunEnds, written_version, refusal_status}
 
 abbrev pub steps_in : File (Who × Call) → Steps
 steps_in f = steps f.layout f.layout.room f.items

@@ -9,11 +9,11 @@ ghost use Rattle.cmwq_base.specs.Stages.{stage_of};
 ghost use Rattle.cmwq_cmd_history.specs.Live.{LiveEnds, live_status, left_out_by, new_of, missing_head, rest_text, made_text, first_text, new_text};
 
 use crate::stepping::Stepping;
-use crate::told::{refusal_status, tell_no_room};
 use cmwq_base::{
     Entry, Gather, Refusal, Sink, Source, Stage, TOO_MANY_LINES, flush_all, tell, write_end,
     write_entry, write_shape,
 };
+use cmwq_history::{refusal_status, tell_no_room};
 use cmwq_io::{Found, Line, Lines};
 use std::alloc::Global;
 use std::mem::{drop, replace};

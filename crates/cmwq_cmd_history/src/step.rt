@@ -5,10 +5,9 @@ ghost use Rattle.cmwq_io.specs.Counts.{Rises};
 ghost use Rattle.cmwq_base.specs.declared.refusal.Refusal.{Refusal as TheRefusal};
 ghost use Rattle.cmwq_cmd_history.specs.Step.{StepEnds, step_status};
 
-use crate::output::write_history;
 use crate::recording::Recording;
-use crate::told::{refusal_status, tell_full};
 use cmwq_base::{Gather, Refusal, Sink, Source, read_file, tell};
+use cmwq_history::{refusal_status, tell_full, write_history};
 use std::alloc::Global;
 
 /// Reads a file of calls, and then writes the history that they make. Answers how many calls were left out for want of

@@ -11,7 +11,7 @@ ghost use Rattle.cmwq_json_script.specs.Scripts.{run_of, MayRun};
 use crate::failure::{Failure, GateName, failure_status_of};
 use crate::interpreter::Interpreter;
 use crate::refusals::RefusedWaits;
-use cmwq_cmd_history::{tell_full, write_history};
+use cmwq_history::{tell_full, write_history};
 use cmwq_explain::explain_gate;
 use cmwq_io::{Sink, Source, tell};
 use cmwq_json::{Fault, read_value};

@@ -1,18 +1,19 @@
 -- A history that is judged from its first entry on.
-use Rattle.cmwq_core.specs.Common.{◌≡◌, ◌+◌, ◌*◌, ◌^◌, ◌<◌, ◌≤◌, ℕ, true, refl, List, [], length, take, get_or, sym, ap, ap₂, arith, take_more, Entry, Call, Layout, now, ticks_told, has_time, most_time, IsLegal, past_of, AllFit, le-leb}
-use Rattle.cmwq_core.specs.declared.judge.TheConstants.{MOST_OWED}
+use Rattle.cmwq_core.specs.Common.{◌≡◌, ◌∷◌, ◌+◌, ◌*◌, ◌^◌, ◌<◌, ◌≤◌, ℕ, Bool, true, false, refl, List, [], length, take, get_or, sym, subst, ap, arith, take_more, Entry, Call, Layout, is_layout, now, ticks_told, has_room, has_time, most_time, IsLegal, IsTrue, past_of, AllFit, le-leb}
+use Rattle.cmwq_model.specs.Prelude.{most_room}
 use Rattle.cmwq_model.specs.declared.call.Call.TheVariants as call
-use Rattle.cmwq_core.specs.History.{History, next_entry, with_entry}
-use Rattle.cmwq_model.proofs.Growing.{legal_more, past_more}
+use Rattle.cmwq_model.proofs.Growing.{nothing_is_legal, past_more}
+use Rattle.cmwq_core.specs.History.{History}
+use Rattle.cmwq_core.specs.Judged.{Judged, judged_none, seen_too}
+use Rattle.cmwq_core.proofs.OwedBound.{taken}
 
--- the book beside the entries, when so many are judged
-abbrev pub book_at : Layout → List Entry → ℕ → History
-book_at s entries k = record { layout = s; room = length entries + MOST_OWED; entries = take k entries }
+-- the judge that has seen so many
+abbrev pub judged_at : Layout → List Entry → ℕ → Judged
+judged_at s entries k = record { layout = s; entries = take k entries }
 
--- so many entries are judged: they are a legal history, and the book holds them
-pub record AreJudged (s : Layout) (entries : List Entry) (k : ℕ) (b : History) : Type 0 where
-  pub legal : IsLegal s (past_of (take k entries))
-  pub book : b ≡ book_at s entries k
+-- so many entries are judged: the judge has seen them, and they took less than 2 ^ 32 ticks each
+pub record AreJudged (s : Layout) (entries : List Entry) (k : ℕ) (j : Judged) : Type 0 where
+  pub seen : j ≡ judged_at s entries k
   pub soon : now (past_of (take k entries)) ≤ k * 2 ^ 32
 
 -- so that each tick of a history of a million entries has time
@@ -20,25 +21,30 @@ pub time_for : (past : List Entry) (c : Call) (k : ℕ) → now past ≤ k * 2 ^
 time_for past (call.Tick t) k soon few less = le-leb (now past + t) most_time (omega arith)
 time_for past c k soon few less = refl
 
+-- and a judge has room
+pub room_for : (s : Layout) (entries : List Entry) (e : Entry) → IsTrue (is_layout s) → length entries ≤ 1073741824 → has_time (past_of entries) e.call ≡ true → IsLegal s (e ∷ past_of entries)
+    → has_room s most_room (past_of entries) e.who e.call ≡ true
+unfolding IsLegal
+room_for s entries e inside few time legal =
+    let h : History = record { layout = s; room = most_room; entries = entries } in
+    taken h e.who e.call inside (omega arith) time (subst (λ (x : Entry). IsLegal s (x ∷ past_of entries)) legal.1 legal)
+
 -- before the first
-pub judged_none : (entries : List Entry) (b : History) → b.room ≡ length entries + MOST_OWED → b.entries ≡ [] → AreJudged b.layout entries 0 b
-unfolding IsLegal now
-judged_none entries b room fresh = record { legal = tt; soon = omega arith; book = ap₂ (λ (n : ℕ) (es : List Entry). let made : History = record { layout = b.layout; room = n; entries = es } in made) room fresh }
+pub judged_first : (entries : List Entry) (j : Judged) → j ≡ judged_none j.layout → AreJudged j.layout entries 0 j
+unfolding now
+judged_first entries j fresh = record { seen = fresh; soon = omega arith }
 
 module _ (s : Layout) (entries : List Entry) (k : ℕ) (d : Entry) where
-  book_more : k < length entries → with_entry (book_at s entries k) (get_or entries k d) ≡ book_at s entries (k + 1)
-  book_more h = ap (λ (es : List Entry). let b : History = record { layout = s; room = length entries + MOST_OWED; entries = es } in b) (sym (take_more entries k d h))
+  seen_more : k < length entries → seen_too (judged_at s entries k) (get_or entries k d) ≡ judged_at s entries (k + 1)
+  seen_more h = ap (λ (es : List Entry). let j : Judged = record { layout = s; entries = es } in j) (sym (take_more entries k d h))
 
   -- and the time is short
   soon_more : k < length entries → now (past_of (take k entries)) ≤ k * 2 ^ 32 → ticks_told (get_or entries k d).call < 2 ^ 32 → now (past_of (take (k + 1) entries)) ≤ (k + 1) * 2 ^ 32
   unfolding now
   soon_more h soon few = rw (past_more entries k d h) (omega arith)
 
-  pub judged_more : (b : History) → k < length entries → AllFit s entries → AreJudged s entries k b
-      → get_or entries k d ≡ next_entry b (get_or entries k d).who (get_or entries k d).call → ticks_told (get_or entries k d).call < 2 ^ 32
-      → AreJudged s entries (k + 1) (with_entry b (get_or entries k d))
-  judged_more b h fit are right few = record {
-    legal = legal_more s entries k d h fit are.legal (rw are.book at right);
-    book = rw are.book (book_more h);
+  pub judged_more : (j : Judged) → k < length entries → AreJudged s entries k j → ticks_told (get_or entries k d).call < 2 ^ 32 → AreJudged s entries (k + 1) (seen_too j (get_or entries k d))
+  judged_more j h are few = record {
+    seen = rw are.seen (seen_more h);
     soon = soon_more h are.soon few;
   }

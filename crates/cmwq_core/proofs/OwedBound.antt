@@ -1,4 +1,4 @@
--- What a legal history owes is never more than `MOST_OWED` entries, where the layout is inside the limits.
+-- What a legal history owes is never more than a million entries, where the layout is inside the limits.
 use Rattle.cmwq_core.specs.Common.{◌≡◌, ◌≤◌, ℕ, Bool, true, false, List, [], ◌∷◌, length, length-append, ap, ◌∙◌, arith, ◌*◌, IsTrue, if◌then◌else◌, flat_map, length-map, PoolId, Entry, Layout, is_layout, indices, is_booked, has_run, runs_asleep, still_open, is_frozen, worker_at, IsLegal, owed, workers, cpu_workers, pool_workers, has_not_started}
 use Rattle.cmwq_core.specs.Common.{◌+◌, Call, Who, has_time, le-leb}
 use Rattle.cmwq_core.specs.History.{History, next_entry, past_in, takes}
@@ -10,7 +10,6 @@ use Rattle.std.proofs.lemmas.List.Sums.{count_by-le-length}
 use Rattle.cmwq_theory_steps.proofs.Limits.{two_for_each_item}
 use Rattle.cmwq_model.proofs.Limits.{limits_of}
 use Rattle.cmwq_model.specs.Prelude.{most_cpus, most_workers, room_needed}
-use Rattle.cmwq_core.specs.declared.judge.TheConstants.{MOST_OWED}
 use Rattle.cmwq_refinement.proofs.TicketLimits.{unended_few}
 
 -- ---- the workers
@@ -48,7 +47,7 @@ at_most_one false = omega arith
 
 -- ---- in all
 
-pub owed_few : (s : Layout) (past : List Entry) → IsTrue (is_layout s) → IsLegal s past → owed s past ≤ MOST_OWED
+pub owed_few : (s : Layout) (past : List Entry) → IsTrue (is_layout s) → IsLegal s past → owed s past ≤ 1000000
 unfolding owed
 owed_few s past inside legal =
     let items = (limits_of s inside).items.1 in
@@ -65,7 +64,7 @@ owed_few s past inside legal =
     omega arith
 
 -- so where there is room for so many beyond the entries, a call whose time has room is taken
-pub taken : (h : History) (who : Who) (call : Call) → IsTrue (is_layout h.layout) → length h.entries + MOST_OWED + 1 ≤ h.room → has_time (past_in h) call ≡ true
+pub taken : (h : History) (who : Who) (call : Call) → IsTrue (is_layout h.layout) → length h.entries + 1000000 + 1 ≤ h.room → has_time (past_in h) call ≡ true
     → IsLegal h.layout (next_entry h who call ∷ past_in h) → takes h who call ≡ true
 taken h who call inside room time legal =
     let few = owed_few h.layout (next_entry h who call ∷ past_in h) inside legal in

@@ -7,5 +7,8 @@ pub record Judged : Type 0 where
   pub layout : Layout
   pub entries : List Entry
 
+abbrev pub judged_none : Layout → Judged
+judged_none s = record { layout = s; entries = [] }
+
 abbrev pub seen_too : Judged → Entry → Judged
 seen_too j e = record j { entries = j.entries ++ e ∷ [] }

@@ -153,7 +153,7 @@ fn started_from(state: &State, entry: Entry) -> Option<Queueing>
 
 /// The queueing that a take starts.
 #[inline(always)]
-pub(crate) fn started_by(state: &State, entry: Entry) -> Option<Queueing>
+fn started_by(state: &State, entry: Entry) -> Option<Queueing>
     requires there { tables.IsThere state.now.layout entry.who }
     requires legal { IsLegal state.now.layout (entry ∷ past_of state.now.entries) }
     ensures { result ≡ starting (past_of state.now.entries) entry }

@@ -4,27 +4,30 @@ ghost use Rattle.std.specs.Prelude.{◌≡◌, ◌∷◌, is_ok, IfOk, OnErr, On
 ghost use Rattle.cmwq_model.specs.Prelude.{IsLegal};
 ghost use Rattle.cmwq_core.specs.History.{next_entry, past_in, takes, with_entry};
 ghost use Rattle.cmwq_core.specs.Plans.{IsPlan};
+ghost use Rattle.cmwq_state.specs.Effects.{IsEffect};
 
 use crate::effects::effect_of;
 use crate::execution::Full;
 use crate::marks::mark;
 use crate::plan::Plan;
 use cmwq_model::{Entry, Reply};
-use cmwq_state::State;
+use cmwq_state::{Effect, State};
 
-/// Makes the entry that its call gets next, if there is room.
+/// Makes the entry that its call gets next, if there is room, and returns what it does.
 #[inline(always)]
-fn make(state: &mut State, entry: &Entry) -> Result<(), Full>
+fn make(state: &mut State, entry: &Entry) -> Result<Effect, Full>
     requires next { entry.now ≡ next_entry state.old entry.now.who entry.now.call }
     requires legal { IsLegal state.old.layout (entry.now ∷ past_in state.old) }
     ensures room { is_ok result ≡ takes state.old entry.now.who entry.now.call }
+    ensures entry { IfOk result (λ effect. effect.entry ≡ entry.now) }
+    ensures effect { IfOk result (IsEffect state.old.layout (past_in state.old)) }
     ensures made { OnOk result (state.new ≡ with_entry state.old entry.now) }
     ensures full { OnErr result (state.new ≡ state.old) }
 {
     let effect = effect_of(state, *entry);
     if state.has_room(entry.call, effect.owing) {
         state.append(effect);
-        Ok(())
+        Ok(effect)
     } else {
         Err(Full)
     }
@@ -33,10 +36,12 @@ fn make(state: &mut State, entry: &Entry) -> Result<(), Full>
 /// The same. What an entry does follows from its reply, so each of the replies that come most has code of its own, where the compiler knows what
 /// isn't done.
 #[inline(always)]
-pub(crate) fn enter(state: &mut State, entry: &Entry) -> Result<(), Full>
+pub(crate) fn enter(state: &mut State, entry: &Entry) -> Result<Effect, Full>
     requires next { entry.now ≡ next_entry state.old entry.now.who entry.now.call }
     requires legal { IsLegal state.old.layout (entry.now ∷ past_in state.old) }
     ensures room { is_ok result ≡ takes state.old entry.now.who entry.now.call }
+    ensures entry { IfOk result (λ effect. effect.entry ≡ entry.now) }
+    ensures effect { IfOk result (IsEffect state.old.layout (past_in state.old)) }
     ensures made { OnOk result (state.new ≡ with_entry state.old entry.now) }
     ensures full { OnErr result (state.new ≡ state.old) }
 {

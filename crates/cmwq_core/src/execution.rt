@@ -3,7 +3,6 @@ ghost use Rattle.cmwq_model.specs.Prelude.{fits, most_room, IsLegal, still_open,
 ghost use Rattle.cmwq_model.specs.Calls as calls;
 ghost use Rattle.cmwq_model.specs.Legal as legal;
 ghost use Rattle.cmwq_model.specs.Widths as widths;
-ghost use Rattle.cmwq_refinement.specs.Flights.{starting};
 ghost use Rattle.cmwq_state.specs.Pwqs.{AreActiveCounts};
 ghost use Rattle.cmwq_state.specs.Tables as tables;
 ghost use Rattle.cmwq_theory_steps.specs.Endings.{ending};
@@ -12,7 +11,7 @@ ghost use Rattle.cmwq_core.specs.History.{past_in, next_entry, takes, with_entry
 ghost use Rattle.cmwq_core.specs.Plans.{IsPlan};
 ghost use Rattle.cmwq_core.specs.Relied.{IsReliable};
 
-use crate::effects::{done_by, ended_by, next_entry as predicted, opened_by, started_by};
+use crate::effects::{done_by, ended_by, next_entry as predicted, opened_by};
 use crate::entering::{enter, plan};
 use crate::marks::bits_of;
 use crate::plan::Plan;
@@ -108,15 +107,6 @@ impl Execution {
         ended_by(&self.state, plan.mark.entry)
     }
 
-    /// The queueing that it starts.
-    #[inline(always)]
-    pub fn started_by(&self, plan: &Plan) -> Option<Queueing>
-        requires { (who : _) × (call : _) × IsPlan self.now who call plan.now }
-        ensures { result ≡ starting (past_in self.now) plan.now.mark.entry }
-    {
-        started_by(&self.state, plan.mark.entry)
-    }
-
     /// The queueing that it opens.
     #[inline(always)]
     pub fn opened_by(&self, plan: &Plan) -> Option<Queueing>
@@ -143,7 +133,7 @@ impl Execution {
         ensures entry { self.new ≡ with_entry self.old plan.now.mark.entry }
     {
         match enter(&mut self.state, &plan.mark.entry) {
-            Ok(()) => plan.mark.entry.reply,
+            Ok(_) => plan.mark.entry.reply,
             Err(Full) => unreachable!(),
         }
     }
@@ -213,7 +203,7 @@ impl Execution {
         self.state.active_count()
     }
 
-    /// How many queueings of each queue are active on each CPU: four numbers a queue.
+    /// How many queueings of each queue are active on each CPU, with a number for each CPU that a shape may have.
     pub fn active_counts(&self) -> &[u32]
         ensures { AreActiveCounts self.now.layout (past_in self.now) result.now }
     {

@@ -1,20 +1,19 @@
 //! The verdict of a history.
 
-ghost use Rattle.std.specs.Prelude.{◌≡◌, ◌↔◌, ◌≤◌, ◌<◌, ◌+◌, true, [], length, None, IfOk, IfSome, OnOk, OnErr, IfErr, IsTrue};
-ghost use Rattle.cmwq_model.specs.Prelude.{fits, is_layout, IsLegal, past_of, entry_for, has_time, AllFit, Wants, IsFirstWrong};
-ghost use Rattle.cmwq_core.specs.History.{next_entry as entry_due, with_entry};
-ghost use Rattle.cmwq_core.specs.Judged.{seen_too};
+ghost use Rattle.std.specs.Prelude.{◌≡◌, ◌<◌, ◌≤◌, ◌∷◌, false, [], length, None, IfOk, IfSome, OnOk, OnErr, IfErr, IsTrue, true};
+ghost use Rattle.cmwq_model.specs.Prelude.{fits, has_room, is_layout, IsLegal, most_room, most_time, now, past_of, still_open, width, AllFit, Wants, IsFirstWrong};
+ghost use Rattle.cmwq_state.specs.Effects.{IsEffect};
+ghost use Rattle.cmwq_state.specs.Pwqs.{AreActiveCounts};
+ghost use Rattle.cmwq_core.specs.History.{next_entry as entry_due};
+ghost use Rattle.cmwq_core.specs.Judged.{judged_none, seen_too};
 
 use crate::effects::next_entry;
 use crate::entering::enter;
 use crate::execution::Full;
-use cmwq_model::{Call, Entry, Illegal, NoMemory, Shape, Wanted};
-use cmwq_state::State;
+use cmwq_model::{Entry, Illegal, NoMemory, QueueId, Shape, Wanted};
+use cmwq_state::{Effect, State};
 use std::alloc::Global;
 use std::marker::Model;
-
-/// No legal history owes more entries than these, so that a book with so much room beyond the entries refuses none of them.
-pub(crate) const MOST_OWED: u64 = 1_000_000;
 
 /// The room of a judge's state, from which it takes no more entries than numbers allow.
 const ALL_ROOM: u64 = 4_611_686_018_427_387_904;
@@ -40,7 +39,7 @@ impl Model for Judge {
 impl Judge {
     /// A judge of a history of this shape, which has seen no entry. No later call takes memory; the error says that it ran out.
     pub fn new(alloc: Global, shape: &Shape) -> Result<Judge, NoMemory>
-        ensures { IfOk result (λ judge. judge ≡ record { layout = shape.now; entries = [] }) }
+        ensures { IfOk result (λ judge. judge ≡ judged_none shape.now) }
     {
         // it shows that the shape is inside the limits
         let _counts = shape.counts();
@@ -49,66 +48,100 @@ impl Judge {
         })
     }
 
+    /// Lets the judge go, as `State::end` does a state.
+    pub fn end(self) {
+        self.state.end();
+    }
+
     /// How many entries were right. They are a legal history.
     pub fn len(&self) -> u64
         ensures len { result ≡ length self.now.entries }
+        ensures few { result ≤ most_room }
+        ensures inside { IsTrue (is_layout self.now.layout) }
         ensures legal { IsLegal self.now.layout (past_of self.now.entries) }
     {
         self.state.len()
     }
 
-    /// Whether the time after this call is at most 2^62 ticks.
-    pub fn has_time(&self, call: Call) -> bool
-        ensures { result ≡ has_time (past_of self.now.entries) call }
-    {
-        self.state.has_time(call)
-    }
-
-    /// What should stand in the next entry where something else stands: none exactly where it is the one that its call gets. The time
-    /// of the call isn't looked at.
-    pub fn wanted(&self, entry: Entry) -> Option<Wanted>
-        requires fit { fits self.now.layout entry.who entry.call ≡ true }
-        ensures right { result ≡ None ↔ entry ≡ entry_for self.now.layout (past_of self.now.entries) entry.who entry.call }
-        ensures wrong { IfSome result (Wants self.now.layout (past_of self.now.entries) entry) }
-    {
-        let due = next_entry(&self.state, entry.who, entry.call);
-        if entry.serial != due.serial {
-            return Some(Wanted::Serial(due.serial));
-        }
-        if !entry.reply.is_same(due.reply) {
-            return Some(Wanted::Reply(due.reply));
-        }
-        None
-    }
-
-    /// Judges one entry more: whether it is the one that its call gets after those that were right. Room isn't looked at.
+    /// Judges one entry more. An entry that is the one that its call gets after those that were right is taken, and what it does is returned. Of
+    /// any other, what should stand there is: the serial, or if the serial is right the reply.
     ///
     /// # Errors
-    /// What should stand there: the serial, or where the serial is right the reply. The judge is then the old one.
-    pub fn next(&mut self, entry: Entry) -> Result<(), Wanted>
-        requires fit { fits self.old.layout entry.who entry.call ≡ true }
-        requires most { length self.old.entries < 4611686018426387904 }
-        requires time { has_time (past_of self.old.entries) entry.call ≡ true }
-        ensures right { OnOk result (self.new ≡ seen_too self.old entry) }
-        ensures legal { OnOk result (IsLegal self.new.layout (past_of self.new.entries)) }
-        ensures wrong { IfErr result (Wants self.old.layout (past_of self.old.entries) entry) }
-        ensures same { OnErr result (self.new ≡ self.old) }
+    /// `Full` for a right entry, if there would be more than 2^62 entries or ticks. The judge is then as it was, as after a wrong entry.
+    pub fn next(&mut self, entry: Entry) -> Result<Result<Effect, Wanted>, Full>
+        requires { fits self.old.layout entry.who entry.call ≡ true }
+        ensures entry { IfOk result (λ verdict. IfOk verdict (λ effect. effect.entry ≡ entry)) }
+        ensures effect { IfOk result (λ verdict. IfOk verdict (IsEffect self.old.layout (past_of self.old.entries))) }
+        ensures room { IfOk result (λ verdict. OnOk verdict (has_room self.old.layout most_room (past_of self.old.entries) entry.who entry.call ≡ true)) }
+        ensures seen { IfOk result (λ verdict. OnOk verdict (self.new ≡ seen_too self.old entry)) }
+        ensures wrong { IfOk result (λ verdict. IfErr verdict (Wants self.old.layout (past_of self.old.entries) entry)) }
+        ensures same { IfOk result (λ verdict. OnErr verdict (self.new ≡ self.old)) }
+        ensures full { OnErr result (IsLegal self.old.layout (entry ∷ past_of self.old.entries)
+            × (has_room self.old.layout most_room (past_of self.old.entries) entry.who entry.call ≡ false) × (self.new ≡ self.old)) }
     {
-        match judged(&mut self.state, &entry) {
-            None => {
-                let _legal = self.state.len();
-                Ok(())
-            }
-            Some(wanted) => Err(wanted),
+        if let Some(wanted) = wanted(&self.state, &entry) {
+            return Ok(Err(wanted));
         }
+        match enter(&mut self.state, &entry) {
+            Ok(effect) => Ok(Ok(effect)),
+            Err(Full) => Err(Full),
+        }
+    }
+
+    /// How many ticks went by.
+    pub fn time(&self) -> u64
+        ensures time { result ≡ now (past_of self.now.entries) }
+        ensures few { result ≤ most_time }
+    {
+        self.state.time()
+    }
+
+    /// How many queueings are open.
+    pub fn open_count(&self) -> u32
+        ensures { result ≡ length (still_open (past_of self.now.entries)) }
+    {
+        self.state.open_count()
+    }
+
+    /// How many queueings of each queue are active on each CPU, with a number for each CPU that a shape may have.
+    pub fn active_counts(&self) -> &[u32]
+        ensures { AreActiveCounts self.now.layout (past_of self.now.entries) result.now }
+    {
+        self.state.active_counts()
+    }
+
+    /// How wide a queue is.
+    pub fn width(&self, queue: QueueId) -> u32
+        requires { queue.0 < length self.now.layout.queues }
+        ensures { result ≡ width self.now.layout (past_of self.now.entries) queue.0 }
+    {
+        self.state.width(queue)
     }
 }
 
-/// Judges a history by a book beside it: whether each of its entries is the one that its call gets at that point. Room isn't
-/// looked at. The outer error says that memory ran out.
+/// What should stand in an entry that is another than the one that its call gets.
+#[inline(always)]
+fn wanted(state: &State, entry: &Entry) -> Option<Wanted>
+    requires { fits state.now.layout entry.now.who entry.now.call ≡ true }
+    ensures right { result ≡ None → entry.now ≡ entry_due state.now entry.now.who entry.now.call }
+    ensures legal { result ≡ None → IsLegal state.now.layout (entry.now ∷ past_of state.now.entries) }
+    ensures wrong { IfSome result (Wants state.now.layout (past_of state.now.entries) entry.now) }
+{
+    let due = next_entry(state, entry.who, entry.call);
+    if entry.serial != due.serial {
+        return Some(Wanted::Serial(due.serial));
+    }
+    if !entry.reply.is_same(due.reply) {
+        return Some(Wanted::Reply(due.reply));
+    }
+    None
+}
+
+/// Judges a history: whether each of its entries is the one that its call gets at that point. Room isn't looked at. The outer error says that
+/// memory ran out.
 ///
 /// # Errors
-/// The first entry that isn't, with the serial that should stand there, or where the serial is right the reply.
+/// The first entry that isn't, with the serial that should stand there, or if the serial is right the reply.
 pub fn check(
     alloc: Global,
     shape: &Shape,
@@ -119,58 +152,37 @@ pub fn check(
     ensures legal { IfOk result (λ verdict. OnOk verdict (IsLegal shape.now (past_of entries.now))) }
     ensures illegal { IfOk result (λ verdict. IfErr verdict (λ i. IsFirstWrong shape.now entries.now i)) }
 {
-    // it shows that the shape is inside the limits, on which the bound rests
-    let _counts = shape.counts();
-    let mut state = State::new(alloc, shape, entries.len() as u64 + MOST_OWED)?;
-    let verdict = verdict(&mut state, entries);
-    state.end();
+    let mut judge = Judge::new(alloc, shape)?;
+    let verdict = verdict(&mut judge, entries);
+    judge.end();
     Ok(verdict)
 }
 
-/// The verdict of a history, whose entries are appended to a state that has none while they are right.
-fn verdict(state: &mut State, entries: &[Entry]) -> Result<(), Illegal>
+/// The verdict of a history, by a judge that has seen none of it.
+fn verdict(judge: &mut Judge, entries: &[Entry]) -> Result<(), Illegal>
     requires few { length entries.now ≤ 1073741824 }
-    requires fitting { AllFit state.old.layout entries.now }
-    requires inside { IsTrue (is_layout state.old.layout) }
-    requires room { state.old.room ≡ length entries.now + MOST_OWED }
-    requires fresh { state.old.entries ≡ [] }
-    ensures legal { OnOk result (IsLegal state.old.layout (past_of entries.now)) }
-    ensures illegal { IfErr result (IsFirstWrong state.old.layout entries.now) }
+    requires fitting { AllFit judge.old.layout entries.now }
+    requires fresh { judge.old ≡ judged_none judge.old.layout }
+    ensures legal { OnOk result (IsLegal judge.old.layout (past_of entries.now)) }
+    ensures illegal { IfErr result (IsFirstWrong judge.old.layout entries.now) }
 {
     for at in 0..entries.len() {
         let entry = &entries[at];
         // it shows that they are few, on which the time rests
         let _ticks = entry.call.ticks();
-        if let Some(wanted) = judged(state, entry) {
-            return Err(Illegal {
-                at: at as u64,
-                wanted,
-            });
+        // and it that the shape is inside the limits, on which the room does
+        let _len = judge.len();
+        match judge.next(*entry) {
+            Ok(Ok(_)) => {}
+            Ok(Err(wanted)) => {
+                return Err(Illegal {
+                    at: at as u64,
+                    wanted,
+                });
+            }
+            Err(Full) => unreachable!(),
         }
     }
+    let _legal = judge.len();
     Ok(())
-}
-
-/// What should stand in the next entry where something else stands; an entry that is right is appended.
-fn judged(state: &mut State, entry: &Entry) -> Option<Wanted>
-    requires fit { fits state.old.layout entry.now.who entry.now.call ≡ true }
-    requires inside { IsTrue (is_layout state.old.layout) }
-    requires room { length state.old.entries + MOST_OWED + 1 ≤ state.old.room }
-    requires time { has_time (past_of state.old.entries) entry.now.call ≡ true }
-    ensures right { result ≡ None → entry.now ≡ entry_due state.old entry.now.who entry.now.call }
-    ensures appended { result ≡ None → state.new ≡ with_entry state.old entry.now }
-    ensures wrong { IfSome result (Wants state.old.layout (past_of state.old.entries) entry.now) }
-    ensures same { IfSome result (λ _. state.new ≡ state.old) }
-{
-    let due = next_entry(state, entry.who, entry.call);
-    if entry.serial != due.serial {
-        return Some(Wanted::Serial(due.serial));
-    }
-    if !entry.reply.is_same(due.reply) {
-        return Some(Wanted::Reply(due.reply));
-    }
-    match enter(state, &due) {
-        Ok(()) => None,
-        Err(Full) => unreachable!(),
-    }
 }

@@ -13,7 +13,7 @@ mod tail_book;
 mod workers;
 
 pub use book::Book;
-pub use cmwq_state::those_who_fit_are_there;
+pub use cmwq_state::{Effect, those_who_fit_are_there};
 pub use execution::{Execution, Full};
 pub use judge::{Judge, check};
 pub use plan::Plan;

@@ -1,51 +1,80 @@
 //! What is told of an illegal history.
 
-ghost use Rattle.cmwq_model.specs.Prelude.{AllFit};
+ghost use Rattle.std.specs.Prelude.{◌≡◌, ◌<◌, IfSome, length, true};
+ghost use Rattle.cmwq_model.specs.Prelude.{AllFit, fits};
 
 use crate::rooms::head_lines;
 use crate::samples::reply_at;
 use crate::text::Text;
 use crate::words::start_of;
-use cmwq_base::{Entry, Illegal, Listed, Wanted};
+use cmwq_base::{Entry, Listed, Wanted};
+use cmwq_core::{Full, Judge};
 use cmwq_text::entry_line;
 use std::alloc::Global;
 
-/// More entries than these are not judged, so that none of them can bring the time beyond what a judge knows.
-const MOST_JUDGED: usize = 1_073_741_824;
-
-/// The entry that should stand where the first wrong one does.
-fn wanted_for(entry: Entry, wanted: Wanted) -> Entry {
+/// The entry with what a judge wants in it.
+fn mended_by(entry: Entry, wanted: Wanted) -> Entry
+    ensures who { result.who ≡ entry.who }
+    ensures call { result.call ≡ entry.call }
+{
     match wanted {
         Wanted::Serial(serial) => Entry { serial, ..entry },
         Wanted::Reply(reply) => Entry { reply, ..entry },
     }
 }
 
+/// The entry that should stand where one does in which its judge wants this: if it wants a serial, the reply may be wrong too.
+fn mended(judge: &mut Judge, entry: Entry, wanted: Wanted) -> Entry
+    requires { fits judge.old.layout entry.who entry.call ≡ true }
+{
+    let entry = mended_by(entry, wanted);
+    match judge.next(entry) {
+        Ok(Err(wanted)) => mended_by(entry, wanted),
+        _ => entry,
+    }
+}
+
+/// The first wrong entry of these: its place, what is wanted in it, and the entry that should stand there.
+fn first_wrong(judge: &mut Judge, entries: &[Entry]) -> Option<(usize, Wanted, Entry)>
+    requires { AllFit judge.old.layout entries.now }
+    ensures { IfSome result (λ wrong. wrong.0 < length entries.now) }
+{
+    for at in 0..entries.len() {
+        let entry = entries[at];
+        match judge.next(entry) {
+            Ok(Ok(_)) => {}
+            Ok(Err(wanted)) => return Some((at, wanted, mended(judge, entry, wanted))),
+            Err(Full) => return None,
+        }
+    }
+    None
+}
+
 /// Tells the first entry of a history that is wrong, if one is: its line, what stands there, and what should.
 pub fn tell_verdict(alloc: Global, text: &mut Text, version: u8, file: &Listed<Entry>)
     requires { AllFit file.now.shape file.now.items.items }
 {
-    if file.items.len() > MOST_JUDGED {
-        return;
-    }
-    let Ok(Err(Illegal { at, wanted })) = cmwq_core::check(alloc, &file.shape, &file.items) else {
+    let Ok(mut judge) = Judge::new(alloc, &file.shape) else {
         return;
     };
-    let Some(entry) = file.items.get(at as usize) else {
+    let wrong = first_wrong(&mut judge, &file.items);
+    judge.end();
+    let Some((at, wanted, due)) = wrong else {
         return;
     };
+    let entry = file.items[at];
     let number = head_lines(version, file.shape.queues().len())
-        .saturating_add(at)
+        .saturating_add(at as u64)
         .saturating_add(1);
-    let line = entry_line(entry);
+    let line = entry_line(&entry);
     let word = match wanted {
         Wanted::Serial(_) => 1,
         Wanted::Reply(_) => reply_at(line.as_bytes()).unwrap_or(0),
     };
     text.place(number, start_of(line.as_bytes(), word));
-    say_entry(text, *entry);
+    say_entry(text, entry);
     text.say("; expected is ");
-    say_entry(text, wanted_for(*entry, wanted));
+    say_entry(text, due);
 }
 
 fn say_entry(text: &mut Text, entry: Entry) {

@@ -1,7 +1,7 @@
 -- What `step`, `upgrade` and a journal write, and `check` on that.
 use Rattle.std.specs.Prelude.{◌≡◌, ◌⊎◌, ◌≤◌}
 use Rattle.cmwq_output_laws.specs.Common.{ℕ, List, [], Result, Ok, Option, None, Some, IsTrue, length, reverse, All, Who, Call, Entry, Illegal, Layout, is_layout, now, IsLegal, past_of, IsWho, IsCall, most_time, greatest_number, most_lines, text_of_format, Refusal, File, call_file_of, history_file_of, written_version, IsVerdict, CheckEnds, check_status, steps_in, answer_text, StepEnds}
-use Rattle.cmwq_cmd_history.specs.Upgrade.{upgraded_text, UpgradeEnds}
+use Rattle.cmwq_history.specs.Upgrade.{upgraded_text, UpgradeEnds}
 
 -- the history that the calls of a file make, with their shape: of format 3 where the file is, and else of format 2
 abbrev pub history_in : File (Who × Call) → File Entry
@@ -25,7 +25,7 @@ LegalHistoriesAreChecked =
 -- what `upgrade` writes of a legal history is read as that history, in format 2 or 3, and is legal
 abbrev pub UpgradeIsChecked : Type 0
 UpgradeIsChecked = (text : List ℕ) (f : File Entry) → history_file_of text ≡ Ok f → IsVerdict f None
-    → IsLegalText (upgraded_text f None) (record { version = written_version f.version; layout = f.layout; items = f.items })
+    → IsLegalText (upgraded_text f) (record { version = written_version f.version; layout = f.layout; items = f.items })
 
 -- each run of `check` on the text ends with status 0, or with 4 or 5: memory ran out, or the source or the output failed
 abbrev pub PassesCheck : List ℕ → Type 0

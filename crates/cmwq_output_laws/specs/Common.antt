@@ -8,8 +8,9 @@ pub use Rattle.std.specs.Prelude.{IsTrue, Option, fold, if◌then◌else◌, rev
 pub use Rattle.cmwq_base.specs.Files.{File}
 pub use Rattle.cmwq_base.specs.Kinds.{call_file_of, calls_kind, history_file_of}
 pub use Rattle.cmwq_base.specs.declared.refusal.Refusal.{Refusal}
-pub use Rattle.cmwq_cmd_history.specs.Check.{CheckEnds, IsVerdict, check_status}
-pub use Rattle.cmwq_cmd_history.specs.Ends.{written_version}
+pub use Rattle.cmwq_history.specs.Check.{CheckEnds}
+pub use Rattle.cmwq_history.specs.Verdicts.{IsVerdict, check_status}
+pub use Rattle.cmwq_history.specs.Ends.{written_version}
 pub use Rattle.cmwq_cmd_history.specs.Step.{StepEnds, answer_text, steps_in}
 pub use Rattle.cmwq_model.specs.Prelude.{IsCall, IsWho, Layout, Steps, entry_for, fits, greatest, has_room, is_layout, most_queues, most_room, most_time, none, past_of, step, steps, ticks_told}
 unfoldable pub use Rattle.cmwq_model.specs.Prelude.{IsLegal, now}

@@ -25,7 +25,7 @@ use Rattle.cmwq_summary.specs.Activities.{AreActivities, IsActivity, IsUpTo, May
 use Rattle.cmwq_state.specs.Tables.{IsThere}
 use Rattle.cmwq_model.proofs.Limits.{limits_of}
 use Rattle.cmwq_state.proofs.Steps.{fits_there}
-use Rattle.cmwq_summary.specs.declared.told.Told.{Told}
+use Rattle.cmwq_state.specs.declared.effect.Effect.{Effect}
 use Rattle.cmwq_summary.specs.Summed.{IsNext}
 use Rattle.cmwq_summary.specs.Figures.{worker_number}
 use Rattle.cmwq_summary.specs.Spent.{asleep_entries, asleep_ticks, awake_entries, awake_ticks, sum_while}
@@ -249,19 +249,19 @@ module _ (s : Layout) (past : List Entry) (e : Entry) (legal : IsLegal s (e ∷ 
 
 -- ---- the next entry
 
-pub acted_are : (s : Layout) (past : List Entry) (t : Told) (old : List Activity) → IsNext s past t → AreActivities s.cpus past old → AreActivities s.cpus (t.entry ∷ past) (activities_after old t.entry (behind (t.entry ∷ past)))
+pub acted_are : (s : Layout) (past : List Entry) (t : Effect) (old : List Activity) → IsNext s past t → AreActivities s.cpus past old → AreActivities s.cpus (t.entry ∷ past) (activities_after old t.entry (behind (t.entry ∷ past)))
 unfolding IsLegal
-acted_are s past t old next are = by t.entry.who refl (fits_there s t.entry.who t.entry.call next.legal.0)
+acted_are s past t old next are = by t.entry.who refl (fits_there s t.entry.who t.entry.call next.effect.legal.0)
   where
     by : (who : Who) → t.entry.who ≡ who → IsThere s who → AreActivities s.cpus (t.entry ∷ past) (acted_by who old t.entry.reply (behind (t.entry ∷ past)))
-    by (Caller c) who there = callers_change_none s past t.entry next.legal old are (Caller c) who (λ w. refl)
+    by (Caller c) who there = callers_change_none s past t.entry next.effect.legal old are (Caller c) who (λ w. refl)
     by (Worker v) who there =
         let least = (limits_of s next.inside).workers.1 in
-        workers_change_theirs s past t.entry next.legal old are v who there.0 (let less : v.index < s.workers = there.1 in omega arith) next.few next.soon
+        workers_change_theirs s past t.entry next.effect.legal old are v who there.0 (let less : v.index < s.workers = there.1 in omega arith) next.few next.soon
 
-pub may_act : (s : Layout) (past : List Entry) (t : Told) (old : List Activity) → IsNext s past t → AreActivities s.cpus past old → MayAct t.entry.who old (behind (t.entry ∷ past))
+pub may_act : (s : Layout) (past : List Entry) (t : Effect) (old : List Activity) → IsNext s past t → AreActivities s.cpus past old → MayAct t.entry.who old (behind (t.entry ∷ past))
 unfolding IsLegal
-may_act s past t old next are = by t.entry.who (fits_there s t.entry.who t.entry.call next.legal.0)
+may_act s past t old next are = by t.entry.who (fits_there s t.entry.who t.entry.call next.effect.legal.0)
   where
     by : (who : Who) → IsThere s who → MayAct who old (behind (t.entry ∷ past))
     by (Caller c) there = tt

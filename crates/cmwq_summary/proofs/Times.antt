@@ -3,10 +3,11 @@ use Rattle.std.proofs.Common.{◌≡◌, ℕ, ◌+◌, ◌<◌, ◌≤◌, true,
 use Rattle.std.proofs.lemmas.List.{length-reverse}
 use Rattle.cmwq_model.specs.declared.entry.Entry.{Entry}
 use Rattle.cmwq_summary.specs.declared.span.Span.{Span}
-use Rattle.cmwq_summary.specs.declared.told.Told.{Told}
+use Rattle.cmwq_state.specs.declared.effect.Effect.{Effect}
 use Rattle.cmwq_summary.specs.Activities.{behind}
-use Rattle.cmwq_summary.specs.Summed.{IsNext, IsTold}
-use Rattle.cmwq_model.specs.Prelude.{Layout, is_layout, ticks_told, now, has_time, most_time, past_of, IsLegal}
+use Rattle.cmwq_summary.specs.Summed.{IsNext}
+use Rattle.cmwq_model.specs.Prelude.{Layout, is_layout, ticks_told, now, has_time, most_time, past_of}
+use Rattle.cmwq_state.specs.Effects.{IsEffect}
 use Rattle.cmwq_state.proofs.Appended.{time_within}
 
 pub time_more : (past : List Entry) (e : Entry) (time ticks : ℕ) → time ≡ now past → ticks ≡ ticks_told e.call → time + ticks ≡ now (e ∷ past)
@@ -21,11 +22,11 @@ now_behind entries e time len ticks many is told =
     let more : len + 1 ≡ length (e ∷ past_of entries) = omega arith in
     ap₂ (λ (n t : ℕ). let to : Span = record { entries = n; ticks = t } in to) more (time_more (past_of entries) e time ticks is told)
 
--- what is told is of the next entry
-pub next_is : (s : Layout) (entries : List Entry) (t : Told) (time : ℕ) → is_layout s ≡ true → IsLegal s (t.entry ∷ past_of entries) → IsTold (past_of entries) t → time ≡ now (past_of entries) → time ≤ most_time
+-- an effect is that of the next entry
+pub next_is : (s : Layout) (entries : List Entry) (t : Effect) (time : ℕ) → is_layout s ≡ true → IsEffect s (past_of entries) t → time ≡ now (past_of entries) → time ≤ most_time
     → has_time (past_of entries) t.entry.call ≡ true → length entries < 4611686018427387904 → IsNext s (past_of entries) t
 unfolding now
-next_is s entries t time inside legal told is soon h few =
+next_is s entries t time inside effect is soon h few =
     let as_many : length (past_of entries) ≡ length entries = length-reverse entries in
     let within = time_within (past_of entries) t.entry.call time is soon h in
-    record { inside = inside; legal = legal; told = told; few = omega arith; soon = omega arith }
+    record { inside = inside; effect = effect; few = omega arith; soon = omega arith }

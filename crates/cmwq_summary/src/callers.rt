@@ -12,8 +12,8 @@ use crate::givings::{Giving, Givings};
 use crate::longest::Longest;
 use crate::span::Span;
 use crate::tally::Tally;
-use crate::told::Told;
 use cmwq_model::{Entry, NoMemory, Reply, Ticket, Who};
+use cmwq_state::Effect;
 use std::alloc::Global;
 
 /// How many calls each caller made, and how many tickets it was given; how long it waited longest for one that is ended, and when the
@@ -44,16 +44,16 @@ impl Callers {
     }
 
     /// One entry more, behind which it is now.
-    pub(crate) fn add(&mut self, told: &Told, now: Span)
-        requires { (s : Layout) × (past : List entries.Entry) × IsNext s past told.now × (now ≡ behind (told.now.entry ∷ past)) × AreCallers s past self.old }
-        ensures { (s : Layout) (past : List entries.Entry) → IsNext s past told.now → now ≡ behind (told.now.entry ∷ past) → AreCallers s past self.old → AreCallers s (told.now.entry ∷ past) self.new }
+    pub(crate) fn add(&mut self, effect: &Effect, now: Span)
+        requires { (s : Layout) × (past : List entries.Entry) × IsNext s past effect.now × (now ≡ behind (effect.now.entry ∷ past)) × AreCallers s past self.old }
+        ensures { (s : Layout) (past : List entries.Entry) → IsNext s past effect.now → now ≡ behind (effect.now.entry ∷ past) → AreCallers s past self.old → AreCallers s (effect.now.entry ∷ past) self.new }
     {
-        self.calls.add(caller_in(told.entry.who));
-        let caller = ticket_caller(&told.entry);
+        self.calls.add(caller_in(effect.entry.who));
+        let caller = ticket_caller(&effect.entry);
         self.tickets.add(caller);
-        let waited = self.givings.waited(told.ended_ticket, now);
-        self.longest.add(holder_in(told.ended_ticket), waited);
-        self.givings.remove(told.ended_ticket);
+        let waited = self.givings.waited(effect.done, now);
+        self.longest.add(holder_in(effect.done), waited);
+        self.givings.remove(effect.done);
         let number = now.entries.saturating_sub(1);
         self.givings.add(
             caller,

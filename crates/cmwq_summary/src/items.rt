@@ -3,11 +3,13 @@ ghost use Rattle.std.specs.Prelude.{◌≡◌, ◌<◌, ℕ, [], ◌∷◌, List
 ghost use Rattle.cmwq_model.specs.declared.entry.Entry as entries;
 ghost use Rattle.cmwq_summary.specs.Figures.{number_of_item};
 ghost use Rattle.cmwq_summary.specs.Parts.{AreItems};
-ghost use Rattle.cmwq_summary.specs.Summed.{IsTold};
+ghost use Rattle.cmwq_state.specs.Effects.{IsEffect};
+ghost use Rattle.cmwq_model.specs.Prelude.{Layout};
 
+use crate::cancelled::cancelled;
 use crate::tally::Tally;
-use crate::told::Told;
 use cmwq_model::{NoMemory, Queueing};
+use cmwq_state::Effect;
 use std::alloc::Global;
 
 /// How many runs of each item were started, and how many of its queueings were cancelled.
@@ -28,12 +30,12 @@ impl Items {
     }
 
     /// One entry more.
-    pub(crate) fn add(&mut self, told: &Told)
+    pub(crate) fn add(&mut self, effect: &Effect)
         requires { (many : ℕ) × (past : List entries.Entry) × (length past < 9223372036854775808) × AreItems many past self.old }
-        ensures { (many : ℕ) (past : List entries.Entry) → IsTold past told.now → AreItems many past self.old → AreItems many (told.now.entry ∷ past) self.new }
+        ensures { (many : ℕ) (s : Layout) (past : List entries.Entry) → IsEffect s past effect.now → AreItems many past self.old → AreItems many (effect.now.entry ∷ past) self.new }
     {
-        self.runs.add(item_in(told.started));
-        self.cancels.add(item_in(told.cancelled()));
+        self.runs.add(item_in(effect.started));
+        self.cancels.add(item_in(cancelled(effect)));
     }
 }
 

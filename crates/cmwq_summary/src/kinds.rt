@@ -5,8 +5,8 @@ ghost use Rattle.cmwq_summary.specs.Parts.{AreKinds};
 
 use crate::kind::{CALL_KINDS, REPLY_KINDS, call_kind, reply_kind};
 use crate::tally::Tally;
-use crate::told::Told;
 use cmwq_model::NoMemory;
+use cmwq_state::Effect;
 use std::alloc::Global;
 
 /// How many entries there are of each kind of call, and of each kind of reply.
@@ -27,11 +27,11 @@ impl Kinds {
     }
 
     /// One entry more.
-    pub(crate) fn add(&mut self, told: &Told)
+    pub(crate) fn add(&mut self, effect: &Effect)
         requires { (past : List entries.Entry) × (length past < 9223372036854775808) × AreKinds past self.old }
-        ensures { (past : List entries.Entry) → AreKinds past self.old → AreKinds (told.now.entry ∷ past) self.new }
+        ensures { (past : List entries.Entry) → AreKinds past self.old → AreKinds (effect.now.entry ∷ past) self.new }
     {
-        self.calls.add(Some(call_kind(told.entry.call)));
-        self.replies.add(Some(reply_kind(told.entry.reply)));
+        self.calls.add(Some(call_kind(effect.entry.call)));
+        self.replies.add(Some(reply_kind(effect.entry.reply)));
     }
 }

@@ -3,6 +3,7 @@
 
 mod activity;
 mod callers;
+mod cancelled;
 mod givings;
 mod items;
 mod kind;
@@ -14,12 +15,10 @@ mod places;
 mod span;
 mod summary;
 mod tally;
-mod told;
 mod totals;
 mod workers;
 
 pub use kind::{CALL_KINDS, REPLY_KINDS};
 pub use span::Span;
 pub use summary::Summary;
-pub use told::Told;
 pub use totals::Total;

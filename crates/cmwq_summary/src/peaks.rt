@@ -9,8 +9,8 @@ ghost use Rattle.cmwq_summary.specs.Summed.{IsNext};
 
 use crate::places::{CPUS, place_in};
 use crate::tally::Tally;
-use crate::told::Told;
 use cmwq_model::{NoMemory, Reply};
+use cmwq_state::Effect;
 use std::alloc::Global;
 
 /// How many queueings of each queue are open on each CPU; how many were at most, and how many of them were active at most.
@@ -39,15 +39,15 @@ impl Peaks {
     }
 
     /// One entry more, behind which so many are active of each queue on each CPU.
-    pub(crate) fn add(&mut self, told: &Told, active_counts: &[u32])
-        requires { (s : Layout) × (past : List entries.Entry) × IsNext s past told.now × AreActiveCounts s (told.now.entry ∷ past) active_counts.now × ArePeaks s past self.old }
-        ensures { (s : Layout) (past : List entries.Entry) → IsNext s past told.now → AreActiveCounts s (told.now.entry ∷ past) active_counts.now → ArePeaks s past self.old → ArePeaks s (told.now.entry ∷ past) self.new }
+    pub(crate) fn add(&mut self, effect: &Effect, active_counts: &[u32])
+        requires { (s : Layout) × (past : List entries.Entry) × IsNext s past effect.now × AreActiveCounts s (effect.now.entry ∷ past) active_counts.now × ArePeaks s past self.old }
+        ensures { (s : Layout) (past : List entries.Entry) → IsNext s past effect.now → AreActiveCounts s (effect.now.entry ∷ past) active_counts.now → ArePeaks s past self.old → ArePeaks s (effect.now.entry ∷ past) self.new }
     {
-        let opened = place_in(told.opened);
+        let opened = place_in(effect.opened);
         self.open.add(opened);
-        self.open.remove(place_in(told.ended));
+        self.open.remove(place_in(effect.ended));
         self.most_open.raise(opened, &self.open);
-        if keeps_widths(told.entry.reply) {
+        if keeps_widths(effect.entry.reply) {
             self.most_active.raise_to(opened, active_counts);
         } else {
             self.most_active.raise_all(active_counts);

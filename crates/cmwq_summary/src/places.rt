@@ -7,13 +7,14 @@ ghost use Rattle.cmwq_summary.specs.Activities.{behind};
 ghost use Rattle.cmwq_summary.specs.Summed.{IsNext};
 ghost use Rattle.cmwq_model.specs.Prelude.{Layout, most_cpus};
 
+use crate::cancelled::cancelled;
 use crate::longest::Longest;
 use crate::openings::Openings;
 use crate::span::Span;
 use crate::tally::Tally;
-use crate::told::Told;
 use crate::totals::Totals;
 use cmwq_model::{MOST_CPUS, NoMemory, Queueing};
+use cmwq_state::Effect;
 use std::alloc::Global;
 
 /// How many CPUs a shape may have.
@@ -55,18 +56,18 @@ impl Places {
     }
 
     /// One entry more, behind which it is now.
-    pub(crate) fn add(&mut self, told: &Told, now: Span)
-        requires { (s : Layout) × (past : List entries.Entry) × IsNext s past told.now × (now ≡ behind (told.now.entry ∷ past)) × ArePlaces s.items (most_cpus * length s.queues) past self.old }
-        ensures { (s : Layout) (past : List entries.Entry) → IsNext s past told.now → now ≡ behind (told.now.entry ∷ past) → ArePlaces s.items (most_cpus * length s.queues) past self.old → ArePlaces s.items (most_cpus * length s.queues) (told.now.entry ∷ past) self.new }
+    pub(crate) fn add(&mut self, effect: &Effect, now: Span)
+        requires { (s : Layout) × (past : List entries.Entry) × IsNext s past effect.now × (now ≡ behind (effect.now.entry ∷ past)) × ArePlaces s.items (most_cpus * length s.queues) past self.old }
+        ensures { (s : Layout) (past : List entries.Entry) → IsNext s past effect.now → now ≡ behind (effect.now.entry ∷ past) → ArePlaces s.items (most_cpus * length s.queues) past self.old → ArePlaces s.items (most_cpus * length s.queues) (effect.now.entry ∷ past) self.new }
     {
-        self.queueings.add(place_in(told.opened));
-        self.cancels.add(place_in(told.cancelled()));
-        let started = place_in(told.started);
-        let waited = self.openings.waited(told.started, now);
+        self.queueings.add(place_in(effect.opened));
+        self.cancels.add(place_in(cancelled(effect)));
+        let started = place_in(effect.started);
+        let waited = self.openings.waited(effect.started, now);
         self.starts.add(started);
         self.longest.add(started, waited);
         self.totals.add(started, waited);
-        self.openings.add(told.opened, now);
+        self.openings.add(effect.opened, now);
     }
 }
 

@@ -1,15 +1,16 @@
 //! The summary of a history.
 ghost use Rattle.std.specs.Prelude.{◌≡◌, ◌<◌, ◌≤◌, ◌*◌, true, [], ◌∷◌, length, IfOk};
-ghost use Rattle.cmwq_model.specs.Prelude.{now, has_time, IsLegal, most_cpus, most_workers};
+ghost use Rattle.cmwq_model.specs.Prelude.{now, has_time, most_cpus, most_workers};
 ghost use Rattle.cmwq_summary.specs.Figures as figures;
 ghost use Rattle.cmwq_summary.specs.Activities.{behind};
 ghost use Rattle.cmwq_summary.specs.Spent as spans;
 ghost use Rattle.cmwq_summary.specs.Waits as waits;
 ghost use Rattle.cmwq_summary.specs.TicketWaits as ticket_waits;
 ghost use Rattle.cmwq_summary.specs.Peaks as peaks;
+ghost use Rattle.cmwq_state.specs.Effects.{IsEffect};
 ghost use Rattle.cmwq_state.specs.Pwqs.{AreActiveCounts};
 ghost use Rattle.cmwq_summary.specs.Kinds.{call_kinds, reply_kinds};
-ghost use Rattle.cmwq_summary.specs.Summed.{past_summed, summed_with, IsTold};
+ghost use Rattle.cmwq_summary.specs.Summed.{past_summed, summed_with};
 
 use crate::callers::Callers;
 use crate::items::Items;
@@ -17,11 +18,10 @@ use crate::kinds::Kinds;
 use crate::peaks::Peaks;
 use crate::places::Places;
 use crate::span::Span;
-use crate::told::Told;
 use crate::totals::Total;
 use crate::workers::{Workers, activity_in};
 use cmwq_model::{CallerId, Entry, ItemId, NoMemory, Shape, WorkerId};
-use cmwq_state::Trail;
+use cmwq_state::{Effect, Trail};
 use std::alloc::Global;
 use std::marker::Model;
 
@@ -77,28 +77,27 @@ impl Summary {
     }
 
     /// One entry more, behind which so many are active of each queue on each CPU.
-    pub fn add(&mut self, told: &Told, active_counts: &[u32])
-        requires legal { IsLegal self.old.layout (told.now.entry ∷ past_summed self.old) }
-        requires told { IsTold (past_summed self.old) told.now }
-        requires time { has_time (past_summed self.old) told.now.entry.call ≡ true }
+    pub fn add(&mut self, effect: &Effect, active_counts: &[u32])
+        requires effect { IsEffect self.old.layout (past_summed self.old) effect.now }
+        requires time { has_time (past_summed self.old) effect.now.entry.call ≡ true }
         requires few { length self.old.entries < 4611686018427387904 }
-        requires active { AreActiveCounts self.old.layout (told.now.entry ∷ past_summed self.old) active_counts.now }
-        ensures { self.new ≡ summed_with self.old told.now.entry }
+        requires active { AreActiveCounts self.old.layout (effect.now.entry ∷ past_summed self.old) active_counts.now }
+        ensures { self.new ≡ summed_with self.old effect.now.entry }
     {
         // it shows that the shape is inside the limits
         let _counts = self.shape.counts();
-        self.time += u64::from(told.entry.call.ticks());
+        self.time += u64::from(effect.entry.call.ticks());
         let now = Span {
             entries: self.entries.len() + 1,
             ticks: self.time,
         };
-        self.kinds.add(told);
-        self.items.add(told);
-        self.callers.add(told, now);
-        self.workers.add(told, now);
-        self.places.add(told, now);
-        self.peaks.add(told, active_counts);
-        self.entries.push(&told.entry);
+        self.kinds.add(effect);
+        self.items.add(effect);
+        self.callers.add(effect, now);
+        self.workers.add(effect, now);
+        self.places.add(effect, now);
+        self.peaks.add(effect, active_counts);
+        self.entries.push(&effect.entry);
     }
 
     /// The shape of the history.

@@ -12,8 +12,8 @@ ghost use Rattle.cmwq_model.specs.Prelude.{Layout};
 use crate::activity::{Activity, IDLE};
 use crate::span::Span;
 use crate::tally::Tally;
-use crate::told::Told;
 use cmwq_model::{Entry, MOST_WORKERS, NoMemory, Reply, Who, WorkerId};
+use cmwq_state::Effect;
 use std::alloc::Global;
 
 /// How many workers a pool may have.
@@ -38,12 +38,12 @@ impl Workers {
     }
 
     /// One entry more, behind which it is now.
-    pub(crate) fn add(&mut self, told: &Told, now: Span)
-        requires { (s : Layout) × (past : List entries.Entry) × IsNext s past told.now × (now ≡ behind (told.now.entry ∷ past)) × AreWorkers s.cpus past self.old }
-        ensures { (s : Layout) (past : List entries.Entry) → IsNext s past told.now → now ≡ behind (told.now.entry ∷ past) → AreWorkers s.cpus past self.old → AreWorkers s.cpus (told.now.entry ∷ past) self.new }
+    pub(crate) fn add(&mut self, effect: &Effect, now: Span)
+        requires { (s : Layout) × (past : List entries.Entry) × IsNext s past effect.now × (now ≡ behind (effect.now.entry ∷ past)) × AreWorkers s.cpus past self.old }
+        ensures { (s : Layout) (past : List entries.Entry) → IsNext s past effect.now → now ≡ behind (effect.now.entry ∷ past) → AreWorkers s.cpus past self.old → AreWorkers s.cpus (effect.now.entry ∷ past) self.new }
     {
-        self.runs.add(starter(&told.entry));
-        act(&mut self.activities, &told.entry, now);
+        self.runs.add(starter(&effect.entry));
+        act(&mut self.activities, &effect.entry, now);
     }
 }
 

@@ -98,7 +98,7 @@ impl Machines {
     pub(crate) fn end(self) {
         self.book.into_history();
         self.tail.end();
-        drop(self.judge);
+        self.judge.end();
     }
 
     /// The entry that the plain program gives the call, if there is room for it.
@@ -168,15 +168,21 @@ impl Machines {
     /// The judge takes the entry, and no other in its place.
     fn judge(&mut self, rt: &impl Abort, entry: Entry) {
         assert!(rt; self.shape.fits(entry.who, entry.call));
-        assert!(rt; self.judge.len() <= 1_000_000 && self.judge.has_time(entry.call));
         let mut other = entry;
         other.reply = other_than(entry.reply);
-        let wanted = self.judge.wanted(other);
-        assert!(rt; matches!(wanted, Some(Wanted::Reply(reply)) if reply.is_same(entry.reply)));
+        let wanted = self.judge.next(other);
+        assert!(rt; matches!(wanted, Ok(Err(Wanted::Reply(reply))) if reply.is_same(entry.reply)));
         other.serial = entry.serial.wrapping_add(1);
         let wanted = self.judge.next(other);
-        assert!(rt; matches!(wanted, Err(Wanted::Serial(serial)) if serial == entry.serial));
-        assert!(rt; self.judge.next(entry).is_ok(), "{entry:?}");
+        assert!(rt; matches!(wanted, Ok(Err(Wanted::Serial(serial))) if serial == entry.serial));
+        let before = (self.judge.len(), self.judge.time());
+        let taken = self.judge.next(entry);
+        assert!(rt; matches!(taken, Ok(Ok(effect)) if is_same(&effect.entry, &entry)), "{entry:?}");
+        let after = (self.judge.len(), self.judge.time());
+        assert!(rt; after == (before.0 + 1, before.1 + u64::from(entry.call.ticks())), "{entry:?}");
+        assert_eq!(rt; self.judge.open_count(), self.book.open_count());
+        let active: u32 = self.judge.active_counts().iter().sum();
+        assert_eq!(rt; active, self.book.active_count());
     }
 
     /// Whether a wait that ends is over, as the machines say before the entry.

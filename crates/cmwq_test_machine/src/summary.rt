@@ -3,48 +3,45 @@
 ghost use Rattle.std.specs.Prelude.{◌≡◌};
 
 use crate::fixture::{CALLER, FIRST, FLUSH, SMALL, WORKER, queue, shape};
-use cmwq_core::Execution;
+use cmwq_core::{Execution, Judge};
 use cmwq_model::{Call, CallerId, ItemId, QueueId, Who};
-use cmwq_summary::{CALL_KINDS, Span, Summary, Told, Total};
+use cmwq_summary::{CALL_KINDS, Span, Summary, Total};
 use std::process::Abort;
 
-/// An execution, and the summary of its entries.
+/// An execution, which its judge follows, and the summary of its entries.
 #[derive(Drop)]
 struct Summing {
     execution: Execution,
+    judge: Judge,
     summary: Summary,
-    ghost same: { (summary.layout ≡ execution.layout) × (summary.entries ≡ execution.entries) },
+    ghost same: { (summary.layout ≡ judge.layout) × (summary.entries ≡ judge.entries) × (execution.layout ≡ judge.layout) },
 }
 
 impl Summing {
     fn take(&mut self, rt: &impl Abort, who: Who, call: Call) {
         assert!(rt; self.summary.shape().fits(who, call));
         let would = self.execution.would(who, call);
-        let Ok(plan) = self.execution.plan(who, call) else {
+        let plan = self.execution.plan(who, call);
+        assert!(rt; matches!((would, plan), (Ok(mark), Ok(plan)) if mark.bits == plan.mark.bits));
+        let Ok(entry) = self.execution.next(who, call) else {
             panic!(rt; "there is room");
         };
-        assert!(rt; would.is_ok_and(|mark| mark.bits == plan.mark.bits));
-        let told = Told {
-            entry: plan.mark.entry,
-            started: self.execution.started_by(&plan),
-            opened: self.execution.opened_by(&plan),
-            ended: self.execution.ended_by(&plan),
-            ended_ticket: self.execution.done_by(&plan),
+        assert!(rt; self.summary.shape().fits(entry.who, entry.call));
+        let Ok(Ok(effect)) = self.judge.next(entry) else {
+            panic!(rt; "the entry is right");
         };
-        self.execution.commit(&plan);
         // it shows that the entries are few
-        let _len = self.execution.len();
-        self.summary.add(&told, self.execution.active_counts());
+        let _len = self.judge.len();
+        self.summary.add(&effect, self.judge.active_counts());
     }
 
-    /// What is read of the execution.
+    /// What is read of the execution and of its judge.
     fn show(&self, rt: &impl Abort) {
         let _counts = self.summary.shape().counts();
-        assert_eq!(rt; self.execution.width(QueueId(0)), 2);
-        assert_eq!(rt;
-            (self.execution.len(), self.execution.open_count()),
-            (10, 0)
-        );
+        assert_eq!(rt; (self.execution.width(QueueId(0)), self.judge.width(QueueId(0))), (2, 2));
+        assert_eq!(rt; (self.execution.len(), self.judge.len()), (10, 10));
+        assert_eq!(rt; (self.execution.open_count(), self.judge.open_count()), (0, 0));
+        assert_eq!(rt; self.judge.time(), 3);
         assert!(rt; !self.execution.ready(3) && self.execution.bits(ItemId(0)) == 0);
     }
 }
@@ -102,6 +99,7 @@ fn a_history_is_summed_up(rt: HostRuntime) {
     let shape = shape(&rt, SMALL, 1);
     let mut summing = Summing {
         execution: Execution::new(rt.alloc(), &shape, 100).expect(&rt, "memory"),
+        judge: Judge::new(rt.alloc(), &shape).expect(&rt, "memory"),
         summary: Summary::new(rt.alloc(), shape).expect(&rt, "memory"),
     };
     for (who, call) in [
@@ -122,4 +120,5 @@ fn a_history_is_summed_up(rt: HostRuntime) {
     count_calls(&rt, &summing.summary);
     count_queueings(&rt, &summing.summary);
     summing.execution.end();
+    summing.judge.end();
 }

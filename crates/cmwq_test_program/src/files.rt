@@ -6,7 +6,7 @@ use cmwq_base::{
     FailsAt, HistoryFile, Memory, Refusal, read_calls, read_history, write_end, write_entry,
     write_shape,
 };
-use cmwq_cmd_history::{refusal_status, tell_full, tell_illegal, write_history};
+use cmwq_history::{refusal_status, tell_full, tell_illegal, write_history};
 use cmwq_model::{Illegal, Reply, Wanted};
 use std::process::Abort;
 

@@ -1,7 +1,8 @@
 //! The subcommands that need no threads, over any source and sinks.
 
 use crate::same::same;
-use cmwq_cmd_history::{run_check, run_front_check, run_step, run_step_live, run_upgrade};
+use cmwq_cmd_history::{run_step, run_step_live};
+use cmwq_history::{run_check, run_front_check, run_upgrade};
 use cmwq_io::{Memory, Sink, Source};
 use cmwq_replay::run_replay;
 use cmwq_views::{Window, run_chart, run_summary, run_trace};

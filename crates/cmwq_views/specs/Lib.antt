@@ -2,5 +2,4 @@ pub mod Chart
 pub mod Trace
 pub mod Names
 pub mod Page
-pub mod Summing
 pub mod Summary

@@ -1,13 +1,11 @@
 -- What a run of `trace` reads, writes and answers.
-use Rattle.std.specs.Prelude.{ℕ, List, [], length, Result, Option, None, Some}
+use Rattle.std.specs.Prelude.{ℕ, List, length, Result, Option}
 use Rattle.cmwq_model.specs.declared.entry.Entry.{Entry}
 use Rattle.cmwq_model.specs.declared.verdict.Illegal.{Illegal}
 use Rattle.cmwq_model.specs.Prelude.{Layout, past_of}
 use Rattle.cmwq_base.specs.declared.refusal.Refusal.{Refusal}
 use Rattle.cmwq_base.specs.Files.{File}
-use Rattle.cmwq_base.specs.Kinds.{history_file_of}
-use Rattle.cmwq_cmd_history.specs.Ends.{Word, RunEnds}
-use Rattle.cmwq_cmd_history.specs.Check.{IsVerdict}
+use Rattle.cmwq_history.specs.Views.{ViewEnds}
 use Rattle.cmwq_chart.specs.Bars.{bars_of}
 use Rattle.cmwq_chart.specs.CallerWaits.{callers_of, caller_waits_of}
 use Rattle.cmwq_chart.specs.Lanes.{lanes_of}
@@ -22,14 +20,8 @@ trace_bytes s entries =
     trace_text s (length entries) (caller_lanes_in s entries) (caller_waits_of (past_of entries) (callers_of s entries))
     (lanes_of s entries) (bars_of (past_of entries)) (sleeps_of (past_of entries) (lanes_of s entries)) (levels_of s (past_of entries) (places_in s entries))
 
--- of a legal history its trace, of another nothing
-abbrev pub traced_text : File Entry → Option Illegal → List ℕ
-traced_text f None = trace_bytes f.layout f.items
-traced_text f (Some i) = []
-
--- `trace` answers the verdict as `check` does, and writes that
-abbrev pub trace_word : Word (File Entry) (Option Illegal)
-trace_word = record { Answers = IsVerdict; text_of = traced_text }
+abbrev pub traced_text : File Entry → List ℕ
+traced_text f = trace_bytes f.layout f.items
 
 abbrev pub TraceEnds : List ℕ → Option (List ℕ) → Option (List ℕ) → Result (Option Illegal) Refusal → Type 0
-TraceEnds text old new ended = RunEnds trace_word (history_file_of text) old new ended
+TraceEnds text old new ended = ViewEnds traced_text text old new ended

@@ -8,7 +8,6 @@ mod progress;
 mod row;
 mod rows;
 mod summary;
-mod summing;
 mod table;
 mod trace;
 

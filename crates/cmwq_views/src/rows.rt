@@ -1,8 +1,7 @@
 //! How the rows of each table are spelled.
 ghost use Rattle.std.specs.Prelude.{◌≡◌, ◌+◌, ◌*◌, ◌/◌, ◌<◌, ◌≤◌, ◌++◌, length};
-ghost use Rattle.cmwq_model.specs.Prelude.{width, most_cpus, most_workers};
+ghost use Rattle.cmwq_model.specs.Prelude.{past_of, width, most_cpus, most_workers};
 ghost use Rattle.cmwq_summary.specs.Kinds.{call_kinds, reply_kinds};
-ghost use Rattle.cmwq_core.specs.History.{past_in};
 ghost use Rattle.cmwq_views.specs.Page.{call_row, reply_row, item_row, caller_row, longest_text, mean_text, starts_text, opened_text, bounds_text, peaks_text, place_figures, place_waits, span_text, worker_of_row, worker_name, worker_row, place_name, row_text, row_count};
 ghost use Rattle.cmwq_views.specs.declared.table.Table.TheVariants as TheTable;
 
@@ -21,7 +20,7 @@ const CPUS: usize = MOST_CPUS as usize;
 const OF_POOL: usize = MOST_WORKERS as usize;
 
 /// How many rows a table has.
-pub(crate) fn rows_in(progress: &Progress, table: Table) -> usize
+pub(crate) fn rows_in(progress: &Progress<'_>, table: Table) -> usize
     ensures { result ≡ row_count progress.now.layout table }
 {
     let shape = progress.summary().shape();
@@ -37,9 +36,9 @@ pub(crate) fn rows_in(progress: &Progress, table: Table) -> usize
 }
 
 /// The row of a table with this number, from 0.
-pub(crate) fn row(progress: &Progress, table: Table, at: usize) -> Row
+pub(crate) fn row(progress: &Progress<'_>, table: Table, at: usize) -> Row
     requires { at < row_count progress.now.layout table }
-    ensures { result ≡ row_text progress.now.layout (past_in progress.now) table at }
+    ensures { result ≡ row_text progress.now.layout (past_of progress.now.entries) table at }
 {
     let summary = progress.summary();
     match table {
@@ -56,7 +55,7 @@ pub(crate) fn row(progress: &Progress, table: Table, at: usize) -> Row
 }
 
 /// The item with this number.
-fn item_at(progress: &Progress, number: usize) -> ItemId
+fn item_at(progress: &Progress<'_>, number: usize) -> ItemId
     requires { number < progress.now.layout.items }
     ensures { result.0 ≡ number }
 {
@@ -66,7 +65,7 @@ fn item_at(progress: &Progress, number: usize) -> ItemId
 }
 
 /// The caller with this number.
-fn caller_at(progress: &Progress, number: usize) -> CallerId
+fn caller_at(progress: &Progress<'_>, number: usize) -> CallerId
     requires { number < progress.now.layout.callers }
     ensures { result.0 ≡ number }
 {
@@ -116,9 +115,9 @@ fn item_row(item: ItemId, runs: u64, cancels: u64) -> Row
     row
 }
 
-fn caller_row(progress: &Progress, caller: CallerId) -> Row
+fn caller_row(progress: &Progress<'_>, caller: CallerId) -> Row
     requires { caller.0 < progress.now.layout.callers }
-    ensures { result ≡ caller_row (past_in progress.now) caller.0 }
+    ensures { result ≡ caller_row (past_of progress.now.entries) caller.0 }
 {
     let summary = progress.summary();
     let calls = summary.calls_by(caller);
@@ -135,7 +134,7 @@ fn caller_row(progress: &Progress, caller: CallerId) -> Row
 }
 
 /// The worker with this number.
-fn worker_at(progress: &Progress, number: usize) -> WorkerId
+fn worker_at(progress: &Progress<'_>, number: usize) -> WorkerId
     requires { number < 2 * most_workers * progress.now.layout.cpus }
     ensures is { result ≡ worker_of_row number }
     ensures here { result.pool.cpu.0 < progress.now.layout.cpus }
@@ -173,10 +172,10 @@ fn push_span(row: &mut Row, name: &str, span: Span)
     row.push(" ticks");
 }
 
-fn worker_row(progress: &Progress, worker: WorkerId, runs: u64) -> Row
+fn worker_row(progress: &Progress<'_>, worker: WorkerId, runs: u64) -> Row
     requires here { worker.pool.cpu.0 < progress.now.layout.cpus }
     requires index { worker.index < most_workers }
-    ensures { result ≡ worker_row (past_in progress.now) worker runs }
+    ensures { result ≡ worker_row (past_of progress.now.entries) worker runs }
 {
     let summary = progress.summary();
     let mut row = Row::new();
@@ -202,9 +201,9 @@ fn push_place(row: &mut Row, place: usize)
 }
 
 /// How wide the queue of the place with this number is.
-fn width_at(progress: &Progress, place: usize) -> u32
+fn width_at(progress: &Progress<'_>, place: usize) -> u32
     requires { place < most_cpus * length progress.now.layout.queues }
-    ensures { result ≡ width progress.now.layout (past_in progress.now) (place / most_cpus) }
+    ensures { result ≡ width progress.now.layout (past_of progress.now.entries) (place / most_cpus) }
 {
     // it shows that the number is small
     let _queues = progress.summary().shape().counts();
@@ -282,10 +281,10 @@ fn push_peaks(row: &mut Row, most_open: u64, most_active: u64)
 }
 
 /// Spells all that of a queue and CPU.
-fn push_figures(row: &mut Row, progress: &Progress, place: usize)
+fn push_figures(row: &mut Row, progress: &Progress<'_>, place: usize)
     requires place { place < most_cpus * length progress.now.layout.queues }
     requires room { length row.old + 210 ≤ 512 }
-    ensures exact { row.new ≡ row.old ++ place_figures progress.now.layout (past_in progress.now) place }
+    ensures exact { row.new ≡ row.old ++ place_figures progress.now.layout (past_of progress.now.entries) place }
     ensures short { length row.new ≤ length row.old + 210 }
 {
     let summary = progress.summary();
@@ -296,10 +295,10 @@ fn push_figures(row: &mut Row, progress: &Progress, place: usize)
 }
 
 /// Spells how long the starts there waited.
-fn push_waits(row: &mut Row, progress: &Progress, place: usize)
+fn push_waits(row: &mut Row, progress: &Progress<'_>, place: usize)
     requires place { place < most_cpus * length progress.now.layout.queues }
     requires room { length row.old + 186 ≤ 512 }
-    ensures exact { row.new ≡ row.old ++ place_waits (past_in progress.now) place }
+    ensures exact { row.new ≡ row.old ++ place_waits (past_of progress.now.entries) place }
     ensures short { length row.new ≤ length row.old + 186 }
 {
     let summary = progress.summary();
@@ -308,9 +307,9 @@ fn push_waits(row: &mut Row, progress: &Progress, place: usize)
     push_starts(row, summary.starts_at(place), longest, all);
 }
 
-fn place_row(progress: &Progress, place: usize) -> Row
+fn place_row(progress: &Progress<'_>, place: usize) -> Row
     requires { place < most_cpus * length progress.now.layout.queues }
-    ensures { result ≡ row_text progress.now.layout (past_in progress.now) TheTable.Places place }
+    ensures { result ≡ row_text progress.now.layout (past_of progress.now.entries) TheTable.Places place }
 {
     let queueings = progress.summary().queueings_at(place);
     let mut row = Row::new();

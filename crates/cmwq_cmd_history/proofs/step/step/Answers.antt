@@ -1,7 +1,8 @@
 use Rattle.cmwq_cmd_history.specs.Common.{◌∙◌, refl, ap, sym, err_from_is_err_and, Steps, call_file_of, contents_of}
 use Rattle.cmwq_cmd_history.specs.Live.{Stepped}
 use Rattle.cmwq_cmd_history.specs.Step.{step_word}
-use Rattle.cmwq_cmd_history.proofs.Ends.{answer_is, ends_done, ends_cut}
+use Rattle.cmwq_cmd_history.proofs.Answer.{answer_is}
+use Rattle.cmwq_history.proofs.Ends.{ends_done, ends_cut}
 use Rattle.cmwq_cmd_history.proofs.Lived.{lived_steps}
 use Rattle.cmwq_cmd_history.proofs.step.step.Goals as goal
 

@@ -2,7 +2,7 @@ use Rattle.std.specs.Prelude.{flat_map}
 use Rattle.std.proofs.lemmas.Result.{err_from_is_err_and}
 use Rattle.std.proofs.KnownBytes.{Appends-trans}
 use Rattle.cmwq_base.proofs.Fronts.{front_before, front_after, front_whole}
-use Rattle.cmwq_core.specs.History.{past_in}
+use Rattle.cmwq_model.specs.Prelude.{past_of}
 use Rattle.cmwq_views.specs.Page.{rows_of_table}
 use Rattle.cmwq_views.specs.declared.table.TheConstants.{TABLES}
 use Rattle.cmwq_views.proofs.page.write_page.Goals as goal
@@ -10,7 +10,7 @@ use Rattle.cmwq_views.proofs.page.write_page.Goals as goal
 pub returns-in_err-write_all-clause-err : goal.returns-in_err-write_all-clause-err
 returns-in_err-write_all-clause-err g c =
     let p = err_from_is_err_and c.from_residual.result c.from_residual.ensures.1 in
-    let tables = flat_map (rows_of_table c.args.progress.now.layout (past_in c.args.progress.now)) TABLES in
+    let tables = flat_map (rows_of_table c.args.progress.now.layout (past_of c.args.progress.now.entries)) TABLES in
     let front = rw (c.as_bytes.ensures, c.head.ensures) at c.in_err-write_all.ensures.err in
     rw (p.1) (front_before _ _ _ tables front)
 

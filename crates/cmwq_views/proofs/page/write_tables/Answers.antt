@@ -1,7 +1,7 @@
 use Rattle.std.proofs.Common.{arith}
 use Rattle.std.proofs.lemmas.Result.{err_from_is_err_and}
 use Rattle.cmwq_base.proofs.Fronts.{front_at}
-use Rattle.cmwq_core.specs.History.{past_in}
+use Rattle.cmwq_model.specs.Prelude.{past_of}
 use Rattle.cmwq_views.specs.Page.{rows_of_table}
 use Rattle.cmwq_views.specs.declared.table.TheConstants.{TABLES}
 use Rattle.cmwq_views.proofs.page.write_tables.Goals as goal
@@ -9,4 +9,4 @@ use Rattle.cmwq_views.proofs.page.write_tables.Goals as goal
 pub returns-in_err-write_table-clause-err : goal.returns-in_err-write_table-clause-err
 returns-in_err-write_table-clause-err g c =
     let p = err_from_is_err_and c.from_residual.result c.from_residual.ensures.1 in
-    rw (p.1) (front_at (rows_of_table c.args.progress.now.layout (past_in c.args.progress.now)) TABLES c.loop-table.table-index _ _ _ _ (omega arith) c.loop-table.invariant.text c.in_err-write_table.ensures.err)
+    rw (p.1) (front_at (rows_of_table c.args.progress.now.layout (past_of c.args.progress.now.entries)) TABLES c.loop-table.table-index _ _ _ _ (omega arith) c.loop-table.invariant.text c.in_err-write_table.ensures.err)

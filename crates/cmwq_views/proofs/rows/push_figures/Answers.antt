@@ -1,7 +1,7 @@
 use Rattle.cmwq_model.specs.Prelude.{most_cpus}
 use Rattle.std.proofs.Common.{◌≡◌, ◌++◌, ◌/◌, ◌∙◌, ap, ap₂, append_assoc}
 use Rattle.cmwq_model.specs.Prelude.{width}
-use Rattle.cmwq_core.specs.History.{past_in}
+use Rattle.cmwq_model.specs.Prelude.{past_of}
 use Rattle.cmwq_summary.specs.Figures.{queueings_at, starts_at, cancels_at}
 use Rattle.cmwq_summary.specs.Peaks.{most_open_at, most_active_at}
 use Rattle.cmwq_views.specs.Page.{opened_text, bounds_text, peaks_text}
@@ -9,7 +9,7 @@ use Rattle.cmwq_views.proofs.rows.push_figures.Goals as goal
 
 pub returns-clause-exact : goal.returns-clause-exact
 returns-clause-exact c =
-    let past = past_in c.args.progress.now in let s = c.args.progress.now.layout in let p = c.args.place in let row = c.args.row.now in
+    let past = past_of c.args.progress.now.entries in let s = c.args.progress.now.layout in let p = c.args.place in let row = c.args.row.now in
     let queueings : c.queueings_at.result ≡ queueings_at past p = rw c.summary-summary.ensures at c.queueings_at.ensures in
     let starts : c.starts_at.result ≡ starts_at past p = rw c.summary-summary.ensures at c.starts_at.ensures in
     let cancels : c.cancels_at.result ≡ cancels_at past p = rw c.summary-summary.ensures at c.cancels_at.ensures in

@@ -21,18 +21,18 @@ add-requires-2 c = let few = c.requires.2.few in record { few = counts_few by_ti
 pub add-requires-4 : goal.add-requires-4
 add-requires-4 c =
     let s = c.requires.0 in let past = c.requires.1 in let next = c.requires.2 in
-    rw (c.remove.ensures, c.requires.4.givings, next.told.ended_ticket, c.ticket_caller-caller.ensures (length past)) (givings_fit s past c.args.told.now.entry next.legal)
+    rw (c.remove.ensures, c.requires.4.givings, next.effect.done, c.ticket_caller-caller.ensures (length past)) (givings_fit s past c.args.effect.now.entry next.effect.legal)
 
 pub returns : goal.returns
 returns c s past next now are =
-    let e = c.args.told.now.entry in let told = next.told in
+    let e = c.args.effect.now.entry in let told = next.effect in
     let caller : c.ticket_caller-caller.result ≡ option_map caller_number (ticket_in e (length past)) = c.ticket_caller-caller.ensures (length past) in
-    let holder : c.holder_in.result ≡ option_map caller_number (ticket_ended past e) = c.holder_in.ensures ∙ ap (option_map caller_number) told.ended_ticket in
-    let wait : c.waited-waited.result ≡ waited_till_end (givings_of s past) (ticket_ended past e) (behind (e ∷ past)) = rw (are.givings, told.ended_ticket, now) at c.waited-waited.ensures in
+    let holder : c.holder_in.result ≡ option_map caller_number (ticket_ended past e) = c.holder_in.ensures ∙ ap (option_map caller_number) told.done in
+    let wait : c.waited-waited.result ≡ waited_till_end (givings_of s past) (ticket_ended past e) (behind (e ∷ past)) = rw (are.givings, told.done, now) at c.waited-waited.ensures in
     let number : c.saturating_sub-number.result ≡ length past = rw now at c.saturating_sub-number.ensures ∙ omega arith in
     record {
       calls = told_tally by_calling s.callers past e _ _ _ c.caller_in.ensures c.add.ensures are.calls;
       tickets = told_tally by_ticket s.callers past e _ _ _ caller c.add-2.ensures are.tickets;
-      longest = rw (c.add-3.ensures, holder, wait) (longest_goes_on by_ticket_ended (ended_wait each_entry) (ended_wait each_tick) s.callers past e _ _ _ refl (ended_waits_are s past e next.legal) are.longest);
-      givings = rw (c.add-4.ensures, c.remove.ensures, are.givings, told.ended_ticket, caller, number, now) (givings_go_on s past e next.legal);
+      longest = rw (c.add-3.ensures, holder, wait) (longest_goes_on by_ticket_ended (ended_wait each_entry) (ended_wait each_tick) s.callers past e _ _ _ refl (ended_waits_are s past e next.effect.legal) are.longest);
+      givings = rw (c.add-4.ensures, c.remove.ensures, are.givings, told.done, caller, number, now) (givings_go_on s past e next.effect.legal);
     }

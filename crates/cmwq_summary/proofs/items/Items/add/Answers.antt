@@ -11,8 +11,8 @@ pub add-requires-2 : goal.add-requires-2
 add-requires-2 c = record { few = counts_few by_item_cancelled c.requires.0 c.requires.1 _ c.requires.2 c.requires.3.cancels }
 
 pub returns : goal.returns
-returns c many past told are =
-    let e = c.args.told.now.entry in
+returns c many s past told are =
+    let e = c.args.effect.now.entry in
     record {
       runs = told_tally by_item_started many past e _ _ _ (c.item_in.ensures ∙ ap (option_map number_of_item) told.started) c.add.ensures are.runs;
       cancels = told_tally by_item_cancelled many past e _ _ _ (c.item_in-2.ensures ∙ ap (option_map number_of_item) (c.cancelled.ensures ∙ ap (cancelled_from e.reply) told.ended)) c.add-2.ensures are.cancels;

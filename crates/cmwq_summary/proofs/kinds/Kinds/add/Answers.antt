@@ -12,6 +12,6 @@ add-requires-2 c = record { few = counts_few by_reply reply_kinds c.requires.0 _
 
 pub returns : goal.returns
 returns c past are = record {
-  calls = told_tally by_call call_kinds past c.args.told.now.entry _ _ _ (ap Some c.call_kind.ensures) c.add.ensures are.calls;
-  replies = told_tally by_reply reply_kinds past c.args.told.now.entry _ _ _ (ap Some c.reply_kind.ensures) c.add-2.ensures are.replies;
+  calls = told_tally by_call call_kinds past c.args.effect.now.entry _ _ _ (ap Some c.call_kind.ensures) c.add.ensures are.calls;
+  replies = told_tally by_reply reply_kinds past c.args.effect.now.entry _ _ _ (ap Some c.reply_kind.ensures) c.add-2.ensures are.replies;
 }

@@ -10,7 +10,7 @@ use Rattle.cmwq_summary.proofs.peaks.Peaks.add.Goals as goal
 
 pub add-requires : goal.add-requires
 unfolding IsLegal
-add-requires c = let next = c.requires.2 in record { few = open_ones_few c.requires.0 c.requires.1 _ next.legal.2 next.inside c.requires.4.open_ones }
+add-requires c = let next = c.requires.2 in record { few = open_ones_few c.requires.0 c.requires.1 _ next.effect.legal.2 next.inside c.requires.4.open_ones }
 
 pub raise-requires : goal.raise-requires
 raise-requires c =
@@ -25,24 +25,24 @@ raise_to-requires c = c.requires.3.many ∙ sym c.requires.4.most_active.many_ar
 
 pub returns-then-keeps_widths : goal.returns-then-keeps_widths
 returns-then-keeps_widths c s past next active are =
-    let e = c.args.told.now.entry in let told = next.told in
+    let e = c.args.effect.now.entry in let told = next.effect in
     let opened : c.place_in-opened.result ≡ option_map place_number (opening past e) = c.place_in-opened.ensures ∙ ap (option_map place_number) told.opened in
     let ended : c.place_in.result ≡ option_map place_number (ending past e) = c.place_in.ensures ∙ ap (option_map place_number) told.ended in
-    let now = open_ones_go_on s past e next.legal next.inside (most_cpus * length s.queues) _ are.open_ones in
+    let now = open_ones_go_on s past e next.effect.legal next.inside (most_cpus * length s.queues) _ are.open_ones in
     record {
       open_ones = rw (c.remove.ensures, c.add.ensures, opened, ended) now;
-      most_open = rw (c.raise.ensures, c.remove.ensures, c.add.ensures, opened, ended) (most_open_goes_on s past e next.legal next.inside (most_cpus * length s.queues) _ _ are.most_open now);
-      most_active = rw (c.raise_to.ensures, opened) (most_active_goes_on_opened s past e next.legal next.inside _ _ (sym c.keeps_widths.ensures ∙ c.if-keeps_widths.true) are.most_active active);
+      most_open = rw (c.raise.ensures, c.remove.ensures, c.add.ensures, opened, ended) (most_open_goes_on s past e next.effect.legal next.inside (most_cpus * length s.queues) _ _ are.most_open now);
+      most_active = rw (c.raise_to.ensures, opened) (most_active_goes_on_opened s past e next.effect.legal next.inside _ _ (sym c.keeps_widths.ensures ∙ c.if-keeps_widths.true) are.most_active active);
     }
 
 pub returns-else-keeps_widths : goal.returns-else-keeps_widths
 returns-else-keeps_widths c s past next active are =
-    let e = c.args.told.now.entry in let told = next.told in
+    let e = c.args.effect.now.entry in let told = next.effect in
     let opened : c.place_in-opened.result ≡ option_map place_number (opening past e) = c.place_in-opened.ensures ∙ ap (option_map place_number) told.opened in
     let ended : c.place_in.result ≡ option_map place_number (ending past e) = c.place_in.ensures ∙ ap (option_map place_number) told.ended in
-    let now = open_ones_go_on s past e next.legal next.inside (most_cpus * length s.queues) _ are.open_ones in
+    let now = open_ones_go_on s past e next.effect.legal next.inside (most_cpus * length s.queues) _ are.open_ones in
     record {
       open_ones = rw (c.remove.ensures, c.add.ensures, opened, ended) now;
-      most_open = rw (c.raise.ensures, c.remove.ensures, c.add.ensures, opened, ended) (most_open_goes_on s past e next.legal next.inside (most_cpus * length s.queues) _ _ are.most_open now);
-      most_active = most_active_goes_on s past e next.legal next.inside _ _ _ are.most_active active c.raise_all.ensures;
+      most_open = rw (c.raise.ensures, c.remove.ensures, c.add.ensures, opened, ended) (most_open_goes_on s past e next.effect.legal next.inside (most_cpus * length s.queues) _ _ are.most_open now);
+      most_active = most_active_goes_on s past e next.effect.legal next.inside _ _ _ are.most_active active c.raise_all.ensures;
     }

@@ -25,16 +25,16 @@ add-requires-5 c = totals_few c.requires.1 _ c.requires.2.few c.requires.4.total
 
 pub returns : goal.returns
 returns c s past next now are =
-    let e = c.args.told.now.entry in let told = next.told in let many = most_cpus * length s.queues in
+    let e = c.args.effect.now.entry in let told = next.effect in let many = most_cpus * length s.queues in
     let started : c.place_in-started.result ≡ option_map place_number (starting past e) = c.place_in-started.ensures ∙ ap (option_map place_number) told.started in
     let wait : c.waited-waited.result ≡ wait_at_start c.args.self.now.openings (starting past e) (behind (e ∷ past)) = rw (told.started, now) at c.waited-waited.ensures in
-    let extent = waits_are s past e next.legal c.args.self.now.openings are.openings in
+    let extent = waits_are s past e next.effect.legal c.args.self.now.openings are.openings in
     let few = next.few in
     record {
       queueings = told_tally by_place_opened many past e _ _ _ (c.place_in.ensures ∙ ap (option_map place_number) told.opened) c.add.ensures are.queueings;
       starts = told_tally by_place_started many past e _ _ _ started c.add-3.ensures are.starts;
       cancels = told_tally by_place_cancelled many past e _ _ _ (c.place_in-2.ensures ∙ ap (option_map place_number) (c.cancelled.ensures ∙ ap (cancelled_from e.reply) told.ended)) c.add-2.ensures are.cancels;
-      openings = rw (c.add-6.ensures, told.opened, now) (openings_go_on s past e next.legal c.args.self.now.openings are.openings);
+      openings = rw (c.add-6.ensures, told.opened, now) (openings_go_on s past e next.effect.legal c.args.self.now.openings are.openings);
       longest = rw (c.add-4.ensures, started, wait) (longest_goes_on by_place_started (start_wait each_entry) (start_wait each_tick) many past e _ _ _ refl extent are.longest);
       totals = rw (c.add-5.ensures, started, wait) (totals_go_on by_place_started (start_wait each_entry) (start_wait each_tick) many past e _ _ _ refl extent
           (waited_few c.args.self.now.openings (starting past e) (behind (e ∷ past)) (omega arith)) (waited_soon c.args.self.now.openings (starting past e) (behind (e ∷ past)) next.soon) are.totals);

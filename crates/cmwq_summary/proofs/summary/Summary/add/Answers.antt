@@ -9,45 +9,45 @@ use Rattle.cmwq_summary.proofs.summary.Summary.add.Goals as goal
 pub add-requires-3 : goal.add-requires-3
 add-requires-3 c =
     let r = rw (← c.self.view_is) at c.requires in let b = c.self.inside in let i = c.self.invariant in
-    let past = past_of b.entries in let t = c.args.told.now in
+    let past = past_of b.entries in let t = c.args.effect.now in
     let ticks : c.from.result ≡ ticks_told t.entry.call = c.from.ensures ∙ c.ticks.ensures.ticks in
-    let next : IsNext b.shape past t = next_is b.shape b.entries t b.time c.counts-counts.ensures.limits r.legal r.told i.time_is i.soon r.time r.few in
+    let next : IsNext b.shape past t = next_is b.shape b.entries t b.time c.counts-counts.ensures.limits r.effect i.time_is i.soon r.time r.few in
     (b.shape, past, next, now_behind b.entries t.entry b.time c.len.result c.from.result c.len.ensures.len i.time_is ticks, i.callers_are)
 
 pub add-requires-4 : goal.add-requires-4
 add-requires-4 c =
     let r = rw (← c.self.view_is) at c.requires in let b = c.self.inside in let i = c.self.invariant in
-    let past = past_of b.entries in let t = c.args.told.now in
+    let past = past_of b.entries in let t = c.args.effect.now in
     let ticks : c.from.result ≡ ticks_told t.entry.call = c.from.ensures ∙ c.ticks.ensures.ticks in
-    let next : IsNext b.shape past t = next_is b.shape b.entries t b.time c.counts-counts.ensures.limits r.legal r.told i.time_is i.soon r.time r.few in
+    let next : IsNext b.shape past t = next_is b.shape b.entries t b.time c.counts-counts.ensures.limits r.effect i.time_is i.soon r.time r.few in
     (b.shape, past, next, now_behind b.entries t.entry b.time c.len.result c.from.result c.len.ensures.len i.time_is ticks, i.workers_are)
 
 pub add-requires-5 : goal.add-requires-5
 add-requires-5 c =
     let r = rw (← c.self.view_is) at c.requires in let b = c.self.inside in let i = c.self.invariant in
-    let past = past_of b.entries in let t = c.args.told.now in
+    let past = past_of b.entries in let t = c.args.effect.now in
     let ticks : c.from.result ≡ ticks_told t.entry.call = c.from.ensures ∙ c.ticks.ensures.ticks in
-    let next : IsNext b.shape past t = next_is b.shape b.entries t b.time c.counts-counts.ensures.limits r.legal r.told i.time_is i.soon r.time r.few in
+    let next : IsNext b.shape past t = next_is b.shape b.entries t b.time c.counts-counts.ensures.limits r.effect i.time_is i.soon r.time r.few in
     (b.shape, past, next, now_behind b.entries t.entry b.time c.len.result c.from.result c.len.ensures.len i.time_is ticks, i.places_are)
 
 pub add-requires-6 : goal.add-requires-6
 add-requires-6 c =
     let r = rw (← c.self.view_is) at c.requires in let b = c.self.inside in let i = c.self.invariant in
-    let past = past_of b.entries in let t = c.args.told.now in
-    let next : IsNext b.shape past t = next_is b.shape b.entries t b.time c.counts-counts.ensures.limits r.legal r.told i.time_is i.soon r.time r.few in
+    let past = past_of b.entries in let t = c.args.effect.now in
+    let next : IsNext b.shape past t = next_is b.shape b.entries t b.time c.counts-counts.ensures.limits r.effect i.time_is i.soon r.time r.few in
     (b.shape, past, next, r.active, i.peaks_are)
 
 pub invariant_of-self : goal.invariant_of-self
 invariant_of-self c =
     let r = rw (← c.self.view_is) at c.requires in let b = c.self.inside in let i = c.self.invariant in
-    let past = past_of b.entries in let t = c.args.told.now in let e = t.entry in
+    let past = past_of b.entries in let t = c.args.effect.now in let e = t.entry in
     let ticks : c.from.result ≡ ticks_told e.call = c.from.ensures ∙ c.ticks.ensures.ticks in
-    let next : IsNext b.shape past t = next_is b.shape b.entries t b.time c.counts-counts.ensures.limits r.legal r.told i.time_is i.soon r.time r.few in
+    let next : IsNext b.shape past t = next_is b.shape b.entries t b.time c.counts-counts.ensures.limits r.effect i.time_is i.soon r.time r.few in
     rw c.push.ensures record {
       time_is = rw (one_more_is_newest b.entries e) (time_more past e b.time c.from.result i.time_is ticks);
       soon = rw ticks (time_within past e.call b.time i.time_is i.soon r.time);
       kinds_are = rw (one_more_is_newest b.entries e) (c.add.ensures past i.kinds_are);
-      items_are = rw (one_more_is_newest b.entries e) (c.add-2.ensures b.shape.items past r.told i.items_are);
+      items_are = rw (one_more_is_newest b.entries e) (c.add-2.ensures b.shape.items b.shape past r.effect i.items_are);
       callers_are = rw (one_more_is_newest b.entries e) (c.add-3.ensures b.shape past next (now_behind b.entries e b.time c.len.result c.from.result c.len.ensures.len i.time_is ticks) i.callers_are);
       workers_are = rw (one_more_is_newest b.entries e) (c.add-4.ensures b.shape past next (now_behind b.entries e b.time c.len.result c.from.result c.len.ensures.len i.time_is ticks) i.workers_are);
       peaks_are = rw (one_more_is_newest b.entries e) (c.add-6.ensures b.shape past next r.active i.peaks_are);

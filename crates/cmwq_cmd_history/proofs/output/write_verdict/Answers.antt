@@ -1,7 +1,0 @@
-use Rattle.cmwq_cmd_history.specs.Common.{err_from_is_err_and, front_whole}
-use Rattle.cmwq_cmd_history.proofs.output.write_verdict.Goals as goal
-
-pub returns-in_err-flush_all-clause-err : goal.returns-in_err-flush_all-clause-err
-returns-in_err-flush_all-clause-err g c =
-    let p = err_from_is_err_and c.from_residual-in_err-flush_all.result c.from_residual-in_err-flush_all.ensures.1 in
-    rw (p.1) (front_whole _ _ _ _ (rw (← c.verdict_line.ensures, ← c.as_bytes.ensures) c.in_ok-write_all.ensures.ok) c.in_err-flush_all.ensures.bytes)
