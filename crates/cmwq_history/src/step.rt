@@ -1,7 +1,7 @@
 //! The next entry of a legal history.
 
 ghost use Rattle.std.specs.Prelude.{◌≡◌, ◌<◌, length};
-ghost use Rattle.cmwq_model.specs.Prelude.{now, width};
+ghost use Rattle.cmwq_model.specs.Prelude.{now, still_open, width};
 ghost use Rattle.cmwq_state.specs.Pwqs.{AreActiveCounts};
 ghost use Rattle.cmwq_history.specs.Steps.{IsStep, IsNext, step_of, after};
 
@@ -56,6 +56,13 @@ impl<'a> Step<'a> {
         ensures { result ≡ now (after self.now) }
     {
         self.judge.time()
+    }
+
+    /// How many queueings are open after it.
+    pub fn open_count(&self) -> u32
+        ensures { result ≡ length (still_open (after self.now)) }
+    {
+        self.judge.open_count()
     }
 
     /// How many queueings of each queue are active on each CPU after it, with a number for each CPU that a shape may have.

@@ -177,9 +177,15 @@ impl Machines {
         assert!(rt; matches!(wanted, Ok(Err(Wanted::Serial(serial))) if serial == entry.serial));
         let before = (self.judge.len(), self.judge.time());
         let taken = self.judge.next(entry);
-        assert!(rt; matches!(taken, Ok(Ok(effect)) if is_same(&effect.entry, &entry)), "{entry:?}");
+        assert!(rt;
+            matches!(taken, Ok(Ok(effect)) if is_same(&effect.entry, &entry)),
+            "{entry:?}"
+        );
         let after = (self.judge.len(), self.judge.time());
-        assert!(rt; after == (before.0 + 1, before.1 + u64::from(entry.call.ticks())), "{entry:?}");
+        assert!(rt;
+            after == (before.0 + 1, before.1 + u64::from(entry.call.ticks())),
+            "{entry:?}"
+        );
         assert_eq!(rt; self.judge.open_count(), self.book.open_count());
         let active: u32 = self.judge.active_counts().iter().sum();
         assert_eq!(rt; active, self.book.active_count());

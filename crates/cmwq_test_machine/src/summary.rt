@@ -38,9 +38,18 @@ impl Summing {
     /// What is read of the execution and of its judge.
     fn show(&self, rt: &impl Abort) {
         let _counts = self.summary.shape().counts();
-        assert_eq!(rt; (self.execution.width(QueueId(0)), self.judge.width(QueueId(0))), (2, 2));
+        assert_eq!(rt;
+            (
+                self.execution.width(QueueId(0)),
+                self.judge.width(QueueId(0))
+            ),
+            (2, 2)
+        );
         assert_eq!(rt; (self.execution.len(), self.judge.len()), (10, 10));
-        assert_eq!(rt; (self.execution.open_count(), self.judge.open_count()), (0, 0));
+        assert_eq!(rt;
+            (self.execution.open_count(), self.judge.open_count()),
+            (0, 0)
+        );
         assert_eq!(rt; self.judge.time(), 3);
         assert!(rt; !self.execution.ready(3) && self.execution.bits(ItemId(0)) == 0);
     }

@@ -2,8 +2,8 @@
 
 use crate::scene::NEVER;
 use crate::sink::{Output, entries_of, output};
-use cmwq_history::run_front_check;
 use cmwq_cmd_run::run_run;
+use cmwq_history::run_front_check;
 use cmwq_io::{FailsAt, Memory};
 use std::process::Abort;
 use std::sync::Wait;

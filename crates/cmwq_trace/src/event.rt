@@ -72,14 +72,20 @@ fn template(event: &Event) -> &'static str
     ensures { result.now ≡ spec.event_template event.now }
 {
     match event {
-        Event::Head => "{\"traceEvents\":[\n{\"args\":{\"name\":\"queues\"},\"name\":\"process_name\",\"ph\":\"M\",\"pid\":1},\n{\"args\":{\"name\":\"callers\"},\"name\":\"process_name\",\"ph\":\"M\",\"pid\":2}",
-        Event::Cpu(_) => ",\n{\"args\":{\"name\":\"CPU $\"},\"name\":\"process_name\",\"ph\":\"M\",\"pid\":$},\n{\"args\":{\"name\":\"CPU $, high priority\"},\"name\":\"process_name\",\"ph\":\"M\",\"pid\":$}",
-        Event::Row(_, _) => ",\n{\"args\":{\"name\":\"c$, row $\"},\"name\":\"thread_name\",\"ph\":\"M\",\"pid\":2,\"tid\":$}",
-        Event::Lane(_) => ",\n{\"args\":{\"name\":\"w$~$\"},\"name\":\"thread_name\",\"ph\":\"M\",\"pid\":$,\"tid\":$}",
+        Event::Head =>
+            "{\"traceEvents\":[\n{\"args\":{\"name\":\"queues\"},\"name\":\"process_name\",\"ph\":\"M\",\"pid\":1},\n{\"args\":{\"name\":\"callers\"},\"name\":\"process_name\",\"ph\":\"M\",\"pid\":2}",
+        Event::Cpu(_) =>
+            ",\n{\"args\":{\"name\":\"CPU $\"},\"name\":\"process_name\",\"ph\":\"M\",\"pid\":$},\n{\"args\":{\"name\":\"CPU $, high priority\"},\"name\":\"process_name\",\"ph\":\"M\",\"pid\":$}",
+        Event::Row(_, _) =>
+            ",\n{\"args\":{\"name\":\"c$, row $\"},\"name\":\"thread_name\",\"ph\":\"M\",\"pid\":2,\"tid\":$}",
+        Event::Lane(_) =>
+            ",\n{\"args\":{\"name\":\"w$~$\"},\"name\":\"thread_name\",\"ph\":\"M\",\"pid\":$,\"tid\":$}",
         Event::Wait(wait) => wait_template(wait.to.is_some()),
         Event::Run(bar) => run_template(bar.to.is_some()),
-        Event::Sleep(_) => ",\n{\"args\":{\"worker\":\"w$~$\"},\"cat\":\"sleep\",\"dur\":$,\"name\":\"asleep\",\"ph\":\"X\",\"pid\":$,\"tid\":$,\"ts\":$}",
-        Event::Level(_) => ",\n{\"args\":{\"active\":$,\"open\":$,\"width\":$},\"name\":\"queue $ on CPU $\",\"ph\":\"C\",\"pid\":1,\"ts\":$}",
+        Event::Sleep(_) =>
+            ",\n{\"args\":{\"worker\":\"w$~$\"},\"cat\":\"sleep\",\"dur\":$,\"name\":\"asleep\",\"ph\":\"X\",\"pid\":$,\"tid\":$,\"ts\":$}",
+        Event::Level(_) =>
+            ",\n{\"args\":{\"active\":$,\"open\":$,\"width\":$},\"name\":\"queue $ on CPU $\",\"ph\":\"C\",\"pid\":1,\"ts\":$}",
         Event::End => "\n]}\n",
     }
 }
@@ -234,11 +240,7 @@ fn level_numbers(level: &Level) -> [u64; 10]
 }
 
 /// Writes an event of a history of so many entries.
-pub(crate) fn write_event<W: Sink>(
-    sink: &mut W,
-    end: u64,
-    event: &Event,
-) -> Result<(), WriteFault>
+pub(crate) fn write_event<W: Sink>(sink: &mut W, end: u64, event: &Event) -> Result<(), WriteFault>
     ensures ok { OnOk result (Appends (W.written sink.old) (W.written sink.new) (spec.event_text end event.now)) }
     ensures err { OnErr result (AppendsFront (W.written sink.old) (W.written sink.new) (spec.event_text end event.now)) }
     ensures grown { W.troubles sink.old ≤ W.troubles sink.new }

@@ -52,11 +52,7 @@ fn names_of(
 
 /// The events of the trace of a history of this shape, with these shapes. The error says that memory ran out.
 #[tactic(auto, unfolding(crate::specs::Events::events_of))]
-pub fn events_of(
-    alloc: Global,
-    shape: &Shape,
-    shapes: &Shapes,
-) -> Result<Vec<Event>, AllocError>
+pub fn events_of(alloc: Global, shape: &Shape, shapes: &Shapes) -> Result<Vec<Event>, AllocError>
     ensures { IfOk result (λ events. events.items ≡ spec.events_of shape.now shapes.now.callers.lanes.items shapes.now.lanes.items shapes.now.callers.waits.items shapes.now.bars.items
         shapes.now.sleeps.items shapes.now.levels.items) }
 {

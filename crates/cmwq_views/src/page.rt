@@ -25,7 +25,11 @@ fn head(progress: &Progress<'_>) -> Row
     row
 }
 
-fn write_table<W: Sink>(sink: &mut W, progress: &Progress<'_>, table: Table) -> Result<(), WriteFault>
+fn write_table<W: Sink>(
+    sink: &mut W,
+    progress: &Progress<'_>,
+    table: Table,
+) -> Result<(), WriteFault>
     ensures ok { OnOk result (Appends (W.written sink.old) (W.written sink.new) (rows_of_table progress.now.layout (past_of progress.now.entries) table)) }
     ensures err { OnErr result (AppendsFront (W.written sink.old) (W.written sink.new) (rows_of_table progress.now.layout (past_of progress.now.entries) table)) }
     ensures grown { W.troubles sink.old ≤ W.troubles sink.new }
