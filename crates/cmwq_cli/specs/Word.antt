@@ -4,7 +4,7 @@ use Rattle.std.specs.Option.{option_map_or, option_or}
 use Rattle.std.specs.Str.{bytes_eq}
 use Rattle.std.specs.Str.Parse.{digits_value, without_leading_plus}
 use Rattle.std.specs.Borrow.{Bor}
-use Rattle.clap.specs.Words.{App, Text, Row, Rule, new_app, new_rule, with_rule, with_subcommand, Shape, subcommand_of, one_of, takes}
+use Rattle.clap.specs.Words.{App, Text, Row, Rule, new_app, new_rule, with_rule, with_subcommand, Shape, subcommand_of, one_of, first_of, takes}
 use Rattle.clap.specs.ValueTests.{is_unsigned_in}
 use Rattle.clap.specs.declared.builder.action.ArgAction.TheVariants.{Set, SetTrue}
 use Rattle.clap.specs.declared.builder.value_parser.ValueParser.TheVariants.{Unsigned}
@@ -61,9 +61,17 @@ word_found found =
     else if bytes_eq found.0 (codes "explore") then option_map word.Explore (schedules_found found.1)
     else None
 
--- the same with whether it explains
-abbrev pub asked_found : Text × List Row → Option Asked
-asked_found found = option_map (λ w. record { word = w; explain = has_flag (codes "explain") found.1 }) (word_found found)
+-- what is asked: the word, whether it explains, and the name of the file that it reads, if one is given
+pub record Request : Type 0 where
+  pub word : Word
+  pub explain : Bool
+  pub file : Option Text
+
+abbrev pub request : Asked → Request
+request a = record { word = a.word; explain = a.explain; file = option_map (λ s. s.now) a.file }
+
+abbrev pub asked_found : Text × List Row → Option Request
+asked_found found = option_map (λ w. record { word = w; explain = has_flag (codes "explain") found.1; file = first_of (codes "FILE") found.1 }) (word_found found)
 
 -- what clap reads of the program's command line: a word is a subcommand, and there is one
 abbrev pub program : Shape
@@ -76,13 +84,19 @@ without_words = record { top = program; subs = [] }
 abbrev pub flag_rule : List ℕ → Rule
 flag_rule name = record (new_rule name) { long = Some name; action = Some SetTrue }
 
--- every word has the flag that explains
+-- every word may have a file, and has the flag that explains
+abbrev pub file_rule : Rule
+file_rule = record (new_rule (codes "FILE")) { action = Some Set }
+
+abbrev pub with_command : App → App → App
+with_command a command = with_subcommand a (with_rule (with_rule command file_rule) (flag_rule (codes "explain"))).top
+
 abbrev pub with_word : App → List ℕ → App
-with_word a name = with_subcommand a (with_rule (new_app name) (flag_rule (codes "explain"))).top
+with_word a name = with_command a (new_app name)
 
 -- a word with another flag too
 abbrev pub with_flagged : App → List ℕ → List ℕ → App
-with_flagged a name flag_name = with_subcommand a (with_rule (with_rule (new_app name) (flag_rule flag_name)) (flag_rule (codes "explain"))).top
+with_flagged a name flag_name = with_command a (with_rule (new_app name) (flag_rule flag_name))
 
 -- an option with a number: two dashes, its name and the number
 abbrev pub number_rule : List ℕ → Rule
@@ -90,7 +104,7 @@ number_rule name = record (new_rule name) { long = Some name; action = Some Set;
 
 -- a word with two such options too
 abbrev pub with_numbers : App → List ℕ → List ℕ → List ℕ → App
-with_numbers a name first second = with_subcommand a (with_rule (with_rule (with_rule (new_app name) (number_rule first)) (number_rule second)) (flag_rule (codes "explain"))).top
+with_numbers a name first second = with_command a (with_rule (with_rule (new_app name) (number_rule first)) (number_rule second))
 
 -- the words whose inputs are lines, of which `step` also has `--live`, `check` `--front`, and `chart` `--from` and `--to`, and then those whose inputs are JSON
 abbrev pub with_lines : App
@@ -106,7 +120,7 @@ abbrev pub explore_word : App
 explore_word = with_rule (with_rule (with_rule (with_rule seeded_word (flag_rule (codes "all"))) (number_rule (codes "moves"))) (flag_rule (codes "merge"))) (flag_rule (codes "histories"))
 
 abbrev pub app : App
-app = with_subcommand (with_word (with_word with_lines (codes "replay")) (codes "run")) (with_rule explore_word (flag_rule (codes "explain"))).top
+app = with_command (with_word (with_word with_lines (codes "replay")) (codes "run")) explore_word
 
 -- the words as texts
 abbrev pub texts : List (Bor Text) → List Text
@@ -116,6 +130,6 @@ texts words = map (λ s. s.now) words
 unfoldable pub is_word_taken : List Text → Bool
 is_word_taken words = takes app words
 
--- the word that clap's matches of a command line hold, and whether it explains
-unfoldable pub word_matched : List Text → Option Asked
+-- what is asked by the word that clap's matches of a command line hold
+unfoldable pub word_matched : List Text → Option Request
 word_matched words = option_and_then asked_found (subcommand_of app words)

@@ -1,7 +1,7 @@
-ghost use Rattle.std.specs.Prelude.{◌≡◌, codes, true, false, IfOk, IfErr, IsSome, Some};
-ghost use Rattle.clap.specs.Words.{kind_of, app_of, new_app, rule_of, found_of, rows_of, with_rule, with_subcommand};
+ghost use Rattle.std.specs.Prelude.{◌≡◌, codes, true, false, IfOk, IfErr, IsSome, Some, option_map};
+ghost use Rattle.clap.specs.Words.{kind_of, app_of, new_app, rule_of, found_of, rows_of, with_rule};
 ghost use Rattle.clap.specs.declared.builder.command.Command.TheViews.{out-Command as fields_of};
-ghost use Rattle.cmwq_cli.specs.Word.{without_words, with_word, with_flagged, with_lines, with_numbers, seeded_word, explore_word, schedules_found, all_schedules, seeded_schedules, app, flag_rule, number_rule, number_found, has_flag, word_found, asked_found, texts, is_word_taken, word_matched};
+ghost use Rattle.cmwq_cli.specs.Word.{Request, file_rule, request, with_command, without_words, with_word, with_flagged, with_lines, with_numbers, seeded_word, explore_word, schedules_found, all_schedules, seeded_schedules, app, flag_rule, number_rule, number_found, has_flag, word_found, asked_found, texts, is_word_taken, word_matched};
 
 use clap::builder::ValueParser;
 use clap::error::ErrorKind;
@@ -66,13 +66,18 @@ pub enum Schedules {
     },
 }
 
-/// A word, and whether what it refuses is explained.
+/// A subcommand, what it reads, and whether what it refuses is explained.
 #[derive(Clone, Copy, Debug, PartialEq, Eq)]
-pub struct Asked {
+pub struct Asked<'a> {
     pub word: Word,
-    /// Whether a second line on standard error says where and why it is refused.
+    /// Whether a second line on standard error says where and why the input is refused.
     pub explain: bool,
+    /// The name of the file to read, as it was given. None, or `-`: standard input.
+    pub file: Option<&'a str>,
 }
+
+/// What the help of a subcommand says of its file.
+const FILE_HELP: &str = "The file to read; standard input if it is `-` or left out";
 
 /// What the help of a word says of its flag that explains.
 const EXPLAIN_HELP: &str =
@@ -225,9 +230,9 @@ const EXPLORE_HELP: &str =
     r#"The input is a script, as `run` reads one. In one thread, it plays schedules of the script: who moves next is chosen by a seed, or all
 choices are tried. A move is a call of a caller, the end of a wait, or what a worker does next.
 
-  cmwq explore --seed 7 < script       the history of one schedule, always the same
-  cmwq explore --times 1000 < script   how many of the schedules of the seeds 0 to 999 ended, and how many got stuck
-  cmwq explore --all < script          whether all schedules end
+  cmwq explore --seed 7 script         the history of one schedule, always the same
+  cmwq explore --times 1000 script     how many of the schedules of the seeds 0 to 999 ended, and how many got stuck
+  cmwq explore --all script            whether all schedules end
 
 A schedule is stuck if nobody may move, and yet a call, a wait, a run or an active queueing is left. Of the shortest that got stuck,
 its seed, what everybody waits for and its history are written. The status is 7 if a schedule got stuck, and 8 if none did but not
@@ -331,14 +336,15 @@ fn seeded_schedules(
     }
 }
 
-/// The word with this name and these matches, and whether it explains.
-fn asked_found(name: &str, matches: &ArgMatches) -> Option<Asked>
-    ensures { result ≡ asked_found (name.now, rows_of (found_of matches.now)) }
+/// What is asked by the word with this name and these matches.
+fn asked_found<'a>(name: &str, matches: &ArgMatches<'a>) -> Option<Asked<'a>>
+    ensures { option_map request result ≡ asked_found (name.now, rows_of (found_of matches.now)) }
 {
     match word_found(name, matches) {
         Some(word) => Some(Asked {
             word,
             explain: has_flag(matches, "explain"),
+            file: matches.get_str("FILE"),
         }),
         None => None,
     }
@@ -384,6 +390,16 @@ fn explaining<'a>(alloc: Global) -> Arg<'a>
     rule(alloc, flag)
 }
 
+/// The name of the file to read.
+fn file<'a>(alloc: Global) -> Arg<'a>
+    ensures rule { rule_of result ≡ file_rule }
+    ensures local { result.global ≡ false }
+{
+    Arg::new(alloc, "FILE")
+        .action(ArgAction::Set)
+        .help(FILE_HELP)
+}
+
 /// A word without arguments: its name, what it does, and what its help shows below its usage.
 fn bare_word<'a>(alloc: Global, name: &'a str, about: &'a str, help: &'a str) -> Command<'a>
     ensures shape { app_of result ≡ new_app name.entry.now }
@@ -392,16 +408,17 @@ fn bare_word<'a>(alloc: Global, name: &'a str, about: &'a str, help: &'a str) ->
     Command::new(alloc, name).about(about).after_help(help)
 }
 
-/// The program with this word more, which gets the flag that explains.
+/// The program with this word more, which gets a file and the flag that explains.
 fn with_command<'a>(
     alloc: Global,
     program: Command<'a>,
     word: Command<'a>,
 ) -> Result<Command<'a>, AllocError>
     requires { (fields_of word).has_globals ≡ false }
-    ensures { IfOk result (λ c. app_of c ≡ with_subcommand (app_of program.entry) (with_rule (app_of word.entry) (flag_rule (codes "explain"))).top) }
+    ensures { IfOk result (λ c. app_of c ≡ with_command (app_of program.entry) (app_of word.entry)) }
 {
-    let word = word.arg(explaining(alloc))?;
+    let word = with_argument(word, file(alloc))?;
+    let word = with_argument(word, explaining(alloc))?;
     let command = program.subcommand(word)?;
     Ok(command)
 }
@@ -508,8 +525,7 @@ fn seeded_word<'a>(alloc: Global) -> Result<Command<'a>, AllocError>
     ensures shape { IfOk result (λ c. app_of c ≡ seeded_word) }
     ensures local { IfOk result (λ c. (fields_of c).has_globals ≡ false) }
 {
-    let about =
-        "Reads a script in JSON from standard input and plays schedules of it in one thread";
+    let about = "Reads a script in JSON and plays schedules of it in one thread";
     let word = bare_word(alloc, "explore", about, EXPLORE_HELP);
     let help = "Plays the schedule of this seed, and writes its history";
     let word = with_number(alloc, word, "seed", help)?;
@@ -538,25 +554,24 @@ fn explore_word<'a>(alloc: Global) -> Result<Command<'a>, AllocError>
 fn with_lines<'a>(alloc: Global) -> Result<Command<'a>, AllocError>
     ensures { IfOk result (λ c. app_of c ≡ with_lines) }
 {
-    let about = "Reads call lines from standard input and writes the history of their answers";
+    let about = "Reads call lines and writes the history of their answers";
     let live = Flag {
         name: "live",
         help: "Writes the entry of each call before it reads the next line, and ends at the first call without room",
     };
     let command = with_flagged(alloc, program(alloc), "step", about, CALLS_HELP, live)?;
-    let about =
-        "Reads a history from standard input and writes whether it is legal, or its first wrong entry";
+    let about = "Reads a history and writes whether it is legal, or its first wrong entry";
     let front = Flag {
         name: "front",
         help: "Judges the whole lines that are there: a rest without a line feed is left out, and `end` may be missing; statuses are as without it",
     };
     let command = with_flagged(alloc, command, "check", about, HISTORY_HELP, front)?;
     let about =
-        "Reads a history from standard input and writes it, if it is legal: one of format 1 in format 2, and others as they are";
+        "Reads a history and writes it, if it is legal: one of format 1 in format 2, and others as they are";
     let command = with_word(alloc, command, "upgrade", about, FORMER_HELP)?;
-    let about = "Reads a history from standard input and writes its figures, if it is legal";
+    let about = "Reads a history and writes its figures, if it is legal";
     let command = with_word(alloc, command, "summary", about, FIGURES_HELP)?;
-    let about = "Reads a history from standard input and writes its picture as SVG, if it is legal";
+    let about = "Reads a history and writes its picture as SVG, if it is legal";
     let from = Flag {
         name: "from",
         help: "Shows the history from this entry on",
@@ -566,7 +581,7 @@ fn with_lines<'a>(alloc: Global) -> Result<Command<'a>, AllocError>
         help: "Shows it up to this entry, without that one",
     };
     let command = with_numbers(alloc, command, "chart", about, PICTURE_HELP, from, to)?;
-    let about = "Reads a history from standard input and writes its trace in JSON, if it is legal";
+    let about = "Reads a history and writes its trace in JSON, if it is legal";
     with_word(alloc, command, "trace", about, TRACE_HELP)
 }
 
@@ -574,19 +589,17 @@ fn with_lines<'a>(alloc: Global) -> Result<Command<'a>, AllocError>
 fn command<'a>(alloc: Global) -> Result<Command<'a>, AllocError>
     ensures { IfOk result (λ c. app_of c ≡ app) }
 {
-    let about =
-        "Reads a scenario in JSON from standard input and writes its table of times and events";
+    let about = "Reads a scenario in JSON and writes its table of times and events";
     let command = with_word(alloc, with_lines(alloc)?, "replay", about, SCENARIO_HELP)?;
-    let about =
-        "Reads a script in JSON from standard input, runs it on threads and writes the history of that run";
+    let about = "Reads a script in JSON, runs it on threads and writes the history of that run";
     let command = with_word(alloc, command, "run", about, SCRIPT_HELP)?;
     with_command(alloc, command, explore_word(alloc)?)
 }
 
 /// The word that clap's matches of the command line hold.
 #[tactic(auto, unfolding(crate::specs::Word::is_word_taken, crate::specs::Word::word_matched))]
-fn word_in<'a>(alloc: Global, words: &'a [&'a str]) -> Result<Option<Asked>, Error>
-    ensures ok { IfOk result (λ word. word ≡ word_matched (texts words.entry.now)) }
+fn word_in<'a>(alloc: Global, words: &'a [&'a str]) -> Result<Option<Asked<'a>>, Error>
+    ensures ok { IfOk result (λ asked. option_map request asked ≡ word_matched (texts words.entry.now)) }
     ensures err { IfErr result (λ e. is_word_taken (texts words.entry.now) ≡ true → kind_of e ≡ ErrorKind.OutOfMemory) }
 {
     let matches = command(alloc)?.try_get_matches_from(words)?;
@@ -598,8 +611,8 @@ fn word_in<'a>(alloc: Global, words: &'a [&'a str]) -> Result<Option<Asked>, Err
 
 /// Reads the command line, whose first word is the program's name. An error is clap's, to be printed as it says:
 /// help and the version that were asked for, a wrong use, or want of memory.
-pub fn word_of<'a>(alloc: Global, words: &'a [&'a str]) -> Result<Asked, Error>
-    ensures ok { IfOk result (λ word. word_matched (texts words.entry.now) ≡ Some word) }
+pub fn word_of<'a>(alloc: Global, words: &'a [&'a str]) -> Result<Asked<'a>, Error>
+    ensures ok { IfOk result (λ asked. word_matched (texts words.entry.now) ≡ Some (request asked)) }
     ensures err { IfErr result (λ e. is_word_taken (texts words.entry.now) ≡ true
         → IsSome (word_matched (texts words.entry.now)) → kind_of e ≡ ErrorKind.OutOfMemory) }
 {
