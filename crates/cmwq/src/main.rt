@@ -1,5 +1,5 @@
-//! `cmwq`: answers calls of a workqueue runtime, judges and draws its histories, replays scenarios, and runs scripts on threads or plays their
-//! schedules in one, on standard input and output.
+//! `cmwq`: answers calls of a workqueue runtime, judges and draws its histories, replays scenarios, and runs scripts on
+//! threads or plays their schedules in one. It reads a file or standard input, and writes standard output.
 #![tactic(auto)]
 
 use clap::error::ErrorKind;
@@ -12,13 +12,17 @@ use cmwq_explain::{Kept, explain_calls, explain_history, explain_unkept};
 use cmwq_explain_json::{explain_scenario, explain_script};
 use cmwq_replay::run_replay;
 use cmwq_views::{Window, run_chart, run_summary, run_trace};
+use either::Either::{self, Left, Right};
 use std::alloc::{AllocError, Global};
-use std::io;
-use std::io::IsTerminal;
+use std::fs::File;
+use std::io::{self, IsTerminal, Stdin};
 use std::process::ExitCode;
 use std::sync::Wait;
 use std::thread::Threads;
 use std::time::Clock;
+
+/// The exit status of input that is refused.
+const REFUSED_INPUT: u8 = 1;
 
 /// The exit status of a wrong use.
 const WRONG_USE: u8 = 2;
@@ -32,21 +36,12 @@ fn no_memory(rt: &impl Eprint) -> u8 {
     OUT_OF_MEMORY
 }
 
-/// Whether a command line has an argument behind a word that isn't a flag, as the name of a file is.
-fn has_file(words: &[&str]) -> bool {
-    words.iter().skip(2).any(|word| !word.starts_with('-'))
-}
-
-/// Prints what clap has to say: help and the version that were asked for, or a wrong use. Where that is the name of a file, it says too
-/// where the input comes from.
-fn told<R: Print + Eprint>(rt: &R, words: &[&str], error: &clap::Error) -> u8 {
+/// Prints what clap has to say: help and the version that were asked for, or a wrong use.
+fn told<R: Print + Eprint>(rt: &R, error: &clap::Error) -> u8 {
     if matches!(error.kind(), ErrorKind::OutOfMemory) {
         return no_memory(rt);
     }
     let _ = error.print(rt);
-    if matches!(error.kind(), ErrorKind::UnknownArgument) && has_file(words) {
-        let _ = rt.eprintln("cmwq: the input is standard input, as in: cmwq check < FILE");
-    }
     if error.use_stderr() { WRONG_USE } else { 0 }
 }
 
@@ -124,11 +119,38 @@ fn explain<E: Sink>(alloc: Global, word: Word, status: u8, bytes: &[u8], errors:
     }
 }
 
-/// Does what was asked, over the standard streams. What is to be explained is kept while it is read; there is one type of source for both,
-/// so that each word is compiled once.
+/// What a subcommand reads: standard input, or the file with this name.
+fn open(rt: &HostRuntime, name: Option<&str>) -> io::Result<Either<Stdin, File>> {
+    match name {
+        None | Some("-") => Ok(Left(rt.stdin())),
+        Some(name) => {
+            let file = File::open(rt, name)?;
+            if file.metadata()?.is_dir() {
+                return Err(io::Error::from(io::ErrorKind::IsADirectory));
+            }
+            Ok(Right(file))
+        }
+    }
+}
+
+/// Tells why a file cannot be read.
+fn not_opened(rt: &HostRuntime, name: &str, kind: io::ErrorKind) -> u8 {
+    let _ = match kind {
+        io::ErrorKind::OutOfMemory => return no_memory(rt),
+        io::ErrorKind::NotFound => eprintln!(rt; "cmwq: {name}: no such file or directory"),
+        kind => eprintln!(rt; "cmwq: {name}: {kind}"),
+    };
+    REFUSED_INPUT
+}
+
+/// Does what was asked. What is to be explained is kept while it is read; there is one type of source for both, and for
+/// files and standard input, so that each word is compiled once.
 fn run_asked<T: Threads + Wait + Clock + Sync>(rt: &HostRuntime, asked: Asked, threads: &T) -> u8 {
     let alloc = rt.alloc();
-    let input = FromStd::new(rt.stdin());
+    let input = match open(rt, asked.file) {
+        Ok(input) => FromStd::new(input),
+        Err(error) => return not_opened(rt, asked.file.unwrap_or("-"), error.kind()),
+    };
     let mut errors = FromStd::new(rt.stderr());
     let Ok(mut output) = BufferedSink::new(alloc, FromStd::new(rt.stdout())) else {
         return no_memory(rt);
@@ -163,7 +185,7 @@ fn answer<T: Threads + Wait + Clock + Sync>(rt: &HostRuntime, args: &[String], t
     };
     match word_of(alloc, &words) {
         Ok(asked) => run_asked(rt, asked, threads),
-        Err(error) => told(rt, &words, &error),
+        Err(error) => told(rt, &error),
     }
 }
 

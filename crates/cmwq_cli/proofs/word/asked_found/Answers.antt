@@ -1,0 +1,10 @@
+use Rattle.std.proofs.Common.{◌∙◌, sym, codes}
+use Rattle.clap.specs.Words.{found_of, rows_of}
+use Rattle.clap.proofs.WalkLemmas.{first_value-rows}
+use Rattle.cmwq_cli.proofs.Commands.{asked}
+use Rattle.cmwq_cli.proofs.word.asked_found.Goals as goal
+
+pub returns-in-Some : goal.returns-in-Some
+returns-in-Some c =
+    asked c.args.name.now (rows_of (found_of c.args.matches.now)) c.in-Some.word c.has_flag.result _ (sym c.word_found.ensures ∙ c.in-Some.is) c.has_flag.ensures
+    (c.get_str.ensures ∙ first_value-rows (found_of c.args.matches.now) (codes "FILE"))
