@@ -32,6 +32,12 @@ fn subcommands_and_flags_are_read(rt: HostRuntime) {
         ] {
             let asked = word_of(rt.alloc(), words).expect(&rt, "a subcommand");
             same(&rt, (asked.word, asked.explain), (word, explain));
+            same(&rt, asked.file, None);
+        }
+        for file in ["run.history", "-"] {
+            let words = ["cmwq", name, file];
+            let asked = word_of(rt.alloc(), &words).expect(&rt, "a subcommand");
+            same(&rt, (asked.word, asked.file), (word, Some(file)));
         }
     }
     let window = Word::Chart {
@@ -100,19 +106,19 @@ const WRONG_USES: [(&[&str], &str); 10] = [
     ),
     (
         &["cmwq", "step", "--front"],
-        "error: unexpected argument '--front' found\n\nUsage: cmwq step [OPTIONS]\n",
+        "error: unexpected argument '--front' found\n\nUsage: cmwq step [OPTIONS] [FILE]\n",
     ),
     (
         &["cmwq", "check", "--live"],
-        "error: unexpected argument '--live' found\n\nUsage: cmwq check [OPTIONS]\n",
+        "error: unexpected argument '--live' found\n\nUsage: cmwq check [OPTIONS] [FILE]\n",
     ),
     (
         &["cmwq", "check", "--front", "--front"],
-        "error: the argument '--front' cannot be used multiple times\n\nUsage: cmwq check [OPTIONS]\n",
+        "error: the argument '--front' cannot be used multiple times\n\nUsage: cmwq check [OPTIONS] [FILE]\n",
     ),
     (
-        &["cmwq", "check", "FILE"],
-        "error: unexpected argument 'FILE' found\n\nUsage: cmwq check [OPTIONS]\n",
+        &["cmwq", "check", "one.history", "two.history"],
+        "error: unexpected argument 'two.history' found\n\nUsage: cmwq check [OPTIONS] [FILE]\n",
     ),
     (
         &["cmwq", "chart", "--from", "x"],
@@ -149,48 +155,48 @@ fn wrong_uses_are_told(rt: HostRuntime) {
 const HELP: [(&str, &str, &str); 9] = [
     (
         "step",
-        "Reads call lines from standard input and writes the history of their answers",
+        "Reads call lines and writes the history of their answers",
         "\n  w0n0 take\n",
     ),
     (
         "check",
-        "Reads a history from standard input and writes whether it is legal, or its first wrong entry",
+        "Reads a history and writes whether it is legal, or its first wrong entry",
         "\n  w0n0 0 take = started 0 enlist 1\n",
     ),
     (
         "upgrade",
-        "Reads a history from standard input and writes it, if it is legal: one of format 1 in format 2, \
+        "Reads a history and writes it, if it is legal: one of format 1 in format 2, \
         and others as they are",
         "\n  c0 0 queue 0 0 0 = yes 0\n",
     ),
     (
         "summary",
-        "Reads a history from standard input and writes its figures, if it is legal",
+        "Reads a history and writes its figures, if it is legal",
         "\n  entries 3, ticks 0\n",
     ),
     (
         "chart",
-        "Reads a history from standard input and writes its picture as SVG, if it is legal",
+        "Reads a history and writes its picture as SVG, if it is legal",
         "\n      --from <NUMBER>  Shows the history from this entry on\n",
     ),
     (
         "trace",
-        "Reads a history from standard input and writes its trace in JSON, if it is legal",
+        "Reads a history and writes its trace in JSON, if it is legal",
         "\n  w0n0 1 finish = finished 0\n",
     ),
     (
         "replay",
-        "Reads a scenario in JSON from standard input and writes its table of times and events",
+        "Reads a scenario in JSON and writes its table of times and events",
         "\n   \"items\":[{\"name\":\"w0\",\"queue\":\"q0\",\"ms\":[5,10,5]},\n",
     ),
     (
         "run",
-        "Reads a script in JSON from standard input, runs it on threads and writes the history of that run",
+        "Reads a script in JSON, runs it on threads and writes the history of that run",
         "\n  {\"cpus\":1,\"workers\":2,\"room\":100,\n",
     ),
     (
         "explore",
-        "Reads a script in JSON from standard input and plays schedules of it in one thread",
+        "Reads a script in JSON and plays schedules of it in one thread",
         "\n      --seed <NUMBER>   Plays the schedule of this seed, and writes its history\n",
     ),
 ];
@@ -201,7 +207,7 @@ fn help_and_the_version_are_shown(rt: HostRuntime) {
     assert!(rt; !is_error && all.as_str().contains("\nUsage: cmwq <COMMAND>\n"));
     for (name, about, line) in HELP {
         let (text, is_error) = said(&rt, &["cmwq", name, "--help"]);
-        let usage = format!(in rt.alloc(); "{about}\n\nUsage: cmwq {name} [OPTIONS]\n");
+        let usage = format!(in rt.alloc(); "{about}\n\nUsage: cmwq {name} [OPTIONS] [FILE]\n");
         let usage = usage.expect(&rt, "memory");
         assert!(rt;
             !is_error && text.as_str().starts_with(usage.as_str()),
