@@ -18,7 +18,28 @@ pub enum Maker {
     Item,
 }
 
-/// What stands in a call behind its word.
+/// Where a call stands: who makes it, in which list, and at which place there.
+#[derive(Clone, Copy)]
+pub struct CallSite<'a> {
+    pub maker: Maker,
+    pub path: Path<'a>,
+    pub index: usize,
+}
+
+impl CallSite<'_> {
+    /// Says which call is told.
+    fn say(self, text: &mut Text) {
+        self.path.say(text);
+        text.say(match self.maker {
+            Maker::Caller => ", call ",
+            Maker::Item => ", action ",
+        });
+        text.number(self.index as u64);
+        text.say(": ");
+    }
+}
+
+/// What stands in a call after its word.
 #[derive(Clone, Copy)]
 enum Argument {
     Item,
@@ -53,6 +74,14 @@ impl Argument {
             Argument::Gate => "a gate's name",
         }
     }
+}
+
+/// An argument of a sample: the sample's number, the argument's place in it, and what it is.
+#[derive(Clone, Copy)]
+struct Slot {
+    sample: usize,
+    index: usize,
+    argument: Argument,
 }
 
 /// A call or an action: its word, and its arguments.
@@ -205,17 +234,6 @@ fn number_of(word: &str) -> Option<usize> {
     (0..SAMPLE_COUNT).find(|number| word_of(*number) == Some(word))
 }
 
-/// Says which call of a list is told.
-fn say_place(text: &mut Text, maker: Maker, path: Path<'_>, index: usize) {
-    path.say(text);
-    text.say(match maker {
-        Maker::Caller => ", call ",
-        Maker::Item => ", action ",
-    });
-    text.number(index as u64);
-    text.say(": ");
-}
-
 /// What a call is called.
 fn role(maker: Maker) -> &'static str {
     match maker {
@@ -224,21 +242,20 @@ fn role(maker: Maker) -> &'static str {
     }
 }
 
-/// Tells what is wrong with a call, the `index`-th of a list.
+/// Tells what is wrong with a call.
 pub fn tell_call(
     text: &mut Text,
     world: World<'_>,
-    maker: Maker,
-    path: Path<'_>,
-    index: usize,
+    site: CallSite<'_>,
     call: &Value,
 ) -> Result<bool, AllocError> {
+    let maker = site.maker;
     let parts = match call.as_array() {
         Some(parts) => parts.as_slice(),
         None => &[],
     };
     let Some((Value::String(word), arguments)) = parts.split_first() else {
-        say_place(text, maker, path, index);
+        site.say(text);
         say_value(text, world, call)?;
         text.say(match maker {
             Maker::Caller => ": expected is a call, as [\"flush\",\"q0\"]",
@@ -249,10 +266,10 @@ pub fn tell_call(
     let words = words_of(world, maker)?;
     match number_of(word.as_str()) {
         Some(number) if words.as_slice().contains(&word.as_str()) => {
-            tell_arguments(text, world, (maker, path, index), number, arguments)
+            tell_arguments(text, world, site, number, arguments)
         }
         _ => {
-            say_place(text, maker, path, index);
+            site.say(text);
             text.quoted(word.as_str().as_bytes());
             text.say(role(maker));
             say_names(text, words.as_slice(), word.as_str());
@@ -265,25 +282,29 @@ pub fn tell_call(
 fn tell_arguments(
     text: &mut Text,
     world: World<'_>,
-    place: (Maker, Path<'_>, usize),
+    site: CallSite<'_>,
     number: usize,
     arguments: &[Value],
 ) -> Result<bool, AllocError> {
-    let (maker, path, index) = place;
     for (at, argument) in arguments.iter().enumerate() {
         let Some(wanted) = argument_of(number, at) else {
-            say_place(text, maker, path, index);
+            site.say(text);
             say_value(text, world, argument)?;
             text.say(": the call should end before it");
             return Ok(true);
         };
-        if tell_argument(text, world, place, (number, at, wanted), argument)? {
+        let slot = Slot {
+            sample: number,
+            index: at,
+            argument: wanted,
+        };
+        if tell_argument(text, world, site, slot, argument)? {
             return Ok(true);
         }
     }
     match argument_of(number, arguments.len()) {
         Some(argument) => {
-            say_place(text, maker, path, index);
+            site.say(text);
             text.say("here ends the call; expected is ");
             text.say(argument.wanted());
             Ok(true)
@@ -296,17 +317,17 @@ fn tell_arguments(
 fn tell_argument(
     text: &mut Text,
     world: World<'_>,
-    place: (Maker, Path<'_>, usize),
-    sample: (usize, usize, Argument),
+    site: CallSite<'_>,
+    slot: Slot,
     argument: &Value,
 ) -> Result<bool, AllocError> {
-    match sample.2 {
-        Argument::Item => tell_name(text, world, place, ("items", " is no item"), argument),
-        Argument::Queue => tell_name(text, world, place, ("queues", " is no queue"), argument),
-        Argument::Gate => tell_gate(text, world, place, argument),
-        Argument::Cpu => tell_cpu(text, world, place, argument),
-        Argument::Ticks => tell_number(text, world, place, ("ticks ", sample), argument),
-        Argument::MaxActive => tell_number(text, world, place, ("max_active ", sample), argument),
+    match slot.argument {
+        Argument::Item => tell_name(text, world, site, "items", " is no item", argument),
+        Argument::Queue => tell_name(text, world, site, "queues", " is no queue", argument),
+        Argument::Gate => tell_gate(text, world, site, argument),
+        Argument::Cpu => tell_cpu(text, world, site, argument),
+        Argument::Ticks => tell_number(text, world, site, "ticks ", slot, argument),
+        Argument::MaxActive => tell_number(text, world, site, "max_active ", slot, argument),
     }
 }
 
@@ -314,14 +335,13 @@ fn tell_argument(
 fn tell_gate(
     text: &mut Text,
     world: World<'_>,
-    place: (Maker, Path<'_>, usize),
+    site: CallSite<'_>,
     argument: &Value,
 ) -> Result<bool, AllocError> {
-    let (maker, path, index) = place;
     if argument.as_str().is_some_and(|name| is_name(name)) {
         return Ok(false);
     }
-    say_place(text, maker, path, index);
+    site.say(text);
     say_value(text, world, argument)?;
     text.say(": expected is a name of 1 to 16 letters, digits and _");
     Ok(true)
@@ -331,19 +351,19 @@ fn tell_gate(
 fn tell_name(
     text: &mut Text,
     world: World<'_>,
-    place: (Maker, Path<'_>, usize),
-    list: (&str, &str),
+    site: CallSite<'_>,
+    list: &str,
+    is_none: &str,
     argument: &Value,
 ) -> Result<bool, AllocError> {
-    let (maker, path, index) = place;
-    let names = names_in(world, list.0)?;
+    let names = names_in(world, list)?;
     let name = argument.as_str().unwrap_or("");
     if is_name(name) && names.as_slice().contains(&name) {
         return Ok(false);
     }
-    say_place(text, maker, path, index);
+    site.say(text);
     say_value(text, world, argument)?;
-    text.say(list.1);
+    text.say(is_none);
     say_names(text, names.as_slice(), name);
     Ok(true)
 }
@@ -352,15 +372,14 @@ fn tell_name(
 fn tell_cpu(
     text: &mut Text,
     world: World<'_>,
-    place: (Maker, Path<'_>, usize),
+    site: CallSite<'_>,
     argument: &Value,
 ) -> Result<bool, AllocError> {
-    let (maker, path, index) = place;
     let cpus = world.whole.get("cpus").and_then(Value::as_u64).unwrap_or(0);
     if argument.as_u64().is_some_and(|cpu| cpu < cpus) {
         return Ok(false);
     }
-    say_place(text, maker, path, index);
+    site.say(text);
     text.say("CPU ");
     say_value(text, world, argument)?;
     if cpus == 1 {
@@ -378,24 +397,23 @@ fn tell_cpu(
 fn tell_number(
     text: &mut Text,
     world: World<'_>,
-    place: (Maker, Path<'_>, usize),
-    named: (&str, (usize, usize, Argument)),
+    site: CallSite<'_>,
+    name: &str,
+    slot: Slot,
     argument: &Value,
 ) -> Result<bool, AllocError> {
-    let (maker, path, index) = place;
-    let (name, sample) = named;
     let number = argument.as_u64();
     if let Some(number) = number {
-        if fits_number(world, maker, sample, number)? {
+        if fits_number(world, site.maker, slot, number)? {
             return Ok(false);
         }
     }
-    say_place(text, maker, path, index);
+    site.say(text);
     text.say(name);
     say_value(text, world, argument)?;
     match number {
         None => text.say(" is no whole number"),
-        Some(number) => say_limit(text, world, maker, sample, number)?,
+        Some(number) => say_limit(text, world, site.maker, slot, number)?,
     }
     Ok(true)
 }
@@ -404,11 +422,11 @@ fn tell_number(
 fn fits_number(
     world: World<'_>,
     maker: Maker,
-    sample: (usize, usize, Argument),
+    slot: Slot,
     number: u64,
 ) -> Result<bool, AllocError> {
     let mut digits = Buffer::new();
-    let call = sample_call(world, sample.0, sample.1, digits.format(number));
+    let call = sample_call(world, slot.sample, slot.index, digits.format(number));
     takes(world, maker, call.as_str()?)
 }
 
@@ -417,7 +435,7 @@ fn say_limit(
     text: &mut Text,
     world: World<'_>,
     maker: Maker,
-    sample: (usize, usize, Argument),
+    slot: Slot,
     number: u64,
 ) -> Result<(), AllocError> {
     if number == 0 {
@@ -427,7 +445,7 @@ fn say_limit(
     let (mut low, mut high) = (1u64, number);
     for _half in 0..64 {
         let middle = low.midpoint(high);
-        if middle > low && fits_number(world, maker, sample, middle)? {
+        if middle > low && fits_number(world, maker, slot, middle)? {
             low = middle;
         } else {
             high = middle;

@@ -1,6 +1,6 @@
 //! Lists: those of the top, the parts of an item of a scenario, and the actions of an item of a script.
 
-use crate::calls::{Maker, tell_call, tell_count};
+use crate::calls::{CallSite, Maker, tell_call, tell_count};
 use crate::grammar::{Grammar, Place};
 use crate::limits::Trial;
 use crate::members::{Path, say_limit, say_value};
@@ -101,7 +101,12 @@ fn tell_actions(
         return Ok(true);
     }
     for (index, action) in actions.iter().enumerate() {
-        if tell_call(text, world, Maker::Item, path, index, action)? {
+        let site = CallSite {
+            maker: Maker::Item,
+            path,
+            index,
+        };
+        if tell_call(text, world, site, action)? {
             return Ok(true);
         }
     }

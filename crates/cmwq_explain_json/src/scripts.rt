@@ -1,6 +1,6 @@
 //! The first member of an input that is refused, of each part.
 
-use crate::calls::{Maker, any_waits, tell_call, tell_count};
+use crate::calls::{CallSite, Maker, any_waits, tell_call, tell_count};
 use crate::gates::tell_gates;
 use crate::grammar::Place;
 use crate::members::{Path, say_value, tell_object};
@@ -129,7 +129,12 @@ fn tell_caller(
         return Ok(true);
     }
     for (index, call) in calls.iter().enumerate() {
-        if tell_call(text, world, Maker::Caller, path, index, call)? {
+        let site = CallSite {
+            maker: Maker::Caller,
+            path,
+            index,
+        };
+        if tell_call(text, world, site, call)? {
             return Ok(true);
         }
     }
