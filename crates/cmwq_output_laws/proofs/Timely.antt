@@ -1,5 +1,5 @@
 -- No entry of a legal history tells a later time than that at its end.
-use Rattle.cmwq_output_laws.specs.Common.{◌≡◌, ◌≤◌, ◌+◌, ◌-◌, true, List, [], ◌∷◌, subst, arith, refl, IsTrue, All, AllByRecursion, le-leb, reverse-reverse, All-from_recursion, Who, Call, Entry, Layout, ticks_told, now, IsLegal, past_of, most_time, is_timely}
+use Rattle.cmwq_output_laws.specs.Common.{◌≡◌, ◌≤◌, ◌+◌, true, List, [], ◌∷◌, subst, arith, refl, IsTrue, All, AllByRecursion, le-leb, reverse-reverse, All-from_recursion, Who, Call, Entry, Layout, ticks_told, now, IsLegal, past_of, most_time, is_timely}
 use Rattle.cmwq_model.specs.declared.reply.Reply.{Reply}
 use Rattle.cmwq_theory_steps.proofs.Causes.{Cause, cause_of}
 use Rattle.cmwq_theory_steps.proofs.Causes as cause

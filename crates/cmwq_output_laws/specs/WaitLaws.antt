@@ -1,4 +1,5 @@
--- Laws of waits for runs: why a run that waits for its own end, and runs that wait for one another in a circle, would never go on.
+-- Laws of waits for runs: why a run that waits for its own end, and runs that wait for one another in a circle, would
+-- never go on.
 use Rattle.std.specs.Prelude.{◌≡◌, ◌==◌, ◌&&◌, ◌∷◌, ◌++◌, ℕ, Bool, true, false, List, [], Some, option_map}
 use Rattle.std.specs.List.{AllByRecursion, list_any}
 use Rattle.cmwq_model.specs.declared.call.Call.{Call}
@@ -11,7 +12,8 @@ use Rattle.cmwq_theory_laws.specs.Headline.{is_waited_for}
 
 -- its item runs this queueing
 abbrev pub IsRun : List Entry → Queueing → Type 0
-IsRun past x = (queueing_at past x.number ≡ Some x) × (option_map (λ (start : Start). start.number) (item_run past x.item.0) ≡ Some x.number)
+IsRun past x = (queueing_at past x.number ≡ Some x)
+    × (option_map (λ (start : Start). start.number) (item_run past x.item.0) ≡ Some x.number)
 
 -- a wait that this call began, under this number, is for the run
 abbrev pub is_for_run : Call → ℕ → Queueing → Bool
@@ -53,12 +55,13 @@ AreStuck past waits = AllByRecursion (IsHeld past waits) waits
 abbrev pub FinishAfterWaits : List RunWait → List Entry → Type 0
 FinishAfterWaits waits [] = Unit {0}
 FinishAfterWaits waits (e ∷ later) = FinishAfterWaits waits later
-    × AllByRecursion (λ (wait : RunWait). finishes wait.run.number e ≡ true → list_any (ends_wait wait.ticket) later ≡ true) waits
+    × AllByRecursion (λ (wait : RunWait). finishes wait.run.number e ≡ true
+    → list_any (ends_wait wait.ticket) later ≡ true) waits
 
 -- the run still goes on, and its wait has not ended
 abbrev pub StillWaits : List Entry → List Entry → RunWait → Type 0
 StillWaits past later wait = IsRun (later ++ past) wait.run × (list_any (ends_wait wait.ticket) later ≡ false)
 
 abbrev pub CirclesNeverEnd : Type 0
-CirclesNeverEnd = (s : Layout) (past later : List Entry) (waits : List RunWait) → IsLegal s (later ++ past) → AreStuck past waits
-    → FinishAfterWaits waits later → AllByRecursion (StillWaits past later) waits
+CirclesNeverEnd = (s : Layout) (past later : List Entry) (waits : List RunWait) → IsLegal s (later ++ past)
+    → AreStuck past waits → FinishAfterWaits waits later → AllByRecursion (StillWaits past later) waits

@@ -1,5 +1,5 @@
-//! Laws that no running code needs: of the shapes of a history that charts and traces show, over the definitions alone; that what one subcommand
-//! writes another takes; and that waits which are refused would never have ended.
+//! Laws that no running code needs: of the shapes of a history that charts and traces show, over the definitions alone;
+//! that what one subcommand writes another takes; and that waits which are refused would never have ended.
 #![tactic(auto)]
 
 mod bars;
