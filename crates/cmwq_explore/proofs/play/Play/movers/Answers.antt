@@ -1,0 +1,26 @@
+use Rattle.std.proofs.Common.{◌≡◌, ◌∙◌, ℕ, sym, true, arith}
+use Rattle.std.proofs.lemmas.List.Elements.{All-push}
+use Rattle.cmwq_explore.specs.Stands.{may}
+use Rattle.cmwq_explore.proofs.Moving.{all_before, all_with}
+use Rattle.cmwq_explore.proofs.play.Play.movers.Goals as goal
+use Rattle.cmwq_explore.proofs.play.Play.movers.Goals.{then-may_move+in_ok-push, else-may_move}
+
+pub loop-party-preserved : goal.loop-party-preserved
+loop-party-preserved c =
+    let p = c.args.self.now in
+    let k = c.loop-party.party in
+    let xs = c.loop-party.movers.items in
+    let before = c.loop-party.invariant in
+    elim c.if-may_move.branch [
+        then-may_move+in_ok-push w ↦
+            let it = sym c.may_move.ensures ∙ w.if-may_move.true in
+            rw (w.movers-is, w.in_ok-push.ensures.items) (record {
+              all = λ j less is. all_with p k xs before.all j (omega arith) is;
+              sound = All-push (λ (j : ℕ). may p j ≡ true) xs k before.sound it;
+            })
+      | else-may_move w ↦
+            let not_it = sym c.may_move.ensures ∙ w.if-may_move.false in
+            rw (w.movers-is)
+                (record { all = λ j less is. all_before p k xs before.all not_it j (omega arith) is; sound =
+                before.sound })
+      ]

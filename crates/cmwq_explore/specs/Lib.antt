@@ -1,0 +1,5 @@
+pub mod Counts
+pub mod Machines
+pub mod Searches
+pub mod Stands
+pub mod Starts

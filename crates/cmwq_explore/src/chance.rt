@@ -1,0 +1,172 @@
+//! Schedules by chance: whose move comes next is a function of a seed.
+
+ghost use Rattle.std.specs.Prelude.{◌<◌, max};
+
+use crate::play::{Play, Setup};
+use crate::search::MOST_MOVES;
+use std::alloc::{AllocError, Global};
+
+/// How the next to move is chosen.
+#[derive(Clone, Copy, Debug, PartialEq, Eq)]
+pub enum Chooser {
+    /// Each of those who may move is as likely.
+    Uniform,
+    /// The first of those who may move, in a random order of all, in which so many less one among the first `moves`
+    /// movers go to the end after their move: probabilistic concurrency testing (Burckhardt, Kothari, Musuvathi,
+    /// Nagarakatte).
+    Pct { depth: u64, moves: u64 },
+}
+
+/// Random numbers (splitmix64).
+#[derive(Clone, Copy)]
+struct Generator {
+    state: u64,
+}
+
+impl Generator {
+    fn draw(&mut self) -> u64 {
+        self.state = self.state.wrapping_add(0x9e37_79b9_7f4a_7c15);
+        let mut z = self.state;
+        z = (z ^ (z >> 30)).wrapping_mul(0xbf58_476d_1ce4_e5b9);
+        z = (z ^ (z >> 27)).wrapping_mul(0x94d0_49bb_1331_11eb);
+        z ^ (z >> 31)
+    }
+
+    /// A number below this one, which isn't 0.
+    fn below(&mut self, limit: u64) -> u64
+        ensures { result < max limit 1 }
+    {
+        self.draw() % limit.max(1)
+    }
+}
+
+/// Exchanges two of a list.
+fn swap(list: &mut Vec<u64>, one: usize, other: usize) {
+    if one < list.len() && other < list.len() {
+        list.swap(one, other);
+    }
+}
+
+/// The order of the parties, and at which moves it changes.
+#[derive(Drop)]
+struct Order {
+    /// The greater goes first.
+    priorities: Vec<u64>,
+    changes: Vec<u64>,
+}
+
+impl Order {
+    fn new(
+        alloc: Global,
+        parties: usize,
+        generator: &mut Generator,
+        depth: u64,
+        moves: u64,
+    ) -> Result<Order, AllocError> {
+        let mut priorities = Vec::new(alloc);
+        for k in 0..parties {
+            priorities.push(depth.saturating_add(k as u64))?;
+        }
+        for k in 1..parties {
+            let other = generator.below(k as u64 + 1) as usize;
+            swap(&mut priorities, k, other);
+        }
+        let mut changes = Vec::new(alloc);
+        for _ in 1..depth {
+            changes.push(generator.below(moves))?;
+        }
+        Ok(Order {
+            priorities,
+            changes,
+        })
+    }
+
+    fn priority(&self, party: usize) -> u64 {
+        match self.priorities.get(party) {
+            Some(priority) => *priority,
+            None => 0,
+        }
+    }
+
+    /// The first of these.
+    fn first_of(&self, movers: &[usize]) -> usize {
+        let mut first = 0usize;
+        let mut most = 0u64;
+        for (k, party) in movers.iter().enumerate() {
+            let priority = self.priority(*party);
+            if k == 0 || priority > most {
+                first = *party;
+                most = priority;
+            }
+        }
+        first
+    }
+
+    /// A party has made the move of this number.
+    fn has_moved(&mut self, party: usize, number: u64) {
+        for (k, change) in self.changes.iter().enumerate() {
+            if *change == number {
+                if let Some(priority) = self.priorities.get_mut(party) {
+                    *priority = k as u64;
+                }
+            }
+        }
+    }
+}
+
+/// Plays from the start, by a seed, until nobody may move, or for `MOST_MOVES`. Returns how many moves were made.
+pub fn play_by<'a>(
+    alloc: Global,
+    setup: &'a Setup<'a>,
+    play: &mut Play<'a>,
+    seed: u64,
+    chooser: Chooser,
+) -> Result<u64, AllocError> {
+    play.restart(setup)?;
+    let mut generator = Generator { state: seed };
+    match chooser {
+        Chooser::Uniform => play_uniform(play, &mut generator),
+        Chooser::Pct { depth, moves } => {
+            let order = Order::new(alloc, play.parties(), &mut generator, depth, moves)?;
+            play_in_order(play, order)
+        }
+    }
+}
+
+fn play_uniform(play: &mut Play<'_>, generator: &mut Generator) -> Result<u64, AllocError> {
+    for number in 0..MOST_MOVES {
+        let movers = play.movers()?;
+        if movers.is_empty() {
+            return Ok(number as u64);
+        }
+        let place = generator.below(movers.len() as u64) as usize;
+        let party = movers[place];
+        let step = play.step_of(party);
+        play.make_move(step)?;
+    }
+    Ok(MOST_MOVES as u64)
+}
+
+fn play_in_order(play: &mut Play<'_>, order: Order) -> Result<u64, AllocError> {
+    let mut order = order;
+    for number in 0..MOST_MOVES {
+        let movers = play.movers()?;
+        if movers.is_empty() {
+            return Ok(number as u64);
+        }
+        let party = order.first_of(&movers);
+        let step = play.step_of(party);
+        play.make_move(step)?;
+        order.has_moved(party, number as u64);
+    }
+    Ok(MOST_MOVES as u64)
+}
+
+/// How many moves the schedule of seed 0 has, each of those who may move being as likely.
+pub fn length_of_first<'a>(
+    alloc: Global,
+    setup: &'a Setup<'a>,
+    play: &mut Play<'a>,
+) -> Result<u64, AllocError> {
+    play_by(alloc, setup, play, 0, Chooser::Uniform)
+}

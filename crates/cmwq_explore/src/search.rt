@@ -1,0 +1,267 @@
+//! All schedules of a script, depth first.
+
+ghost use Rattle.std.specs.Prelude.{◌≡◌, ◌≤◌, length, IfOk, IfSome, OnOk};
+ghost use Rattle.cmwq_explore.specs.Stands as spec;
+ghost use Rattle.cmwq_explore.specs.Searches.{AllEnd, after};
+ghost use Rattle.cmwq_explore.specs.Counts.{CountsEnd, CountsStuck};
+ghost use Rattle.cmwq_explore.specs.declared.play.Standing.TheVariants as standing;
+ghost use Rattle.cmwq_explore.specs.Starts.{start_of};
+
+use crate::place::Step;
+use crate::play::{Play, Setup, Standing};
+use std::alloc::{AllocError, Global};
+
+/// How many moves a schedule has at most; a longer one is cut off.
+pub const MOST_MOVES: usize = 2_000;
+
+/// After how many moves a search is looked at.
+const MOVES_A_LOOK: u64 = 1_000_000;
+
+/// What limits a search.
+#[derive(Clone, Copy, Debug)]
+pub struct Limits {
+    /// How many moves are made at most, in all. Those that are made again count too.
+    pub moves: u64,
+}
+
+/// What a search found.
+#[derive(Clone, Copy, Debug, PartialEq, Eq)]
+pub struct Found {
+    /// How many states were visited.
+    pub states: u64,
+    /// How many schedules ended, with nothing left to do.
+    pub ended: u64,
+    /// How many got stuck.
+    pub stuck: u64,
+    /// How many were cut off by a limit.
+    pub cut: u64,
+    /// In how many of those that ended or got stuck calls were left out for want of room.
+    pub short_of_room: u64,
+    /// In how many of them waits of runs were refused.
+    pub with_refusals: u64,
+    /// How often a state was met again.
+    pub met_again: u64,
+    /// How often others might move there than when it was met first: never, or the search is wrong.
+    pub differing: u64,
+    /// How many moves were made.
+    pub moves: u64,
+}
+
+impl Found {
+    /// Nothing yet.
+    pub fn nothing() -> Found {
+        Found {
+            states: 0,
+            ended: 0,
+            stuck: 0,
+            cut: 0,
+            short_of_room: 0,
+            with_refusals: 0,
+            met_again: 0,
+            differing: 0,
+            moves: 0,
+        }
+    }
+
+    /// How a play ended that may not go on.
+    pub fn count_end(&mut self, play: &Play<'_>) -> Standing
+        ensures ended { result ≡ standing.Ended → CountsEnd self.old self.new × spec.IsDone play.now }
+        ensures stuck { result ≡ standing.Stuck → CountsStuck self.old self.new × (spec.IsDone play.now → ⊥) }
+        ensures goes { result ≡ standing.Goes → ⊥ }
+        ensures cut { self.new.cut ≡ self.old.cut }
+    {
+        let standing = play.standing_still();
+        match standing {
+            Standing::Stuck => self.stuck = self.stuck.saturating_add(1),
+            _ => self.ended = self.ended.saturating_add(1),
+        }
+        if play.left_out() > 0 {
+            self.short_of_room = self.short_of_room.saturating_add(1);
+        }
+        if play.refused() > 0 {
+            self.with_refusals = self.with_refusals.saturating_add(1);
+        }
+        standing
+    }
+}
+
+/// Who looks on at a search.
+pub trait Watch {
+    /// So much was found so far.
+    fn looks(&mut self, found: &Found);
+
+    /// A play may not go on.
+    fn ends(&mut self, play: &Play<'_>, standing: Standing);
+}
+
+/// A search under way.
+#[derive(Drop)]
+pub(crate) struct Search {
+    pub(crate) alloc: Global,
+    pub(crate) limits: Limits,
+    pub(crate) found: Found,
+    pub(crate) shortest: Option<Vec<Step>>,
+    next_look: u64,
+}
+
+/// The steps, copied.
+fn copy_of(alloc: Global, steps: &[Step]) -> Result<Vec<Step>, AllocError> {
+    Ok(steps.to_vec(alloc)?)
+}
+
+impl Search {
+    pub(crate) fn new(alloc: Global, limits: Limits) -> Search {
+        Search {
+            alloc,
+            limits,
+            found: Found::nothing(),
+            shortest: None,
+            next_look: MOVES_A_LOOK,
+        }
+    }
+
+    pub(crate) fn count_state(&mut self)
+        ensures { (self.new.found.cut ≡ self.old.found.cut) × (self.new.found.stuck ≡ self.old.found.stuck) }
+    {
+        self.found.states = self.found.states.saturating_add(1);
+    }
+
+    /// So many moves more were made.
+    pub(crate) fn count_moves<W: Watch>(&mut self, moves: usize, watch: &mut W)
+        ensures { (self.new.found.cut ≡ self.old.found.cut) × (self.new.found.stuck ≡ self.old.found.stuck) }
+    {
+        self.found.moves = self.found.moves.saturating_add(moves as u64);
+        if self.found.moves >= self.next_look {
+            self.next_look = self.found.moves.saturating_add(MOVES_A_LOOK);
+            watch.looks(&self.found);
+        }
+    }
+
+    /// Whether no move more is to be made.
+    pub(crate) fn is_at_limit(&self) -> bool {
+        self.found.moves >= self.limits.moves
+    }
+
+    /// A schedule may not go on.
+    pub(crate) fn note_end<W: Watch>(
+        &mut self,
+        play: &Play<'_>,
+        path: &[Step],
+        watch: &mut W,
+    ) -> Result<(), AllocError>
+        ensures done { self.new.found.stuck ≡ 0 → spec.IsDone play.now }
+        ensures cut { self.new.found.cut ≡ self.old.found.cut }
+        ensures stuck { self.old.found.stuck ≤ self.new.found.stuck }
+        ensures shortest
+            { OnOk result ((spec.IsDone play.now → ⊥)
+            → IfSome self.new.shortest (λ s. length s.items ≤ length path.now)) }
+    {
+        let standing = self.found.count_end(play);
+        watch.ends(play, standing);
+        let is_shorter = match &self.shortest {
+            Some(steps) => path.len() < steps.len(),
+            None => true,
+        };
+        if standing == Standing::Stuck && is_shorter {
+            self.shortest = Some(copy_of(self.alloc, path)?);
+        }
+        Ok(())
+    }
+
+    pub(crate) fn cut(&mut self)
+        ensures cut { 1 ≤ self.new.found.cut }
+        ensures more { self.old.found.cut ≤ self.new.found.cut }
+        ensures stuck { self.new.found.stuck ≡ self.old.found.stuck }
+    {
+        self.found.cut = self.found.cut.saturating_add(1);
+    }
+
+    /// Visits all states to which the path leads, at the end of which the play stands.
+    #[cycle(visiting)]
+    #[tactic(none)]
+    fn visit<'a, W: Watch>(
+        &mut self,
+        setup: &'a Setup<'a>,
+        play: &mut Play<'a>,
+        path: &mut Vec<Step>,
+        depth: usize,
+        watch: &mut W,
+    ) -> Result<(), AllocError>
+        requires { play.old ≡ after (start_of setup.now) path.old.items }
+        ensures all { IfOk result (λ _. self.new.found.cut ≡ 0 → self.new.found.stuck ≡ 0 → AllEnd depth play.old) }
+        ensures path { IfOk result (λ _. path.new.items ≡ path.old.items) }
+        ensures cut { self.old.found.cut ≤ self.new.found.cut }
+        ensures stuck { self.old.found.stuck ≤ self.new.found.stuck }
+    {
+        self.count_state();
+        let movers = play.movers()?;
+        if movers.is_empty() {
+            return self.note_end(play, path, watch);
+        }
+        if depth == 0 {
+            self.cut();
+            return Ok(());
+        }
+        for k in 0..movers.len() {
+            if self.is_at_limit() {
+                self.cut();
+                return Ok(());
+            }
+            if k > 0 {
+                play.replay(setup, path)?;
+                self.count_moves(path.len(), watch);
+            }
+            let step = play.step_of(movers[k]);
+            self.go_on(setup, play, path, depth - 1, step, watch)?;
+        }
+        Ok(())
+    }
+
+    /// Makes a step, and visits all states after it.
+    #[cycle(visiting)]
+    #[tactic(none)]
+    fn go_on<'a, W: Watch>(
+        &mut self,
+        setup: &'a Setup<'a>,
+        play: &mut Play<'a>,
+        path: &mut Vec<Step>,
+        depth: usize,
+        step: Step,
+        watch: &mut W,
+    ) -> Result<(), AllocError>
+        requires { play.old ≡ after (start_of setup.now) path.old.items }
+        ensures all
+            { IfOk result (λ _. self.new.found.cut ≡ 0 → self.new.found.stuck ≡ 0
+            → AllEnd depth (spec.moved play.old step)) }
+        ensures path { IfOk result (λ _. path.new.items ≡ path.old.items) }
+        ensures cut { self.old.found.cut ≤ self.new.found.cut }
+        ensures stuck { self.old.found.stuck ≤ self.new.found.stuck }
+    {
+        play.make_move(step)?;
+        self.count_moves(1, watch);
+        path.push(step)?;
+        self.visit(setup, play, path, depth, watch)?;
+        path.pop();
+        Ok(())
+    }
+}
+
+/// Plays all schedules of a script, depth first, within the limits. Returns what it found, and the shortest schedule
+/// that got stuck, of those the first.
+///
+/// # Errors
+/// Want of memory.
+pub fn search_all<'a, W: Watch>(
+    alloc: Global,
+    setup: &'a Setup<'a>,
+    limits: Limits,
+    watch: &mut W,
+) -> Result<(Found, Option<Vec<Step>>), AllocError>
+    ensures { IfOk result (λ r. r.0.cut ≡ 0 → r.0.stuck ≡ 0 → AllEnd MOST_MOVES (start_of setup.now)) }
+{
+    let mut search = Search::new(alloc, limits);
+    let mut play = Play::new(alloc, setup)?;
+    let mut path = Vec::new(alloc);
+    search.visit(setup, &mut play, &mut path, MOST_MOVES, watch)?;
+    Ok((search.found, search.shortest))
+}
