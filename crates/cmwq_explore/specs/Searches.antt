@@ -1,8 +1,5 @@
 -- What a search of all schedules finds out.
-use Rattle.std.specs.Prelude.{◌≡◌, ℕ, zero, suc, Bool, true, false, List, [], ◌∷◌, ◌<◌, length}
-use Rattle.cmwq_core.specs.History.{History}
-use Rattle.cmwq_explore.specs.declared.place.CallerAt.{CallerAt}
-use Rattle.cmwq_explore.specs.declared.place.WorkerAt.{WorkerAt}
+use Rattle.std.specs.Prelude.{◌≡◌, ℕ, zero, suc, Bool, true, false, List, [], ◌∷◌, ◌<◌, slice_index}
 use Rattle.cmwq_explore.specs.declared.place.Step.{Step}
 use Rattle.cmwq_explore.specs.Stands.{Stand, IsDone, may, moved}
 
@@ -21,8 +18,16 @@ IsFine p = Rests p → IsDone p
 
 -- Every schedule from here on ends, within so many moves, and none gets stuck; where a run would begin a wait, it is
 -- refused or not.
-abbrev pub AllEnd : ℕ → Stand → Type 0
+unfoldable pub AllEnd : ℕ → Stand → Type 0
 AllEnd zero p = IsFine p × Rests p
 AllEnd (suc n) p =
     IsFine p × ((k : ℕ) → may p k ≡ true
     → (refused : Bool) × AllEnd n (moved p (record { party = k; is_refused = refused })))
+
+-- after a step of this one they do
+abbrev pub EndsAfter : ℕ → Stand → ℕ → Type 0
+EndsAfter n p k = (refused : Bool) × AllEnd n (moved p (record { party = k; is_refused = refused }))
+
+-- and so of the first so many of these
+abbrev pub AllEndAfter : ℕ → Stand → List ℕ → ℕ → Type 0
+AllEndAfter n p movers count = (j : ℕ) → j < count → EndsAfter n p (slice_index movers j)

@@ -1,8 +1,8 @@
 //! All schedules of a script, depth first.
 
-ghost use Rattle.std.specs.Prelude.{◌≡◌, ◌≤◌, length, IfOk, IfSome, OnOk};
+ghost use Rattle.std.specs.Prelude.{◌≡◌, ◌≤◌, ◌++◌, ◌∷◌, [], true, length, IfOk, IfSome, OnOk};
 ghost use Rattle.cmwq_explore.specs.Stands as spec;
-ghost use Rattle.cmwq_explore.specs.Searches.{AllEnd, after};
+ghost use Rattle.cmwq_explore.specs.Searches.{AllEnd, AllEndAfter, after};
 ghost use Rattle.cmwq_explore.specs.Counts.{CountsEnd, CountsStuck};
 ghost use Rattle.cmwq_explore.specs.declared.play.Standing.TheVariants as standing;
 ghost use Rattle.cmwq_explore.specs.Starts.{start_of};
@@ -69,6 +69,7 @@ impl Found {
         ensures stuck { result ≡ standing.Stuck → CountsStuck self.old self.new × (spec.IsDone play.now → ⊥) }
         ensures goes { result ≡ standing.Goes → ⊥ }
         ensures cut { self.new.cut ≡ self.old.cut }
+        ensures more { self.old.stuck ≤ self.new.stuck }
     {
         let standing = play.standing_still();
         match standing {
@@ -105,7 +106,9 @@ pub(crate) struct Search {
 }
 
 /// The steps, copied.
-fn copy_of(alloc: Global, steps: &[Step]) -> Result<Vec<Step>, AllocError> {
+fn copy_of(alloc: Global, steps: &[Step]) -> Result<Vec<Step>, AllocError>
+    ensures { IfOk result (λ copy. copy.items ≡ steps.now) }
+{
     Ok(steps.to_vec(alloc)?)
 }
 
@@ -176,9 +179,50 @@ impl Search {
         self.found.cut = self.found.cut.saturating_add(1);
     }
 
+    /// The play stands at the end of the path: it stands there before the first of those who may move there has moved,
+    /// and for each other one it is played again.
+    fn stand_at<'a, W: Watch>(
+        &mut self,
+        setup: &'a Setup<'a>,
+        play: &mut Play<'a>,
+        path: &[Step],
+        is_first: bool,
+        watch: &mut W,
+    ) -> Result<(), AllocError>
+        requires { is_first ≡ true → play.old ≡ after (start_of setup.now) path.now }
+        ensures play { IfOk result (λ _. play.new ≡ after (start_of setup.now) path.now) }
+        ensures counts { (self.new.found.cut ≡ self.old.found.cut) × (self.new.found.stuck ≡ self.old.found.stuck) }
+    {
+        if is_first {
+            return Ok(());
+        }
+        play.replay(setup, path)?;
+        self.count_moves(path.len(), watch);
+        Ok(())
+    }
+
+    /// Makes a step, which is the last one of the path from then on.
+    fn step_on<W: Watch>(
+        &mut self,
+        play: &mut Play<'_>,
+        path: &mut Vec<Step>,
+        step: Step,
+        watch: &mut W,
+    ) -> Result<(), AllocError>
+        ensures play { IfOk result (λ _. play.new ≡ spec.moved play.old step) }
+        ensures path { IfOk result (λ _. path.new.items ≡ path.old.items ++ step ∷ []) }
+        ensures at { IfOk result (λ _. (start : spec.Stand) → play.old ≡ after start path.old.items
+            → play.new ≡ after start path.new.items) }
+        ensures counts { (self.new.found.cut ≡ self.old.found.cut) × (self.new.found.stuck ≡ self.old.found.stuck) }
+    {
+        play.make_move(step)?;
+        self.count_moves(1, watch);
+        path.push(step)?;
+        Ok(())
+    }
+
     /// Visits all states to which the path leads, at the end of which the play stands.
     #[cycle(visiting)]
-    #[tactic(none)]
     fn visit<'a, W: Watch>(
         &mut self,
         setup: &'a Setup<'a>,
@@ -188,7 +232,8 @@ impl Search {
         watch: &mut W,
     ) -> Result<(), AllocError>
         requires { play.old ≡ after (start_of setup.now) path.old.items }
-        ensures all { IfOk result (λ _. self.new.found.cut ≡ 0 → self.new.found.stuck ≡ 0 → AllEnd depth play.old) }
+        ensures all { IfOk result
+            (λ _. self.new.found.cut ≡ 0 → self.new.found.stuck ≡ 0 → AllEnd depth play.old) }
         ensures path { IfOk result (λ _. path.new.items ≡ path.old.items) }
         ensures cut { self.old.found.cut ≤ self.new.found.cut }
         ensures stuck { self.old.found.stuck ≤ self.new.found.stuck }
@@ -202,25 +247,42 @@ impl Search {
             self.cut();
             return Ok(());
         }
+        self.visit_after(setup, play, path, depth - 1, &movers, watch)
+    }
+
+    /// Visits all states after a move of each of these.
+    #[cycle(visiting)]
+    fn visit_after<'a, W: Watch>(
+        &mut self,
+        setup: &'a Setup<'a>,
+        play: &mut Play<'a>,
+        path: &mut Vec<Step>,
+        depth: usize,
+        movers: &[usize],
+        watch: &mut W,
+    ) -> Result<(), AllocError>
+        requires { play.old ≡ after (start_of setup.now) path.old.items }
+        ensures all { IfOk result (λ _. self.new.found.cut ≡ 0 → self.new.found.stuck ≡ 0
+            → AllEndAfter depth play.old movers.now (length movers.now)) }
+        ensures path { IfOk result (λ _. path.new.items ≡ path.old.items) }
+        ensures cut { self.old.found.cut ≤ self.new.found.cut }
+        ensures stuck { self.old.found.stuck ≤ self.new.found.stuck }
+    {
         for k in 0..movers.len() {
             if self.is_at_limit() {
                 self.cut();
                 return Ok(());
             }
-            if k > 0 {
-                play.replay(setup, path)?;
-                self.count_moves(path.len(), watch);
-            }
+            self.stand_at(setup, play, path, k == 0, watch)?;
             let step = play.step_of(movers[k]);
-            self.go_on(setup, play, path, depth - 1, step, watch)?;
+            self.visit_step(setup, play, path, depth, step, watch)?;
         }
         Ok(())
     }
 
     /// Makes a step, and visits all states after it.
     #[cycle(visiting)]
-    #[tactic(none)]
-    fn go_on<'a, W: Watch>(
+    fn visit_step<'a, W: Watch>(
         &mut self,
         setup: &'a Setup<'a>,
         play: &mut Play<'a>,
@@ -230,16 +292,13 @@ impl Search {
         watch: &mut W,
     ) -> Result<(), AllocError>
         requires { play.old ≡ after (start_of setup.now) path.old.items }
-        ensures all
-            { IfOk result (λ _. self.new.found.cut ≡ 0 → self.new.found.stuck ≡ 0
+        ensures all { IfOk result (λ _. self.new.found.cut ≡ 0 → self.new.found.stuck ≡ 0
             → AllEnd depth (spec.moved play.old step)) }
         ensures path { IfOk result (λ _. path.new.items ≡ path.old.items) }
         ensures cut { self.old.found.cut ≤ self.new.found.cut }
         ensures stuck { self.old.found.stuck ≤ self.new.found.stuck }
     {
-        play.make_move(step)?;
-        self.count_moves(1, watch);
-        path.push(step)?;
+        self.step_on(play, path, step, watch)?;
         self.visit(setup, play, path, depth, watch)?;
         path.pop();
         Ok(())
