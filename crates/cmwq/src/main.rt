@@ -1,4 +1,4 @@
-//! `cmwq`: answers calls of a workqueue runtime, judges and draws its histories, replays scenarios, and runs scripts on
+//! `cmwq`: answers calls of a workqueue runtime, judges and shows its histories, replays scenarios, and runs scripts on
 //! threads or plays their schedules in one. It reads a file or standard input, and writes standard output.
 #![tactic(auto)]
 
@@ -12,7 +12,7 @@ use cmwq_explain::{Kept, explain_calls, explain_history, explain_unkept};
 use cmwq_explain_json::{explain_scenario, explain_script};
 use cmwq_history::{run_check, run_front_check, run_upgrade};
 use cmwq_replay::run_replay;
-use cmwq_views::{Window, run_chart, run_summary, run_trace};
+use cmwq_views::{Window, run_chart, run_open, run_summary, run_trace};
 use either::Either::{self, Left, Right};
 use std::alloc::{AllocError, Global};
 use std::fs::File;
@@ -90,6 +90,7 @@ fn run<S: Source, O: Sink, E: Sink, T: Threads + Wait + Clock + Sync>(
         Word::Check { front: true } => run_front_check(alloc, input, output, errors),
         Word::Upgrade => run_upgrade(alloc, input, output, errors),
         Word::Summary => run_summary(alloc, input, output, errors),
+        Word::Open { front } => run_open(alloc, input, output, errors, front),
         Word::Chart { from, to } => {
             let window = Window {
                 from: from.unwrap_or(0),
@@ -114,6 +115,7 @@ fn explain<E: Sink>(alloc: Global, word: Word, status: u8, bytes: &[u8], errors:
         Word::Check { front } => explain_history(alloc, "check", status, bytes, front, errors),
         Word::Upgrade => explain_history(alloc, "upgrade", status, bytes, false, errors),
         Word::Summary => explain_history(alloc, "summary", status, bytes, false, errors),
+        Word::Open { front } => explain_history(alloc, "open", status, bytes, front, errors),
         Word::Chart { .. } => explain_history(alloc, "chart", status, bytes, false, errors),
         Word::Trace => explain_history(alloc, "trace", status, bytes, false, errors),
         Word::Replay => explain_scenario(alloc, status, bytes, errors),

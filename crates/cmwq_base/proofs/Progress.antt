@@ -5,7 +5,7 @@ use Rattle.cmwq_base.specs.Common.{subst, length-append, if◌then◌else◌, If
 use Rattle.cmwq_base.specs.Common.{nat_tests, leb-true, prepend_known, Whole, Cut, Long, End, TakesKnownLine, Counts}
 use Rattle.cmwq_base.specs.Common.{QueueShape, Layout, layout_of, is_layout, counts_read, begins_queue, end_of}
 use Rattle.cmwq_base.specs.Common.{line_limit, room_limit, queue_limit, allows_counts, allows_numbers, and_parts}
-use Rattle.cmwq_base.specs.Common.{counts_of_format, chosen}
+use Rattle.cmwq_base.specs.Common.{counts_of_format, chosen, TakesLine, ◌⊎◌}
 use Rattle.cmwq_io.specs.declared.lines.Found.{Found}
 use Rattle.cmwq_base.specs.declared.refusal.Refusal.{Refusal}
 use Rattle.cmwq_base.specs.declared.refusal.Refusal.TheVariants as refusal
@@ -17,7 +17,8 @@ use Rattle.cmwq_base.specs.Files.{without_items, after_text, file_of}
 use Rattle.cmwq_base.specs.Gives.{Refuses, GivesAs, Fails, Gives}
 use Rattle.cmwq_base.specs.Stages.{lines_taken, IsSaid, IsStageWithin}
 use Rattle.cmwq_base.proofs.Limits.{none_passes}
-use Rattle.cmwq_base.proofs.Texts.{text_whole, text_long, text_cut, text_end}
+use Rattle.cmwq_base.specs.Pieces.{cut_line}
+use Rattle.cmwq_base.proofs.Texts.{text_whole, text_long, text_cut, text_end, cut_stays, cut_is, cut_none}
 
 -- what is left of a known text gives from here on what the text gives
 abbrev pub SameRead : {X : Type 0} → Kind X → Option (List ℕ) → Option (List ℕ) → ℕ → Stage X → Type 0
@@ -25,10 +26,43 @@ SameRead k None now n stage = Unit {0}
 SameRead k (Some text) None n stage = ⊥
 SameRead k (Some text) (Some rest) n stage = file_of k text ≡ after_text k n stage rest
 
+-- what stands after the last line feed of it is that of the text
+abbrev pub SameCut : Option (List ℕ) → Option (List ℕ) → Type 0
+SameCut None now = Unit {0}
+SameCut (Some text) None = ⊥
+SameCut (Some text) (Some rest) = cut_line text ≡ cut_line rest
+
 pub record Progress {X : Type 0} (k : Kind X) (old now : Option (List ℕ)) (n : ℕ) (stage : Stage X) : Type 0 where
   pub same : SameRead k old now n stage
+  pub cut : SameCut old now
   pub count : n ≤ lines_taken stage + 1
   pub within : IsStageWithin k stage
+
+pub cut_goes : (old before after : Option (List ℕ)) (line : List ℕ) → SameCut old before
+    → TakesKnownLine before after Whole line → SameCut old after
+cut_goes None before after line h t = tt
+cut_goes (Some text) None after line h t = absurd h
+cut_goes (Some text) (Some b) None line h t = absurd t
+cut_goes (Some text) (Some b) (Some a) line h t = h ∙ cut_stays b a line t
+
+-- so many bytes were left out
+pub cut_len : (old before after : Option (List ℕ)) (line : List ℕ) (how : Found) (n : ℕ) → SameCut old before
+    → TakesKnownLine before after how line → (how ≡ Cut) × (n ≡ length line) ⊎ (how ≡ End) × (n ≡ 0)
+    → IfSome old (λ text. n ≡ length (cut_line text))
+cut_len None before after line how n h t is = tt
+cut_len (Some text) None after line how n h t is = absurd h
+cut_len (Some text) (Some b) None line how n h t is = absurd t
+cut_len (Some text) (Some b) (Some a) line how n h t (inl is) =
+    is.1 ∙ (ap length (sym (cut_is b a line (subst (λ x. TakesLine b a x line) is.0 t))) ∙ ap length (sym h))
+cut_len (Some text) (Some b) (Some a) line how n h t (inr is) =
+    is.1 ∙ (sym (cut_none b a line (subst (λ x. TakesLine b a x line) is.0 t)) ∙ ap length (sym h))
+
+pub if_left_out : {Y : Type 0} (r : Result Y Refusal) (left_out : Y → ℕ) (n : ℕ) (old : Option (List ℕ))
+    → IfOk r (λ y. left_out y ≡ n) → IfSome old (λ text. n ≡ length (cut_line text))
+    → IfSome old (λ text. IfOk r (λ y. left_out y ≡ length (cut_line text)))
+if_left_out r left_out n None h is = tt
+if_left_out (Ok y) left_out n (Some text) h is = h ∙ is
+if_left_out (Err e) left_out n (Some text) h is = tt
 
 pub found_so : (before after : Option (List ℕ)) (line : List ℕ) (how so : Found) → how ≡ so
     → TakesKnownLine before after how line → TakesKnownLine before after so line
@@ -302,6 +336,9 @@ end_sound k n (ended v s xs) f w h =
     (w.1.0, record { room = w.1.2; numbers = w.1.3; queues = w.1.1; few = w.1.4; fitting = w.1.5 })
 
 -- at the beginning nothing has been read
+pub cut_starts : (text : Option (List ℕ)) (ahead : List ℕ) → ahead ≡ [] → SameCut text (prepend_known ahead text)
+cut_starts text ahead none = grind arith
+
 pub starts : {X : Type 0} (k : Kind X) (text : Option (List ℕ)) (ahead : List ℕ) → ahead ≡ []
     → SameRead k text (prepend_known ahead text) 1 begin
 unfolding file_of

@@ -1,11 +1,12 @@
 -- What a text gives, by how its first line is found.
 use Rattle.cmwq_base.specs.Common.{◌≡◌, ◌+◌, ◌≤◌, ◌==◌, ℕ, Bool, true, false, cond, List, [], ◌∷◌, length, Err, nat_lt}
 use Rattle.cmwq_base.specs.Common.{Some, None, refl, sym, ap, ◌∙◌, arith, if◌then◌else◌, is_some, position_or_len}
-use Rattle.cmwq_base.specs.Common.{ltb-true, take_all, slice_split_first, slice_split_none, fails_before_first, is_feed}
+use Rattle.cmwq_base.specs.Common.{eqb-true, ltb-true, take_all, slice_split_first, slice_split_none}
+use Rattle.cmwq_base.specs.Common.{fails_before_first, is_feed}
 use Rattle.cmwq_base.specs.Common.{has_feed, Whole, Cut, Long, End, first_line, TakesLine}
 use Rattle.cmwq_io.specs.FirstLine.{after_line as rest_of, is_line_long as is_text_long}
 use Rattle.cmwq_base.specs.declared.refusal.Refusal.TheVariants as refusal
-use Rattle.cmwq_base.specs.Pieces.{pieces}
+use Rattle.cmwq_base.specs.Pieces.{pieces, last_in, cut_line}
 use Rattle.cmwq_base.specs.Files.{Stage, Kind, is_long, and_then, after_whole_line, at_end, at_cut, after_last}
 use Rattle.cmwq_base.specs.Files.{after_pieces, after_text}
 
@@ -55,6 +56,35 @@ end_found a b c h = grind arith
 
 pub long_found : (a b c : Bool) → Long ≡ (if a then Long else if b then Whole else if c then End else Cut) → a ≡ true
 long_found a b c h = grind arith
+
+-- ---- what stands after the last line feed: the same after a whole line, and else the rest
+
+fed_last : (line : List ℕ) (rest : List (List ℕ)) (p : List ℕ) (ps : List (List ℕ)) → rest ≡ p ∷ ps
+    → last_in (line ∷ rest) ≡ last_in rest
+unfolding last_in
+fed_last line rest p ps h = rw h refl
+
+one_last : (line : List ℕ) → last_in (line ∷ []) ≡ line
+unfolding last_in
+one_last line = refl
+
+pub cut_stays : (old new line : List ℕ) → TakesLine old new Whole line → cut_line old ≡ cut_line new
+cut_stays old new line t =
+    let f = whole_found (is_text_long old) (has_feed old) (length old == 0) t.kind in
+    let is_rest : new ≡ rest_of old = t.rest ∙ ap (λ b. if b then old else rest_of old) f.0 in
+    let some = pieces_some (rest_of old) in
+    ap last_in (pieces_fed old f.1)
+    ∙ fed_last (first_line old) (pieces (rest_of old)) some.0 some.1 some.2
+    ∙ ap cut_line (sym is_rest)
+
+pub cut_is : (old new line : List ℕ) → TakesLine old new Cut line → cut_line old ≡ line
+cut_is old new line t = let f = cut_found (is_text_long old) (has_feed old) (length old == 0) t.kind in
+    let is_line : line ≡ first_line old = t.bytes ∙ ap (λ b. if b then [] else first_line old) f.0 in
+    ap last_in (pieces_last old f.1) ∙ (one_last old ∙ (sym (first_is_all old f.1) ∙ sym is_line))
+
+pub cut_none : (old new line : List ℕ) → TakesLine old new End line → length (cut_line old) ≡ 0
+cut_none old new line t = let f = end_found (is_text_long old) (has_feed old) (length old == 0) t.kind in
+    ap length (ap last_in (pieces_last old f.0) ∙ one_last old) ∙ eqb-true (length old) 0 f.1
 
 -- ---- what each gives
 

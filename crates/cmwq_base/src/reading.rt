@@ -1,9 +1,10 @@
 //! Reads a whole file from a source.
 
-ghost use Rattle.std.specs.Prelude.{IfSome, IfOk, IsErrOf};
+ghost use Rattle.std.specs.Prelude.{◌≡◌, length, IfSome, IfOk, IsErrOf};
 ghost use Rattle.cmwq_io.specs.Counts.{Rises};
 ghost use Rattle.cmwq_base.specs.Files.{as_front, file_of, IsVersionOf, IsSound};
 ghost use Rattle.cmwq_base.specs.Gives.{Gives};
+ghost use Rattle.cmwq_base.specs.Pieces.{cut_line};
 ghost use Rattle.cmwq_base.specs.Stages.{contents_of};
 
 use crate::gather::Gather;
@@ -27,6 +28,8 @@ pub fn read_file<G: Gather + Drop, S: Source>(
 ) -> Result<Contents<G>, Refusal>
     ensures exact { IfSome (S.left source.old)
         (λ text. Gives (contents_of G.layout G.items) result (file_of (as_front is_front G.Item.kind) text)) }
+    ensures left_out { IfSome (S.left source.old)
+        (λ text. IfOk result (λ file. file.left_out ≡ length (cut_line text))) }
     ensures version { IfOk result (λ file. IsVersionOf G.Item.kind file.version) }
     ensures sound { IfOk result (λ file. IsSound G.Item.kind (contents_of G.layout G.items file)) }
     ensures fault { IsErrOf result Refusal.ReadFault → Rises (S.troubles source.old) (S.troubles source.new) }
@@ -40,10 +43,10 @@ pub fn read_file<G: Gather + Drop, S: Source>(
             Found::Whole => stage.advance(alloc, number, line.as_slice())?,
             Found::Long => return Err(Refusal::TooLong),
             Found::Cut if stage.leaves_cut(is_front) => {
-                return stage.finish(alloc, number, is_front);
+                return stage.finish(alloc, number, is_front, line.as_slice().len());
             }
             Found::Cut => return Err(stage.cut(number)),
-            Found::End => return stage.finish(alloc, number, is_front),
+            Found::End => return stage.finish(alloc, number, is_front, 0),
         }
     }
     Err(Refusal::TooLong)

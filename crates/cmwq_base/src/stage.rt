@@ -68,6 +68,7 @@ pub enum Stage<G> {
 }
 
 impl<G: Gather + Drop> Stage<G> {
+    ghost use Rattle.std.specs.Prelude.{IfOk};
     ghost use Rattle.cmwq_base.specs.Files.{as_front, after_whole_line, after_cut, is_file_ended, at_end};
     ghost use Rattle.cmwq_base.specs.Gives.{GivesAs};
     ghost use Rattle.cmwq_base.specs.Stages.{stage_of, contents_of};
@@ -128,12 +129,19 @@ impl<G: Gather + Drop> Stage<G> {
         }
     }
 
-    /// The end of the file, where its `number`-th line would be. A last line that is missing is refused there, but in a
-    /// front.
+    /// The end of the file, where its `number`-th line would be, and after which so many bytes were left out. A last
+    /// line that is missing is refused there, but in a front.
     #[tactic(auto, unfolding(crate::specs::Files::at_end))]
-    pub fn finish(self, alloc: Global, number: u64, is_front: bool) -> Result<Contents<G>, Refusal>
-        ensures { GivesAs (contents_of G.layout G.items) result
+    pub fn finish(
+        self,
+        alloc: Global,
+        number: u64,
+        is_front: bool,
+        left_out: usize,
+    ) -> Result<Contents<G>, Refusal>
+        ensures gives { GivesAs (contents_of G.layout G.items) result
             (at_end (as_front is_front G.Item.kind) number (stage_of G.layout G.items self)) }
+        ensures left_out { IfOk result (λ contents. contents.left_out ≡ left_out) }
     {
         match self {
             Stage::Begin | Stage::Opened { .. } => Err(Refusal::BadShape(number)),
@@ -148,6 +156,7 @@ impl<G: Gather + Drop> Stage<G> {
                 Some(shape) => Ok(Contents {
                     version,
                     all: G::begin(alloc, shape)?,
+                    left_out,
                 }),
                 None => Err(Refusal::BadShape(number)),
             },
@@ -155,17 +164,23 @@ impl<G: Gather + Drop> Stage<G> {
                 Err(Refusal::BadLine(number))
             }
             Stage::Body { version, all } | Stage::Ended { version, all } => {
-                Ok(Contents { version, all })
+                Ok(Contents {
+                    version,
+                    all,
+                    left_out,
+                })
             }
         }
     }
 }
 
-/// What a file says: its format, and what was gathered of its shape and of what the lines after it say.
+/// What a file says: its format, what was gathered of its shape and of what the lines after it say, and how many bytes
+/// of an unfinished last line were left out.
 #[derive(Drop)]
 pub struct Contents<G> {
     pub version: u8,
     pub all: G,
+    pub left_out: usize,
 }
 
 ghost use Rattle.cmwq_base.specs.Gives.{GivesAs};

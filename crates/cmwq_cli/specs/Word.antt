@@ -61,6 +61,7 @@ word_found found =
     else if bytes_eq found.0 (codes "check") then Some (word.Check (has_flag (codes "front") found.1))
     else if bytes_eq found.0 (codes "upgrade") then Some word.Upgrade
     else if bytes_eq found.0 (codes "summary") then Some word.Summary
+    else if bytes_eq found.0 (codes "open") then Some (word.Open (has_flag (codes "front") found.1))
     else if bytes_eq found.0 (codes "chart")
     then Some (word.Chart (number_found (codes "from") found.1) (number_found (codes "to") found.1))
     else if bytes_eq found.0 (codes "trace") then Some word.Trace
@@ -125,16 +126,18 @@ abbrev pub with_numbers : App → List ℕ → List ℕ → List ℕ → App
 with_numbers a name first second =
     with_command a (with_rule (with_rule (new_app name) (number_rule first)) (number_rule second))
 
--- the words whose inputs are lines, of which `step` also has `--live`, `check` `--front`, and `chart` `--from` and
--- `--to`, and then those whose inputs are JSON
+-- the words whose inputs are lines, of which `step` also has `--live`, `check` and `open` `--front`, and `chart`
+-- `--from` and `--to`, and then those whose inputs are JSON
 abbrev pub with_lines : App
 with_lines =
     with_word
     (with_numbers
+    (with_flagged
     (with_word
     (with_word
     (with_flagged (with_flagged without_words (codes "step") (codes "live")) (codes "check") (codes "front"))
     (codes "upgrade")) (codes "summary"))
+    (codes "open") (codes "front"))
     (codes "chart") (codes "from") (codes "to")) (codes "trace")
 
 -- the word `explore`, with its options of one schedule or of so many, and with all its options

@@ -29,6 +29,11 @@ pub enum Word {
     Upgrade,
     /// Writes the figures of a legal history.
     Summary,
+    /// Writes what is still going on at the end of a legal history, or of the front of one.
+    Open {
+        /// Whether it is told of the whole lines that are there.
+        front: bool,
+    },
     /// Writes the picture of a legal history.
     Chart {
         /// From which entry on, if not from the first.
@@ -85,7 +90,13 @@ const FILE_HELP: &str = "The file to read; standard input if it is `-` or left o
 
 /// What the help of a word says of its flag that explains.
 const EXPLAIN_HELP: &str =
-    "Tells one line more of an input that is refused: where, what stands there, what is expected, and what was likely meant";
+    "Tells one line more of an input that is refused: where, what stands there, what is expected, and what was likely \
+    meant";
+
+/// What the help of a word says of its flag for a history whose writing was cut off.
+const FRONT_HELP: &str =
+    "Reads the whole lines that are there: an unfinished last line is left out, which a line on \
+    standard error says, and `end` may be missing";
 
 /// What the help of `step` shows below its usage.
 const CALLS_HELP: &str =
@@ -97,9 +108,10 @@ const CALLS_HELP: &str =
   w0n0 take
   w0n0 finish
 
-A shape is the numbers of CPUs, of workers in each pool, of callers and of items, and the room in entries. A queue is its
-max_active and its flags: `-`, or some of h (high priority), i (CPU intensive) and f (freezable). Callers are c0, c1, ..;
-w0n1 is worker 1 of CPU 0's normal pool, and w0h1 that of its pool of high priority. Calls of callers and of workers:
+A shape is the numbers of CPUs, of workers in each pool, of callers and of items, and the room in entries. A queue is
+its max_active and its flags: `-`, or some of h (high priority), i (CPU intensive) and f (freezable). Callers are c0,
+c1, ..; w0n1 is worker 1 of CPU 0's normal pool, and w0h1 that of its pool of high priority. Calls of callers and of
+workers:
 
   queue <item> <queue> <cpu>         delay <item> <queue> <cpu> <ticks>     modify <item> <queue> <cpu> <ticks>
   cancel <item>
@@ -114,8 +126,8 @@ With a first line `calls 3` the limits are those of histories of format 3, in wh
 
 /// What the help of `check` shows below its usage.
 const HISTORY_HELP: &str =
-    r"A history is what `step` and `run` write: a line for its format, the shape, the queues, and a line for each entry, who made
-it, its serial, the call and the reply:
+    r"A history is what `step` and `run` write: a line for its format, the shape, the queues, and a line for each
+entry, who made it, its serial, the call and the reply:
 
   history 2
   shape 1 2 1 3 100
@@ -124,8 +136,8 @@ it, its serial, the call and the reply:
   w0n0 0 take = started 0 enlist 1
   w0n0 1 finish = finished 0
 
-gives `legal 3`. One of format 3 begins with `history 3`, ends with `end 3` for three entries, and has greater limits; one without
-a first line is of format 1.";
+gives `legal 3`. One of format 3 begins with `history 3`, ends with `end 3` for three entries, and has greater limits;
+one without a first line is of format 1.";
 
 /// What the help of `upgrade` shows below its usage.
 const FORMER_HELP: &str = r"A history of format 1 has no line for its format:
@@ -139,20 +151,37 @@ written, and the verdict goes to standard error.";
 
 /// What the help of `summary` shows below its usage.
 const FIGURES_HELP: &str =
-    r"The input is a legal history of any format. Its figures are told line by line, and a line that has nothing to tell is left out:
+    r"The input is a legal history of any format. Its figures are told line by line, and a line that has nothing to
+tell is left out:
 
   entries 3, ticks 0
   call queue: 1                      how many calls of each kind
   reply yes: 1                       and replies, by their first word
-  queue 0 on CPU 0: queueings 1, starts 1, cancelled 0, width 1, most open 1, most active 1, longest wait 1 entries and 0 ticks, mean wait 1 entries and 0 ticks
+  queue 0 on CPU 0: queueings 1, starts 1, cancelled 0, width 1, most open 1, most active 1, ..
   worker w0n0: runs 1, awake 1 entries and 0 ticks, asleep 0 entries and 0 ticks
   item 0: runs 1, cancels 0
   caller c0: calls 1, tickets 0, longest wait -
 
-The width is that at the end; the most that were open and active at once is told of all entries. A queueing is cancelled that ends before it starts, and one that starts has waited from the entry that
-opened it; a caller waits from the entry that gives it a ticket until an end of that is answered `done`. How long they waited, and how
-long a worker's runs were awake or asleep, is counted in the entries that came meanwhile, and in the ticks that these let go by; a mean
-is rounded down. Of an illegal history nothing is written, and the
+The width is that at the end; the most that were open and active at once is told of all entries. A queueing is
+cancelled that ends before it starts, and one that starts has waited from the entry that opened it; a caller waits
+from the entry that gives it a ticket until an end of that is answered `done`. How long they waited, and how long a
+worker's runs were awake or asleep, is counted in the entries that came meanwhile, and in the ticks that these let go
+by; a mean is rounded down. Of an illegal history nothing is written, and the verdict goes to standard error.";
+
+/// What the help of `open` shows below its usage.
+const STANDING_HELP: &str =
+    r"The input is a legal history of any format, or with `--front` one whose writing was cut off. What is still going
+on at its end is told line by line:
+
+  entries 9, ticks 4
+  queue 0: width 1                                     each queue, and whether it is frozen, draining or gone
+  worker w0n0 runs item 2, queueing 1, queue 0 on CPU 0, asleep
+  pending item 0, queueing 2, queue 0 on CPU 0, inactive
+  booked item 1, due 9, queue 0 on CPU 0
+  caller c0: ticket 3, flush 0, waits for queueing 1   each wait that has not ended, or `may end`
+
+A queueing has the number of the entry that opened it, and a ticket that of the entry that gave it. An inactive
+queueing waits until fewer are active than its queue's width. Of an illegal history nothing is written, and the
 verdict goes to standard error.";
 
 /// What the help of `chart` shows below its usage.
@@ -165,10 +194,11 @@ const PICTURE_HELP: &str = r"A history of any format, as `step` and `run` write 
   w0n0 0 take = started 0 enlist 1
   w0n0 1 finish = finished 0
 
-gives an SVG, which a browser shows: a row for each caller, with a mark for each of its entries and its waits below it; a row for
-each worker, and in it a bar for each of its runs, from the entry that started it to the one that finished it; and below them a row for each queue on each CPU where it had queueings, with how many are open and active as
-steps, and its width as a dashed line. Long histories go on in further bands down the page. Of an illegal history nothing is written, and the
-verdict goes to standard error.";
+gives an SVG, which a browser shows: a row for each caller, with a mark for each of its entries and its waits below
+it; a row for each worker, and in it a bar for each of its runs, from the entry that started it to the one that
+finished it; and below them a row for each queue on each CPU where it had queueings, with how many are open and active
+as steps, and its width as a dashed line. Long histories go on in further bands down the page. Of an illegal history
+nothing is written, and the verdict goes to standard error.";
 
 /// What the help of `trace` shows below its usage.
 const TRACE_HELP: &str = r"A history of any format, as `step` and `run` write it:
@@ -180,9 +210,10 @@ const TRACE_HELP: &str = r"A history of any format, as `step` and `run` write it
   w0n0 0 take = started 0 enlist 1
   w0n0 1 finish = finished 0
 
-gives the events of a trace as JSON, which Perfetto and chrome://tracing show: a process for each pool, a thread for each worker, and
-on it each of its runs and sleeps; and for each queue on each CPU where it had queueings a counter of how many are open and active, and
-of its width. The time is the number of the entry. Of an illegal history nothing is written, and the verdict goes to standard error.";
+gives the events of a trace as JSON, which Perfetto and chrome://tracing show: a process for each pool, a thread for
+each worker, and on it each of its runs and sleeps; and for each queue on each CPU where it had queueings a counter of
+how many are open and active, and of its width. The time is the number of the entry. Of an illegal history nothing is
+written, and the verdict goes to standard error.";
 
 /// What the help of `replay` shows below its usage.
 const SCENARIO_HELP: &str =
@@ -200,7 +231,8 @@ An item has 1 to 8 parts of 1 to 1000 ms."#;
 
 /// What the help of `run` shows below its usage.
 const SCRIPT_HELP: &str =
-    r#"A script says what each item does when it runs, and what each caller calls, one after the other, in a thread of its own:
+    r#"A script says what each item does when it runs, and what each caller calls, one after the other, in a thread of
+its own:
 
   {"cpus":1,"workers":2,"room":100,
    "queues":[{"name":"q0","max_active":2,"high":false,"intensive":false}],
@@ -217,17 +249,17 @@ There are 1 to 4 CPUs, 1 to 8 workers in each of their two pools, room for up to
   ["modify",item,queue,cpu,ticks]    ["tick",n]               ["flush_delayed",item]   ["thaw"]
                                      ["drain",queue]          ["destroy",queue]
 
-An action is queue, delay, modify or cancel, or ["open",gate], or ["sleep_at",gate]: the run sleeps until the gate is open.
-There are at most 16 gates, and a name makes one. An action may also be flush_item, flush_delayed, cancel_sync, flush or drain: the
-run sleeps until that has ended. One run may do so at a time, or as many as "waits":n says. A wait that would never end is refused
-and told. The output is the history of this one run, which `check` accepts.
+An action is queue, delay, modify or cancel, or ["open",gate], or ["sleep_at",gate]: the run sleeps until the gate is
+open. There are at most 16 gates, and a name makes one. An action may also be flush_item, flush_delayed, cancel_sync,
+flush or drain: the run sleeps until that has ended. One run may do so at a time, or as many as "waits":n says. A wait
+that would never end is refused and told. The output is the history of this one run, which `check` accepts.
 
-A run may wait for ever: a caller that flushes, drains or destroys a frozen queue, or waits for an item on it, waits until another
-caller thaws it.
+A run may wait for ever: a caller that flushes, drains or destroys a frozen queue, or waits for an item on it, waits
+until another caller thaws it.
 
-With "format":3 beside "room" it is of format 3, and there may be 1 to 64 CPUs and workers in a pool, 1 to 255 queues and callers,
-1 to 65,535 items, and room for up to 4,611,686,018,427,387,904 entries. With "journal":64 it is written as it is made too, and so
-many entries are kept at a time."#;
+With "format":3 beside "room" it is of format 3, and there may be 1 to 64 CPUs and workers in a pool, 1 to 255 queues
+and callers, 1 to 65,535 items, and room for up to 4,611,686,018,427,387,904 entries. With "journal":64 it is written
+as it is made too, and so many entries are kept at a time."#;
 
 /// What the help of `explore` shows below its usage.
 const EXPLORE_HELP: &str =
@@ -269,6 +301,9 @@ fn word_found(name: &str, matches: &ArgMatches) -> Option<Word>
         }),
         "upgrade" => Some(Word::Upgrade),
         "summary" => Some(Word::Summary),
+        "open" => Some(Word::Open {
+            front: has_flag(matches, "front"),
+        }),
         "chart" => Some(Word::Chart {
             from: number_found(matches, "from"),
             to: number_found(matches, "to"),
@@ -569,7 +604,7 @@ fn with_lines<'a>(alloc: Global) -> Result<Command<'a>, AllocError>
     let about = "Reads a history and writes whether it is legal, or its first wrong entry";
     let front = Flag {
         name: "front",
-        help: "Judges the whole lines that are there: a rest without a line feed is left out, and `end` may be missing; statuses are as without it",
+        help: FRONT_HELP,
     };
     let command = with_flagged(alloc, command, "check", about, HISTORY_HELP, front)?;
     let about =
@@ -577,6 +612,12 @@ fn with_lines<'a>(alloc: Global) -> Result<Command<'a>, AllocError>
     let command = with_word(alloc, command, "upgrade", about, FORMER_HELP)?;
     let about = "Reads a history and writes its figures, if it is legal";
     let command = with_word(alloc, command, "summary", about, FIGURES_HELP)?;
+    let about = "Reads a history and writes what is still going on at its end, if it is legal";
+    let front = Flag {
+        name: "front",
+        help: FRONT_HELP,
+    };
+    let command = with_flagged(alloc, command, "open", about, STANDING_HELP, front)?;
     let about = "Reads a history and writes its picture as SVG, if it is legal";
     let from = Flag {
         name: "from",

@@ -184,7 +184,7 @@ fn answer_lines<S: Source, O: Sink>(
             Found::Long => return Err(Refusal::TooLong),
             Found::Cut => return Err(stage.cut(number)),
             Found::End => {
-                let file = replace(stage, Stage::Begin).finish(alloc, number, false)?;
+                let file = replace(stage, Stage::Begin).finish(alloc, number, false, 0)?;
                 let written = write_rest(output, file.version.max(2), &file.all);
                 drop(file);
                 written?;

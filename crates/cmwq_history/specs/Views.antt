@@ -1,12 +1,12 @@
 -- What is written of a legal history, and how a run ends that reads a history and writes that.
-use Rattle.std.specs.Prelude.{◌≡◌, ℕ, List, [], Option, None, Some, Result, Ok, Err}
+use Rattle.std.specs.Prelude.{◌≡◌, ℕ, Bool, List, [], Option, None, Some, Result, Ok, Err}
 use Rattle.std.specs.Io.KnownBytes.{Appends, Keeps}
 use Rattle.cmwq_io.specs.Moves.{AppendsFront}
 use Rattle.cmwq_model.specs.declared.entry.Entry.{Entry}
 use Rattle.cmwq_model.specs.declared.verdict.Illegal.{Illegal}
 use Rattle.cmwq_model.specs.Prelude.{Layout, IsLegal, past_of}
 use Rattle.cmwq_base.specs.Files.{File}
-use Rattle.cmwq_base.specs.Kinds.{history_file_of}
+use Rattle.cmwq_base.specs.Kinds.{front_file_of, history_file_of}
 use Rattle.cmwq_base.specs.declared.refusal.Refusal.{Refusal}
 use Rattle.cmwq_base.specs.declared.refusal.Refusal.TheVariants as refusal
 use Rattle.cmwq_core.specs.Judged.{Judged}
@@ -25,6 +25,11 @@ view_word text_of = record { Answers = IsVerdict; text_of = text_or_none text_of
 abbrev pub ViewEnds : (File Entry → List ℕ) → List ℕ → Option (List ℕ) → Option (List ℕ)
     → Result (Option Illegal) Refusal → Type 0
 ViewEnds text_of text old new ended = RunEnds (view_word text_of) (history_file_of text) old new ended
+
+-- the same where the text may be the front of a history's
+abbrev pub FrontViewEnds : (File Entry → List ℕ) → Bool → List ℕ → Option (List ℕ) → Option (List ℕ)
+    → Result (Option Illegal) Refusal → Type 0
+FrontViewEnds text_of front text old new ended = RunEnds (view_word text_of) (front_file_of front text) old new ended
 
 -- nothing of what was written is held back
 abbrev pub IsFlushed : Result (Option Illegal) Refusal → ℕ → Type 0

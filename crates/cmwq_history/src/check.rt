@@ -9,17 +9,19 @@ ghost use Rattle.cmwq_history.specs.Check.{CheckEnds, FrontEnds};
 
 use crate::fold::Nothing;
 use crate::following::Following;
+use crate::told::tell_left_out;
 use crate::verdict::{check_status, write_verdict};
 use cmwq_base::{Illegal, Refusal, Sink, Source, read_file, tell};
 use std::alloc::Global;
 
 /// Judges a history while it is read, and then writes its verdict. Keeps no entry. Where `is_front` says that more was
 /// to be written after what is there, a rest without a line feed is left out, and the last line of the format may be
-/// missing; else these are refused. Answers its first entry that is wrong, if one is.
-fn judge<S: Source, O: Sink>(
+/// missing; else these are refused. How much was left out is told. Answers its first entry that is wrong, if one is.
+fn judge<S: Source, O: Sink, E: Sink>(
     alloc: Global,
     input: &mut S,
     output: &mut O,
+    errors: &mut E,
     is_front: bool,
 ) -> Result<Option<Illegal>, Refusal>
     ensures ends { IfSome (S.left input.old)
@@ -31,6 +33,7 @@ fn judge<S: Source, O: Sink>(
     let file = read_file::<Following<Nothing>, S>(alloc, input, is_front)?;
     let verdict = file.all.verdict()?;
     write_verdict(output, file.all.entries(), verdict)?;
+    tell_left_out(errors, file.left_out);
     Ok(verdict)
 }
 
@@ -53,7 +56,7 @@ pub fn run_check<S: Source, O: Sink, E: Sink>(
         × (IsErrOf ended Refusal.ReadFault → Rises (S.troubles input.old) (S.troubles input.new))
         × (IsErrOf ended Refusal.WriteFault → Rises (O.troubles output.old) (O.troubles output.new)) }
 {
-    let ended = judge(alloc, input, output, false);
+    let ended = judge(alloc, input, output, errors, false);
     if let Err(refusal) = ended {
         tell(errors, refusal);
     }
@@ -65,9 +68,10 @@ pub fn run_check<S: Source, O: Sink, E: Sink>(
 /// may be missing. The verdict is that of the whole lines that are there, and is written as `run_check` does: `legal
 /// <entries>`, or the first entry that isn't the one that its call gets at that point, as `illegal at <position>:
 /// serial <serial>` or, where the serial is right, `illegal at <position>: reply <reply>`, with what should stand
-/// there. What went wrong is told on `errors`, whose own failing changes nothing. Answers the exit status: 0 legal, 1
-/// refused input, 3 illegal, 4 no memory, 5 a fault of reading or writing. At 1, at want of memory and at a fault of
-/// reading nothing is written to `output`; at a fault of writing a front of the line is.
+/// there. How many bytes were left out, if any were, and what went wrong is told on `errors`, whose own failing changes
+/// nothing. Answers the exit status: 0 legal, 1 refused input, 3 illegal, 4 no memory, 5 a fault of reading or writing.
+/// At 1, at want of memory and at a fault of reading nothing is written to `output`; at a fault of writing a front of
+/// the line is.
 pub fn run_front_check<S: Source, O: Sink, E: Sink>(
     alloc: Global,
     input: &mut S,
@@ -81,7 +85,7 @@ pub fn run_front_check<S: Source, O: Sink, E: Sink>(
         × (IsErrOf ended Refusal.ReadFault → Rises (S.troubles input.old) (S.troubles input.new))
         × (IsErrOf ended Refusal.WriteFault → Rises (O.troubles output.old) (O.troubles output.new)) }
 {
-    let ended = judge(alloc, input, output, true);
+    let ended = judge(alloc, input, output, errors, true);
     if let Err(refusal) = ended {
         tell(errors, refusal);
     }

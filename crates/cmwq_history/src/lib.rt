@@ -19,4 +19,4 @@ pub use step::Step;
 pub use told::{refusal_status, tell_full, tell_illegal, tell_no_room};
 pub use upgrade::{newest_stay, run_upgrade};
 pub use verdict::check_status;
-pub use view::{View, run_view};
+pub use view::{View, run_front_view, run_view};

@@ -11,6 +11,19 @@ pub fn tell_full<E: Sink>(errors: &mut E, left_out: u64) {
     tell(errors, format_args!("full {left_out}"));
 }
 
+/// Tells how many bytes of an unfinished last line were left out, if any were. Takes no memory; a failing sink changes
+/// nothing.
+pub(crate) fn tell_left_out<E: Sink>(errors: &mut E, bytes: usize) {
+    match bytes {
+        0 => {}
+        1 => tell(errors, "left out the last byte, an unfinished line"),
+        _ => tell(
+            errors,
+            format_args!("left out the last {bytes} bytes, an unfinished line"),
+        ),
+    }
+}
+
 /// Tells the line of the first call for which there was no room. Takes no memory; a failing sink changes nothing.
 pub fn tell_no_room<E: Sink>(errors: &mut E, line: u64) {
     tell(errors, format_args!("line {line}: no room"));

@@ -5,11 +5,11 @@ ghost use Rattle.cmwq_io.specs.Counts.{Rises};
 ghost use Rattle.cmwq_model.specs.declared.verdict.Illegal.{Illegal as TheIllegal};
 ghost use Rattle.cmwq_base.specs.declared.refusal.Refusal.{Refusal as TheRefusal};
 ghost use Rattle.cmwq_history.specs.Verdicts.{check_status};
-ghost use Rattle.cmwq_history.specs.Views.{ViewEnds, IsFlushed};
+ghost use Rattle.cmwq_history.specs.Views.{FrontViewEnds, IsFlushed, ViewEnds};
 
 use crate::fold::Fold;
 use crate::following::Following;
-use crate::told::tell_illegal;
+use crate::told::{tell_illegal, tell_left_out};
 use crate::verdict::check_status;
 use cmwq_base::{Illegal, Refusal, Shape, Sink, Source, read_file, tell};
 use cmwq_core::Judge;
@@ -52,20 +52,23 @@ pub trait View<W: Sink> {
         ensures fault { IsErrOf result Refusal.WriteFault → Rises (W.troubles sink.old) (W.troubles sink.new) };
 }
 
-/// Reads a history, and writes its view if it is legal. Returns its first wrong entry, if there is one.
-fn write_view<S: Source, O: Sink, V: View<O>>(
+/// Reads a history, or of a front its whole lines, and writes its view if it is legal. How much of a front was left out
+/// is told. Returns its first wrong entry, if there is one.
+fn write_view<S: Source, O: Sink, E: Sink, V: View<O>>(
     alloc: Global,
     view: &V,
     input: &mut S,
     output: &mut O,
+    errors: &mut E,
+    is_front: bool,
 ) -> Result<Option<Illegal>, Refusal>
     ensures ends { IfSome (S.left input.old)
-        (λ text. ViewEnds (V.text_of view.now) text (O.written output.old) (O.written output.new) result) }
+        (λ text. FrontViewEnds (V.text_of view.now) is_front text (O.written output.old) (O.written output.new) result) }
     ensures flushed { IsFlushed result (O.held output.new) }
     ensures read_fault { IsErrOf result Refusal.ReadFault → Rises (S.troubles input.old) (S.troubles input.new) }
     ensures write_fault { IsErrOf result Refusal.WriteFault → Rises (O.troubles output.old) (O.troubles output.new) }
 {
-    let file = read_file::<Following<V::Made>, S>(alloc, input, false)?;
+    let file = read_file::<Following<V::Made>, S>(alloc, input, is_front)?;
     match file.all.legal()? {
         Ok(legal) => {
             view.write(
@@ -76,6 +79,7 @@ fn write_view<S: Source, O: Sink, V: View<O>>(
                 file.version,
                 output,
             )?;
+            tell_left_out(errors, file.left_out);
             Ok(None)
         }
         Err(illegal) => Ok(Some(illegal)),
@@ -85,7 +89,7 @@ fn write_view<S: Source, O: Sink, V: View<O>>(
 /// Reads all of a history of any format, and writes the view of a legal one, and nothing else. For an illegal one
 /// nothing is written, and its verdict is told on `errors`, as the line that `run_check` writes. What went wrong is
 /// told there too; that its own writes fail changes nothing. Returns the exit status: 0 written, 1 refused input, 3
-/// illegal, 4 no memory, 5 a fault of reading or writing. At a fault of writing a front of the text is written, and at
+/// illegal, 4 no memory, 5 a fault of reading or writing. At a fault of writing a front of the view is written, and at
 /// each other status but 0 nothing.
 pub fn run_view<S: Source, O: Sink, E: Sink, V: View<O>>(
     alloc: Global,
@@ -102,7 +106,28 @@ pub fn run_view<S: Source, O: Sink, E: Sink, V: View<O>>(
         × (IsErrOf ended Refusal.ReadFault → Rises (S.troubles input.old) (S.troubles input.new))
         × (IsErrOf ended Refusal.WriteFault → Rises (O.troubles output.old) (O.troubles output.new)) }
 {
-    let ended = write_view(alloc, view, input, output);
+    run_front_view(alloc, view, input, output, errors, false)
+}
+
+/// As `run_view`, but where `is_front` says so of a history of which a front was written, as `run_front_check` reads it.
+/// How many bytes of an unfinished last line were left out, if any were, is told on `errors` after the view.
+pub fn run_front_view<S: Source, O: Sink, E: Sink, V: View<O>>(
+    alloc: Global,
+    view: &V,
+    input: &mut S,
+    output: &mut O,
+    errors: &mut E,
+    is_front: bool,
+) -> u8
+    ensures ends { (ended : Result (Option TheIllegal) TheRefusal)
+        × (result ≡ check_status ended)
+        × IfSome (S.left input.old)
+        (λ text. FrontViewEnds (V.text_of view.now) is_front text (O.written output.old) (O.written output.new) ended)
+        × IsFlushed ended (O.held output.new)
+        × (IsErrOf ended Refusal.ReadFault → Rises (S.troubles input.old) (S.troubles input.new))
+        × (IsErrOf ended Refusal.WriteFault → Rises (O.troubles output.old) (O.troubles output.new)) }
+{
+    let ended = write_view(alloc, view, input, output, errors, is_front);
     match ended {
         Ok(None) => {}
         Ok(Some(illegal)) => tell_illegal(errors, illegal),

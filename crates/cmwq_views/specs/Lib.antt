@@ -2,4 +2,5 @@ pub mod Chart
 pub mod Trace
 pub mod Names
 pub mod Page
+pub mod Open
 pub mod Summary

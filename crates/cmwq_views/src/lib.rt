@@ -1,18 +1,23 @@
-//! The subcommands that show a history: `chart`, `trace` and `summary`, over any source of bytes and any sinks.
+//! The subcommands that show a history: `chart`, `trace`, `summary` and `open`, over any source of bytes and any sinks.
 #![tactic(auto)]
 
 mod chart;
 mod name;
+mod number;
+mod open;
 mod page;
 mod progress;
 mod row;
 mod rows;
+mod standing;
 mod summary;
 mod table;
 mod trace;
+mod write;
 
 pub use chart::run_chart;
 pub use cmwq_chart_text::Window;
 pub use name::kinds_are_named;
+pub use open::run_open;
 pub use summary::run_summary;
 pub use trace::run_trace;

@@ -1,6 +1,6 @@
 //! Rows that are spelled, in a buffer of their own.
 ghost use Rattle.std.specs.Prelude.{◌≡◌, ◌+◌, ◌≤◌, [], ◌++◌, length};
-ghost use Rattle.cmwq_views.specs.Page.{named_number};
+ghost use Rattle.cmwq_views.specs.Page.{line_of_entries, named_number};
 
 use arrayvec::ArrayString;
 use itoa::Buffer;
@@ -65,4 +65,15 @@ impl Row {
         self.push(name);
         self.push(Buffer::new().format(sum));
     }
+}
+
+/// The line of so many entries and ticks.
+pub(crate) fn head(entries: u64, ticks: u64) -> Row
+    ensures { result ≡ line_of_entries entries ticks }
+{
+    let mut row = Row::new();
+    row.push_figure("entries ", entries);
+    row.push_figure(", ticks ", ticks);
+    row.push("\n");
+    row
 }

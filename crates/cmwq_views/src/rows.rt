@@ -9,21 +9,20 @@ ghost use Rattle.cmwq_views.specs.Page.{row_count};
 ghost use Rattle.cmwq_views.specs.declared.table.Table.TheVariants as TheTable;
 
 use crate::name::{call_name, reply_name};
+use crate::number::{OF_POOL, caller_at, item_at, worker_at};
 use crate::progress::Progress;
 use crate::row::Row;
 use crate::table::Table;
-use cmwq_base::{CallerId, CpuId, ItemId, PoolId, QueueId, WorkerId};
-use cmwq_model::{MOST_CPUS, MOST_WORKERS};
+use crate::write::Rows;
+use cmwq_base::{CallerId, ItemId, QueueId, WorkerId};
+use cmwq_model::MOST_CPUS;
 use cmwq_summary::{CALL_KINDS, REPLY_KINDS, Span, Total};
 
 /// How many CPUs a shape may have.
 const CPUS: usize = MOST_CPUS as usize;
 
-/// How many workers a pool may have.
-const OF_POOL: usize = MOST_WORKERS as usize;
-
 /// How many rows a table has.
-pub(crate) fn rows_in(progress: &Progress<'_>, table: Table) -> usize
+fn rows_in(progress: &Progress<'_>, table: Table) -> usize
     ensures { result ≡ row_count progress.now.layout table }
 {
     let shape = progress.summary().shape();
@@ -39,7 +38,7 @@ pub(crate) fn rows_in(progress: &Progress<'_>, table: Table) -> usize
 }
 
 /// The row of a table with this number, from 0.
-pub(crate) fn row(progress: &Progress<'_>, table: Table, at: usize) -> Row
+fn row(progress: &Progress<'_>, table: Table, at: usize) -> Row
     requires { at < row_count progress.now.layout table }
     ensures { result ≡ row_text progress.now.layout (past_of progress.now.entries) table at }
 {
@@ -48,33 +47,17 @@ pub(crate) fn row(progress: &Progress<'_>, table: Table, at: usize) -> Row
         Table::Calls => call_row(at, summary.calls(at)),
         Table::Replies => reply_row(at, summary.replies(at)),
         Table::Places => place_row(progress, at),
-        Table::Workers => worker_row(progress, worker_at(progress, at), summary.starts_by(at)),
+        Table::Workers => worker_row(
+            progress,
+            worker_at(summary.shape(), at),
+            summary.starts_by(at),
+        ),
         Table::Items => {
-            let item = item_at(progress, at);
+            let item = item_at(summary.shape(), at);
             item_row(item, summary.runs(item), summary.cancels(item))
         }
-        Table::Callers => caller_row(progress, caller_at(progress, at)),
+        Table::Callers => caller_row(progress, caller_at(summary.shape(), at)),
     }
-}
-
-/// The item with this number.
-fn item_at(progress: &Progress<'_>, number: usize) -> ItemId
-    requires { number < progress.now.layout.items }
-    ensures { result.0 ≡ number }
-{
-    // it shows that the number is small
-    let _items = progress.summary().shape().counts().items;
-    ItemId(number as u16)
-}
-
-/// The caller with this number.
-fn caller_at(progress: &Progress<'_>, number: usize) -> CallerId
-    requires { number < progress.now.layout.callers }
-    ensures { result.0 ≡ number }
-{
-    // it shows that the number is small
-    let _callers = progress.summary().shape().counts().callers;
-    CallerId(number as u8)
 }
 
 fn call_row(kind: usize, calls: u64) -> Row
@@ -136,25 +119,8 @@ fn caller_row(progress: &Progress<'_>, caller: CallerId) -> Row
     row
 }
 
-/// The worker with this number.
-fn worker_at(progress: &Progress<'_>, number: usize) -> WorkerId
-    requires { number < 2 * most_workers * progress.now.layout.cpus }
-    ensures is { result ≡ worker_of_row number }
-    ensures here { result.pool.cpu.0 < progress.now.layout.cpus }
-{
-    // it shows that the number is small
-    let _cpus = progress.summary().shape().counts().cpus;
-    WorkerId {
-        pool: PoolId {
-            cpu: CpuId((number / (2 * OF_POOL)) as u8),
-            high: number / OF_POOL % 2 == 1,
-        },
-        index: (number % OF_POOL) as u8,
-    }
-}
-
 /// Spells the name of a worker.
-fn push_worker(row: &mut Row, worker: WorkerId)
+pub(crate) fn push_worker(row: &mut Row, worker: WorkerId)
     requires { length row.old + 42 ≤ 512 }
     ensures exact { row.new ≡ row.old ++ worker_name worker }
     ensures short { length row.new ≤ length row.old + 42 }
@@ -323,4 +289,25 @@ fn place_row(progress: &Progress<'_>, place: usize) -> Row
         row.push("\n");
     }
     row
+}
+
+/// The rows of a table.
+#[derive(Drop)]
+pub(crate) struct TableRows<'a, 'b> {
+    pub(crate) progress: &'b Progress<'a>,
+    pub(crate) table: Table,
+}
+
+impl<'a, 'b> Rows for TableRows<'a, 'b> {
+    ghost count = { λ rows. row_count rows.progress.now.layout rows.table };
+
+    ghost row_of = { λ rows. row_text rows.progress.now.layout (past_of rows.progress.now.entries) rows.table };
+
+    fn len(&self) -> usize {
+        rows_in(self.progress, self.table)
+    }
+
+    fn row(&self, at: usize) -> Row {
+        row(self.progress, self.table, at)
+    }
 }

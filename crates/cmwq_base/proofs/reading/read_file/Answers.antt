@@ -1,11 +1,12 @@
-use Rattle.cmwq_base.specs.Common.{◌∙◌, refl, sym, arith, subst, err_from_is_err_and, Whole, Cut, Long, End}
+use Rattle.cmwq_base.specs.Common.{◌∙◌, refl, sym, ap, arith, subst, length, inl, inr, Whole, Cut, Long}
+use Rattle.cmwq_base.specs.Common.{err_from_is_err_and, End}
 use Rattle.cmwq_base.specs.declared.refusal.Refusal.TheVariants.{ReadFault, WriteFault}
 use Rattle.cmwq_base.specs.Files.{as_front}
 use Rattle.cmwq_base.specs.Gives.{Refuses}
 use Rattle.cmwq_base.specs.Stages.{stage_of, contents_of}
 use Rattle.cmwq_base.proofs.Progress.{found_so, starts, line_grows, whole_goes, whole_fails, long_fails, cut_fails}
 use Rattle.cmwq_base.proofs.Progress.{cut_no_fault, cut_gives, line_alike, too_many, end_gives, makes_sound}
-use Rattle.cmwq_base.proofs.Progress.{makes_version, makes_no_fault}
+use Rattle.cmwq_base.proofs.Progress.{makes_version, makes_no_fault, cut_starts, cut_goes, cut_len, if_left_out}
 use Rattle.cmwq_base.proofs.reading.read_file.Goals as goal
 
 pub loop-number-init : goal.loop-number-init
@@ -15,6 +16,7 @@ loop-number-init g c = record {
         same =
             starts (as_front c.args.is_front g.G.Item.FileLine.kind) (g.S.Source.left c.args.source.now) _
             c.in_ok-lines.ensures;
+        cut = cut_starts (g.S.Source.left c.args.source.now) _ c.in_ok-lines.ensures;
         count = omega arith;
         within = tt;
       };
@@ -48,29 +50,46 @@ returns-in-Cut-clause-exact g c =
     (stage_of g.G.Gather.layout g.G.Gather.items c.loop-number.stage)
     (contents_of g.G.Gather.layout g.G.Gather.items) c.finish.result _ _ _ _
     (sym c.leaves_cut.ensures ∙ c.if-leaves_cut.true) c.loop-number.invariant.progress.same
-    (found_so _ _ _ _ Cut c.in-Cut.is c.in_ok-next_line.ensures.ok) c.finish.ensures
+    (found_so _ _ _ _ Cut c.in-Cut.is c.in_ok-next_line.ensures.ok) c.finish.ensures.gives
+
+pub returns-in-Cut-clause-left_out : goal.returns-in-Cut-clause-left_out
+returns-in-Cut-clause-left_out g c =
+    if_left_out c.finish.result (λ file. file.left_out) (length c.as_slice-in-Cut.result.now)
+    (g.S.Source.left c.args.source.now) c.finish.ensures.left_out
+    (cut_len (g.S.Source.left c.args.source.now) _ _ _ Cut (length c.as_slice-in-Cut.result.now)
+    c.loop-number.invariant.progress.cut (found_so _ _ _ _ Cut c.in-Cut.is c.in_ok-next_line.ensures.ok)
+    (inl (refl, ap length c.as_slice-in-Cut.ensures.value)))
+
+pub returns-in-End-clause-left_out : goal.returns-in-End-clause-left_out
+returns-in-End-clause-left_out g c =
+    if_left_out c.finish-in-End.result (λ file. file.left_out) 0 (g.S.Source.left c.args.source.now)
+    c.finish-in-End.ensures.left_out
+    (cut_len (g.S.Source.left c.args.source.now) _ _ _ End 0 c.loop-number.invariant.progress.cut
+    (found_so _ _ _ _ End c.in-End.is c.in_ok-next_line.ensures.ok) (inr (refl, refl)))
 
 pub returns-in-Cut-clause-fault : goal.returns-in-Cut-clause-fault
 returns-in-Cut-clause-fault g c =
     λ is. absurd
-    (makes_no_fault (contents_of g.G.Gather.layout g.G.Gather.items) c.finish.result _ ReadFault c.finish.ensures refl
+    (makes_no_fault (contents_of g.G.Gather.layout g.G.Gather.items) c.finish.result _ ReadFault c.finish.ensures.gives
+    refl
     is)
 
 pub returns-in-Cut-clause-nothing_written : goal.returns-in-Cut-clause-nothing_written
 returns-in-Cut-clause-nothing_written g c =
-    makes_no_fault (contents_of g.G.Gather.layout g.G.Gather.items) c.finish.result _ WriteFault c.finish.ensures refl
+    makes_no_fault (contents_of g.G.Gather.layout g.G.Gather.items) c.finish.result _ WriteFault c.finish.ensures.gives
+    refl
 
 pub returns-in-Cut-clause-sound : goal.returns-in-Cut-clause-sound
 returns-in-Cut-clause-sound g c =
     makes_sound c.args.is_front g.G.Item.FileLine.kind (contents_of g.G.Gather.layout g.G.Gather.items) c.finish.result
     c.loop-number.number (stage_of g.G.Gather.layout g.G.Gather.items c.loop-number.stage)
-    c.loop-number.invariant.progress.within c.finish.ensures
+    c.loop-number.invariant.progress.within c.finish.ensures.gives
 
 pub returns-in-Cut-clause-version : goal.returns-in-Cut-clause-version
 returns-in-Cut-clause-version g c =
     makes_version (as_front c.args.is_front g.G.Item.FileLine.kind) (contents_of g.G.Gather.layout g.G.Gather.items)
     c.finish.result c.loop-number.number (stage_of g.G.Gather.layout g.G.Gather.items c.loop-number.stage)
-    c.loop-number.invariant.progress.within c.finish.ensures
+    c.loop-number.invariant.progress.within c.finish.ensures.gives
 
 pub returns-in-Cut-2-clause-exact : goal.returns-in-Cut-2-clause-exact
 returns-in-Cut-2-clause-exact g c =
@@ -93,7 +112,7 @@ returns-in-Cut-2-clause-nothing_written g c =
 pub returns-in-End-clause-nothing_written : goal.returns-in-End-clause-nothing_written
 returns-in-End-clause-nothing_written g c =
     makes_no_fault (contents_of g.G.Gather.layout g.G.Gather.items) c.finish-in-End.result _ WriteFault
-    c.finish-in-End.ensures refl
+    c.finish-in-End.ensures.gives refl
 
 pub returns-in-End-clause-exact : goal.returns-in-End-clause-exact
 returns-in-End-clause-exact g c =
@@ -101,19 +120,19 @@ returns-in-End-clause-exact g c =
     (stage_of g.G.Gather.layout g.G.Gather.items c.loop-number.stage)
     (contents_of g.G.Gather.layout g.G.Gather.items) c.finish-in-End.result _ _ _ _
     c.loop-number.invariant.progress.same
-    (found_so _ _ _ _ End c.in-End.is c.in_ok-next_line.ensures.ok) c.finish-in-End.ensures
+    (found_so _ _ _ _ End c.in-End.is c.in_ok-next_line.ensures.ok) c.finish-in-End.ensures.gives
 
 pub returns-in-End-clause-sound : goal.returns-in-End-clause-sound
 returns-in-End-clause-sound g c =
     makes_sound c.args.is_front g.G.Item.FileLine.kind (contents_of g.G.Gather.layout g.G.Gather.items)
     c.finish-in-End.result c.loop-number.number (stage_of g.G.Gather.layout g.G.Gather.items c.loop-number.stage)
-    c.loop-number.invariant.progress.within c.finish-in-End.ensures
+    c.loop-number.invariant.progress.within c.finish-in-End.ensures.gives
 
 pub returns-in-End-clause-version : goal.returns-in-End-clause-version
 returns-in-End-clause-version g c =
     makes_version (as_front c.args.is_front g.G.Item.FileLine.kind) (contents_of g.G.Gather.layout g.G.Gather.items)
     c.finish-in-End.result c.loop-number.number (stage_of g.G.Gather.layout g.G.Gather.items c.loop-number.stage)
-    c.loop-number.invariant.progress.within c.finish-in-End.ensures
+    c.loop-number.invariant.progress.within c.finish-in-End.ensures.gives
 
 pub loop-number-preserved : goal.loop-number-preserved
 loop-number-preserved g c =
@@ -128,6 +147,7 @@ loop-number-preserved g c =
       progress = record {
         same = whole_goes (as_front c.args.is_front g.G.Item.FileLine.kind) c.loop-number.number stage _ _ _ _ next
             before.same line taken;
+        cut = cut_goes _ _ _ _ before.cut line;
         count = omega (arith, grows.count, before.count);
         within = grows.within before.within;
       };

@@ -1,0 +1,87 @@
+//! The subcommand `open`: what is still going on at the end of a history.
+ghost use Rattle.std.specs.Prelude.{◌≡◌, ◌≤◌, ◌×◌, length, flat_map, Option, Result, IfSome, IsErrOf, OnOk, OnErr};
+ghost use Rattle.std.specs.Io.KnownBytes.{Appends};
+ghost use Rattle.cmwq_model.specs.Prelude.{now, past_of};
+ghost use Rattle.cmwq_model.specs.declared.verdict.Illegal.{Illegal as TheIllegal};
+ghost use Rattle.cmwq_io.specs.Counts.{Rises};
+ghost use Rattle.cmwq_io.specs.Moves.{AppendsFront};
+ghost use Rattle.cmwq_base.specs.declared.refusal.Refusal.{Refusal as TheRefusal};
+ghost use Rattle.cmwq_history.specs.Verdicts.{check_status};
+ghost use Rattle.cmwq_history.specs.Views.{IsFlushed};
+ghost use Rattle.cmwq_views.specs.Open.{OpenEnds, open_text, section_text};
+ghost use Rattle.cmwq_views.specs.Page.{line_of_entries};
+ghost use Rattle.cmwq_views.specs.declared.standing.TheConstants as constants;
+
+use crate::row::{Row, head};
+use crate::standing::{SECTIONS, SectionLines, Standing};
+use crate::write::write_rows;
+use cmwq_base::{Refusal, Shape, Sink, Source, WriteFault, flush_all, write_all};
+use cmwq_core::Judge;
+use cmwq_history::{Nothing, View, run_front_view};
+use std::alloc::Global;
+
+fn write_sections<W: Sink>(sink: &mut W, standing: &Standing<'_>) -> Result<(), WriteFault>
+    ensures ok { OnOk result
+        (Appends (W.written sink.old) (W.written sink.new)
+        (flat_map (section_text standing.now.layout (past_of standing.now.entries)) constants.SECTIONS)) }
+    ensures err { OnErr result
+        (AppendsFront (W.written sink.old) (W.written sink.new)
+        (flat_map (section_text standing.now.layout (past_of standing.now.entries)) constants.SECTIONS)) }
+    ensures grown { W.troubles sink.old ≤ W.troubles sink.new }
+    ensures fault { OnErr result (Rises (W.troubles sink.old) (W.troubles sink.new)) }
+{
+    for section in &SECTIONS {
+        let lines = SectionLines {
+            standing,
+            section: *section,
+        };
+        write_rows(sink, &lines)?;
+    }
+    Ok(())
+}
+
+/// What still goes on at the end.
+struct OpenView;
+
+impl<W: Sink> View<W> for OpenView {
+    type Made = Nothing;
+
+    ghost text_of = { λ view. open_text };
+
+    fn write(
+        &self,
+        _: Global,
+        _: &Nothing,
+        shape: &Shape,
+        judge: &Judge,
+        _: u8,
+        sink: &mut W,
+    ) -> Result<(), Refusal> {
+        let standing = Standing::new(shape, judge);
+        write_all(sink, head(standing.entries(), standing.ticks()).as_bytes())?;
+        write_sections(sink, &standing)?;
+        flush_all(sink)?;
+        Ok(())
+    }
+}
+
+/// Reads all of a history of any format, or where `is_front` says so of a history of which a front was written, and
+/// writes what is still going on at its end, as `run_front_view` does a view: how many entries and ticks
+/// there are, each queue with its width, and whether it is frozen, drains or is gone, each run with its worker, each
+/// queueing that hasn't started, each booking, and each unended wait with the queueing that it waits for.
+pub fn run_open<S: Source, O: Sink, E: Sink>(
+    alloc: Global,
+    input: &mut S,
+    output: &mut O,
+    errors: &mut E,
+    is_front: bool,
+) -> u8
+    ensures ends { (ended : Result (Option TheIllegal) TheRefusal)
+        × (result ≡ check_status ended)
+        × IfSome (S.left input.old) (λ text. OpenEnds is_front text (O.written output.old) (O.written output.new) ended)
+        × IsFlushed ended (O.held output.new)
+        × (IsErrOf ended Refusal.ReadFault → Rises (S.troubles input.old) (S.troubles input.new))
+        × (IsErrOf ended Refusal.WriteFault → Rises (O.troubles output.old) (O.troubles output.new)) }
+{
+    run_front_view(alloc, &OpenView, input, output, errors, is_front)
+}
