@@ -9,7 +9,7 @@ use Rattle.std.proofs.lemmas.Bool.Decides.{nat_tests}
 use Rattle.std.specs.Prelude.{All, Contains, nat_lt, IfOk}
 use Rattle.cmwq_explore.specs.declared.place.Step.{Step}
 use Rattle.cmwq_explore.specs.Stands.{Stand, IsDone, may, moved}
-use Rattle.cmwq_explore.specs.Searches.{AllEnd, AllEndAfter, EndsAfter, after}
+use Rattle.cmwq_explore.specs.Searches.{AllEnd, AllEndAfter, EndsAfter, NoneStuck, NoneStuckAfter, NoneStuckAt, after}
 
 -- after one step more
 pub after_more : (p : Stand) (steps : List Step) (step : Step)
@@ -81,18 +81,51 @@ all_tried (suc n) p movers deep all sound some tried =
     let less : suc n - 1 ≡ n = omega arith in
     all_tried_more n p movers all sound some (subst (λ m. AllEndAfter m p movers (length movers)) less tried)
 
--- the first of them were tried, and now the next one
-pub one_more_tried : (n : ℕ) (p : Stand) (movers : List ℕ) (k : ℕ) (step : Step) → AllEndAfter n p movers k
-    → step.party ≡ get_or movers k 0 → AllEnd n (moved p step) → AllEndAfter n p movers (k + 1)
-one_more_tried n p movers k step before is ends j less = at (nat_lt j k) refl
+-- of the first of them this is known after a step of theirs, and now of the next one
+pub one_more_known : (Q : Stand → Type 0) (p : Stand) (movers : List ℕ) (k : ℕ) (step : Step)
+    → ((j : ℕ) → j < k → (refused : Bool) × Q (moved p (record { party = get_or movers j 0; is_refused = refused })))
+    → step.party ≡ get_or movers k 0 → Q (moved p step)
+    → (j : ℕ) → j < k + 1 → (refused : Bool) × Q (moved p (record { party = get_or movers j 0; is_refused = refused }))
+one_more_known Q p movers k step before is known j less = at (nat_lt j k) refl
   where
-    at : (b : Bool) → nat_lt j k ≡ b → EndsAfter n p (get_or movers j 0)
+    at : (b : Bool) → nat_lt j k ≡ b
+        → (refused : Bool) × Q (moved p (record { party = get_or movers j 0; is_refused = refused }))
     at true lt = before j (ltb-true j k lt)
     at false not =
         let past = ltb-false j k not in
         let same : k ≡ j = omega arith in
-        subst (λ i. EndsAfter n p (get_or movers i 0)) same
-        (subst (EndsAfter n p) is (step.is_refused, ends))
+        subst (λ i. (refused : Bool) × Q (moved p (record { party = get_or movers i 0; is_refused = refused }))) same
+        (subst (λ i. (refused : Bool) × Q (moved p (record { party = i; is_refused = refused }))) is
+        (step.is_refused, known))
+
+-- nobody may move: where fewer moves were made than that, nothing is left to do
+pub none_here : (n : ℕ) (p : Stand) (movers : List ℕ) → ((k : ℕ) → may p k ≡ true → Contains movers k)
+    → length movers ≡ 0 → (0 < n → IsDone p) → NoneStuck n p
+unfolding NoneStuck
+none_here zero p movers all none done = tt
+none_here (suc n) p movers all none done =
+    ((λ _. done (omega arith)), (λ k is. absurd (false_or (may p k) is (none_of_none p movers all none k))))
+
+-- of all who may move it is known, and there is one
+all_known_more : (n : ℕ) (p : Stand) (movers : List ℕ) → ((k : ℕ) → may p k ≡ true → Contains movers k)
+    → All (λ k. may p k ≡ true) movers → 0 < length movers
+    → NoneStuckAfter n p movers (length movers) → NoneStuck (suc n) p
+unfolding NoneStuck
+all_known_more n p movers all sound some known =
+    ((λ rests. absurd (false_or _ (All-get_or (λ k. may p k ≡ true) movers 0 0 some sound) (rests (get_or movers 0 0)))),
+    (λ k is.
+    let at = all k is in
+    let same : get_or movers at.0 0 ≡ k = get_or_default movers at.0 0 k at.1 ∙ at.2 in
+    subst (NoneStuckAt n p) same (known at.0 at.1)))
+
+pub all_known : (n : ℕ) (p : Stand) (movers : List ℕ) → ((k : ℕ) → may p k ≡ true → Contains movers k)
+    → All (λ k. may p k ≡ true) movers → 0 < length movers
+    → NoneStuckAfter (n - 1) p movers (length movers) → NoneStuck n p
+unfolding NoneStuck
+all_known zero p movers all sound some known = tt
+all_known (suc n) p movers all sound some known =
+    let less : suc n - 1 ≡ n = omega arith in
+    all_known_more n p movers all sound some (subst (λ m. NoneStuckAfter m p movers (length movers)) less known)
 
 -- what is known of a number that is 0 or not
 pub is_none : (n len : ℕ) (b : Bool) → n ≡ len → b ≡ (n == 0) → b ≡ true → len ≡ 0

@@ -1,4 +1,6 @@
+pub mod Chances
 pub mod Counts
+pub mod Firsts
 pub mod Machines
 pub mod Searches
 pub mod Stands

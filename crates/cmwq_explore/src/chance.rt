@@ -1,9 +1,16 @@
 //! Schedules by chance: whose move comes next is a function of a seed.
 
-ghost use Rattle.std.specs.Prelude.{◌<◌, max};
+ghost use Rattle.std.specs.Prelude.{◌≡◌, ◌<◌, max, IfOk};
+ghost use Rattle.cmwq_explore.specs.Chances.{IsPlayed, after_draw, drawn_below};
+ghost use Rattle.cmwq_explore.specs.Starts.{start_of};
+ghost use Rattle.cmwq_explore.specs.declared.chance.Chooser.TheVariants as chooser_is;
 
-use crate::play::{Play, Setup};
+use crate::play::Play;
 use crate::search::MOST_MOVES;
+use crate::setup::Setup;
+use rand_core::SeedableRng;
+use rand_core::utils::NextWord;
+use rand_xoshiro::SplitMix64;
 use std::alloc::{AllocError, Global};
 
 /// How the next to move is chosen.
@@ -17,27 +24,14 @@ pub enum Chooser {
     Pct { depth: u64, moves: u64 },
 }
 
-/// Random numbers (splitmix64).
-#[derive(Clone, Copy)]
-struct Generator {
-    state: u64,
-}
-
-impl Generator {
-    fn draw(&mut self) -> u64 {
-        self.state = self.state.wrapping_add(0x9e37_79b9_7f4a_7c15);
-        let mut z = self.state;
-        z = (z ^ (z >> 30)).wrapping_mul(0xbf58_476d_1ce4_e5b9);
-        z = (z ^ (z >> 27)).wrapping_mul(0x94d0_49bb_1331_11eb);
-        z ^ (z >> 31)
-    }
-
-    /// A number below this one, which isn't 0.
-    fn below(&mut self, limit: u64) -> u64
-        ensures { result < max limit 1 }
-    {
-        self.draw() % limit.max(1)
-    }
+/// A number below this one, which isn't 0.
+#[tactic(auto, unfolding(crate::specs::Chances::drawn, crate::specs::Chances::after_draw))]
+fn below(generator: &mut SplitMix64, limit: u64) -> u64
+    ensures drawn { result ≡ drawn_below limit generator.old }
+    ensures after { generator.new ≡ after_draw generator.old }
+    ensures small { result < max limit 1 }
+{
+    generator.next_word() % limit.max(1)
 }
 
 /// Exchanges two of a list.
@@ -59,7 +53,7 @@ impl Order {
     fn new(
         alloc: Global,
         parties: usize,
-        generator: &mut Generator,
+        generator: &mut SplitMix64,
         depth: u64,
         moves: u64,
     ) -> Result<Order, AllocError> {
@@ -68,12 +62,12 @@ impl Order {
             priorities.push(depth.saturating_add(k as u64))?;
         }
         for k in 1..parties {
-            let other = generator.below(k as u64 + 1) as usize;
+            let other = below(generator, k as u64 + 1) as usize;
             swap(&mut priorities, k, other);
         }
         let mut changes = Vec::new(alloc);
         for _ in 1..depth {
-            changes.push(generator.below(moves))?;
+            changes.push(below(generator, moves))?;
         }
         Ok(Order {
             priorities,
@@ -115,15 +109,21 @@ impl Order {
 }
 
 /// Plays from the start, by a seed, until nobody may move, or for `MOST_MOVES`. Returns how many moves were made.
+///
+/// # Errors
+/// Want of memory.
 pub fn play_by<'a>(
     alloc: Global,
     setup: &'a Setup<'a>,
     play: &mut Play<'a>,
     seed: u64,
     chooser: Chooser,
-) -> Result<u64, AllocError> {
+) -> Result<u64, AllocError>
+    ensures { chooser ≡ chooser_is.Uniform
+        → IfOk result (λ _. IsPlayed MOST_MOVES seed (start_of setup.now) play.new) }
+{
     play.restart(setup)?;
-    let mut generator = Generator { state: seed };
+    let mut generator = SplitMix64::seed_from_u64(seed);
     match chooser {
         Chooser::Uniform => play_uniform(play, &mut generator),
         Chooser::Pct { depth, moves } => {
@@ -133,20 +133,23 @@ pub fn play_by<'a>(
     }
 }
 
-fn play_uniform(play: &mut Play<'_>, generator: &mut Generator) -> Result<u64, AllocError> {
+/// Each of those who may move is as likely.
+fn play_uniform(play: &mut Play<'_>, generator: &mut SplitMix64) -> Result<u64, AllocError>
+    ensures { IfOk result (λ _. IsPlayed MOST_MOVES generator.old play.old play.new) }
+{
     for number in 0..MOST_MOVES {
         let movers = play.movers()?;
         if movers.is_empty() {
             return Ok(number as u64);
         }
-        let place = generator.below(movers.len() as u64) as usize;
-        let party = movers[place];
-        let step = play.step_of(party);
+        let place = below(generator, movers.len() as u64) as usize;
+        let step = play.step_of(movers[place]);
         play.make_move(step)?;
     }
     Ok(MOST_MOVES as u64)
 }
 
+/// The first in the order moves.
 fn play_in_order(play: &mut Play<'_>, order: Order) -> Result<u64, AllocError> {
     let mut order = order;
     for number in 0..MOST_MOVES {

@@ -10,10 +10,12 @@ mod place;
 mod play;
 mod room;
 mod search;
+mod setup;
 
 pub use chance::{Chooser, length_of_first, play_by};
 pub use merge::search_merged;
 pub use parties::{Party, PartyName};
 pub use place::{CallerAt, Doing, RunAt, Step, Ticketed, WorkerAt};
-pub use play::{Play, Setup, Standing};
+pub use play::{Play, Standing};
 pub use search::{Found, Limits, MOST_MOVES, Watch, search_all};
+pub use setup::Setup;

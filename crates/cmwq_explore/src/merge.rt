@@ -3,8 +3,9 @@
 
 use crate::key::key_of;
 use crate::place::Step;
-use crate::play::{Play, Setup};
+use crate::play::Play;
 use crate::search::{Found, Limits, MOST_MOVES, Search, Watch};
+use crate::setup::Setup;
 use std::alloc::{AllocError, Global};
 use std::collections::HashMap;
 

@@ -1,6 +1,9 @@
 //! Where callers and workers of a script stand.
 
-use cmwq_model::{Call, CallerId, ItemId, Number, WorkerId};
+ghost use Rattle.std.specs.Prelude.{◌≡◌};
+ghost use Rattle.cmwq_explore.specs.Stands as spec;
+
+use cmwq_model::{Call, CallerId, ItemId, Number, Ticket, WorkerId};
 
 /// A wait that has begun: its ticket, and the call that it is of.
 #[derive(Clone, Copy, Debug)]
@@ -52,4 +55,51 @@ pub struct WorkerAt {
 pub struct Step {
     pub party: usize,
     pub is_refused: bool,
+}
+
+/// The ticket of a caller.
+pub(crate) fn ticket_of(caller: u8, wait: Ticketed) -> Ticket {
+    Ticket {
+        caller: CallerId(caller),
+        call: wait.call,
+        number: wait.ticket,
+    }
+}
+
+/// Whether the call names this item.
+pub(crate) fn is_of_item(call: Call, item: ItemId) -> bool
+    ensures { result ≡ spec.is_of_item call item }
+{
+    match call.item() {
+        Some(named) => named.0 == item.0,
+        None => false,
+    }
+}
+
+/// The place after this one.
+pub(crate) fn next_place(place: usize) -> usize
+    ensures { result ≡ spec.next_place place }
+{
+    if place < usize::MAX { place + 1 } else { place }
+}
+
+/// The run after its action.
+pub(crate) fn after_action(run: RunAt) -> RunAt
+    ensures { result ≡ spec.after_action run }
+{
+    RunAt {
+        next: next_place(run.next),
+        doing: Doing::Acts,
+        ..run
+    }
+}
+
+/// The run that is about to give its caller back.
+pub(crate) fn gives_back(run: RunAt, caller: u8) -> RunAt
+    ensures { result ≡ spec.gives_back run caller }
+{
+    RunAt {
+        doing: Doing::Returns { caller },
+        ..run
+    }
 }

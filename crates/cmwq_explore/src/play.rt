@@ -10,6 +10,7 @@ ghost use Rattle.cmwq_model.specs.Prelude.{IsLegal};
 ghost use Rattle.cmwq_core.specs.History.{past_in};
 ghost use Rattle.cmwq_explore.specs.Stands as spec;
 ghost use Rattle.cmwq_explore.specs.Stands.{NoneLeft, has_run};
+ghost use Rattle.cmwq_explore.specs.Chances.{movers_of};
 ghost use Rattle.cmwq_explore.specs.Searches.{Rests, after};
 ghost use Rattle.cmwq_explore.specs.Starts.{start_of};
 ghost use Rattle.cmwq_explore.specs.declared.play.Standing.TheVariants as standing;
@@ -20,10 +21,10 @@ ghost use Rattle.cmwq_explore.specs.declared.place.Doing.TheVariants as doing;
 use crate::machine::{Called, Machine};
 use crate::parties::PartyName;
 use crate::place::{CallerAt, Doing, RunAt, Step, Ticketed, WorkerAt};
+use crate::place::{after_action, gives_back, is_of_item, next_place, ticket_of};
+use crate::setup::Setup;
 use cmwq_json_script::{Action, Script};
-use cmwq_model::{
-    Call, CallerId, CpuId, Entry, ItemId, NoMemory, PoolId, Queueing, Shape, Ticket, Who, WorkerId,
-};
+use cmwq_model::{Call, CallerId, Entry, NoMemory, Queueing, Who, WorkerId};
 use cmwq_waits::RunWaits;
 use std::alloc::{AllocError, Global};
 use std::marker::Model;
@@ -41,16 +42,6 @@ pub enum Standing {
 
 /// How many gates there are at most.
 const MOST_GATES: usize = 16;
-
-/// A script, with its callers and workers as they stand before the first move.
-#[derive(Drop)]
-pub struct Setup<'a> {
-    script: &'a Script,
-    callers: Vec<CallerAt>,
-    workers: Vec<WorkerAt>,
-    /// The callers that may be lent, of which the last is lent first.
-    lent: Vec<u8>,
-}
 
 /// A script with its history so far.
 #[derive(Drop)]
@@ -80,67 +71,6 @@ impl<'a> Model for Play<'a> {
         { λ p. record { scripts = calls_of p.setup.now.script.now.callers; does =
         map (λ d. d.items) p.setup.now.script.now.does.items; history = p.machine; callers = p.callers.items; workers =
         p.workers.items; gates = p.gates.items; free = p.free.items } };
-}
-
-fn workers_at(alloc: Global, shape: &Shape) -> Result<Vec<WorkerAt>, AllocError> {
-    let counts = shape.counts();
-    let mut workers = Vec::new(alloc);
-    for cpu in 0..counts.cpus {
-        for high in [false, true] {
-            for index in 0..counts.workers {
-                let pool = PoolId {
-                    cpu: CpuId(cpu),
-                    high,
-                };
-                let id = WorkerId { pool, index };
-                workers.push(WorkerAt { id, run: None })?;
-            }
-        }
-    }
-    Ok(workers)
-}
-
-/// The callers of the script, before their first calls.
-fn callers_at(alloc: Global, count: usize) -> Result<Vec<CallerAt>, AllocError> {
-    let mut callers = Vec::new(alloc);
-    for k in 0..count {
-        let at = CallerAt {
-            id: CallerId(k.min(255) as u8),
-            next: 0,
-            wait: None,
-        };
-        callers.push(at)?;
-    }
-    Ok(callers)
-}
-
-/// The callers after those of the script, which are lent.
-fn lent_callers(alloc: Global, script: &Script) -> Result<Vec<u8>, AllocError> {
-    let mut free = Vec::with_capacity(alloc, usize::from(script.waits))?;
-    let first = script.callers.len();
-    for k in 0..script.waits {
-        let Ok(caller) = u8::try_from(first.saturating_add(usize::from(k))) else {
-            return Ok(free);
-        };
-        free.push(caller)?;
-    }
-    Ok(free)
-}
-
-impl<'a> Setup<'a> {
-    /// The callers and workers of a script.
-    pub fn new(alloc: Global, script: &'a Script) -> Result<Setup<'a>, AllocError> {
-        Ok(Setup {
-            script,
-            callers: callers_at(alloc, script.callers.len())?,
-            workers: workers_at(alloc, &script.shape)?,
-            lent: lent_callers(alloc, script)?,
-        })
-    }
-
-    pub fn script(&self) -> &'a Script {
-        self.script
-    }
 }
 
 impl<'a> Play<'a> {
@@ -342,6 +272,7 @@ impl<'a> Play<'a> {
     pub fn movers(&self) -> Result<Vec<usize>, AllocError>
         ensures all { IfOk result (λ movers. (k : ℕ) → spec.may self.now k ≡ true → Contains movers.items k) }
         ensures sound { IfOk result (λ movers. All (λ k. spec.may self.now k ≡ true) movers.items) }
+        ensures list { IfOk result (λ movers. movers.items ≡ movers_of self.now) }
     {
         let mut movers = Vec::new(self.alloc);
         for party in 0..self.parties() {
@@ -825,56 +756,12 @@ impl<'a> Play<'a> {
     }
 }
 
-fn ticket_of(caller: u8, wait: Ticketed) -> Ticket {
-    Ticket {
-        caller: CallerId(caller),
-        call: wait.call,
-        number: wait.ticket,
-    }
-}
-
-fn is_of_item(call: Call, item: ItemId) -> bool
-    ensures { result ≡ spec.is_of_item call item }
-{
-    match call.item() {
-        Some(named) => named.0 == item.0,
-        None => false,
-    }
-}
-
+/// The wait that a call began.
 fn wait_of(called: Called) -> Option<Ticketed>
     ensures { result ≡ spec.wait_of called }
 {
     match called {
         Called::Waits(wait) => Some(wait),
         Called::NoRoom | Called::Whole => None,
-    }
-}
-
-/// The place after this one.
-fn next_place(place: usize) -> usize
-    ensures { result ≡ spec.next_place place }
-{
-    if place < usize::MAX { place + 1 } else { place }
-}
-
-/// The run after its action.
-fn after_action(run: RunAt) -> RunAt
-    ensures { result ≡ spec.after_action run }
-{
-    RunAt {
-        next: next_place(run.next),
-        doing: Doing::Acts,
-        ..run
-    }
-}
-
-/// The run that is about to give its caller back.
-fn gives_back(run: RunAt, caller: u8) -> RunAt
-    ensures { result ≡ spec.gives_back run caller }
-{
-    RunAt {
-        doing: Doing::Returns { caller },
-        ..run
     }
 }

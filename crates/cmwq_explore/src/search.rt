@@ -1,14 +1,16 @@
 //! All schedules of a script, depth first.
 
-ghost use Rattle.std.specs.Prelude.{◌≡◌, ◌≤◌, ◌++◌, ◌∷◌, [], true, length, IfOk, IfSome, OnOk};
+ghost use Rattle.std.specs.Prelude.{◌≡◌, ◌≤◌, ◌<◌, ◌+◌, ◌-◌, ◌++◌, ◌∷◌, ℕ, [], true, length, None, IfOk, IfSome};
 ghost use Rattle.cmwq_explore.specs.Stands as spec;
-ghost use Rattle.cmwq_explore.specs.Searches.{AllEnd, AllEndAfter, after};
+ghost use Rattle.cmwq_explore.specs.Searches.{AllEnd, AllEndAfter, GetsStuck, HasAtLeast, KnowsStuck};
+ghost use Rattle.cmwq_explore.specs.Searches.{NoneStuck, NoneStuckAfter, Rests, TellsStuck, after};
 ghost use Rattle.cmwq_explore.specs.Counts.{CountsEnd, CountsStuck};
 ghost use Rattle.cmwq_explore.specs.declared.play.Standing.TheVariants as standing;
 ghost use Rattle.cmwq_explore.specs.Starts.{start_of};
 
 use crate::place::Step;
-use crate::play::{Play, Setup, Standing};
+use crate::play::{Play, Standing};
+use crate::setup::Setup;
 use std::alloc::{AllocError, Global};
 
 /// How many moves a schedule has at most; a longer one is cut off.
@@ -49,7 +51,9 @@ pub struct Found {
 
 impl Found {
     /// Nothing yet.
-    pub fn nothing() -> Found {
+    pub fn nothing() -> Found
+        ensures { (result.stuck ≡ 0) × (result.ended ≡ 0) × (result.cut ≡ 0) }
+    {
         Found {
             states: 0,
             ended: 0,
@@ -113,7 +117,10 @@ fn copy_of(alloc: Global, steps: &[Step]) -> Result<Vec<Step>, AllocError>
 }
 
 impl Search {
-    pub(crate) fn new(alloc: Global, limits: Limits) -> Search {
+    pub(crate) fn new(alloc: Global, limits: Limits) -> Search
+        ensures shortest { result.shortest ≡ None }
+        ensures stuck { result.found.stuck ≡ 0 }
+    {
         Search {
             alloc,
             limits,
@@ -123,15 +130,18 @@ impl Search {
         }
     }
 
+    /// One state more was visited.
     pub(crate) fn count_state(&mut self)
-        ensures { (self.new.found.cut ≡ self.old.found.cut) × (self.new.found.stuck ≡ self.old.found.stuck) }
+        ensures counts { (self.new.found.cut ≡ self.old.found.cut) × (self.new.found.stuck ≡ self.old.found.stuck) }
+        ensures shortest { self.new.shortest ≡ self.old.shortest }
     {
         self.found.states = self.found.states.saturating_add(1);
     }
 
     /// So many moves more were made.
     pub(crate) fn count_moves<W: Watch>(&mut self, moves: usize, watch: &mut W)
-        ensures { (self.new.found.cut ≡ self.old.found.cut) × (self.new.found.stuck ≡ self.old.found.stuck) }
+        ensures counts { (self.new.found.cut ≡ self.old.found.cut) × (self.new.found.stuck ≡ self.old.found.stuck) }
+        ensures shortest { self.new.shortest ≡ self.old.shortest }
     {
         self.found.moves = self.found.moves.saturating_add(moves as u64);
         if self.found.moves >= self.next_look {
@@ -145,6 +155,25 @@ impl Search {
         self.found.moves >= self.limits.moves
     }
 
+    /// Keeps a schedule that got stuck, if none that is shorter is known.
+    fn keep_shortest(&mut self, path: &[Step]) -> Result<(), AllocError>
+        ensures sound { IfOk result (λ _. (start : spec.Stand) → GetsStuck start path.now
+            → TellsStuck start self.old.shortest → TellsStuck start self.new.shortest) }
+        ensures within { IfOk result (λ _. IfSome self.new.shortest (λ s. length s.items ≤ length path.now)) }
+        ensures shorter { IfOk result (λ _. (n : ℕ) → HasAtLeast n self.new.shortest
+            → HasAtLeast n self.old.shortest) }
+        ensures some { IfOk result (λ _. self.new.shortest ≡ None → ⊥) }
+        ensures found { self.new.found ≡ self.old.found }
+    {
+        match &self.shortest {
+            Some(steps) if steps.len() <= path.len() => Ok(()),
+            _ => {
+                self.shortest = Some(copy_of(self.alloc, path)?);
+                Ok(())
+            }
+        }
+    }
+
     /// A schedule may not go on.
     pub(crate) fn note_end<W: Watch>(
         &mut self,
@@ -155,26 +184,29 @@ impl Search {
         ensures done { self.new.found.stuck ≡ 0 → spec.IsDone play.now }
         ensures cut { self.new.found.cut ≡ self.old.found.cut }
         ensures stuck { self.old.found.stuck ≤ self.new.found.stuck }
-        ensures shortest
-            { OnOk result ((spec.IsDone play.now → ⊥)
-            → IfSome self.new.shortest (λ s. length s.items ≤ length path.now)) }
+        ensures sound { IfOk result (λ _. (start : spec.Stand) → play.now ≡ after start path.now → Rests play.now
+            → TellsStuck start self.old.shortest → TellsStuck start self.new.shortest) }
+        ensures none { IfOk result (λ _. (n : ℕ) → HasAtLeast n self.new.shortest → length path.now < n
+            → spec.IsDone play.now) }
+        ensures shorter { IfOk result (λ _. (n : ℕ) → HasAtLeast n self.new.shortest
+            → HasAtLeast n self.old.shortest) }
+        ensures known { IfOk result (λ _. KnowsStuck self.old.found.stuck self.old.shortest
+            → KnowsStuck self.new.found.stuck self.new.shortest) }
     {
         let standing = self.found.count_end(play);
         watch.ends(play, standing);
-        let is_shorter = match &self.shortest {
-            Some(steps) => path.len() < steps.len(),
-            None => true,
-        };
-        if standing == Standing::Stuck && is_shorter {
-            self.shortest = Some(copy_of(self.alloc, path)?);
+        match standing {
+            Standing::Stuck => self.keep_shortest(path),
+            Standing::Goes | Standing::Ended => Ok(()),
         }
-        Ok(())
     }
 
+    /// A schedule was cut off.
     pub(crate) fn cut(&mut self)
         ensures cut { 1 ≤ self.new.found.cut }
         ensures more { self.old.found.cut ≤ self.new.found.cut }
         ensures stuck { self.new.found.stuck ≡ self.old.found.stuck }
+        ensures shortest { self.new.shortest ≡ self.old.shortest }
     {
         self.found.cut = self.found.cut.saturating_add(1);
     }
@@ -192,6 +224,7 @@ impl Search {
         requires { is_first ≡ true → play.old ≡ after (start_of setup.now) path.now }
         ensures play { IfOk result (λ _. play.new ≡ after (start_of setup.now) path.now) }
         ensures counts { (self.new.found.cut ≡ self.old.found.cut) × (self.new.found.stuck ≡ self.old.found.stuck) }
+        ensures shortest { self.new.shortest ≡ self.old.shortest }
     {
         if is_first {
             return Ok(());
@@ -214,6 +247,7 @@ impl Search {
         ensures at { IfOk result (λ _. (start : spec.Stand) → play.old ≡ after start path.old.items
             → play.new ≡ after start path.new.items) }
         ensures counts { (self.new.found.cut ≡ self.old.found.cut) × (self.new.found.stuck ≡ self.old.found.stuck) }
+        ensures shortest { self.new.shortest ≡ self.old.shortest }
     {
         play.make_move(step)?;
         self.count_moves(1, watch);
@@ -237,6 +271,14 @@ impl Search {
         ensures path { IfOk result (λ _. path.new.items ≡ path.old.items) }
         ensures cut { self.old.found.cut ≤ self.new.found.cut }
         ensures stuck { self.old.found.stuck ≤ self.new.found.stuck }
+        ensures none { IfOk result (λ _. self.new.found.cut ≡ 0 → (n : ℕ) → HasAtLeast n self.new.shortest
+            → NoneStuck (n - length path.old.items) play.old) }
+        ensures sound { IfOk result (λ _. TellsStuck (start_of setup.now) self.old.shortest
+            → TellsStuck (start_of setup.now) self.new.shortest) }
+        ensures shorter { IfOk result (λ _. (n : ℕ) → HasAtLeast n self.new.shortest
+            → HasAtLeast n self.old.shortest) }
+        ensures known { IfOk result (λ _. KnowsStuck self.old.found.stuck self.old.shortest
+            → KnowsStuck self.new.found.stuck self.new.shortest) }
     {
         self.count_state();
         let movers = play.movers()?;
@@ -267,6 +309,14 @@ impl Search {
         ensures path { IfOk result (λ _. path.new.items ≡ path.old.items) }
         ensures cut { self.old.found.cut ≤ self.new.found.cut }
         ensures stuck { self.old.found.stuck ≤ self.new.found.stuck }
+        ensures none { IfOk result (λ _. self.new.found.cut ≡ 0 → (n : ℕ) → HasAtLeast n self.new.shortest
+            → NoneStuckAfter (n - (length path.old.items + 1)) play.old movers.now (length movers.now)) }
+        ensures sound { IfOk result (λ _. TellsStuck (start_of setup.now) self.old.shortest
+            → TellsStuck (start_of setup.now) self.new.shortest) }
+        ensures shorter { IfOk result (λ _. (n : ℕ) → HasAtLeast n self.new.shortest
+            → HasAtLeast n self.old.shortest) }
+        ensures known { IfOk result (λ _. KnowsStuck self.old.found.stuck self.old.shortest
+            → KnowsStuck self.new.found.stuck self.new.shortest) }
     {
         for k in 0..movers.len() {
             if self.is_at_limit() {
@@ -297,6 +347,14 @@ impl Search {
         ensures path { IfOk result (λ _. path.new.items ≡ path.old.items) }
         ensures cut { self.old.found.cut ≤ self.new.found.cut }
         ensures stuck { self.old.found.stuck ≤ self.new.found.stuck }
+        ensures none { IfOk result (λ _. self.new.found.cut ≡ 0 → (n : ℕ) → HasAtLeast n self.new.shortest
+            → NoneStuck (n - (length path.old.items + 1)) (spec.moved play.old step)) }
+        ensures sound { IfOk result (λ _. TellsStuck (start_of setup.now) self.old.shortest
+            → TellsStuck (start_of setup.now) self.new.shortest) }
+        ensures shorter { IfOk result (λ _. (n : ℕ) → HasAtLeast n self.new.shortest
+            → HasAtLeast n self.old.shortest) }
+        ensures known { IfOk result (λ _. KnowsStuck self.old.found.stuck self.old.shortest
+            → KnowsStuck self.new.found.stuck self.new.shortest) }
     {
         self.step_on(play, path, step, watch)?;
         self.visit(setup, play, path, depth, watch)?;
@@ -316,7 +374,11 @@ pub fn search_all<'a, W: Watch>(
     limits: Limits,
     watch: &mut W,
 ) -> Result<(Found, Option<Vec<Step>>), AllocError>
-    ensures { IfOk result (λ r. r.0.cut ≡ 0 → r.0.stuck ≡ 0 → AllEnd MOST_MOVES (start_of setup.now)) }
+    ensures all { IfOk result (λ r. r.0.cut ≡ 0 → r.0.stuck ≡ 0 → AllEnd MOST_MOVES (start_of setup.now)) }
+    ensures stuck { IfOk result (λ r. TellsStuck (start_of setup.now) r.1) }
+    ensures known { IfOk result (λ r. KnowsStuck r.0.stuck r.1) }
+    ensures shortest { IfOk result (λ r. r.0.cut ≡ 0
+        → IfSome r.1 (λ steps. NoneStuck (length steps.items) (start_of setup.now))) }
 {
     let mut search = Search::new(alloc, limits);
     let mut play = Play::new(alloc, setup)?;
