@@ -6,7 +6,7 @@ use Rattle.cmwq_explore.specs.declared.setup.Setup.{Setup}
 use Rattle.cmwq_explore.specs.Firsts.{callers_from, lent_from, workers_from}
 use Rattle.cmwq_explore.specs.Stands.{Stand}
 
-abbrev pub start_of : Setup → Stand
+unfoldable pub start_of : Setup → Stand
 start_of s = record {
   scripts = calls_of s.script.now.callers;
   does = map (λ d. d.items) s.script.now.does.items;
@@ -18,7 +18,7 @@ start_of s = record {
 }
 
 -- No call is made yet: no caller waits, each worker is idle, each gate is shut, and each caller that is lent is free.
-abbrev pub first_stand : Run → Stand
+unfoldable pub first_stand : Run → Stand
 first_stand r = record {
   scripts = r.callers;
   does = r.does;

@@ -75,6 +75,7 @@ impl<'a> Model for Play<'a> {
 
 impl<'a> Play<'a> {
     /// A script before its first move.
+    #[tactic(auto, unfolding(crate::specs::Starts::start_of))]
     pub fn new(alloc: Global, setup: &'a Setup<'a>) -> Result<Play<'a>, AllocError>
         ensures { IfOk result (λ play. play ≡ start_of setup.now) }
     {

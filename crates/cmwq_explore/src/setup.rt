@@ -88,6 +88,7 @@ impl<'a> Setup<'a> {
     ///
     /// # Errors
     /// Want of memory.
+    #[tactic(auto, unfolding(crate::specs::Starts::start_of, crate::specs::Starts::first_stand))]
     pub fn new(alloc: Global, script: &'a Script) -> Result<Setup<'a>, AllocError>
         ensures { IfOk result (λ setup. start_of setup ≡ first_stand (run_of script.now)) }
     {
