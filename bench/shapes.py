@@ -114,7 +114,7 @@ KINDS = {make.__name__: make for make in (pending, cancel, booked, flush)}
 
 
 def files(kind, items, shape, turns, room):
-    """The calls before so many turns, and with as many of these once more behind them, and how many calls the latter have more."""
+    """The calls before so many turns, and with as many of these once more after them, and how many calls the latter have more."""
     loads = Loads(items, shape, room)
     turn = KINDS[kind](loads)
     for _ in range(turns):

@@ -157,7 +157,7 @@ uint32_t cmwq_step(struct cmwq_book *book, const struct cmwq_call *call, struct 
 /**
  * cmwq_step_line() - the same by lines of text, as `cmwq step` reads and writes them
  * @line: a call such as "c0 queue 0 0 0", without a line feed
- * @out: takes the line of the entry with its line feed, *@written bytes; no 0 behind it
+ * @out: takes the line of the entry with its line feed, *@written bytes; no 0 after it
  * Return: as cmwq_step(); CMWQ_SHORT.
  */
 uint32_t cmwq_step_line(struct cmwq_book *book, const uint8_t *line, size_t line_len, uint8_t *out, size_t out_len, size_t *written);

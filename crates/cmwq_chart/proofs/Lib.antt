@@ -1,4 +1,3 @@
-pub mod Inside
 pub mod Known
 pub mod Few
 pub mod Marked

@@ -1,4 +1,4 @@
--- What a table of marks says of workers and of places.
+-- What a table of marks says, and what it says of workers.
 use Rattle.std.proofs.Common.{◌≡◌, ℕ, ◌+◌, ◌<◌, Bool, false, ◌||◌, List, [], ◌∷◌, length, get_or, take, Option, Some}
 use Rattle.std.proofs.Common.{refl, sym, ap, ap₂, ◌∙◌, arith, slice_get, replicate}
 use Rattle.std.proofs.lemmas.Bool.Decides.{nat_tests}
@@ -9,11 +9,8 @@ use Rattle.std.specs.List.{list_any}
 use Rattle.cmwq_model.specs.declared.entry.Entry.{Entry}
 use Rattle.cmwq_model.specs.declared.id.Who.TheVariants.{Worker}
 use Rattle.cmwq_model.specs.declared.id.WorkerId.{WorkerId}
-use Rattle.cmwq_model.specs.declared.record.Place.{Place}
-use Rattle.cmwq_model.specs.declared.record.Queueing.{Queueing}
-use Rattle.cmwq_model.specs.Prelude.{is_at, is_by, most_cpus, most_queues, most_workers}
+use Rattle.cmwq_model.specs.Prelude.{is_at, is_by, most_cpus, most_workers}
 use Rattle.cmwq_chart.specs.Lanes.{has_entries, most_lanes, lane_number_by, lane_number}
-use Rattle.cmwq_chart.specs.Levels.{has_queueings, most_places, level_number_of, level_number}
 use Rattle.cmwq_chart.specs.Marks.{AreMarks, IsMarked}
 
 module _ {X : Type 0} (number : X → Option ℕ) where
@@ -40,7 +37,8 @@ module _ {X : Type 0} (number : X → Option ℕ) where
   any_is p k [] same = refl
   any_is p k (x ∷ xs) same = ap₂ (λ a b. a || b) (same x) (any_is p k xs same)
 
-  marked : (p : X → Bool) (xs : List X) (n k : ℕ) (table : List Bool) (b : Bool) → AreMarks number xs n table → k < n
+  pub marked : (p : X → Bool) (xs : List X) (n k : ℕ) (table : List Bool) (b : Bool) → AreMarks number xs n table
+      → k < n
       → ((x : X) → is_at (number x) k ≡ p x) → slice_get table k ≡ Some b → b ≡ list_any p xs
   marked p xs n k table b are less same is = let all : slice_get table k ≡ Some (list_any p xs) =
       are.1 k less ∙ ap Some (any_is p k xs same) in cc
@@ -60,10 +58,3 @@ pub worker_marked : (entries : List Entry) (table : List Bool) (w : WorkerId) (b
 worker_marked entries table w b are here small is =
     marked lane_number_by (is_by (Worker w)) entries most_lanes (lane_number w) table b are (number_within w here small)
     (λ e. by_is w e here small) is
-
--- ---- places
-
-pub place_marked : (queueings : List Queueing) (table : List Bool) (p : Place) (b : Bool)
-    → AreMarks level_number_of queueings most_places table → p.queue.0 < most_queues → p.cpu.0 < most_cpus
-    → slice_get table (level_number p) ≡ Some b → b ≡ has_queueings queueings p
-place_marked queueings table p b are queue here is = grind arith

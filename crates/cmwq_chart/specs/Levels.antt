@@ -34,9 +34,11 @@ places_of_queue s q = map (place_on q) (range_with_len 0 s.cpus)
 abbrev pub most_places : ℕ
 most_places = most_cpus * most_queues
 
+abbrev pub all_places : Layout → List Place
+all_places s = flat_map (places_of_queue s) (range_with_len 0 (length s.queues))
+
 unfoldable pub places_of : Layout → List Queueing → List Place
-places_of s queueings =
-    filter (has_queueings queueings) (flat_map (places_of_queue s) (range_with_len 0 (length s.queues)))
+places_of s queueings = filter (has_queueings queueings) (all_places s)
 
 -- the layout has this queue, and may have this CPU
 abbrev pub IsPlaceOf : Layout → Place → Type 0

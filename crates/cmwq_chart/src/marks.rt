@@ -3,7 +3,7 @@ ghost use Rattle.std.specs.Prelude.{◌≡◌, ◌<◌, length, slice_get, Some}
 ghost use Rattle.cmwq_chart.specs.Marks as spec;
 
 /// Marks a number, if there is one and the table has it.
-pub(crate) fn mark(marks: &mut Vec<bool>, number: Option<usize>)
+pub fn mark(marks: &mut Vec<bool>, number: Option<usize>)
     ensures { spec.IsMarked marks.old.items marks.new.items number }
 {
     if let Some(number) = number {

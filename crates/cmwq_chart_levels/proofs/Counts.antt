@@ -17,10 +17,10 @@ use Rattle.cmwq_theory_steps.proofs.Endings.{open_go_on}
 use Rattle.cmwq_theory_steps.proofs.Options.{count_option}
 use Rattle.cmwq_theory_steps.proofs.Ended.{one_ends}
 use Rattle.cmwq_state.specs.Pwqs.{AreActiveCounts}
-use Rattle.cmwq_core.specs.History.{History}
 use Rattle.cmwq_chart.specs.Levels.{is_of_place, open_at, active_at, is_active_at, IsPlaceOf}
-use Rattle.cmwq_chart_levels.specs.declared.steps.Change.{Change}
-use Rattle.cmwq_chart_levels.specs.Turns.{is_one_of_place, IsFollowed}
+use Rattle.cmwq_state.specs.declared.effect.Effect.{Effect}
+use Rattle.cmwq_state.specs.Effects.{IsEffect}
+use Rattle.cmwq_chart_levels.specs.Turns.{is_one_of_place}
 
 pub open_goes_on : (s : Layout) (past : List Entry) (e : Entry) (p : Place) → IsLegal s (e ∷ past)
     → open_at (e ∷ past) p + one (is_one_of_place p (ending past e))
@@ -44,16 +44,16 @@ pub open_few : (past : List Entry) (p : Place) → open_at past p ≤ length (st
 open_few past p = count_by-le-length (is_of_place p) (still_open past)
 
 -- the same of what was read off an entry
-pub open_step : (h : History) (past : List Entry) (e : Entry) (change : Change) (p : Place) (before : ℕ)
-    (is_opened is_ended : Bool) → IsFollowed h past e change → before ≡ open_at past p
-    → is_opened ≡ is_one_of_place p change.opened → is_ended ≡ is_one_of_place p change.ended
-    → open_at (e ∷ past) p + one is_ended ≡ before + one is_opened
-open_step h past e change p before is_opened is_ended f was o n =
-    let opened : one is_opened ≡ one (is_one_of_place p (opening past e)) =
-    ap one (o ∙ ap (is_one_of_place p) f.does.opened) in
-    let ended : one is_ended ≡ one (is_one_of_place p (ending past e)) =
-    ap one (n ∙ ap (is_one_of_place p) f.does.ended) in
-    let step = open_goes_on h.layout past e p f.legal in
+pub open_step : (s : Layout) (past : List Entry) (f : Effect) (p : Place) (before : ℕ) (is_opened is_ended : Bool)
+    → IsEffect s past f → before ≡ open_at past p
+    → is_opened ≡ is_one_of_place p f.opened → is_ended ≡ is_one_of_place p f.ended
+    → open_at (f.entry ∷ past) p + one is_ended ≡ before + one is_opened
+open_step s past f p before is_opened is_ended is was o n =
+    let opened : one is_opened ≡ one (is_one_of_place p (opening past f.entry)) =
+    ap one (o ∙ ap (is_one_of_place p) is.opened) in
+    let ended : one is_ended ≡ one (is_one_of_place p (ending past f.entry)) =
+    ap one (n ∙ ap (is_one_of_place p) is.ended) in
+    let step = open_goes_on s past f.entry p is.legal in
     omega (arith, opened, ended, step, was)
 
 eqb-swap : (a b : ℕ) → (a == b) ≡ (b == a)

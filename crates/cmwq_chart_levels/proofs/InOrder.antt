@@ -8,16 +8,20 @@ use Rattle.std.proofs.lemmas.List.{get_or-map, get_or-take, get_or-drop, length-
 use Rattle.std.proofs.lemmas.Bool.{ltb-false}
 use Rattle.std.proofs.lemmas.List.Concat.{flat_map-cons}
 use Rattle.cmwq_lemmas.proofs.Lists.{All_map, All_append}
-use Rattle.cmwq_lemmas.proofs.Rising.{RisesBy, rises_filter}
+use Rattle.cmwq_lemmas.proofs.Rising.{RisesBy}
 use Rattle.cmwq_model.specs.declared.entry.Entry.{Entry}
 use Rattle.cmwq_model.specs.declared.record.Place.{Place}
-use Rattle.cmwq_model.specs.declared.record.Queueing.{Queueing}
 use Rattle.cmwq_model.proofs.Limits.{limits_of}
 use Rattle.cmwq_model.specs.Prelude.{Layout, is_layout, most_cpus}
 use Rattle.cmwq_chart.specs.declared.levels.Level.{Level}
-use Rattle.cmwq_chart.specs.Levels.{has_queueings, level_number, level_until, levels_left, place_on, places_of_queue}
-use Rattle.cmwq_chart.specs.Levels.{places_of}
+use Rattle.cmwq_chart.specs.Levels.{all_places, level_number, level_until, levels_left, place_on, places_of_queue}
 use Rattle.cmwq_chart_levels.specs.Affected.{AreLevelsInOrder}
+
+pub at_each : {X : Type 0} (P : X → Type 0) (xs : List X) (i : ℕ) (d : X) → i < length xs → AllByRecursion P xs
+    → P (get_or xs i d)
+at_each P [] i d less all = absurd (omega arith)
+at_each P (x ∷ xs) zero d less all = all.0
+at_each P (x ∷ xs) (suc i) d less all = at_each P xs i d (omega arith) all.1
 
 module _ {X : Type 0} (f : X → ℕ) where
   rises_append : (xs ys : List X) (m : ℕ) → RisesBy f xs → RisesBy f ys → AllByRecursion (λ x. f x < m) xs
@@ -27,11 +31,6 @@ module _ {X : Type 0} (f : X → ℕ) where
     All_append (λ y. f x < f y) xs ys first.0 (All_map _ _ ys (λ y k. omega (arith, k, below.0)) from),
     rises_append xs ys m first.1 second below.1 from,
   )
-
-  at_each : (P : X → Type 0) (xs : List X) (i : ℕ) (d : X) → i < length xs → AllByRecursion P xs → P (get_or xs i d)
-  at_each P [] i d less all = absurd (omega arith)
-  at_each P (x ∷ xs) zero d less all = all.0
-  at_each P (x ∷ xs) (suc i) d less all = at_each P xs i d (omega arith) all.1
 
   in_order : (xs : List X) → RisesBy f xs → IsNonDecreasingBy f xs
   in_order [] rises i j d le less = absurd (omega arith)
@@ -74,13 +73,9 @@ of_queues s q (suc n) few =
           (All_append (λ p. 64 * q ≤ level_number p) (places_of_queue s q) _ lowest higher),
     )
 
-pub places_in_order : (s : Layout) (queueings : List Queueing) → IsTrue (is_layout s)
-    → IsNonDecreasingBy level_number (places_of s queueings)
-unfolding places_of
-places_in_order s queueings inside =
-    in_order level_number (places_of s queueings)
-    (rises_filter level_number (has_queueings queueings) _
-    (of_queues s 0 (length s.queues) (limits_of s inside).cpus.1).0)
+pub all_in_order : (s : Layout) → IsTrue (is_layout s) → IsNonDecreasingBy level_number (all_places s)
+all_in_order s inside =
+    in_order level_number (all_places s) (of_queues s 0 (length s.queues) (limits_of s inside).cpus.1).0
 
 pub levels_in_order : (s : Layout) (past : List Entry) (places : List Place) → IsNonDecreasingBy level_number places
     → AreLevelsInOrder (levels_left s past places)

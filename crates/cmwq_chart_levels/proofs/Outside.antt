@@ -24,8 +24,9 @@ use Rattle.cmwq_chart.specs.Levels.{height_at, level_number}
 use Rattle.cmwq_chart_levels.specs.declared.affected.PlaceRange.{PlaceRange}
 use Rattle.cmwq_chart_levels.specs.declared.affected.AffectedPlaces.{AffectedPlaces}
 use Rattle.cmwq_chart_levels.specs.declared.affected.AffectedPlaces.TheVariants.{Nowhere, Within, Everywhere}
-use Rattle.cmwq_chart_levels.specs.declared.steps.Change.{Change}
-use Rattle.cmwq_chart_levels.specs.Turns.{is_one_of_place, IsFollowed, IsLevelAfter, ended_levels, level_after}
+use Rattle.cmwq_state.specs.declared.effect.Effect.{Effect}
+use Rattle.cmwq_state.specs.Effects.{IsEffect}
+use Rattle.cmwq_chart_levels.specs.Turns.{is_one_of_place, IsLevelAfter, ended_levels, level_after}
 use Rattle.cmwq_chart_levels.specs.Affected.{is_width, keeps_width, moves_at, affects, has_level_number, AreAffected}
 use Rattle.cmwq_chart_levels.specs.Affected.{IsOnlyWithin}
 use Rattle.cmwq_chart_levels.proofs.Unmoved.{height_stays, none_left, stays_level}
@@ -58,14 +59,12 @@ none_of true false true h = cc
 none_of true true c h = cc
 none_of false o c h = cc
 
-pub unaffected : (h : _) (past : List Entry) (e : Entry) (change : Change) (p : Place) → IsFollowed h past e change
-    → affects e change p ≡ false → height_at h.layout (e ∷ past) p ≡ height_at h.layout past p
-unaffected h past e change p followed none =
-    let all =
-    none_of (keeps_width e p.queue.0) (is_one_of_place p change.opened) (is_one_of_place p change.ended) none in
-    height_stays h.layout past e p followed.legal (width_kept h.layout past e p.queue.0 all.0)
-    (ap (is_one_of_place p) (sym followed.does.opened) ∙ all.1) (ap (is_one_of_place p) (sym followed.does.ended)
-    ∙ all.2)
+pub unaffected : (s : Layout) (past : List Entry) (f : Effect) (p : Place) → IsEffect s past f → affects f p ≡ false
+    → height_at s (f.entry ∷ past) p ≡ height_at s past p
+unaffected s past f p is none =
+    let all = none_of (keeps_width f.entry p.queue.0) (is_one_of_place p f.opened) (is_one_of_place p f.ended) none in
+    height_stays s past f.entry p is.legal (width_kept s past f.entry p.queue.0 all.0)
+    (ap (is_one_of_place p) (sym is.opened) ∙ all.1) (ap (is_one_of_place p) (sym is.ended) ∙ all.2)
 
 -- ---- fewer places are affected
 
@@ -83,73 +82,71 @@ fewer f g less Everywhere h = tt
 elsewhere : (p at : Place) → (level_number p == level_number at) ≡ false → same_place p at ≡ false
 elsewhere p at h = same_bools _ _ (λ k. grind (arith, nat_tests)) (λ k. cc)
 
-pub both_moved : (change : Change) (x y : Queueing) (a : AffectedPlaces)
-    → (change.opened ≡ Some x) × (change.ended ≡ Some y)
-    → AreAffected (has_level_number (level_number x.place) (level_number y.place)) a → AreAffected (moves_at change) a
-both_moved change x y a is h = fewer _ (moves_at change) (λ p none.
+pub both_moved : (f : Effect) (x y : Queueing) (a : AffectedPlaces) → (f.opened ≡ Some x) × (f.ended ≡ Some y)
+    → AreAffected (has_level_number (level_number x.place) (level_number y.place)) a → AreAffected (moves_at f) a
+both_moved f x y a is h = fewer _ (moves_at f) (λ p none.
     let first : same_place p x.place ≡ false = elsewhere p x.place (or_parts _ _ none).0 in
     let second : same_place p y.place ≡ false = elsewhere p y.place (or_parts _ _ none).1 in
     rw (is.0, is.1, first, second) refl) a h
 
 -- ---- what of the levels is outside
 
-module _ (h : _) (past : List Entry) (e : Entry) (change : Change) (followed : IsFollowed h past e change) where
+module _ (s : Layout) (past : List Entry) (f : Effect) (is_effect : IsEffect s past f) where
   abbrev pub Stays : Level → Type 0
-  Stays l = affects e change l.place ≡ false
+  Stays l = affects f l.place ≡ false
 
   -- where no place is
-  pub none_affected : (xs : List Level) → All (IsLevelAfter h.layout past) xs
-      → ((p : Place) → p.cpu.0 < most_cpus → affects e change p ≡ false) → All Stays xs
+  pub none_affected : (xs : List Level) → All (IsLevelAfter s past) xs
+      → ((p : Place) → p.cpu.0 < most_cpus → affects f p ≡ false) → All Stays xs
   none_affected xs go none = λ k d less. none _ (go k d less).inside.1
 
-  pub all_stay : (xs : List Level) → All (IsLevelAfter h.layout past) xs → All Stays xs
-      → map (level_after h.layout (e ∷ past)) xs ≡ xs
+  pub all_stay : (xs : List Level) → All (IsLevelAfter s past) xs → All Stays xs
+      → map (level_after s (f.entry ∷ past)) xs ≡ xs
   all_stay [] go stay = refl
   all_stay (x ∷ xs) go stay =
       ap₂ (λ y ys. y ∷ ys)
-      (sym (stays_level h.layout past e x (go 0 x (omega arith))
-      (unaffected h past e change x.place followed (stay 0 x (omega arith)))))
-      (all_stay xs (All-tail (IsLevelAfter h.layout past) x xs go) (All-tail Stays x xs stay))
+      (sym (stays_level s past f.entry x (go 0 x (omega arith))
+      (unaffected s past f x.place is_effect (stay 0 x (omega arith)))))
+      (all_stay xs (All-tail (IsLevelAfter s past) x xs go) (All-tail Stays x xs stay))
 
-  pub none_end : (xs : List Level) → All Stays xs → flat_map (ended_levels h.layout past e) xs ≡ []
+  pub none_end : (xs : List Level) → All Stays xs → flat_map (ended_levels s past f.entry) xs ≡ []
   none_end [] stay = refl
-  none_end (x ∷ xs) stay = flat_map-cons (ended_levels h.layout past e) x xs
+  none_end (x ∷ xs) stay = flat_map-cons (ended_levels s past f.entry) x xs
       ∙ ap₂ (λ a b. a ++ b)
       (ap option_to_list
-      (sym (none_left h.layout past e x.place
-      (unaffected h past e change x.place followed (stay 0 x (omega arith))))))
+      (sym (none_left s past f.entry x.place (unaffected s past f x.place is_effect (stay 0 x (omega arith))))))
       (none_end xs (All-tail Stays x xs stay))
 
   -- outside a range
-  pub low_stays : (xs : List Level) (range : PlaceRange) (i : ℕ) → All (IsOnlyWithin (affects e change) range) xs
+  pub low_stays : (xs : List Level) (range : PlaceRange) (i : ℕ) → All (IsOnlyWithin (affects f) range) xs
       → All (λ l. level_number l.place < range.from) (take i xs) → All Stays (take i xs)
   low_stays xs range i only below =
-      λ k d less. ((All-take (IsOnlyWithin (affects e change) range) i xs only) k d less).before (below k d less)
+      λ k d less. ((All-take (IsOnlyWithin (affects f) range) i xs only) k d less).before (below k d less)
 
-  pub high_stays : (xs : List Level) (range : PlaceRange) (i j : ℕ) → All (IsOnlyWithin (affects e change) range) xs
+  pub high_stays : (xs : List Level) (range : PlaceRange) (i j : ℕ) → All (IsOnlyWithin (affects f) range) xs
       → All (λ l. range.end ≤ level_number l.place) (drop j (drop i xs)) → All Stays (drop j (drop i xs))
   high_stays xs range i j only from =
       λ k d less.
-      ((All-drop (IsOnlyWithin (affects e change) range) j (drop i xs)
-      (All-drop (IsOnlyWithin (affects e change) range) i xs only)) k d less).behind (from k d less)
+      ((All-drop (IsOnlyWithin (affects f) range) j (drop i xs) (All-drop (IsOnlyWithin (affects f) range) i xs only)) k
+      d less).behind (from k d less)
 
   -- so it is enough to turn those inside
-  pub range_turned : (xs part : List Level) (i j : ℕ) → All (IsLevelAfter h.layout past) xs → All Stays (take i xs)
-      → All Stays (drop j (drop i xs)) → part ≡ map (level_after h.layout (e ∷ past)) (take j (drop i xs))
-      → take i xs ++ (part ++ drop j (drop i xs)) ≡ map (level_after h.layout (e ∷ past)) xs
+  pub range_turned : (xs part : List Level) (i j : ℕ) → All (IsLevelAfter s past) xs → All Stays (take i xs)
+      → All Stays (drop j (drop i xs)) → part ≡ map (level_after s (f.entry ∷ past)) (take j (drop i xs))
+      → take i xs ++ (part ++ drop j (drop i xs)) ≡ map (level_after s (f.entry ∷ past)) xs
   range_turned xs part i j go low high is =
-      let f = level_after h.layout (e ∷ past) in
-      let P = IsLevelAfter h.layout past in
+      let turn = level_after s (f.entry ∷ past) in
+      let P = IsLevelAfter s past in
       let rest = drop i xs in
       ap₂ (λ a b. a ++ b) (sym (all_stay (take i xs) (All-take P i xs go) low))
       (ap₂ (λ a b. a ++ b) is (sym (all_stay (drop j rest) (All-drop P j rest (All-drop P i xs go)) high))
-      ∙ sym (map-append f (take j rest) (drop j rest)) ∙ ap (map f) (take-append-drop j rest))
-      ∙ sym (map-append f (take i xs) rest) ∙ ap (map f) (take-append-drop i xs)
+      ∙ sym (map-append turn (take j rest) (drop j rest)) ∙ ap (map turn) (take-append-drop j rest))
+      ∙ sym (map-append turn (take i xs) rest) ∙ ap (map turn) (take-append-drop i xs)
 
   pub range_ended : (xs : List Level) (i j : ℕ) → All Stays (take i xs) → All Stays (drop j (drop i xs))
-      → flat_map (ended_levels h.layout past e) (take j (drop i xs)) ≡ flat_map (ended_levels h.layout past e) xs
+      → flat_map (ended_levels s past f.entry) (take j (drop i xs)) ≡ flat_map (ended_levels s past f.entry) xs
   range_ended xs i j low high =
-      let g = ended_levels h.layout past e in
+      let g = ended_levels s past f.entry in
       let rest = drop i xs in
       sym (append-nil (flat_map g (take j rest)))
       ∙ ap (λ l. flat_map g (take j rest) ++ l) (sym (none_end (drop j rest) high))

@@ -9,17 +9,12 @@ use Rattle.std.proofs.lemmas.List.Folds.{flat_map-map}
 use Rattle.std.proofs.Math.Seq.{get_or-append_right}
 use Rattle.cmwq_model.specs.declared.entry.Entry.{Entry}
 use Rattle.cmwq_model.specs.declared.record.Place.{Place}
-use Rattle.cmwq_model.specs.Prelude.{Layout, IsLegal, past_of}
-use Rattle.cmwq_core.specs.History.{History, past_in, with_entry}
+use Rattle.cmwq_model.specs.Prelude.{Layout}
 use Rattle.cmwq_chart.specs.declared.levels.Height.{Height}
 use Rattle.cmwq_chart.specs.declared.levels.Level.{Level}
 use Rattle.cmwq_chart.specs.Levels.{height_at, is_changed, changes_level, level_from, level_until, level_ended}
 use Rattle.cmwq_chart.specs.Levels.{levels_ended, levels_left, IsPlaceOf}
-use Rattle.cmwq_model.proofs.Growing.{past_more}
-use Rattle.cmwq_chart.proofs.Steps.{legal_step}
-use Rattle.cmwq_chart_levels.specs.Turns.{IsLevelAfter, IsChangeOf, IsFollowed, after_if, ended_if, ended_levels}
-use Rattle.cmwq_chart_levels.specs.Turns.{level_after}
-use Rattle.cmwq_chart_levels.specs.declared.steps.Change.{Change}
+use Rattle.cmwq_chart_levels.specs.Turns.{IsLevelAfter, after_if, ended_if, ended_levels, level_after}
 
 module _ (s : Layout) (past : List Entry) (e : Entry) where
   pub turned : (x : Level) (changed : Bool) (height : Height) (n : ℕ) → IsLevelAfter s past x → n ≡ length past
@@ -79,66 +74,17 @@ pub ended_again : (s : Layout) (past : List Entry) (e : Entry) (places : List Pl
     ≡ flat_map (λ p. option_to_list (level_ended s past e p)) places
 ended_again s past e places = flat_map-map (ended_levels s past e) (level_until s past None) places
 
--- the entry with number i is the next of a history that was followed up to it
-pub legal_next : (s : Layout) (entries : List Entry) (i : ℕ) (e : Entry) (h : History) → i < length entries
-    → e ≡ get_or entries i e → h.layout ≡ s → h.entries ≡ take i entries → IsLegal s (past_of entries)
-    → IsLegal h.layout (e ∷ past_in h)
-legal_next s entries i e h less is layout so_far legal =
-    let step : IsLegal s (e ∷ past_of (take i entries)) =
-    subst (λ x. IsLegal s (x ∷ past_of (take i entries))) (sym is) (legal_step s entries i e less legal) in
-    subst (λ l. IsLegal l (e ∷ past_in h)) (sym layout) (subst (λ xs. IsLegal s (e ∷ past_of xs)) (sym so_far) step)
-
-pub entries_next : (entries : List Entry) (i : ℕ) (e : Entry) (h : History) → i < length entries
-    → e ≡ get_or entries i e → h.entries ≡ take i entries → (with_entry h e).entries ≡ take (i + 1) entries
-entries_next entries i e h less is so_far = ap (λ xs. xs ++ e ∷ []) so_far ∙ ap (λ x. take i entries ++ x ∷ []) is
-    ∙ sym (take_more entries i e less)
-
-pub past_next : (entries : List Entry) (i : ℕ) (e : Entry) → i < length entries → e ≡ get_or entries i e
-    → past_of (take (i + 1) entries) ≡ e ∷ past_of (take i entries)
-past_next entries i e less is = past_more entries i e less ∙ ap (λ x. x ∷ past_of (take i entries)) (sym is)
-
-module _ (s : Layout) (entries : List Entry) (i : ℕ) (e : Entry) (h g : History) (less : i < length entries)
-    (is : e ≡ get_or entries i e) (layout : h.layout ≡ s) (so_far : h.entries ≡ take i entries)
-    (made : g ≡ with_entry h e) where
-  same_layout : g.layout ≡ s
-  same_layout = ap (λ (k : History). k.layout) made ∙ layout
-
-  pub followed_next : (change : Change) → IsLegal s (past_of entries) → IsChangeOf (past_in h) e change
-      → IsFollowed g (past_of (take i entries)) e change
-  followed_next change legal does = record {
-    legal = subst (λ l. IsLegal l (e ∷ past_of (take i entries))) (sym same_layout)
-        (subst (λ x. IsLegal s (x ∷ past_of (take i entries))) (sym is) (legal_step s entries i e less legal));
-    followed = ap past_in made ∙ ap past_of (entries_next entries i e h less is so_far) ∙ past_next entries i e less is;
-    does = subst (λ xs. IsChangeOf (past_of xs) e change) so_far does;
-  }
-
-  pub running_goes_on : (places : List Place) (running : List Level) → All (IsPlaceOf s) places
-      → running ≡ levels_left s (past_of (take i entries)) places
-      → All (IsLevelAfter g.layout (past_of (take i entries))) running
-  running_goes_on places running inside now =
-      subst (λ l. All (IsLevelAfter l (past_of (take i entries))) running) (sym same_layout)
-      (subst (All (IsLevelAfter s (past_of (take i entries)))) (sym now)
-      (all_go_on s (past_of (take i entries)) places inside))
-
-  pub levels_next : (places : List Place) (running old new : List Level)
-      → running ≡ levels_left s (past_of (take i entries)) places
-      → old ≡ levels_ended s (past_of (take i entries)) places
-      → new ≡ old ++ flat_map (ended_levels g.layout (past_of (take i entries)) e) running
-      → new ≡ levels_ended s (past_of (take (i + 1) entries)) places
+-- with one entry more
+module _ (s : Layout) (past : List Entry) (e : Entry) (places : List Place) where
+  pub levels_next : (running old new : List Level) → running ≡ levels_left s past places
+      → old ≡ levels_ended s past places → new ≡ old ++ flat_map (ended_levels s past e) running
+      → new ≡ levels_ended s (e ∷ past) places
   unfolding levels_ended
-  levels_next places running old new now before more =
-      more ∙ ap (λ l. old ++ flat_map (ended_levels l (past_of (take i entries)) e) running) same_layout
-      ∙ ap₂ (λ a b. a ++ flat_map (ended_levels s (past_of (take i entries)) e) b) before now
-      ∙ ap (λ l. levels_ended s (past_of (take i entries)) places ++ l)
-      (ended_again s (past_of (take i entries)) e places)
-      ∙ ap (λ past. levels_ended s past places) (sym (past_next entries i e less is))
+  levels_next running old new now before more =
+      more ∙ ap₂ (λ a b. a ++ flat_map (ended_levels s past e) b) before now
+      ∙ ap (λ l. levels_ended s past places ++ l) (ended_again s past e places)
 
-  pub running_next : (places : List Place) (running new : List Level)
-      → running ≡ levels_left s (past_of (take i entries)) places
-      → new ≡ map (level_after g.layout (e ∷ past_of (take i entries))) running
-      → new ≡ levels_left s (past_of (take (i + 1) entries)) places
-  running_next places running new now more =
-      more ∙ ap (λ l. map (level_after l (e ∷ past_of (take i entries))) running) same_layout
-      ∙ ap (map (level_after s (e ∷ past_of (take i entries)))) now
-      ∙ left_again s (past_of (take i entries)) (e ∷ past_of (take i entries)) places
-      ∙ ap (λ past. levels_left s past places) (sym (past_next entries i e less is))
+  pub running_next : (running new : List Level) → running ≡ levels_left s past places
+      → new ≡ map (level_after s (e ∷ past)) running → new ≡ levels_left s (e ∷ past) places
+  running_next running new now more = more ∙ ap (map (level_after s (e ∷ past))) now
+      ∙ left_again s past (e ∷ past) places

@@ -27,9 +27,9 @@ use Rattle.cmwq_chart.specs.declared.levels.Height.{Height}
 use Rattle.cmwq_chart.specs.declared.levels.Level.{Level}
 use Rattle.cmwq_chart.specs.Levels.{is_of_place, open_at, active_at, is_active_at, height_at, is_same_height}
 use Rattle.cmwq_chart.specs.Levels.{changes_level, level_ended, level_until}
-use Rattle.cmwq_chart_levels.specs.declared.steps.Change.{Change}
-use Rattle.cmwq_chart_levels.specs.Turns.{is_one_of_place, may_change, IsFollowed, IsLevelAfter, ended_levels}
-use Rattle.cmwq_chart_levels.specs.Turns.{level_after}
+use Rattle.cmwq_state.specs.declared.effect.Effect.{Effect}
+use Rattle.cmwq_state.specs.Effects.{IsEffect}
+use Rattle.cmwq_chart_levels.specs.Turns.{is_one_of_place, may_change, IsLevelAfter, ended_levels, level_after}
 use Rattle.cmwq_chart_levels.proofs.Counts.{open_goes_on, is_on_is}
 use Rattle.cmwq_chart_levels.proofs.Turned.{turned, one_more_ended}
 
@@ -135,14 +135,12 @@ no_change true false true h = cc
 no_change true true c h = cc
 no_change false o c h = cc
 
-pub unmoved : (h : _) (past : List Entry) (e : Entry) (change : Change) (p : Place) → IsFollowed h past e change
-    → may_change change e.reply p ≡ false → height_at h.layout (e ∷ past) p ≡ height_at h.layout past p
-unmoved h past e change p followed none =
-    let all =
-    no_change (keeps_widths e.reply) (is_one_of_place p change.opened) (is_one_of_place p change.ended) none in
-    height_stays h.layout past e p followed.legal (width_same h.layout past e p.queue.0 all.0)
-    (ap (is_one_of_place p) (sym followed.does.opened) ∙ all.1) (ap (is_one_of_place p) (sym followed.does.ended)
-    ∙ all.2)
+pub unmoved : (s : Layout) (past : List Entry) (f : Effect) (p : Place) → IsEffect s past f → may_change f p ≡ false
+    → height_at s (f.entry ∷ past) p ≡ height_at s past p
+unmoved s past f p is none =
+    let all = no_change (keeps_widths f.entry.reply) (is_one_of_place p f.opened) (is_one_of_place p f.ended) none in
+    height_stays s past f.entry p is.legal (width_same s past f.entry p.queue.0 all.0)
+    (ap (is_one_of_place p) (sym is.opened) ∙ all.1) (ap (is_one_of_place p) (sym is.ended) ∙ all.2)
 
 same_height : (h : Height) → is_same_height h h ≡ true
 same_height h =

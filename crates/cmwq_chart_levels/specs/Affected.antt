@@ -12,7 +12,7 @@ use Rattle.cmwq_chart.specs.Levels.{level_number}
 use Rattle.cmwq_chart_levels.specs.declared.affected.AffectedPlaces.{AffectedPlaces}
 use Rattle.cmwq_chart_levels.specs.declared.affected.AffectedPlaces.TheVariants.{Nowhere, Within, Everywhere}
 use Rattle.cmwq_chart_levels.specs.declared.affected.PlaceRange.{PlaceRange}
-use Rattle.cmwq_chart_levels.specs.declared.steps.Change.{Change}
+use Rattle.cmwq_state.specs.declared.effect.Effect.{Effect}
 use Rattle.cmwq_chart_levels.specs.Turns.{is_one_of_place}
 
 -- ---- it gives the place's queue another width, or opens or ends something there
@@ -23,11 +23,11 @@ is_width r = false
 abbrev pub keeps_width : Entry → ℕ → Bool
 keeps_width e q = keeps_widths e.reply || (is_width e.reply && not (sets_max e.call q))
 
-abbrev pub moves_at : Change → Place → Bool
-moves_at change p = is_one_of_place p change.opened || is_one_of_place p change.ended
+abbrev pub moves_at : Effect → Place → Bool
+moves_at f p = is_one_of_place p f.opened || is_one_of_place p f.ended
 
-abbrev pub affects : Entry → Change → Place → Bool
-affects e change p = not (keeps_width e p.queue.0) || moves_at change p
+abbrev pub affects : Effect → Place → Bool
+affects f p = not (keeps_width f.entry p.queue.0) || moves_at f p
 
 -- ---- as ranges of the places' numbers
 abbrev pub has_level_number : ℕ → ℕ → Place → Bool

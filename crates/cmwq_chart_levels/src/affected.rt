@@ -3,8 +3,8 @@ ghost use Rattle.std.specs.Prelude.{◌≡◌, ◌≤◌, ◌==◌};
 ghost use Rattle.cmwq_chart.specs.Levels.{level_number};
 ghost use Rattle.cmwq_chart_levels.specs.Affected as spec;
 
-use crate::steps::Change;
-use cmwq_model::{Call, Entry, Place, QueueId, Reply};
+use cmwq_model::{Call, Place, QueueId, Reply};
+use cmwq_state::Effect;
 
 /// The places with the numbers from one up to an end.
 #[derive(Clone, Copy)]
@@ -48,10 +48,10 @@ fn two_places(one: Place, other: Place) -> AffectedPlaces
 }
 
 /// The places of what an entry opens and ends.
-fn places_moved(change: &Change) -> AffectedPlaces
-    ensures { spec.AreAffected (spec.moves_at change.now) result }
+fn places_moved(effect: &Effect) -> AffectedPlaces
+    ensures { spec.AreAffected (spec.moves_at effect.now) result }
 {
-    match (change.opened, change.ended) {
+    match (effect.opened, effect.ended) {
         (None, None) => AffectedPlaces::Nowhere,
         (Some(opened), None) => two_places(opened.place, opened.place),
         (None, Some(ended)) => two_places(ended.place, ended.place),
@@ -68,14 +68,14 @@ fn places_of_queue(queue: QueueId) -> AffectedPlaces
     AffectedPlaces::Within(PlaceRange { from, end }, PlaceRange { from: end, end })
 }
 
-/// The places at which an entry, which opens and ends this, may change the height.
-pub(crate) fn places_affected(change: &Change, entry: Entry) -> AffectedPlaces
-    ensures { spec.AreAffected (spec.affects entry change.now) result }
+/// The places at which an entry that does this may change the height.
+pub(crate) fn places_affected(effect: &Effect) -> AffectedPlaces
+    ensures { spec.AreAffected (spec.affects effect.now) result }
 {
-    match (entry.reply, entry.call) {
+    match (effect.entry.reply, effect.entry.call) {
         (Reply::Width(_), Call::SetMax { queue, .. })
-            if change.opened.is_none() && change.ended.is_none() => { places_of_queue(queue) }
+            if effect.opened.is_none() && effect.ended.is_none() => { places_of_queue(queue) }
         (Reply::Width(_) | Reply::Frozen | Reply::Thawed, _) => AffectedPlaces::Everywhere,
-        _ => places_moved(change),
+        _ => places_moved(effect),
     }
 }

@@ -1,15 +1,15 @@
 //! How high a level is.
-ghost use Rattle.std.specs.Prelude.{◌≡◌, ◌+◌, ◌∷◌, ◌≤◌};
-ghost use Rattle.cmwq_model.specs.Prelude.{past_of};
+ghost use Rattle.std.specs.Prelude.{◌≡◌, ◌+◌, ◌≤◌};
 ghost use Rattle.cmwq_theory_steps.specs.Histories.{one};
-ghost use Rattle.cmwq_core.specs.History.{past_in};
+ghost use Rattle.cmwq_state.specs.Effects.{IsEffect};
+ghost use Rattle.cmwq_history.specs.Steps.{after};
 ghost use Rattle.cmwq_chart.specs.Levels as spec;
-ghost use Rattle.cmwq_chart_levels.specs.Turns.{IsFollowed, is_one_of_place, may_change};
+ghost use Rattle.cmwq_chart_levels.specs.Turns.{is_one_of_place, may_change};
 
-use crate::steps::Change;
 use cmwq_chart::Height;
-use cmwq_core::Execution;
-use cmwq_model::{Entry, MOST_CPUS, Place, Queueing, Reply};
+use cmwq_history::Step;
+use cmwq_model::{MOST_CPUS, Place, Queueing, Reply};
+use cmwq_state::Effect;
 
 /// Whether there is a queueing, and it is of this place.
 fn is_of_place(place: Place, queueing: Option<Queueing>) -> bool
@@ -36,64 +36,51 @@ fn open_after(before: u32, is_opened: bool, is_ended: bool) -> u32
     }
 }
 
-/// How many queueings of this place are open after an entry after these.
-fn open_at(
-    execution: &Execution,
-    change: &Change,
-    entries: &[Entry],
-    entry: Entry,
-    before: u32,
-    place: Place,
-) -> u32
-    requires followed { IsFollowed execution.now (past_of entries.now) entry change.now }
-    requires before { before ≡ spec.open_at (past_of entries.now) place }
-    ensures { result ≡ spec.open_at (entry ∷ past_of entries.now) place }
+/// How many queueings of this place are open after an entry.
+fn open_at(step: &Step<'_>, before: u32, place: Place) -> u32
+    requires { before ≡ spec.open_at step.now.past place }
+    ensures { result ≡ spec.open_at (after step.now) place }
 {
     // it shows that they are few
-    let _all = execution.open_count();
-    let is_opened = is_of_place(place, change.opened);
-    let is_ended = is_of_place(place, change.ended);
+    let _all = step.open_count();
+    let effect = step.effect();
+    let is_opened = is_of_place(place, effect.opened);
+    let is_ended = is_of_place(place, effect.ended);
     open_after(before, is_opened, is_ended)
 }
 
 /// How many of them are active.
 #[tactic(auto, using(crate::proofs::Counts::active_count_is))]
-fn active_at(execution: &Execution, place: Place) -> u32
-    requires { spec.IsPlaceOf execution.now.layout place }
-    ensures { result ≡ spec.active_at execution.now.layout (past_in execution.now) place }
+fn active_at(step: &Step<'_>, place: Place) -> u32
+    requires { spec.IsPlaceOf step.now.layout place }
+    ensures { result ≡ spec.active_at step.now.layout (after step.now) place }
 {
     let cpus = usize::from(MOST_CPUS);
-    execution.active_counts()[cpus * usize::from(place.queue.0) + usize::from(place.cpu.0)]
+    step.active_counts()[cpus * usize::from(place.queue.0) + usize::from(place.cpu.0)]
 }
 
-/// The height of a place after an entry after these, of which that before it is known.
-pub(crate) fn height_after(
-    execution: &Execution,
-    change: &Change,
-    entries: &[Entry],
-    entry: Entry,
-    before: Height,
-    place: Place,
-) -> Height
-    requires followed { IsFollowed execution.now (past_of entries.now) entry change.now }
-    requires before { before ≡ spec.height_at execution.now.layout (past_of entries.now) place }
-    requires inside { spec.IsPlaceOf execution.now.layout place }
-    ensures { result ≡ spec.height_at execution.now.layout (entry ∷ past_of entries.now) place }
+/// The height of a place after an entry, of which that before it is known.
+pub(crate) fn height_after(step: &Step<'_>, before: Height, place: Place) -> Height
+    requires before { before ≡ spec.height_at step.now.layout step.now.past place }
+    requires inside { spec.IsPlaceOf step.now.layout place }
+    ensures { result ≡ spec.height_at step.now.layout (after step.now) place }
 {
     Height {
-        open_count: open_at(execution, change, entries, entry, before.open_count, place),
-        active_count: active_at(execution, place),
-        width: execution.width(place.queue),
+        open_count: open_at(step, before.open_count, place),
+        active_count: active_at(step, place),
+        width: step.width(place.queue),
     }
 }
 
-/// Whether an entry with this reply, which opens and ends this, may change the height of a place.
-pub(crate) fn may_change(change: &Change, reply: Reply, place: Place) -> bool
-    ensures { result ≡ may_change change.now reply place }
+/// Whether an entry that does this may change the height of a place.
+pub(crate) fn may_change(effect: &Effect, place: Place) -> bool
+    ensures { result ≡ may_change effect.now place }
 {
-    matches!(reply, Reply::Width(_) | Reply::Frozen | Reply::Thawed)
-        || is_of_place(place, change.opened)
-        || is_of_place(place, change.ended)
+    matches!(
+        effect.entry.reply,
+        Reply::Width(_) | Reply::Frozen | Reply::Thawed
+    ) || is_of_place(place, effect.opened)
+        || is_of_place(place, effect.ended)
 }
 
 /// Whether after so many entries the one height makes another level than the other.

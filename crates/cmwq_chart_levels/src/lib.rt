@@ -1,12 +1,12 @@
-//! The shapes of a legal history; its levels, what is open and active of each queue on each CPU, are found by executing
-//! it again.
+//! The shapes of a legal history, of what is kept while it is read: its entries, and its levels, which are what is open
+//! and active of each queue on each CPU.
 #![tactic(auto)]
 
 mod affected;
 mod heights;
 mod levels;
-mod queueings;
+mod seen;
 mod shapes;
-mod steps;
 
+pub use seen::Seen;
 pub use shapes::shapes_of;

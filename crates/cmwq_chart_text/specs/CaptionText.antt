@@ -12,7 +12,7 @@ caption_template = codes "<text class=\"item\" x=\"$\" y=\"$\">$</text>\n"
 -- how wide a bar must be for the digits of its item
 unfoldable pub caption_width : ℕ → ℕ
 caption_width item = if nat_lt item 10 then 10 else if nat_lt item 100 then 17 else if nat_lt item 1000 then 24
-    else if nat_lt item 10000 then 30 else 36
+    else if nat_lt item 10000 then 31 else 37
 
 abbrev pub has_caption : Page → Bar → ℕ → Bool
 has_caption p bar band = nat_le (caption_width bar.item.0) (span_width p bar.from bar.to band)

@@ -36,10 +36,10 @@ row_number (Caller lane) = caller_row_number lane.caller
 row_number (Worker w) = worker_row_number w
 row_number (OfPlace p) = place_row_number p
 
--- that of a caller has those of its waits below it
+-- that of a caller has those of its waits below it, and that of a worker its signs below its bars
 abbrev pub row_height : Row → ℕ
 row_height (Caller lane) = 18 * (1 + lane.rows)
-row_height (Worker w) = 18
+row_height (Worker w) = 28
 row_height (OfPlace p) = 36
 
 abbrev pub drawn_rows : List CallerLane → List WorkerId → List Place → List Row

@@ -3,6 +3,8 @@ use Rattle.std.specs.Prelude.{ℕ, ◌+◌, ◌%◌, ◌&&◌, Bool, true, false
 use Rattle.std.specs.Prelude.{nat_le, nat_lt, slice_get}
 use Rattle.std.specs.Option.{option_map_or}
 use Rattle.cmwq_model.specs.declared.entry.Entry.{Entry}
+use Rattle.cmwq_model.specs.declared.id.Who.{Who}
+use Rattle.cmwq_model.specs.declared.id.Who.TheVariants as who
 use Rattle.cmwq_text.specs.EntryText.{entry_text}
 use Rattle.cmwq_chart.specs.declared.signs.Sign.{Sign}
 use Rattle.cmwq_chart.specs.declared.signs.SignKind.{SignKind}
@@ -39,8 +41,13 @@ sign_template kind.Changed = codes "<path class=\"mark changed k$\" d=\"M$ $m-3 
 sign_template kind.Refused =
     codes "<path class=\"mark refused k$\" d=\"M$ $m-1.5 0a1.5 1.5 0 1 0 3 0a1.5 1.5 0 1 0 -3 0\"><title>"
 
+-- those of a worker stand below its bars
+abbrev pub sign_middle : Who → ℕ
+sign_middle (who.Caller c) = 7
+sign_middle (who.Worker w) = 21
+
 abbrev pub sign_numbers : Page → ℕ → Sign → List ℕ
-sign_numbers p top sign = item_shade sign.item ∷ middle_of p sign.at ∷ (top + 7) ∷ []
+sign_numbers p top sign = item_shade sign.item ∷ middle_of p sign.at ∷ (top + sign_middle sign.who) ∷ []
 
 -- its item beside it, where columns are wide enough for the digits
 unfoldable pub label_template : List ℕ
@@ -53,7 +60,8 @@ unfoldable pub has_label : Page → Sign → Bool
 has_label p sign = has_few_digits sign.item && nat_le 24 (column_width p)
 
 abbrev pub label_numbers : Page → ℕ → Sign → List ℕ
-label_numbers p top sign = (middle_of p sign.at + 4) ∷ (top + 11) ∷ option_map_or (λ i. i) sign.item 0 ∷ []
+label_numbers p top sign =
+    (middle_of p sign.at + 4) ∷ (top + sign_middle sign.who + 3) ∷ option_map_or (λ i. i) sign.item 0 ∷ []
 
 abbrev pub label_text : Page → ℕ → Sign → List ℕ
 label_text p top sign = if has_label p sign then filled_template label_template (label_numbers p top sign) else []

@@ -19,7 +19,8 @@ pub enum Figure {
     Level(Level),
 }
 
-/// A row in which shapes are drawn; that of a caller has those of its waits below it.
+/// A row in which shapes are drawn. That of a caller has those of its waits below it, and that of a worker its signs
+/// below its bars.
 #[derive(Clone, Copy)]
 pub enum Row {
     Caller(CallerLane),
@@ -69,7 +70,7 @@ impl Row {
     {
         match self {
             Row::Caller(lane) => 18 * (1 + u32::from(lane.rows)),
-            Row::Worker(_) => 18,
+            Row::Worker(_) => 28,
             Row::Place(_) => 36,
         }
     }

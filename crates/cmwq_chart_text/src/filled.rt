@@ -78,7 +78,7 @@ fn write_from<W: Sink>(
 
 /// Writes a template, in which each `$` stands for the next number, and each `~` for the character that the next number
 /// is.
-pub(crate) fn write_filled<W: Sink>(
+pub fn write_filled<W: Sink>(
     sink: &mut W,
     template: &str,
     numbers: &[u64],

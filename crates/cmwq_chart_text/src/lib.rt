@@ -17,5 +17,6 @@ mod sleeps;
 mod spans;
 mod waits;
 
+pub use filled::write_filled;
 pub use page::Window;
 pub use picture::Picture;

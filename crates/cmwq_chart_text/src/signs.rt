@@ -11,7 +11,7 @@ use crate::page::Page;
 use crate::waits::wait_top;
 use cmwq_base::{Sink, WriteFault, write_all};
 use cmwq_chart::{Sign, SignKind, WaitSign};
-use cmwq_model::Entry;
+use cmwq_model::{Entry, Who};
 use cmwq_text::entry_line;
 
 /// Writes the line of an entry.
@@ -86,6 +86,17 @@ fn sign_template(kind: SignKind) -> &'static str
     }
 }
 
+/// How far below the upper edge of its row a sign stands: one of a worker stands below the bars.
+fn sign_middle(who: Who) -> u64
+    ensures middle { result ≡ spec.sign_middle who }
+    ensures few { result ≤ 21 }
+{
+    match who {
+        Who::Caller(_) => 7,
+        Who::Worker(_) => 21,
+    }
+}
+
 /// What the template of a sign is filled with.
 fn sign_numbers(page: &Page, top: u64, sign: &Sign) -> [u64; 3]
     requires { top ≤ 10000000000000000000 }
@@ -94,7 +105,7 @@ fn sign_numbers(page: &Page, top: u64, sign: &Sign) -> [u64; 3]
     [
         item_shade(sign.item),
         page.middle_of(sign.at.into()),
-        top + 7,
+        top + sign_middle(sign.who),
     ]
 }
 
@@ -129,7 +140,7 @@ fn label_numbers(page: &Page, top: u64, sign: &Sign) -> [u64; 3]
 {
     [
         page.middle_of(sign.at.into()) + 4,
-        top + 11,
+        top + sign_middle(sign.who) + 3,
         sign.item.unwrap_or(0).into(),
     ]
 }

@@ -8,6 +8,7 @@ use Rattle.cmwq_cmd_history.specs.Common.{TakesKnownLine, Who, Call, Counts, Que
 use Rattle.cmwq_cmd_history.specs.Common.{Steps, steps, line_limit, head_text, last_text, Refusal, pieces, File, Stage}
 use Rattle.cmwq_cmd_history.specs.Common.{Kind, begin, opened, head, body, ended, is_long, without_items}
 use Rattle.cmwq_cmd_history.specs.Common.{after_whole_line, after_cut, at_end, calls_kind, call_file_of, pieces_fed}
+use Rattle.cmwq_base.proofs.Progress.{cut_goes, cut_starts}
 use Rattle.cmwq_cmd_history.specs.Common.{pieces_some, whole_found, front_after, Progress, starts, line_grows}
 use Rattle.cmwq_cmd_history.specs.Common.{whole_goes}
 use Rattle.std.proofs.Math.Seq.{take-append-add}
@@ -152,7 +153,12 @@ begins_at (Some text) ahead none =
 pub lives : (text : Option (List ℕ)) (ahead : List ℕ) (a : Option (List ℕ)) → ahead ≡ []
     → Living text (prepend_known ahead text) 1 begin a a
 lives text ahead a none = record {
-  progress = record { same = starts calls_kind text ahead none; count = omega arith; within = tt };
+  progress = record {
+    same = starts calls_kind text ahead none;
+    cut = cut_starts text ahead none;
+    count = omega arith;
+    within = tt;
+  };
   known = begins_at text ahead none;
   written = Appends-nil a;
   begun = tt;
@@ -182,6 +188,7 @@ module _ (old now : Option (List ℕ)) (n : ℕ) (stage : Calls) (a b : Option (
         progress =
             record {
               same = whole_goes calls_kind n stage old now after line next before.same t h;
+              cut = cut_goes old now after line before.cut t;
               count =
                   omega (arith, grows.count, before.count);
               within = grows.within before.within;

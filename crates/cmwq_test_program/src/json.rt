@@ -8,7 +8,7 @@ use cmwq_json::{
 };
 use cmwq_json_script::read_script;
 use cmwq_replay::read_scenario;
-use cmwq_sim::{TableLine, LineKind, replay, spell_lines};
+use cmwq_sim::{LineKind, TableLine, replay, spell_lines};
 use serde_json::Value;
 use std::process::Abort;
 
@@ -168,7 +168,9 @@ fn a_table_has_every_kind_of_line(rt: HostRuntime) {
     let mut lines = Vec::new(rt.alloc());
     for (at, kind, items) in LINES {
         let items = items.to_vec(rt.alloc()).expect(&rt, "memory");
-        lines.push(TableLine { at, kind, items }).expect(&rt, "memory");
+        lines
+            .push(TableLine { at, kind, items })
+            .expect(&rt, "memory");
     }
     let text = spell_lines(rt.alloc(), &names, &lines).expect(&rt, "memory");
     same(

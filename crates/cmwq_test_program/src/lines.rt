@@ -77,7 +77,7 @@ fn is_read_and_spelled(rt: &impl Abort, line: &str) {
         "{line}"
     );
     assert_eq!(rt; text.len(), line.len() + 1);
-    let mut again = Line::new();
+    let mut again = LineText::new();
     spell_entry(&mut again, &entry);
     assert!(rt; again.as_bytes() == text, "{line}");
 }

@@ -3,9 +3,9 @@
 use crate::same::same;
 use cmwq_base::{Memory, read_history};
 use cmwq_chart::{
-    CallerShapes, SignKind, bars_of, callers_of, lanes_of, places_of, signs_of, sleeps_of,
+    CallerShapes, SignKind, bars_of, callers_of, lanes_of, mark, signs_of, sleeps_of,
 };
-use cmwq_model::{CpuId, ItemId, Place, QueueId, Queueing};
+use cmwq_model::ItemId;
 
 /// A run that sleeps, and a caller that waits for it.
 const HISTORY: &[u8] = b"history 2
@@ -49,18 +49,10 @@ fn a_history_has_its_shapes(rt: HostRuntime) {
 }
 
 #[test]
-fn a_queue_on_a_cpu_is_shown_once(rt: HostRuntime) {
-    let file = read_history(rt.alloc(), &mut Memory::reader(HISTORY)).expect(&rt, "a history");
-    let place = Place {
-        queue: QueueId(0),
-        cpu: CpuId(0),
-    };
-    let queueing = |number| Queueing {
-        item: ItemId(0),
-        place,
-        number,
-    };
-    let queueings = [queueing(0), queueing(4)];
-    let places = places_of(rt.alloc(), &file.shape, &queueings).expect(&rt, "memory");
-    same(&rt, places.len(), 1);
+fn a_number_is_marked(rt: HostRuntime) {
+    let mut marks = vec![in rt.alloc(); false; 2].expect(&rt, "memory");
+    mark(&mut marks, Some(1));
+    mark(&mut marks, Some(2));
+    mark(&mut marks, None);
+    same(&rt, (marks[0], marks[1]), (false, true));
 }

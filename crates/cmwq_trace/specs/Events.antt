@@ -1,34 +1,29 @@
--- The events of a trace, as JSON values of the Trace Event Format. A time is the number of an entry.
-use Rattle.std.specs.Prelude.{ℕ, ◌+◌, ◌-◌, ◌*◌, if◌then◌else◌, List, Option, is_some, map, codes}
+-- The events of a trace, in the Trace Event Format, and their texts. A time is the number of an entry.
+use Rattle.std.specs.Prelude.{ℕ, ◌+◌, ◌-◌, ◌*◌, Bool, true, false, if◌then◌else◌, List, [], ◌∷◌, ◌++◌, map, flat_map}
+use Rattle.std.specs.Prelude.{Option, is_some, codes}
 use Rattle.std.specs.Option.{option_map_or}
 use Rattle.std.specs.List.{range_with_len}
-use Rattle.serde_json.specs.Data.{Data, boolean, number, unsigned, string, object, member, no_members}
 use Rattle.cmwq_model.specs.declared.id.CallerId.{CallerId}
+use Rattle.cmwq_model.specs.declared.id.CpuId.{CpuId}
 use Rattle.cmwq_model.specs.declared.id.PoolId.{PoolId}
 use Rattle.cmwq_model.specs.declared.id.WorkerId.{WorkerId}
-use Rattle.cmwq_model.specs.declared.id.Who.TheVariants.{Caller, Worker}
-use Rattle.cmwq_model.specs.Prelude.{most_tickets}
-use Rattle.cmwq_text.specs.IdText.{who_text}
+use Rattle.cmwq_model.specs.Prelude.{Layout, most_tickets}
 use Rattle.cmwq_chart.specs.declared.bars.Bar.{Bar}
 use Rattle.cmwq_chart.specs.declared.sleeps.Sleep.{Sleep}
 use Rattle.cmwq_chart.specs.declared.levels.Level.{Level}
 use Rattle.cmwq_chart.specs.declared.waits.CallerLane.{CallerLane}
 use Rattle.cmwq_chart.specs.declared.waits.CallerWait.{CallerWait}
-use Rattle.cmwq_trace.specs.Names.{item_name, ticket_name, row_name, pool_name, counter_name}
-
-abbrev pub count_data : ℕ → Data
-count_data n = number (unsigned n)
+use Rattle.cmwq_chart_text.specs.Filled.{filled_template}
+use Rattle.cmwq_trace.specs.declared.event.Event.{Event}
+use Rattle.cmwq_trace.specs.declared.event.Event.TheVariants as event
 
 -- ---- a process for the queues, one for the callers, in which each row of a caller's waits is a thread, and one for each pool, in which each worker is a thread
 
-abbrev pub queues_process : ℕ
-queues_process = 1
-
-abbrev pub callers_process : ℕ
-callers_process = 2
-
 abbrev pub pool_process : PoolId → ℕ
 pool_process p = 3 + 2 * p.cpu.0 + (if p.high then 1 else 0)
+
+abbrev pub pool_of : CpuId → Bool → PoolId
+pool_of c high = record { cpu = c; high = high }
 
 abbrev pub worker_thread : WorkerId → ℕ
 worker_thread w = 1 + 128 * w.pool.cpu.0 + (if w.pool.high then 64 else 0) + w.index
@@ -37,93 +32,106 @@ worker_thread w = 1 + 128 * w.pool.cpu.0 + (if w.pool.high then 64 else 0) + w.i
 abbrev pub row_thread : CallerId → ℕ → ℕ
 row_thread c row = 10000 + most_tickets * c.0 + row
 
--- ---- names of processes and threads
+-- h or n
+abbrev pub letter : PoolId → ℕ
+letter p = if p.high then 104 else 110
 
-abbrev pub name_data : List ℕ → Data
-name_data name = object (member (codes "name") (string name) no_members)
-
-abbrev pub process_event : ℕ → List ℕ → Data
-process_event process name =
-    object (member (codes "args") (name_data name)
-    (member (codes "name") (string (codes "process_name"))
-    (member (codes "ph") (string (codes "M")) (member (codes "pid") (count_data process) no_members))))
-
-abbrev pub thread_event : ℕ → ℕ → List ℕ → Data
-thread_event process thread name =
-    object (member (codes "args") (name_data name)
-    (member (codes "name") (string (codes "thread_name"))
-    (member (codes "ph") (string (codes "M")) (member (codes "pid") (count_data process)
-    (member (codes "tid") (count_data thread) no_members)))))
-
-abbrev pub pool_event : PoolId → Data
-pool_event p = process_event (pool_process p) (pool_name p)
-
-abbrev pub lane_event : WorkerId → Data
-lane_event w = thread_event (pool_process w.pool) (worker_thread w) (who_text (Worker w))
-
-abbrev pub row_event : CallerId → ℕ → Data
-row_event c row = thread_event callers_process (row_thread c row) (row_name c row)
-
--- those of the rows of a caller
-abbrev pub rows_events : CallerLane → List Data
-rows_events lane = map (row_event lane.caller) (range_with_len 0 lane.rows)
-
--- ---- what goes on in a thread from one entry up to and with another, or to the end of the history
-
+-- what goes on from one entry up to and with another, or to the end of the history, lasts so many
 abbrev pub entries_between : ℕ → Option ℕ → ℕ → ℕ
 entries_between from to end = option_map_or (λ last. last + 1) to end - from
 
-abbrev pub span_event : ℕ → List ℕ → List ℕ → Data → ℕ → ℕ → ℕ → Option ℕ → Data
-span_event end category name args process thread from to =
-    object (member (codes "args") args
-    (member (codes "cat") (string category)
-    (member (codes "dur") (count_data (entries_between from to end)) (member (codes "name") (string name)
-    (member (codes "ph") (string (codes "X"))
-    (member (codes "pid") (count_data process)
-    (member (codes "tid") (count_data thread) (member (codes "ts") (count_data from) no_members))))))))
+-- ---- what the texts are, with a hole for each number
 
-abbrev pub run_args : Bar → Data
-run_args bar =
-    object (member (codes "finished") (boolean (is_some bar.to))
-    (member (codes "item") (count_data bar.item.0)
-    (member (codes "queueing") (count_data bar.number)
-    (member (codes "worker") (string (who_text (Worker bar.worker))) no_members))))
+unfoldable pub wait_template : Bool → List ℕ
+wait_template true =
+    codes ",\n{\"args\":{\"caller\":\"c$\",\"done\":true,\"ticket\":$},\"cat\":\"wait\",\"dur\":$,\"name\":\"ticket $\",\"ph\":\"X\",\"pid\":2,\"tid\":$,\"ts\":$}"
+wait_template false =
+    codes ",\n{\"args\":{\"caller\":\"c$\",\"done\":false,\"ticket\":$},\"cat\":\"wait\",\"dur\":$,\"name\":\"ticket $\",\"ph\":\"X\",\"pid\":2,\"tid\":$,\"ts\":$}"
 
-abbrev pub run_event : ℕ → Bar → Data
-run_event end bar =
-    span_event end (codes "run") (item_name bar.item) (run_args bar) (pool_process bar.worker.pool)
-    (worker_thread bar.worker) bar.from bar.to
+unfoldable pub run_template : Bool → List ℕ
+run_template true =
+    codes ",\n{\"args\":{\"finished\":true,\"item\":$,\"queueing\":$,\"worker\":\"w$~$\"},\"cat\":\"run\",\"dur\":$,\"name\":\"item $\",\"ph\":\"X\",\"pid\":$,\"tid\":$,\"ts\":$}"
+run_template false =
+    codes ",\n{\"args\":{\"finished\":false,\"item\":$,\"queueing\":$,\"worker\":\"w$~$\"},\"cat\":\"run\",\"dur\":$,\"name\":\"item $\",\"ph\":\"X\",\"pid\":$,\"tid\":$,\"ts\":$}"
 
-abbrev pub sleep_args : Sleep → Data
-sleep_args sleep = object (member (codes "worker") (string (who_text (Worker sleep.worker))) no_members)
+unfoldable pub event_template : Event → List ℕ
+event_template event.Head =
+    codes "{\"traceEvents\":[\n{\"args\":{\"name\":\"queues\"},\"name\":\"process_name\",\"ph\":\"M\",\"pid\":1},\n{\"args\":{\"name\":\"callers\"},\"name\":\"process_name\",\"ph\":\"M\",\"pid\":2}"
+event_template (event.Cpu c) =
+    codes ",\n{\"args\":{\"name\":\"CPU $\"},\"name\":\"process_name\",\"ph\":\"M\",\"pid\":$},\n{\"args\":{\"name\":\"CPU $, high priority\"},\"name\":\"process_name\",\"ph\":\"M\",\"pid\":$}"
+event_template (event.Row c r) =
+    codes ",\n{\"args\":{\"name\":\"c$, row $\"},\"name\":\"thread_name\",\"ph\":\"M\",\"pid\":2,\"tid\":$}"
+event_template (event.Lane w) =
+    codes ",\n{\"args\":{\"name\":\"w$~$\"},\"name\":\"thread_name\",\"ph\":\"M\",\"pid\":$,\"tid\":$}"
+event_template (event.Wait wait) = wait_template (is_some wait.to)
+event_template (event.Run bar) = run_template (is_some bar.to)
+event_template (event.Sleep sleep) =
+    codes ",\n{\"args\":{\"worker\":\"w$~$\"},\"cat\":\"sleep\",\"dur\":$,\"name\":\"asleep\",\"ph\":\"X\",\"pid\":$,\"tid\":$,\"ts\":$}"
+event_template (event.Level level) =
+    codes ",\n{\"args\":{\"active\":$,\"open\":$,\"width\":$},\"name\":\"queue $ on CPU $\",\"ph\":\"C\",\"pid\":1,\"ts\":$}"
+event_template event.End = codes "\n]}\n"
 
-abbrev pub sleep_event : ℕ → Sleep → Data
-sleep_event end sleep =
-    span_event end (codes "sleep") (codes "asleep") (sleep_args sleep) (pool_process sleep.worker.pool)
-    (worker_thread sleep.worker) sleep.from sleep.to
+-- ---- the numbers, and 0 beyond
+
+abbrev pub cpu_numbers : CpuId → List ℕ
+cpu_numbers c = c.0 ∷ pool_process (pool_of c false) ∷ c.0 ∷ pool_process (pool_of c true) ∷ 0 ∷ 0 ∷ 0 ∷ 0 ∷ 0 ∷ 0 ∷ []
+
+abbrev pub row_numbers : CallerId → ℕ → List ℕ
+row_numbers c row = c.0 ∷ row ∷ row_thread c row ∷ 0 ∷ 0 ∷ 0 ∷ 0 ∷ 0 ∷ 0 ∷ 0 ∷ []
+
+abbrev pub lane_numbers : WorkerId → List ℕ
+lane_numbers w = w.pool.cpu.0 ∷ letter w.pool ∷ w.index ∷ pool_process w.pool ∷ worker_thread w ∷ 0 ∷ 0 ∷ 0 ∷ 0 ∷ 0 ∷ []
 
 -- a ticket has the number of the entry that gave it
-abbrev pub wait_args : CallerWait → Data
-wait_args wait =
-    object (member (codes "caller") (string (who_text (Caller wait.caller)))
-    (member (codes "done") (boolean (is_some wait.to)) (member (codes "ticket") (count_data wait.from) no_members)))
+abbrev pub wait_numbers : ℕ → CallerWait → List ℕ
+wait_numbers end wait = wait.caller.0 ∷ wait.from ∷ entries_between wait.from wait.to end ∷ wait.from
+    ∷ row_thread wait.caller wait.row ∷ wait.from ∷ 0 ∷ 0 ∷ 0 ∷ 0 ∷ []
 
-abbrev pub wait_event : ℕ → CallerWait → Data
-wait_event end wait =
-    span_event end (codes "wait") (ticket_name wait.from) (wait_args wait) callers_process
-    (row_thread wait.caller wait.row) wait.from wait.to
+abbrev pub run_numbers : ℕ → Bar → List ℕ
+run_numbers end bar =
+    bar.item.0 ∷ bar.number ∷ bar.worker.pool.cpu.0 ∷ letter bar.worker.pool ∷ bar.worker.index
+    ∷ entries_between bar.from bar.to end ∷ bar.item.0
+    ∷ pool_process bar.worker.pool ∷ worker_thread bar.worker ∷ bar.from ∷ []
 
--- ---- how many are open and active of a queue on a CPU from an entry on, and how wide the queue is
+abbrev pub sleep_numbers : ℕ → Sleep → List ℕ
+sleep_numbers end sleep =
+    sleep.worker.pool.cpu.0 ∷ letter sleep.worker.pool ∷ sleep.worker.index ∷ entries_between sleep.from sleep.to end
+    ∷ pool_process sleep.worker.pool ∷ worker_thread sleep.worker ∷ sleep.from ∷ 0 ∷ 0 ∷ 0 ∷ []
 
-abbrev pub level_args : Level → Data
-level_args level =
-    object (member (codes "active") (count_data level.height.active_count)
-    (member (codes "open") (count_data level.height.open_count)
-    (member (codes "width") (count_data level.height.width) no_members)))
+abbrev pub level_numbers : Level → List ℕ
+level_numbers level =
+    level.height.active_count ∷ level.height.open_count ∷ level.height.width ∷ level.place.queue.0 ∷ level.place.cpu.0
+    ∷ level.from ∷ 0 ∷ 0 ∷ 0 ∷ 0 ∷ []
 
-abbrev pub level_event : Level → Data
-level_event level =
-    object (member (codes "args") (level_args level)
-    (member (codes "name") (string (counter_name level.place))
-    (member (codes "ph") (string (codes "C")) (member (codes "pid") (count_data queues_process)
-    (member (codes "ts") (count_data level.from) no_members)))))
+abbrev pub event_numbers : ℕ → Event → List ℕ
+event_numbers end event.Head = 0 ∷ 0 ∷ 0 ∷ 0 ∷ 0 ∷ 0 ∷ 0 ∷ 0 ∷ 0 ∷ 0 ∷ []
+event_numbers end (event.Cpu c) = cpu_numbers c
+event_numbers end (event.Row c row) = row_numbers c row
+event_numbers end (event.Lane w) = lane_numbers w
+event_numbers end (event.Wait wait) = wait_numbers end wait
+event_numbers end (event.Run bar) = run_numbers end bar
+event_numbers end (event.Sleep sleep) = sleep_numbers end sleep
+event_numbers end (event.Level level) = level_numbers level
+event_numbers end event.End = 0 ∷ 0 ∷ 0 ∷ 0 ∷ 0 ∷ 0 ∷ 0 ∷ 0 ∷ 0 ∷ 0 ∷ []
+
+abbrev pub event_text : ℕ → Event → List ℕ
+event_text end e = filled_template (event_template e) (event_numbers end e)
+
+-- ---- all events: the names of processes and threads, and then what goes on
+
+abbrev pub cpu_event : ℕ → Event
+cpu_event c = event.Cpu (record { 0 = c })
+
+abbrev pub rows_events : CallerLane → List Event
+rows_events lane = map (event.Row lane.caller) (range_with_len 0 lane.rows)
+
+abbrev pub names_of : ℕ → List CallerLane → List WorkerId → List Event
+names_of cpus callers lanes =
+    event.Head ∷ (map cpu_event (range_with_len 0 cpus) ++ (flat_map rows_events callers ++ map event.Lane lanes))
+
+unfoldable pub events_of : Layout → List CallerLane → List WorkerId → List CallerWait → List Bar → List Sleep
+    → List Level → List Event
+events_of s callers lanes waits bars sleeps levels =
+    names_of s.cpus callers lanes
+    ++ (map event.Wait waits
+    ++ (map event.Run bars ++ (map event.Sleep sleeps ++ (map event.Level levels ++ event.End ∷ []))))

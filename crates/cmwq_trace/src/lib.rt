@@ -1,9 +1,10 @@
-//! The trace of a history: its shapes as trace events, which are JSON values, and their text.
+//! The trace of a history: its shapes as trace events, which are texts in JSON.
 #![tactic(auto)]
 
+mod event;
 mod events;
-mod name;
-mod spelling;
 mod trace;
 
-pub use trace::spell_trace;
+pub use event::Event;
+pub use events::events_of;
+pub use trace::write_trace;

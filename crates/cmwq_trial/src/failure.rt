@@ -1,4 +1,5 @@
 //! What comes of a trial.
+ghost use Rattle.std.specs.Prelude.{◌≡◌};
 
 use crate::party::Party;
 use cmwq_model::Entry;
@@ -35,14 +36,21 @@ pub enum Failure {
 }
 
 impl Failure {
-    pub fn seed(&self) -> u64 {
+    ghost use Rattle.cmwq_trial.specs.Failing.{history_of, seed_of};
+
+    /// The seed of the trial.
+    pub fn seed(&self) -> u64
+        ensures { result ≡ seed_of self.now }
+    {
         match self {
             Failure::Stuck { seed, .. } | Failure::Stopped { seed, .. } => *seed,
         }
     }
 
     /// What was made until then, the oldest entry first.
-    pub fn history(&self) -> &[Entry] {
+    pub fn history(&self) -> &[Entry]
+        ensures { result.now ≡ history_of self.now }
+    {
         match self {
             Failure::Stuck { history, .. } | Failure::Stopped { history, .. } => history,
         }

@@ -6,15 +6,19 @@
 #![tactic(auto)]
 
 mod awaits;
+mod counting;
 mod failure;
 mod party;
-mod trials;
+mod progress;
+mod seeds;
 mod trying;
 mod watch;
 
 pub use awaits::{Awaits, Wanted};
 pub use cmwq_turns::Schedule;
+pub use counting::Trials;
 pub use failure::{Failure, Tried};
 pub use party::{Doing, Party, Role};
-pub use trials::{Progress, Trials, trials};
+pub use progress::Progress;
+pub use seeds::trials;
 pub use trying::{Setup, UNIFORM, trial, trial_with};

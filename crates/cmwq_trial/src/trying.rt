@@ -1,9 +1,9 @@
 //! Runs a service once, in an order that follows from a seed.
 ghost use Rattle.std.specs.Prelude.{◌≡◌, IfOk, IfErr};
-ghost use Rattle.cmwq_model.specs.Prelude.{Layout, past_of};
-ghost use Rattle.cmwq_core.specs.Relied.{IsReliable};
+ghost use Rattle.cmwq_model.specs.Prelude.{Layout};
 ghost use Rattle.cmwq_service.specs.Serving.{IsServed};
-ghost use Rattle.cmwq_trial.specs.Failing.{history_of};
+ghost use Rattle.cmwq_trial.specs.Counting.{IsReliableOf};
+ghost use Rattle.cmwq_trial.specs.Failing.{history_of, seed_of};
 
 use crate::failure::{Failure, Tried};
 use crate::party::{Party, Scene, have_callers_ended};
@@ -41,7 +41,8 @@ pub(crate) const NO_MEMORY: Fault = Fault::Run {
 
 /// A trial that stopped before it had a history.
 pub(crate) fn stopped_at_first(alloc: Global, seed: u64, fault: Fault) -> Failure
-    ensures { (s : Layout) → IsReliable s (past_of (history_of result)) }
+    ensures reliable { (s : Layout) → IsReliableOf s result }
+    ensures same { seed_of result ≡ seed }
 {
     Failure::Stopped {
         seed,
@@ -106,7 +107,8 @@ fn failure_of<R: Wait>(
     seed: u64,
     stopped: Stopped,
 ) -> Failure
-    ensures { history_of result ≡ stopped.history.items }
+    ensures history { history_of result ≡ stopped.history.items }
+    ensures same { seed_of result ≡ seed }
 {
     let Stopped { fault, history } = stopped;
     if !turnstile.is_stuck(rt) {
@@ -141,7 +143,7 @@ pub(crate) fn try_at<S: Service + Send + Sync, R: Threads + Wait + Sync>(
     turnstile: Arc<Turnstile, Global>,
 ) -> Result<Tried, Failure>
     ensures served { IfOk result (λ tried. IsServed shape.now waits S.calls S.does tried.history.items) }
-    ensures failed { IfErr result (λ failure. IsReliable shape.now (past_of (history_of failure))) }
+    ensures failed { IfErr result (λ failure. IsReliableOf shape.now failure × (seed_of failure ≡ seed)) }
 {
     let Ok(shared) = Arc::try_clone(&turnstile) else {
         return Err(stopped_at_first(alloc, seed, NO_MEMORY));
@@ -183,7 +185,7 @@ pub fn trial<S: Service + Send + Sync, R: Threads + Wait + Sync>(
     seed: u64,
 ) -> Result<Tried, Failure>
     ensures served { IfOk result (λ tried. IsServed shape.now 0 S.calls S.does tried.history.items) }
-    ensures failed { IfErr result (λ failure. IsReliable shape.now (past_of (history_of failure))) }
+    ensures failed { IfErr result (λ failure. IsReliableOf shape.now failure × (seed_of failure ≡ seed)) }
 {
     let setup = UNIFORM;
     match turnstile_of(alloc, shape, &setup, seed) {
@@ -205,7 +207,7 @@ pub fn trial_with<S: Service + Send + Sync, R: Threads + Wait + Sync>(
     seed: u64,
 ) -> Result<Tried, Failure>
     ensures served { IfOk result (λ tried. IsServed shape.now setup.now.waits S.calls S.does tried.history.items) }
-    ensures failed { IfErr result (λ failure. IsReliable shape.now (past_of (history_of failure))) }
+    ensures failed { IfErr result (λ failure. IsReliableOf shape.now failure × (seed_of failure ≡ seed)) }
 {
     match turnstile_of(alloc, shape, setup, seed) {
         Ok(turnstile) => try_at(rt, alloc, shape, service, setup.waits, seed, turnstile),

@@ -1,6 +1,6 @@
 -- What is still going on at the end of a history: a line for its entries and ticks, and then a line for each queue,
 -- run, queueing that hasn't started, booking, and unended wait.
-use Rattle.std.specs.Prelude.{ℕ, ◌*◌, ◌/◌, ◌%◌, Bool, if◌then◌else◌, List, [], ◌∷◌, ◌++◌, length, nat_lt, slice_get}
+use Rattle.std.specs.Prelude.{ℕ, ◌*◌, ◌/◌, ◌%◌, Bool, if◌then◌else◌, List, [], ◌++◌, length, nat_lt, slice_get}
 use Rattle.std.specs.Prelude.{Option, Some, None, Result, flat_map, codes}
 use Rattle.std.specs.Option.{option_map_or}
 use Rattle.cmwq_model.specs.declared.id.Who.TheVariants.{Worker}
@@ -51,12 +51,12 @@ queue_line s past q =
 
 abbrev pub queueing_text : Queueing → List ℕ
 queueing_text x = named_number (codes "item ") x.item.0 ++ named_number (codes ", queueing ") x.number
-    ++ place_text x.place
 
 abbrev pub run_text : Option Queueing → WorkerId → Bool → List ℕ
 run_text None w asleep = []
 run_text (Some x) w asleep =
-    codes "worker " ++ worker_name w ++ codes " runs " ++ queueing_text x ++ said_if asleep (codes ", asleep")
+    codes "worker " ++ worker_name w ++ codes " runs " ++ queueing_text x ++ place_text x.place
+    ++ said_if asleep (codes ", asleep")
     ++ line_end
 
 -- the workers of a CPU's pools are numbered one after another, as many as a shape may have
@@ -70,7 +70,8 @@ run_line s past k =
 
 abbrev pub pending_text : Queueing → Bool → List ℕ
 pending_text x active =
-    codes "pending " ++ queueing_text x ++ (if active then codes ", active" else codes ", inactive") ++ line_end
+    codes "pending " ++ queueing_text x ++ place_text x.place
+    ++ (if active then codes ", active" else codes ", inactive") ++ line_end
 
 abbrev pub pending_line : Layout → List Entry → ℕ → List ℕ
 pending_line s past i =

@@ -1,40 +1,33 @@
 //! The word `chart`.
 
-ghost use Rattle.std.specs.Prelude.{◌≡◌, ◌≤◌, length, Option, Result, IfSome, IsErrOf, IfOk, OnErr, OnOk, Err};
+ghost use Rattle.std.specs.Prelude.{◌≡◌, Option, Result, IfSome, IsErrOf, IfOk, OnErr, OnOk, Err};
 ghost use Rattle.cmwq_io.specs.Counts.{Rises};
 ghost use Rattle.cmwq_model.specs.declared.verdict.Illegal.{Illegal as TheIllegal};
-ghost use Rattle.cmwq_model.specs.Prelude.{IsLegal, past_of};
+ghost use Rattle.cmwq_model.specs.Prelude.{past_of};
 ghost use Rattle.cmwq_base.specs.declared.refusal.Refusal.{Refusal as TheRefusal};
 ghost use Rattle.cmwq_history.specs.Verdicts.{check_status};
 ghost use Rattle.cmwq_history.specs.Views.{IsFlushed, WriteEnds};
+ghost use Rattle.cmwq_chart_levels.specs.Seen.{IsSeen};
 ghost use Rattle.cmwq_chart_text.specs.PictureText.{picture_text};
 ghost use Rattle.cmwq_views.specs.Chart.{ChartEnds, chart_text, charted_text};
 
-use cmwq_base::{Entry, Refusal, Shape, Sink, Source};
-use cmwq_chart_levels::shapes_of;
+use cmwq_base::{Refusal, Shape, Sink, Source};
+use cmwq_chart_levels::{Seen, shapes_of};
 use cmwq_chart_text::{Picture, Window};
 use cmwq_core::Judge;
-use cmwq_history::{Kept, View, run_view};
+use cmwq_history::{View, run_view};
 use std::alloc::Global;
-
-/// Pictures of more entries than these are not drawn, so that a place among them has 32 bits.
-pub(crate) const MOST_KEPT: usize = 1_073_741_824;
 
 /// The picture of what a window shows of a legal history.
 #[tactic(auto, unfolding(crate::specs::Chart::chart_text))]
-fn picture_of(
-    alloc: Global,
-    window: Window,
-    shape: &Shape,
-    entries: &[Entry],
-) -> Result<Picture, Refusal>
-    requires few { length entries.now ≤ 1073741824 }
-    requires legal { IsLegal shape.now (past_of entries.now) }
-    ensures picture { IfOk result (λ picture. picture_text picture entries.now ≡ chart_text window shape.now entries.now) }
+fn picture_of(alloc: Global, window: Window, shape: &Shape, seen: &Seen) -> Result<Picture, Refusal>
+    requires { IsSeen shape.now (past_of seen.now.entries.items) seen.now }
+    ensures picture { IfOk result
+        (λ picture. picture_text picture seen.now.entries.items ≡ chart_text window shape.now seen.now.entries.items) }
     ensures err { OnErr result (result ≡ Err Refusal.NoMemory) }
 {
-    let shapes = shapes_of(alloc, shape, entries)?;
-    Ok(Picture::new(alloc, window, entries.len(), &shapes)?)
+    let shapes = shapes_of(alloc, shape, seen)?;
+    Ok(Picture::new(alloc, window, seen.entries.len(), &shapes)?)
 }
 
 /// Writes the picture of what a window shows of a legal history. All memory is taken before the first byte is written.
@@ -43,16 +36,16 @@ fn draw<O: Sink>(
     output: &mut O,
     window: Window,
     shape: &Shape,
-    entries: &[Entry],
+    seen: &Seen,
 ) -> Result<(), Refusal>
-    requires few { length entries.now ≤ 1073741824 }
-    requires legal { IsLegal shape.now (past_of entries.now) }
-    ensures ends { WriteEnds (O.written output.old) (O.written output.new) (chart_text window shape.now entries.now) result }
+    requires { IsSeen shape.now (past_of seen.now.entries.items) seen.now }
+    ensures ends { WriteEnds (O.written output.old) (O.written output.new)
+        (chart_text window shape.now seen.now.entries.items) result }
     ensures flushed { OnOk result (O.held output.new ≡ 0) }
     ensures fault { IsErrOf result Refusal.WriteFault → Rises (O.troubles output.old) (O.troubles output.new) }
 {
-    let picture = picture_of(alloc, window, shape, entries)?;
-    picture.write(output, entries)?;
+    let picture = picture_of(alloc, window, shape, seen)?;
+    picture.write(output, &seen.entries)?;
     Ok(())
 }
 
@@ -63,23 +56,20 @@ struct Chart {
 }
 
 impl<W: Sink> View<W> for Chart {
-    type Made = Kept;
+    type Made = Seen;
 
     ghost text_of = { λ view. charted_text view.window };
 
     fn write(
         &self,
         alloc: Global,
-        kept: &Kept,
+        seen: &Seen,
         shape: &Shape,
         _: &Judge,
         _: u8,
         sink: &mut W,
     ) -> Result<(), Refusal> {
-        if kept.entries.len() > MOST_KEPT {
-            return Err(Refusal::NoMemory);
-        }
-        draw(alloc, sink, self.window, shape, &kept.entries)
+        draw(alloc, sink, self.window, shape, seen)
     }
 }
 

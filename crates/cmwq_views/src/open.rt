@@ -1,18 +1,16 @@
 //! The subcommand `open`: what is still going on at the end of a history.
-ghost use Rattle.std.specs.Prelude.{◌≡◌, ◌≤◌, ◌×◌, length, flat_map, Option, Result, IfSome, IsErrOf, OnOk, OnErr};
+ghost use Rattle.std.specs.Prelude.{◌≡◌, ◌≤◌, flat_map, Option, Result, IfErr, IfSome, IsErrOf, OnOk, OnErr};
 ghost use Rattle.std.specs.Io.KnownBytes.{Appends};
-ghost use Rattle.cmwq_model.specs.Prelude.{now, past_of};
+ghost use Rattle.cmwq_model.specs.Prelude.{past_of};
 ghost use Rattle.cmwq_model.specs.declared.verdict.Illegal.{Illegal as TheIllegal};
 ghost use Rattle.cmwq_io.specs.Counts.{Rises};
 ghost use Rattle.cmwq_io.specs.Moves.{AppendsFront};
 ghost use Rattle.cmwq_base.specs.declared.refusal.Refusal.{Refusal as TheRefusal};
 ghost use Rattle.cmwq_history.specs.Verdicts.{check_status};
 ghost use Rattle.cmwq_history.specs.Views.{IsFlushed};
-ghost use Rattle.cmwq_views.specs.Open.{OpenEnds, open_text, section_text};
-ghost use Rattle.cmwq_views.specs.Page.{line_of_entries};
+ghost use Rattle.cmwq_views.specs.Open.{OpenEnds, open_text, section_text, standing_text};
 ghost use Rattle.cmwq_views.specs.declared.standing.TheConstants as constants;
 
-use crate::row::{Row, head};
 use crate::standing::{SECTIONS, SectionLines, Standing};
 use crate::write::write_rows;
 use cmwq_base::{Refusal, Shape, Sink, Source, WriteFault, flush_all, write_all};
@@ -40,6 +38,27 @@ fn write_sections<W: Sink>(sink: &mut W, standing: &Standing<'_>) -> Result<(), 
     Ok(())
 }
 
+/// Writes the lines of what stands, and flushes. Takes no memory.
+///
+/// # Errors
+/// `WriteFault` where the sink fails, also at the flush; a front of the lines has been written then.
+fn write_standing<W: Sink>(sink: &mut W, standing: &Standing<'_>) -> Result<(), Refusal>
+    ensures ok { OnOk result
+        (Appends (W.written sink.old) (W.written sink.new)
+        (standing_text standing.now.layout (past_of standing.now.entries))) }
+    ensures err { OnErr result
+        (AppendsFront (W.written sink.old) (W.written sink.new)
+        (standing_text standing.now.layout (past_of standing.now.entries))) }
+    ensures flushed { OnOk result (W.held sink.new ≡ 0) }
+    ensures only { IfErr result (λ e. e ≡ Refusal.WriteFault) }
+    ensures fault { OnErr result (Rises (W.troubles sink.old) (W.troubles sink.new)) }
+{
+    write_all(sink, standing.first_row().as_bytes())?;
+    write_sections(sink, standing)?;
+    flush_all(sink)?;
+    Ok(())
+}
+
 /// What still goes on at the end.
 struct OpenView;
 
@@ -57,11 +76,7 @@ impl<W: Sink> View<W> for OpenView {
         _: u8,
         sink: &mut W,
     ) -> Result<(), Refusal> {
-        let standing = Standing::new(shape, judge);
-        write_all(sink, head(standing.entries(), standing.ticks()).as_bytes())?;
-        write_sections(sink, &standing)?;
-        flush_all(sink)?;
-        Ok(())
+        write_standing(sink, &Standing::new(shape, judge))
     }
 }
 

@@ -1,18 +1,26 @@
 //! Writes the page of a summary.
-ghost use Rattle.std.specs.Prelude.{◌≡◌, ◌≤◌, flat_map, OnOk, OnErr, IfErr};
+ghost use Rattle.std.specs.Prelude.{◌≡◌, ◌≤◌, length, flat_map, OnOk, OnErr, IfErr};
 ghost use Rattle.std.specs.Io.KnownBytes.{Appends};
-ghost use Rattle.cmwq_model.specs.Prelude.{past_of};
+ghost use Rattle.cmwq_model.specs.Prelude.{now, past_of};
 ghost use Rattle.cmwq_io.specs.Counts.{Rises};
 ghost use Rattle.cmwq_io.specs.Moves.{AppendsFront};
-ghost use Rattle.cmwq_views.specs.Page.{rows_of_table, page_text};
+ghost use Rattle.cmwq_views.specs.Page.{line_of_entries, rows_of_table, page_text};
 ghost use Rattle.cmwq_views.specs.declared.table.TheConstants as constants;
 
 use crate::progress::Progress;
-use crate::row::head;
+use crate::row::{Row, head};
 use crate::rows::TableRows;
 use crate::table::TABLES;
 use crate::write::write_rows;
 use cmwq_base::{Refusal, Sink, WriteFault, flush_all, write_all};
+
+/// The line of how many entries there are, and how many ticks went by.
+fn first_row(progress: &Progress<'_>) -> Row
+    ensures { result ≡ line_of_entries (length (past_of progress.now.entries)) (now (past_of progress.now.entries)) }
+{
+    let summary = progress.summary();
+    head(summary.len(), summary.time())
+}
 
 fn write_tables<W: Sink>(sink: &mut W, progress: &Progress<'_>) -> Result<(), WriteFault>
     ensures ok { OnOk result
@@ -49,8 +57,7 @@ pub(crate) fn write_page<W: Sink>(sink: &mut W, progress: &Progress<'_>) -> Resu
     ensures only { IfErr result (λ e. e ≡ Refusal.WriteFault) }
     ensures fault { OnErr result (Rises (W.troubles sink.old) (W.troubles sink.new)) }
 {
-    let summary = progress.summary();
-    write_all(sink, head(summary.len(), summary.time()).as_bytes())?;
+    write_all(sink, first_row(progress).as_bytes())?;
     write_tables(sink, progress)?;
     flush_all(sink)?;
     Ok(())

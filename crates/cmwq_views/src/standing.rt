@@ -2,13 +2,14 @@
 ghost use Rattle.std.specs.Prelude.{◌≡◌, ◌+◌, ◌*◌, ◌<◌, ◌≤◌, ◌++◌, length};
 ghost use Rattle.cmwq_model.specs.Prelude.{most_workers, now, past_of};
 ghost use Rattle.cmwq_model.specs.Tickets.{most_tickets};
+ghost use Rattle.cmwq_views.specs.Page.{line_of_entries};
 ghost use Rattle.cmwq_views.specs.Open.{place_text, said_if, queue_state, queue_line, queueing_text, run_text};
 ghost use Rattle.cmwq_views.specs.Open.{run_line};
-ghost use Rattle.cmwq_views.specs.Open.{pending_text, pending_line, booked_line, call_text, cause_text, wait_text};
-ghost use Rattle.cmwq_views.specs.Open.{wait_line, line_count, line_text};
+ghost use Rattle.cmwq_views.specs.Open.{pending_text, pending_line, booked_text, booked_line, call_text, cause_text};
+ghost use Rattle.cmwq_views.specs.Open.{wait_text, wait_line, line_count, line_text};
 
 use crate::number::{OF_POOL, caller_at, item_at, queue_at, worker_at};
-use crate::row::Row;
+use crate::row::{Row, head};
 use crate::rows::push_worker;
 use crate::write::Rows;
 use cmwq_base::{Shape, WorkerId};
@@ -87,18 +88,11 @@ impl<'a> Standing<'a> {
         self.state
     }
 
-    /// How many entries there are.
-    pub(crate) fn entries(&self) -> u64
-        ensures { result ≡ length self.now.entries }
+    /// The line of how many entries there are, and how many ticks went by.
+    pub(crate) fn first_row(&self) -> Row
+        ensures { result ≡ line_of_entries (length (past_of self.now.entries)) (now (past_of self.now.entries)) }
     {
-        self.state.len()
-    }
-
-    /// How many ticks went by.
-    pub(crate) fn ticks(&self) -> u64
-        ensures { result ≡ now (past_of self.now.entries) }
-    {
-        self.state.time()
+        head(self.state.len(), self.state.time())
     }
 }
 
@@ -123,15 +117,14 @@ fn push_place(row: &mut Row, place: Place)
     row.push_figure(" on CPU ", place.cpu.0.into());
 }
 
-/// Spells a queueing.
+/// Spells the item and the number of a queueing.
 fn push_queueing(row: &mut Row, queueing: Queueing)
-    requires { length row.old + 112 ≤ 512 }
+    requires { length row.old + 56 ≤ 512 }
     ensures exact { row.new ≡ row.old ++ queueing_text queueing }
-    ensures short { length row.new ≤ length row.old + 112 }
+    ensures short { length row.new ≤ length row.old + 56 }
 {
     row.push_figure("item ", queueing.item.0.into());
     row.push_figure(", queueing ", queueing.number);
-    push_place(row, queueing.place);
 }
 
 /// Spells whether a queue is frozen, drains, or is gone.
@@ -175,6 +168,7 @@ fn run_text(run: Option<Queueing>, worker: WorkerId, is_asleep: bool) -> Row
         push_worker(&mut row, worker);
         row.push(" runs ");
         push_queueing(&mut row, queueing);
+        push_place(&mut row, queueing.place);
         push_if(&mut row, is_asleep, ", asleep");
         row.push("\n");
     }
@@ -204,6 +198,7 @@ fn pending_text(queueing: Queueing, is_active: bool) -> Row
     let mut row = Row::new();
     row.push("pending ");
     push_queueing(&mut row, queueing);
+    push_place(&mut row, queueing.place);
     row.push(if is_active { ", active" } else { ", inactive" });
     row.push("\n");
     row
@@ -307,7 +302,7 @@ pub(crate) struct SectionLines<'a, 'b> {
 impl<'a, 'b> Rows for SectionLines<'a, 'b> {
     ghost count = { λ lines. line_count lines.standing.now.layout lines.section };
 
-    ghost row_of = { λ lines. line_text lines.standing.layout (past_of lines.standing.now.entries) lines.section };
+    ghost row_of = { λ lines. line_text lines.standing.now.layout (past_of lines.standing.now.entries) lines.section };
 
     fn len(&self) -> usize {
         let shape = self.standing.shape();

@@ -1,9 +1,7 @@
 use Rattle.std.proofs.Common.{◌<◌, ◌∷◌, ◌++◌, length, option_to_list, sym, ap, ◌∙◌, arith, length-set}
 use Rattle.std.specs.Prelude.{slice_set}
 use Rattle.std.proofs.lemmas.List.Edits.{map_over_more}
-use Rattle.cmwq_model.specs.Prelude.{past_of}
-use Rattle.cmwq_chart.proofs.Steps.{length_past}
-use Rattle.cmwq_chart_levels.specs.Turns.{level_after}
+use Rattle.cmwq_chart_levels.specs.Turns.{level_after, may_change}
 use Rattle.cmwq_chart_levels.proofs.Turned.{turned, left_behind, untouched, one_more_ended, they_go_on}
 use Rattle.cmwq_chart_levels.proofs.Unmoved.{unmoved, as_it_is, none_ended}
 use Rattle.cmwq_chart_levels.proofs.levels.turn.Goals as goal
@@ -11,36 +9,36 @@ use Rattle.cmwq_chart_levels.proofs.levels.turn.Goals.{then-may_change+in_ok-kee
 
 pub height_after-height-requires-clause-before : goal.height_after-height-requires-clause-before
 height_after-height-requires-clause-before c =
-    let s = c.args.execution.now.layout in
-    let past = past_of c.args.entries.now in
+    let s = c.args.step.now.layout in
+    let past = c.args.step.now.past in
     let xs = c.args.running.now in
     let less : c.loop-k.k < length xs = omega (arith, c.loop-k.invariant.long) in
-    let is = untouched s past c.args.entry xs c.loop-k.running c.loop-k.k c.level_at-before.result less
+    let is = untouched s past c.args.step.now.effect.entry xs c.loop-k.running c.loop-k.k c.level_at-before.result less
     c.loop-k.invariant.running c.level_at-before.ensures in
     (they_go_on s past xs c.loop-k.k c.level_at-before.result c.requires.running less is).height
 
 pub height_after-height-requires-clause-inside : goal.height_after-height-requires-clause-inside
 height_after-height-requires-clause-inside c =
-    let s = c.args.execution.now.layout in
-    let past = past_of c.args.entries.now in
+    let s = c.args.step.now.layout in
+    let past = c.args.step.now.past in
     let xs = c.args.running.now in
     let less : c.loop-k.k < length xs = omega (arith, c.loop-k.invariant.long) in
-    let is = untouched s past c.args.entry xs c.loop-k.running c.loop-k.k c.level_at-before.result less
+    let is = untouched s past c.args.step.now.effect.entry xs c.loop-k.running c.loop-k.k c.level_at-before.result less
     c.loop-k.invariant.running c.level_at-before.ensures in
     (they_go_on s past xs c.loop-k.k c.level_at-before.result c.requires.running less is).inside
 
 pub loop-k-preserved : goal.loop-k-preserved
 loop-k-preserved c =
-    let s = c.args.execution.now.layout in
-    let past = past_of c.args.entries.now in
-    let e = c.args.entry in
+    let s = c.args.step.now.layout in
+    let past = c.args.step.now.past in
+    let e = c.args.step.now.effect.entry in
     let xs = c.args.running.now in
     let x = c.level_at-before.result in
     let less : c.loop-k.k < length xs = omega (arith, c.loop-k.invariant.long) in
     let is = untouched s past e xs c.loop-k.running c.loop-k.k x less c.loop-k.invariant.running
     c.level_at-before.ensures in
     let goes = they_go_on s past xs c.loop-k.k x c.requires.running less is in
-    let many = sym (length_past c.args.entries.now) in
+    let many = c.at-entries.ensures in
     elim c.if-may_change.branch [
       | then-may_change+in_ok-keep w ↦
           let now =
@@ -61,8 +59,9 @@ loop-k-preserved c =
           }
       | else-may_change w ↦
           let same =
-          unmoved c.args.execution.now past e c.args.change.now x.place c.requires.followed
-          (sym c.may_change.ensures ∙ w.if-may_change.false) in
+          unmoved s past c.args.step.now.effect x.place c.effect-effect.ensures.next.effect
+          (ap (λ f. may_change f x.place) (sym c.effect-effect.ensures.effect) ∙ sym c.may_change.ensures
+          ∙ w.if-may_change.false) in
           record {
             running =
                 w.running-is ∙ as_it_is s past e xs c.loop-k.running c.loop-k.k x less c.loop-k.invariant.running is

@@ -1,21 +1,20 @@
 use Rattle.std.proofs.Common.{sym, ap, ◌∙◌, ◌++◌, append-nil}
-use Rattle.cmwq_model.specs.Prelude.{past_of}
 use Rattle.cmwq_chart_levels.proofs.Outside.{all_stay, none_end, none_affected}
 use Rattle.cmwq_chart_levels.proofs.levels.turn_affected.Goals as goal
 
 pub returns-in-Nowhere-clause-running : goal.returns-in-Nowhere-clause-running
 returns-in-Nowhere-clause-running c =
     let stay =
-    none_affected c.args.execution.now (past_of c.args.entries.now) c.args.entry c.args.change.now
-    c.requires.followed c.args.running.now c.requires.running c.in-Nowhere.ensures in
-    sym (all_stay c.args.execution.now (past_of c.args.entries.now) c.args.entry c.args.change.now c.requires.followed
+    none_affected c.args.step.now.layout c.args.step.now.past c.args.step.now.effect c.requires.effect
+    c.args.running.now c.requires.running (rw c.effect-effect.ensures.effect at c.in-Nowhere.ensures) in
+    sym (all_stay c.args.step.now.layout c.args.step.now.past c.args.step.now.effect c.requires.effect
     c.args.running.now c.requires.running stay)
 
 pub returns-in-Nowhere-clause-levels : goal.returns-in-Nowhere-clause-levels
 returns-in-Nowhere-clause-levels c =
     let stay =
-    none_affected c.args.execution.now (past_of c.args.entries.now) c.args.entry c.args.change.now
-    c.requires.followed c.args.running.now c.requires.running c.in-Nowhere.ensures in
+    none_affected c.args.step.now.layout c.args.step.now.past c.args.step.now.effect c.requires.effect
+    c.args.running.now c.requires.running (rw c.effect-effect.ensures.effect at c.in-Nowhere.ensures) in
     sym (ap (λ l. c.args.levels.now.items ++ l)
-    (none_end c.args.execution.now (past_of c.args.entries.now) c.args.entry c.args.change.now c.requires.followed
+    (none_end c.args.step.now.layout c.args.step.now.past c.args.step.now.effect c.requires.effect
     c.args.running.now stay) ∙ append-nil c.args.levels.now.items)

@@ -1,5 +1,4 @@
 use Rattle.std.proofs.Common.{◌++◌, ap, ◌∙◌}
-use Rattle.cmwq_model.specs.Prelude.{past_of}
 use Rattle.cmwq_chart_levels.proofs.Outside.{range_turned, range_ended, low_stays, high_stays}
 use Rattle.cmwq_chart_levels.proofs.levels.turn_range.Goals as goal
 
@@ -13,15 +12,14 @@ returns-clause-running c =
     let part = c.split_at_mut-part.ensures.front in
     let back = c.split_at_mut-part.ensures.back in
     let low =
-    low_stays c.args.execution.now (past_of c.args.entries.now) c.args.entry c.args.change.now c.requires.followed
-    xs c.args.range i c.requires.only c.count_below-from.ensures.below in
+    low_stays c.args.step.now.layout c.args.step.now.past c.args.step.now.effect c.requires.effect xs c.args.range i
+    c.requires.only c.count_below-from.ensures.below in
     let high =
-    high_stays c.args.execution.now (past_of c.args.entries.now) c.args.entry c.args.change.now c.requires.followed
-    xs c.args.range i j c.requires.only (rw rest at c.count_below-end.ensures.from) in
+    high_stays c.args.step.now.layout c.args.step.now.past c.args.step.now.effect c.requires.effect xs c.args.range
+    i j c.requires.only (rw rest at c.count_below-end.ensures.from) in
     rw (front, back, rest)
-    (range_turned c.args.execution.now (past_of c.args.entries.now) c.args.entry c.args.change.now
-    c.requires.followed xs c.turn.new.running i j c.requires.running low high
-    (rw (part, rest) at c.in_ok-turn.ensures.running))
+    (range_turned c.args.step.now.layout c.args.step.now.past c.args.step.now.effect c.requires.effect xs
+    c.turn.new.running i j c.requires.running low high (rw (part, rest) at c.in_ok-turn.ensures.running))
 
 pub returns-clause-levels : goal.returns-clause-levels
 returns-clause-levels c =
@@ -32,12 +30,12 @@ returns-clause-levels c =
     let part = c.split_at_mut-part.ensures.front in
     let back = c.split_at_mut-part.ensures.back in
     let low =
-    low_stays c.args.execution.now (past_of c.args.entries.now) c.args.entry c.args.change.now c.requires.followed
-    xs c.args.range i c.requires.only c.count_below-from.ensures.below in
+    low_stays c.args.step.now.layout c.args.step.now.past c.args.step.now.effect c.requires.effect xs c.args.range i
+    c.requires.only c.count_below-from.ensures.below in
     let high =
-    high_stays c.args.execution.now (past_of c.args.entries.now) c.args.entry c.args.change.now c.requires.followed
-    xs c.args.range i j c.requires.only (rw rest at c.count_below-end.ensures.from) in
+    high_stays c.args.step.now.layout c.args.step.now.past c.args.step.now.effect c.requires.effect xs c.args.range
+    i j c.requires.only (rw rest at c.count_below-end.ensures.from) in
     (rw (part, rest) at c.in_ok-turn.ensures.levels)
     ∙ ap (λ l. c.args.levels.now.items ++ l)
-    (range_ended c.args.execution.now (past_of c.args.entries.now) c.args.entry c.args.change.now
-    c.requires.followed xs i j low high)
+    (range_ended c.args.step.now.layout c.args.step.now.past c.args.step.now.effect c.requires.effect xs i j low
+    high)

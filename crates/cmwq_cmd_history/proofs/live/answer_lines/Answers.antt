@@ -148,10 +148,10 @@ returns-in_err-file-in-End-clause-ends g c =
     let gives =
     end_gives calls_kind c.loop-number.number stage
     (contents_of (λ (s : Stepped). s.layout) (λ (s : Stepped). s.calls)) (Err e) _ _ _ _ living.progress.same line
-    (rw c.replace-in-End.ensures.value at c.in_err-file-in-End.ensures) in
+    (rw c.replace-in-End.ensures.value at c.in_err-file-in-End.ensures.gives) in
     rw (p.1, p.2)
     (ends_without_shape _ _ c.loop-number.number stage _ _ living _ _ e line
-    (rw c.replace-in-End.ensures.value at c.in_err-file-in-End.ensures) gives)
+    (rw c.replace-in-End.ensures.value at c.in_err-file-in-End.ensures.gives) gives)
 
 pub returns-in_err-written-in-End-clause-ends : goal.returns-in_err-written-in-End-clause-ends
 returns-in_err-written-in-End-clause-ends g c =
@@ -163,10 +163,10 @@ returns-in_err-written-in-End-clause-ends g c =
     let line = found_so _ _ _ _ End c.in-End.is c.in_ok-next_line.ensures.ok in
     let read =
     end_gives calls_kind c.loop-number.number stage view (Ok c.in_ok-file-in-End.file) _ _ _ _ living.progress.same
-    line (rw c.replace-in-End.ensures.value at c.in_ok-file-in-End.ensures) in
+    line (rw c.replace-in-End.ensures.value at c.in_ok-file-in-End.ensures.gives) in
     rw (p.1, p.2 ∙ c.in_err-written-in-End.ensures.only)
     (ends_whole_in_part _ _ c.loop-number.number stage _ _ living (view c.in_ok-file-in-End.file) _
-    (rw c.replace-in-End.ensures.value at c.in_ok-file-in-End.ensures) read
+    (rw c.replace-in-End.ensures.value at c.in_ok-file-in-End.ensures.gives) read
     (rw c.max.ensures at c.in_err-written-in-End.ensures.err))
 
 pub returns-in_err-written-in-End-clause-write_fault : goal.returns-in_err-written-in-End-clause-write_fault
@@ -181,9 +181,9 @@ returns-in-End-clause-ends g c =
     let line = found_so _ _ _ _ End c.in-End.is c.in_ok-next_line.ensures.ok in
     let read =
     end_gives calls_kind c.loop-number.number stage view (Ok c.in_ok-file-in-End.file) _ _ _ _ living.progress.same
-    line (rw c.replace-in-End.ensures.value at c.in_ok-file-in-End.ensures) in
+    line (rw c.replace-in-End.ensures.value at c.in_ok-file-in-End.ensures.gives) in
     ends_whole _ _ c.loop-number.number stage _ _ living (view c.in_ok-file-in-End.file) _
-    (rw c.replace-in-End.ensures.value at c.in_ok-file-in-End.ensures) read
+    (rw c.replace-in-End.ensures.value at c.in_ok-file-in-End.ensures.gives) read
     (rw c.max.ensures at c.in_ok-written-in-End.ensures.ok)
 
 pub loop-number-preserved : goal.loop-number-preserved

@@ -11,19 +11,19 @@ pub returns-in_err-write_all-clause-err : goal.returns-in_err-write_all-clause-e
 returns-in_err-write_all-clause-err g c =
     let p = err_from_is_err_and c.from_residual.result c.from_residual.ensures.1 in
     let tables = flat_map (rows_of_table c.args.progress.now.layout (past_of c.args.progress.now.entries)) TABLES in
-    let front = rw (c.as_bytes.ensures, c.head.ensures) at c.in_err-write_all.ensures.err in
+    let front = rw (c.as_bytes.ensures, c.first_row.ensures) at c.in_err-write_all.ensures.err in
     rw (p.1) (front_before _ _ _ tables front)
 
 pub returns-in_err-write_tables-clause-err : goal.returns-in_err-write_tables-clause-err
 returns-in_err-write_tables-clause-err g c =
     let p = err_from_is_err_and c.from_residual-in_err-write_tables.result
     c.from_residual-in_err-write_tables.ensures.1 in
-    let head = rw (c.as_bytes.ensures, c.head.ensures) at c.in_ok-write_all.ensures.ok in
+    let head = rw (c.as_bytes.ensures, c.first_row.ensures) at c.in_ok-write_all.ensures.ok in
     rw (p.1) (front_after _ _ _ _ _ head c.in_err-write_tables.ensures.err)
 
 pub returns-in_err-flush_all-clause-err : goal.returns-in_err-flush_all-clause-err
 returns-in_err-flush_all-clause-err g c =
     let p = err_from_is_err_and c.from_residual-in_err-flush_all.result c.from_residual-in_err-flush_all.ensures.1 in
-    let head = rw (c.as_bytes.ensures, c.head.ensures) at c.in_ok-write_all.ensures.ok in
+    let head = rw (c.as_bytes.ensures, c.first_row.ensures) at c.in_ok-write_all.ensures.ok in
     let whole = Appends-trans _ _ _ _ _ head c.in_ok-write_tables.ensures.ok in
     rw (p.1) (front_whole _ _ _ _ whole c.in_err-flush_all.ensures.bytes)

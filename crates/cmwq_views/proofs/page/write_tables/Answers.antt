@@ -6,8 +6,8 @@ use Rattle.cmwq_views.specs.Page.{rows_of_table}
 use Rattle.cmwq_views.specs.declared.table.TheConstants.{TABLES}
 use Rattle.cmwq_views.proofs.page.write_tables.Goals as goal
 
-pub returns-in_err-write_table-clause-err : goal.returns-in_err-write_table-clause-err
-returns-in_err-write_table-clause-err g c =
+pub returns-in_err-write_rows-clause-err : goal.returns-in_err-write_rows-clause-err
+returns-in_err-write_rows-clause-err g c =
     let p = err_from_is_err_and c.from_residual.result c.from_residual.ensures.1 in
     rw (p.1) (front_at (rows_of_table c.args.progress.now.layout (past_of c.args.progress.now.entries)) TABLES
-    c.loop-table.table-index _ _ _ _ (omega arith) c.loop-table.invariant.text c.in_err-write_table.ensures.err)
+    c.loop-table.table-index _ _ _ _ (omega arith) c.loop-table.invariant.text c.in_err-write_rows.ensures.err)

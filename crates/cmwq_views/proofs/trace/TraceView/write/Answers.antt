@@ -1,8 +1,11 @@
 use Rattle.cmwq_history.proofs.Followed.{same_entries}
 use Rattle.cmwq_views.proofs.trace.TraceView.write.Goals as goal
 
+pub write_events-requires : goal.write_events-requires
+write_events-requires g c = let made = c.requires.made in rw (made.layout, made.made_is.entries) made.made_is
+
 pub returns-clause-ends : goal.returns-clause-ends
 returns-clause-ends g c =
     let made = c.requires.made in
-    rw (← made.layout, ← same_entries c.args.kept.now.entries.items c.args.arg5.now.entries made.made_is)
-    (rw c.deref.ensures.value at c.write_events.ensures.ends)
+    rw (← made.layout, ← same_entries c.args.seen.now.entries.items c.args.arg5.now.entries made.made_is.entries)
+    c.write_events.ensures.ends
