@@ -6,11 +6,12 @@ use cmwq_cli::{Schedules, Word, word_of};
 use std::process::Abort;
 
 /// Each subcommand without its flags.
-const WORDS: [(&str, Word); 8] = [
+const WORDS: [(&str, Word); 9] = [
     ("step", Word::Step { live: false }),
     ("check", Word::Check { front: false }),
     ("upgrade", Word::Upgrade),
     ("summary", Word::Summary),
+    ("open", Word::Open { front: false }),
     (
         "chart",
         Word::Chart {
@@ -76,6 +77,7 @@ fn subcommands_and_flags_are_read(rt: HostRuntime) {
             ["cmwq", "check", "--front"].as_slice(),
             Word::Check { front: true },
         ),
+        (&["cmwq", "open", "--front"], Word::Open { front: true }),
         (&["cmwq", "step", "--live"], Word::Step { live: true }),
         (&["cmwq", "chart", "--from", "10", "--to=40"], window),
     ] {
@@ -96,7 +98,7 @@ const WRONG_USES: [(&[&str], &str); 10] = [
     (
         &["cmwq"],
         "error: 'cmwq' requires a subcommand but one was not provided\n  \
-        [subcommands: step, check, upgrade, summary, chart, trace, replay, run, explore, help]\n\n\
+        [subcommands: step, check, upgrade, summary, open, chart, trace, replay, run, explore, help]\n\n\
         Usage: cmwq <COMMAND>\n",
     ),
     (
@@ -175,6 +177,11 @@ const HELP: [(&str, &str, &str); 9] = [
         "summary",
         "Reads a history and writes its figures, if it is legal",
         "\n  entries 3, ticks 0\n",
+    ),
+    (
+        "open",
+        "Reads a history and writes what is still going on at its end, if it is legal",
+        "\n  booked item 1, due 9, queue 0 on CPU 0\n",
     ),
     (
         "chart",

@@ -20,6 +20,23 @@ fn told_of(alloc: Global, front: &[u8], head: usize) -> Result<Option<String>, A
     Ok(Some(told))
 }
 
+/// What is told of a front that is taken, of which a rest may have been left out.
+fn told_of_rest(alloc: Global, front: &[u8]) -> Result<String, AllocError> {
+    let mut rest = 0usize;
+    for byte in front {
+        rest = if *byte == b'\n' {
+            0
+        } else {
+            rest.saturating_add(1)
+        };
+    }
+    match rest {
+        0 => Ok(String::new(alloc)),
+        1 => format!(in alloc; "cmwq: left out the last byte, an unfinished line\n"),
+        _ => format!(in alloc; "cmwq: left out the last {rest} bytes, an unfinished line\n"),
+    }
+}
+
 /// Runs a subcommand on each front of a text.
 fn cut_anywhere(rt: &(impl Abort + AllocGlobal), subcommand: Subcommand, text: &[u8], head: usize) {
     for bytes in 0..=text.len() {
@@ -62,6 +79,7 @@ fn lines_may_be_cut_anywhere(rt: HostRuntime) {
         (Subcommand::Upgrade, HISTORY, 3),
         (Subcommand::Upgrade, &HISTORY[FORMAT_LINE..], 2),
         (Subcommand::Summary, HISTORY, 3),
+        (Subcommand::Open, HISTORY, 3),
         (Subcommand::Chart, HISTORY, 3),
         (Subcommand::Trace, HISTORY, 3),
     ] {
@@ -122,7 +140,13 @@ fn a_history_of_format_3_may_be_cut_anywhere(rt: HostRuntime) {
         for bytes in first..=last {
             let front = LONG_HISTORY.get(..bytes).expect(&rt, "a front");
             let ended = run(&rt, subcommand, front);
-            same(&rt, ended.told.as_slice(), told.as_bytes());
+            let left_out = told_of_rest(rt.alloc(), front).expect(&rt, "memory");
+            let wanted = if told.is_empty() {
+                left_out.as_str()
+            } else {
+                told
+            };
+            same(&rt, ended.told.as_slice(), wanted.as_bytes());
             let is_legal = ended.output.as_slice().starts_with(b"legal ");
             same(
                 &rt,

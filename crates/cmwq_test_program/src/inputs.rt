@@ -26,13 +26,14 @@ pub(crate) const SCENARIO: &[u8] = br#"{"queues":[{"name":"q0","max_active":1,"i
 "#;
 
 /// An input for each subcommand that reads it to its end.
-pub(crate) const INPUTS: [(Subcommand, &[u8]); 9] = [
+pub(crate) const INPUTS: [(Subcommand, &[u8]); 10] = [
     (Subcommand::Step, CALLS),
     (Subcommand::Live, CALLS),
     (Subcommand::Check, HISTORY),
     (Subcommand::Front, HISTORY),
     (Subcommand::Upgrade, HISTORY),
     (Subcommand::Summary, HISTORY),
+    (Subcommand::Open, HISTORY),
     (Subcommand::Chart, HISTORY),
     (Subcommand::Trace, HISTORY),
     (Subcommand::Replay, SCENARIO),

@@ -5,7 +5,7 @@ use cmwq_cmd_history::{run_step, run_step_live};
 use cmwq_history::{run_check, run_front_check, run_upgrade};
 use cmwq_io::{Memory, Sink, Source};
 use cmwq_replay::run_replay;
-use cmwq_views::{Window, run_chart, run_summary, run_trace};
+use cmwq_views::{Window, run_chart, run_open, run_summary, run_trace};
 use std::alloc::Global;
 use std::process::Abort;
 
@@ -18,6 +18,7 @@ pub(crate) enum Subcommand {
     Front,
     Upgrade,
     Summary,
+    Open,
     Chart,
     Trace,
     Replay,
@@ -42,6 +43,7 @@ impl Subcommand {
             Subcommand::Front => run_front_check(alloc, input, output, errors),
             Subcommand::Upgrade => run_upgrade(alloc, input, output, errors),
             Subcommand::Summary => run_summary(alloc, input, output, errors),
+            Subcommand::Open => run_open(alloc, input, output, errors, false),
             Subcommand::Chart => run_chart(alloc, input, output, errors, WHOLE),
             Subcommand::Trace => run_trace(alloc, input, output, errors),
             Subcommand::Replay => run_replay(alloc, input, output, errors),
@@ -82,7 +84,7 @@ const VERDICT: &str = "illegal at 0: reply yes 0\n";
 
 /// Inputs that have no room, or are illegal or refused: the status, what is written, and what is told. `step --live`
 /// ends at the first call without room, and reads no line after it.
-const ENDINGS: [(Subcommand, &str, u8, &str, &str); 8] = [
+const ENDINGS: [(Subcommand, &str, u8, &str, &str); 9] = [
     (
         Subcommand::Live,
         "shape 1 1 1 1 0\nwq 1 -\nc0 fire\n",
@@ -106,6 +108,7 @@ const ENDINGS: [(Subcommand, &str, u8, &str, &str); 8] = [
     ),
     (Subcommand::Upgrade, ILLEGAL, 3, "", VERDICT),
     (Subcommand::Summary, ILLEGAL, 3, "", VERDICT),
+    (Subcommand::Open, ILLEGAL, 3, "", VERDICT),
     (Subcommand::Chart, ILLEGAL, 3, "", VERDICT),
     (Subcommand::Trace, ILLEGAL, 3, "", VERDICT),
     (Subcommand::Replay, "{", 1, "", "cmwq: not JSON\n"),
