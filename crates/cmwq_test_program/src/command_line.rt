@@ -156,7 +156,7 @@ fn wrong_uses_are_told(rt: HostRuntime) {
 }
 
 /// Subcommands, what each does, and a line of its input that its help shows.
-const HELP: [(&str, &str, &str); 9] = [
+const HELP: [(&str, &str, &str); 10] = [
     (
         "step",
         "Reads call lines and writes the history of their answers",
