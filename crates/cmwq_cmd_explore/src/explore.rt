@@ -2,11 +2,11 @@
 
 use crate::report::{write_found, write_parties, write_seeds, write_shortest, write_stuck_seed};
 use crate::watching::Watching;
-use cmwq_history::{tell_full, write_history};
 use cmwq_explore::{
     Chooser, Found, Limits, Play, Setup, Standing, Step, length_of_first, play_by, search_all,
     search_merged,
 };
+use cmwq_history::{tell_full, write_history};
 use cmwq_io::{Sink, Source, tell};
 use cmwq_json::{Fault, fault_status, read_value};
 use cmwq_json_script::{Script, read_script};
