@@ -67,6 +67,7 @@ played_more n s p q movers step all some is goes =
     inr (
       (λ empty. some_length movers some (all ∙ empty)),
       step.is_refused,
-      subst (λ (k : ℕ). IsPlayed n (after_draw s) (moved p (record { party = k; is_refused = step.is_refused })) q) party
+      subst
+          (λ (k : ℕ). IsPlayed n (after_draw s) (moved p (record { party = k; is_refused = step.is_refused })) q) party
           goes,
     )
