@@ -33,6 +33,7 @@ holds_found r start f shortest same found = of_stuck (f.stuck == 0) refl
     of_cut true cut stuck =
         rw (stuck, cut) (subst (AllEnd 2000) same (found.all (eqb-true f.cut 0 cut) (eqb-true f.stuck 0 stuck)))
     of_cut false cut stuck = rw (stuck, cut) tt
+
     of_stuck : (b : Bool) → (f.stuck == 0) ≡ b → Holds r (verdict_found f)
     of_stuck true is = of_cut (f.cut == 0) refl is
     of_stuck false is =

@@ -11,8 +11,10 @@ ghost use Rattle.cmwq_cmd_explore.specs.Verdicts.{plays_all, plays_one, status_o
 
 use crate::report::{write_found, write_parties, write_seeds, write_shortest, write_stuck_seed};
 use crate::watching::Watching;
-use cmwq_explore::{Chooser, Found, Limits, Play, Setup, Standing, Step};
-use cmwq_explore::{length_of_first, play_by, search_all, search_merged};
+use cmwq_explore::{
+    Chooser, Found, Limits, Play, Setup, Standing, Step, length_of_first, play_by, search_all,
+    search_merged,
+};
 use cmwq_history::{tell_full, write_history};
 use cmwq_io::{Sink, Source, tell};
 use cmwq_json::{Fault, fault_status, read_value};
@@ -102,7 +104,12 @@ fn verdict_of_play(play: &Play<'_>, standing: Standing) -> Verdict {
 fn write_play<O: Sink>(output: &mut O, version: u8, play: &Play<'_>) -> Result<(), Fault>
     ensures { IfOk result (λ _. Writes (max version 2) play.now.history (O.written output.old) (O.written output.new)) }
 {
-    match write_history(output, version.max(2), play.machine().shape(), play.history()) {
+    match write_history(
+        output,
+        version.max(2),
+        play.machine().shape(),
+        play.history(),
+    ) {
         Ok(()) => Ok(()),
         Err(_) => Err(Fault::WriteFault),
     }

@@ -1,8 +1,8 @@
 //! What is written while schedules are played: how far it is, and histories.
 
 use arrayvec::ArrayString;
-use cmwq_history::write_history;
 use cmwq_explore::{Found, Play, Standing, Watch};
+use cmwq_history::write_history;
 use cmwq_io::{Sink, flush_all, write_all};
 use std::fmt;
 use std::fmt::Write;

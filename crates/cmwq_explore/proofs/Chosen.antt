@@ -1,5 +1,6 @@
 -- One move more of those that a seed chooses, and one more who may move.
-use Rattle.std.proofs.Common.{ℕ, zero, suc, ◌≡◌, ◌<◌, ◌+◌, ◌-◌, ◌%◌, ◌==◌, Bool, true, false, List, [], ◌∷◌, ◌++◌, length, max, inl, inr}
+use Rattle.std.proofs.Common.{ℕ, zero, suc, ◌≡◌, ◌<◌, ◌+◌, ◌-◌, ◌%◌, ◌==◌, Bool, true, false, List, [], ◌∷◌, ◌++◌}
+use Rattle.std.proofs.Common.{length, max, inl, inr}
 use Rattle.std.proofs.Common.{refl, subst, sym, ap, ◌∙◌, arith, add-one}
 use Rattle.std.specs.List.{filter, range_with_len}
 use Rattle.std.proofs.lemmas.List.{append-nil}
@@ -41,20 +42,20 @@ some_length (x ∷ xs) some empty = cc
 pub played_end : (most k s : ℕ) (p : Stand) (movers : List ℕ) (Goal : Stand → Type 0) → k < most
     → ((n : ℕ) → k + n ≡ most → (q : Stand) → IsPlayed n s p q → Goal q) → movers ≡ movers_of p
     → length movers ≡ 0 → Goal p
+unfolding IsPlayed
 played_end most k s p movers Goal less so all none =
     so (suc (most - suc k)) (omega arith) p (here (most - suc k) (sym all ∙ no_length movers none))
   where
     here : (n : ℕ) → movers_of p ≡ [] → IsPlayed (suc n) s p p
-    unfolding IsPlayed
     here n empty = inl (empty, refl)
 
 -- all were made
 pub played_all : (most k s : ℕ) (p : Stand) (Goal : Stand → Type 0) → k ≡ most
     → ((n : ℕ) → k + n ≡ most → (q : Stand) → IsPlayed n s p q → Goal q) → Goal p
+unfolding IsPlayed
 played_all most k s p Goal is so = so zero (omega arith) p here
   where
     here : IsPlayed zero s p p
-    unfolding IsPlayed
     here = refl
 
 -- one more was made
@@ -63,6 +64,9 @@ pub played_more : (n s : ℕ) (p q : Stand) (movers : List ℕ) (step : Step) �
 unfolding IsPlayed
 played_more n s p q movers step all some is goes =
     let party : step.party ≡ chosen s (movers_of p) = is ∙ ap (chosen s) all in
-    inr ((λ empty. some_length movers some (all ∙ empty)), step.is_refused,
-    subst (λ (k : ℕ). IsPlayed n (after_draw s) (moved p (record { party = k; is_refused = step.is_refused })) q) party
-    goes)
+    inr (
+      (λ empty. some_length movers some (all ∙ empty)),
+      step.is_refused,
+      subst (λ (k : ℕ). IsPlayed n (after_draw s) (moved p (record { party = k; is_refused = step.is_refused })) q) party
+          goes,
+    )

@@ -1,5 +1,6 @@
 -- Steps one after another, and what is known once all who may move were tried.
-use Rattle.std.proofs.Common.{ℕ, zero, suc, ◌≡◌, ◌≤◌, ◌<◌, ◌+◌, Bool, true, false, List, [], ◌∷◌, ◌++◌, length, get_or, take}
+use Rattle.std.proofs.Common.{ℕ, zero, suc, ◌≡◌, ◌≤◌, ◌<◌, ◌+◌, Bool, true, false, List, [], ◌∷◌, ◌++◌, length, get_or}
+use Rattle.std.proofs.Common.{take}
 use Rattle.std.proofs.Common.{add-one, refl, subst, sym, ap, ◌∙◌, arith, ◌-◌, ◌==◌, Result, Ok, Err}
 use Rattle.std.proofs.Math.Seq.{take-suc}
 use Rattle.std.proofs.lemmas.List.{get_or_default}
@@ -65,12 +66,13 @@ all_tried_more : (n : ℕ) (p : Stand) (movers : List ℕ) → ((k : ℕ) → ma
     → All (λ k. may p k ≡ true) movers → 0 < length movers
     → AllEndAfter n p movers (length movers) → AllEnd (suc n) p
 unfolding AllEnd
-all_tried_more n p movers all sound some tried =
-    ((λ rests. absurd (false_or _ (All-get_or (λ k. may p k ≡ true) movers 0 0 some sound) (rests (get_or movers 0 0)))),
-    (λ k is.
-    let at = all k is in
-    let same : get_or movers at.0 0 ≡ k = get_or_default movers at.0 0 k at.1 ∙ at.2 in
-    subst (EndsAfter n p) same (tried at.0 at.1)))
+all_tried_more n p movers all sound some tried = (
+  (λ rests. absurd (false_or _ (All-get_or (λ k. may p k ≡ true) movers 0 0 some sound) (rests (get_or movers 0 0)))),
+  (λ k is.
+      let at = all k is in
+      let same : get_or movers at.0 0 ≡ k = get_or_default movers at.0 0 k at.1 ∙ at.2 in
+      subst (EndsAfter n p) same (tried at.0 at.1)),
+)
 
 pub all_tried : (depth : ℕ) (p : Stand) (movers : List ℕ) → 0 < depth
     → ((k : ℕ) → may p k ≡ true → Contains movers k)
@@ -111,12 +113,13 @@ all_known_more : (n : ℕ) (p : Stand) (movers : List ℕ) → ((k : ℕ) → ma
     → All (λ k. may p k ≡ true) movers → 0 < length movers
     → NoneStuckAfter n p movers (length movers) → NoneStuck (suc n) p
 unfolding NoneStuck
-all_known_more n p movers all sound some known =
-    ((λ rests. absurd (false_or _ (All-get_or (λ k. may p k ≡ true) movers 0 0 some sound) (rests (get_or movers 0 0)))),
-    (λ k is.
-    let at = all k is in
-    let same : get_or movers at.0 0 ≡ k = get_or_default movers at.0 0 k at.1 ∙ at.2 in
-    subst (NoneStuckAt n p) same (known at.0 at.1)))
+all_known_more n p movers all sound some known = (
+  (λ rests. absurd (false_or _ (All-get_or (λ k. may p k ≡ true) movers 0 0 some sound) (rests (get_or movers 0 0)))),
+  (λ k is.
+      let at = all k is in
+      let same : get_or movers at.0 0 ≡ k = get_or_default movers at.0 0 k at.1 ∙ at.2 in
+      subst (NoneStuckAt n p) same (known at.0 at.1)),
+)
 
 pub all_known : (n : ℕ) (p : Stand) (movers : List ℕ) → ((k : ℕ) → may p k ≡ true → Contains movers k)
     → All (λ k. may p k ≡ true) movers → 0 < length movers

@@ -20,6 +20,6 @@ starts_planned h w m mark made some = here (number_started m.entry.reply) refl
     here (Some n) is =
         let it = mark.starts n is in
         let reply : m.entry.reply ≡ (next_entry h (Worker w) call.Take).reply =
-            ap (λ (e : Entry). e.reply) mark.is_next in
+        ap (λ (e : Entry). e.reply) mark.is_next in
         rw (made, ← reply, is, it.is_known) it.is_its
     here None is = let no = rw is at some in cc

@@ -24,8 +24,8 @@ movers_of p = filter (may p) (range_with_len 0 (length p.callers + length p.work
 abbrev pub chosen : ℕ → List ℕ → ℕ
 chosen s movers = slice_index movers (drawn_below (length movers) s)
 
--- So many moves were made, or fewer where nobody may move any more: each by the one who is chosen of those who may. Where
--- a run would begin a wait, it was refused or not.
+-- So many moves were made, or fewer where nobody may move any more: each by the one who is chosen of those who may.
+-- Where a run would begin a wait, it was refused or not.
 unfoldable pub IsPlayed : ℕ → ℕ → Stand → Stand → Type 0
 IsPlayed zero s p q = q ≡ p
 IsPlayed (suc n) s p q =

@@ -97,7 +97,7 @@ abbrev pub after_reply : History → Who → Call → Reply → AfterCall
 after_reply h who c r =
     if is_tick c then record { history = fired h.layout.items h who; outcome = Whole }
     else option_map_or (λ k. begun h who (record { ticket = k; call = c })) (ticket_given r)
-        (record { history = h; outcome = Whole })
+    (record { history = h; outcome = Whole })
 
 -- a whole call
 unfoldable pub called : History → Who → Call → AfterCall

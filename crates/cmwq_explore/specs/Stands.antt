@@ -152,19 +152,19 @@ unfoldable pub borrowed : Stand → ℕ → WorkerId → RunAt → Call → Stan
 borrowed p k id run c =
     if is_of_item c run.item then with_run p k id (Some (after_action run))
     else option_map_or
-        (λ caller. with_run (record p { free = take (length p.free - 1) p.free }) k id
-        (Some (record run { doing = Borrows caller }))) (last_free p.free)
+    (λ caller. with_run (record p { free = take (length p.free - 1) p.free }) k id
+    (Some (record run { doing = Borrows caller }))) (last_free p.free)
     (with_run p k id (Some (after_action run)))
 
 unfoldable pub acted : Stand → ℕ → WorkerId → RunAt → Action → Stand
 acted p k id run (action.Call c) =
     if is_workers c then with_run (with_history p (stepped p.history (Worker id) c)) k id (Some (after_action run))
-        else borrowed p k id run c
+    else borrowed p k id run c
 acted p k id run (action.Open g) =
     with_run (record p { gates = slice_set p.gates g true }) k id (Some (after_action run))
 acted p k id run (action.SleepAt g) =
     with_run (with_history p (stepped p.history (Worker id) call.Sleep)) k id
-        (Some (record run { doing = AtGate g (is_some (replied p.history (Worker id) call.Sleep)) }))
+    (Some (record run { doing = AtGate g (is_some (replied p.history (Worker id) call.Sleep)) }))
 
 -- After the call of a run's caller: it waits, or the run wakes.
 abbrev pub after_begin : Stand → ℕ → WorkerId → RunAt → ℕ → History → Called → Stand
@@ -181,7 +181,7 @@ unfoldable pub wait_begun : Stand → ℕ → WorkerId → RunAt → ℕ → Cal
 wait_begun p k id run caller c =
     if is_some (replied p.history (Worker id) call.Sleep)
     then after_sleep p k id run caller
-        (called (stepped p.history (Worker id) call.Sleep) (Caller (record { 0 = caller })) c)
+    (called (stepped p.history (Worker id) call.Sleep) (Caller (record { 0 = caller })) c)
     else with_run p k id (Some (gives_back run caller))
 
 abbrev pub call_in : Option Action → Option Call
@@ -193,13 +193,13 @@ abbrev pub did : Stand → ℕ → WorkerId → RunAt → Bool → Doing → Sta
 did p k id run refused Acts = option_map_or (acted p k id run) (action_of p run) (finished p k id)
 did p k id run refused (AtGate g slept) =
     with_run (if slept then with_history p (stepped p.history (Worker id) call.Wake) else p) k id
-        (Some (after_action run))
+    (Some (after_action run))
 did p k id run refused (Borrows caller) =
     if refused then with_run p k id (Some (gives_back run caller))
-        else option_map_or (wait_begun p k id run caller) (call_in (action_of p run)) p
+    else option_map_or (wait_begun p k id run caller) (call_in (action_of p run)) p
 did p k id run refused (Waits caller w) =
     with_run (with_history p (stepped (ended p.history (Caller (record { 0 = caller })) w) (Worker id) call.Wake)) k id
-        (Some (gives_back run caller))
+    (Some (gives_back run caller))
 did p k id run refused (Returns caller) =
     with_run (record p { free = p.free ++ caller ∷ [] }) k id (Some (after_action run))
 
@@ -213,6 +213,6 @@ worker_moved p k at refused = option_map_or (λ run. run_moved p k at.id run ref
 unfoldable pub moved : Stand → Step → Stand
 moved p step =
     if nat_lt step.party (length p.callers)
-        then option_map_or (caller_moved p step.party) (slice_get p.callers step.party) p
+    then option_map_or (caller_moved p step.party) (slice_get p.callers step.party) p
     else option_map_or (λ at. worker_moved p (step.party - length p.callers) at step.is_refused)
-        (slice_get p.workers (step.party - length p.callers)) p
+    (slice_get p.workers (step.party - length p.callers)) p

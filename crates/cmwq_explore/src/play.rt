@@ -20,8 +20,10 @@ ghost use Rattle.cmwq_explore.specs.declared.place.Doing.TheVariants as doing;
 
 use crate::machine::{Called, Machine};
 use crate::parties::PartyName;
-use crate::place::{CallerAt, Doing, RunAt, Step, Ticketed, WorkerAt};
-use crate::place::{after_action, gives_back, is_of_item, next_place, ticket_of};
+use crate::place::{
+    CallerAt, Doing, RunAt, Step, Ticketed, WorkerAt, after_action, gives_back, is_of_item,
+    next_place, ticket_of,
+};
 use crate::setup::Setup;
 use cmwq_json_script::{Action, Script};
 use cmwq_model::{Call, CallerId, Entry, NoMemory, Queueing, Who, WorkerId};
@@ -67,10 +69,17 @@ impl<'a> Model for Play<'a> {
 
     ghost Value = { Stand };
 
-    ghost view =
-        { λ p. record { scripts = calls_of p.setup.now.script.now.callers; does =
-        map (λ d. d.items) p.setup.now.script.now.does.items; history = p.machine; callers = p.callers.items; workers =
-        p.workers.items; gates = p.gates.items; free = p.free.items } };
+    ghost view = { λ p. record {
+      scripts = calls_of p.setup.now.script.now.callers;
+      does =
+          map (λ d. d.items) p.setup.now.script.now.does.items;
+      history = p.machine;
+      callers = p.callers.items;
+      workers =
+          p.workers.items;
+      gates = p.gates.items;
+      free = p.free.items;
+    } };
 }
 
 impl<'a> Play<'a> {

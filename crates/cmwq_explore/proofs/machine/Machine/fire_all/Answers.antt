@@ -13,8 +13,8 @@ returns-in_default c =
     let counted = ap (λ (l : Layout). l.items) (c.counts-items.ensures.counts ∙ sym c.self.invariant.0) in
     let same : c.counts-items.result.items ≡ items = counted ∙ ap (λ (h : History). h.layout.items) c.self.view_is in
     c.in_ok-reply.ensures.history
-        ∙ last_none items c.loop.counter c.loop.self goes c.args.who (omega arith) c.loop.invariant
-            (sym c.in_ok-reply.ensures.reply ∙ c.in_default.is)
+    ∙ last_none items c.loop.counter c.loop.self goes c.args.who (omega arith) c.loop.invariant
+    (sym c.in_ok-reply.ensures.reply ∙ c.in_default.is)
 
 pub returns-then-is_nothing : goal.returns-then-is_nothing
 returns-then-is_nothing c =
@@ -26,8 +26,8 @@ returns-then-is_nothing c =
     let some = sym c.in_ok-reply.ensures.reply ∙ c.in-Some.is in
     let nothing = sym c.is_nothing.ensures ∙ c.if-is_nothing.true in
     c.in_ok-reply.ensures.history
-        ∙ last_nothing items c.loop.counter c.loop.self goes c.args.who c.in-Some.reply (omega arith) c.loop.invariant
-            some nothing
+    ∙ last_nothing items c.loop.counter c.loop.self goes c.args.who c.in-Some.reply (omega arith) c.loop.invariant
+    some nothing
 
 pub loop-preserved : goal.loop-preserved
 loop-preserved c = λ n e.
@@ -36,8 +36,8 @@ loop-preserved c = λ n e.
     let some = sym c.in_ok-reply.ensures.reply ∙ c.in-Some.is in
     let other = sym c.is_nothing.ensures ∙ c.if-is_nothing.false in
     rw c.in_ok-reply.ensures.history
-        (one_more items c.loop.counter c.loop.self goes c.args.who c.in-Some.reply c.loop.invariant some other n
-        (omega arith))
+    (one_more items c.loop.counter c.loop.self goes c.args.who c.in-Some.reply c.loop.invariant some other n
+    (omega arith))
 
 pub returns : goal.returns
 returns c =

@@ -14,21 +14,21 @@ loop-party-preserved c =
     let xs = c.loop-party.movers.items in
     let before = c.loop-party.invariant in
     elim c.if-may_move.branch [
-        then-may_move+in_ok-push w ↦
-            let it = sym c.may_move.ensures ∙ w.if-may_move.true in
-            rw (w.movers-is, w.in_ok-push.ensures.items) (record {
-              list = filter_with p k xs before.list it;
-              all = λ j less is. all_with p k xs before.all j (omega arith) is;
-              sound = All-push (λ (j : ℕ). may p j ≡ true) xs k before.sound it;
-            })
+      | then-may_move+in_ok-push w ↦
+          let it = sym c.may_move.ensures ∙ w.if-may_move.true in
+          rw (w.movers-is, w.in_ok-push.ensures.items) (record {
+            list = filter_with p k xs before.list it;
+            all = λ j less is. all_with p k xs before.all j (omega arith) is;
+            sound = All-push (λ (j : ℕ). may p j ≡ true) xs k before.sound it;
+          })
       | else-may_move w ↦
-            let not_it = sym c.may_move.ensures ∙ w.if-may_move.false in
-            rw (w.movers-is) (record {
-              list = filter_without p k xs before.list not_it;
-              all = λ j less is. all_before p k xs before.all not_it j (omega arith) is;
-              sound = before.sound;
-            })
-      ]
+          let not_it = sym c.may_move.ensures ∙ w.if-may_move.false in
+          rw (w.movers-is) (record {
+            list = filter_without p k xs before.list not_it;
+            all = λ j less is. all_before p k xs before.all not_it j (omega arith) is;
+            sound = before.sound;
+          })
+    ]
 
 pub returns-clause-list : goal.returns-clause-list
 returns-clause-list c =

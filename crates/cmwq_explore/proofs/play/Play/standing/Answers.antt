@@ -21,21 +21,23 @@ returns-then-may_move-clause-goes c = λ e rests.
 pub loop-party-preserved : goal.loop-party-preserved
 loop-party-preserved c = λ j less.
     none_more c.args.self.now c.loop-party.party c.loop-party.invariant (sym c.may_move.ensures ∙ c.if-may_move.false) j
-        (omega arith)
+    (omega arith)
 
 pub returns-clause-ended : goal.returns-clause-ended
 returns-clause-ended c = λ e.
     let end = c.parties-party-end.ensures in
-    let past = c.loop-party-test.false in
-    (rests_past c.args.self.now c.loop-party.party (omega arith) c.loop-party.invariant,
-        c.standing_still.ensures.ended e)
+    let past = c.loop-party-test.false in (
+      rests_past c.args.self.now c.loop-party.party (omega arith) c.loop-party.invariant,
+      c.standing_still.ensures.ended e,
+    )
 
 pub returns-clause-stuck : goal.returns-clause-stuck
 returns-clause-stuck c = λ e.
     let end = c.parties-party-end.ensures in
-    let past = c.loop-party-test.false in
-    (rests_past c.args.self.now c.loop-party.party (omega arith) c.loop-party.invariant,
-        c.standing_still.ensures.stuck e)
+    let past = c.loop-party-test.false in (
+      rests_past c.args.self.now c.loop-party.party (omega arith) c.loop-party.invariant,
+      c.standing_still.ensures.stuck e,
+    )
 
 pub returns-clause-goes : goal.returns-clause-goes
 returns-clause-goes c = λ e rests. c.standing_still.ensures.goes e

@@ -2,13 +2,15 @@ use Rattle.std.proofs.Common.{ℕ, ◌≡◌, ◌≤◌, ◌<◌, ◌+◌, ◌-�
 use Rattle.cmwq_explore.specs.Searches.{AllEnd, NoneStuck, NoneStuckAfter, after}
 use Rattle.cmwq_explore.specs.declared.place.Step.{Step}
 use Rattle.cmwq_explore.specs.Starts.{start_of}
-use Rattle.cmwq_explore.proofs.Searching.{all_tried, always, end_here, is_none, is_some, all_known, none_here, one_more_known, then_so}
+use Rattle.cmwq_explore.proofs.Searching.{all_tried, always, end_here, is_none, is_some, all_known, none_here}
+use Rattle.cmwq_explore.proofs.Searching.{one_more_known, then_so}
 use Rattle.cmwq_explore.proofs.search.Search.+visiting.Goals as goal
 
 pub visit-returns-then-is_empty-clause-all : goal.visit-returns-then-is_empty-clause-all
 visit-returns-then-is_empty-clause-all g t c =
     let movers = c.in_ok-movers.movers in
-    let none = is_none movers.len (length movers.items) c.is_empty.result (omega (arith, movers.ok.0)) c.is_empty.ensures
+    let none =
+    is_none movers.len (length movers.items) c.is_empty.result (omega (arith, movers.ok.0)) c.is_empty.ensures
     c.if-is_empty.true in
     always c.note_end.result
     (λ cut stuck. end_here c.args.depth c.args.play.now movers.items c.in_ok-movers.ensures.all none
@@ -17,7 +19,8 @@ visit-returns-then-is_empty-clause-all g t c =
 pub visit-returns-clause-all : goal.visit-returns-clause-all
 visit-returns-clause-all g t c =
     let movers = c.in_ok-movers.movers in
-    let some = is_some movers.len (length movers.items) c.is_empty.result (omega (arith, movers.ok.0)) c.is_empty.ensures
+    let some =
+    is_some movers.len (length movers.items) c.is_empty.result (omega (arith, movers.ok.0)) c.is_empty.ensures
     c.if-is_empty.false in
     let deep : 0 < c.args.depth = let not = c.if-depth-eq0.false in omega arith in
     let tried = rw c.deref-2.ensures.value at c.visit_after.ensures.all in
@@ -28,7 +31,8 @@ visit-returns-clause-all g t c =
 pub visit-returns-then-is_empty-clause-none : goal.visit-returns-then-is_empty-clause-none
 visit-returns-then-is_empty-clause-none g t c =
     let movers = c.in_ok-movers.movers in
-    let none = is_none movers.len (length movers.items) c.is_empty.result (omega (arith, movers.ok.0)) c.is_empty.ensures
+    let none =
+    is_none movers.len (length movers.items) c.is_empty.result (omega (arith, movers.ok.0)) c.is_empty.ensures
     c.if-is_empty.true in
     let same = c.deref.ensures.value in
     then_so c.note_end.result
@@ -38,7 +42,8 @@ visit-returns-then-is_empty-clause-none g t c =
 pub visit-returns-clause-none : goal.visit-returns-clause-none
 visit-returns-clause-none g t c =
     let movers = c.in_ok-movers.movers in
-    let some = is_some movers.len (length movers.items) c.is_empty.result (omega (arith, movers.ok.0)) c.is_empty.ensures
+    let some =
+    is_some movers.len (length movers.items) c.is_empty.result (omega (arith, movers.ok.0)) c.is_empty.ensures
     c.if-is_empty.false in
     let known = rw c.deref-2.ensures.value at c.visit_after.ensures.none in
     then_so c.visit_after.result
@@ -67,13 +72,16 @@ visit_after-loop-k-preserved g t c =
       path = c.in_ok-visit_step.ensures.path ∙ was.path;
       first = λ e. absurd (omega arith);
       sound = λ old. c.in_ok-visit_step.ensures.sound (rw c.stand_at.ensures.shortest (was.sound old));
-      shorter = λ n least. was.shorter n (rw c.stand_at.ensures.shortest at (c.in_ok-visit_step.ensures.shorter n least));
-      counted = λ old. c.in_ok-visit_step.ensures.known (rw (c.stand_at.ensures.shortest, same_stuck) (was.counted old));
+      shorter =
+          λ n least. was.shorter n (rw c.stand_at.ensures.shortest at (c.in_ok-visit_step.ensures.shorter n least));
+      counted =
+          λ old. c.in_ok-visit_step.ensures.known (rw (c.stand_at.ensures.shortest, same_stuck) (was.counted old));
       known = λ cut n least.
           let before = rw c.stand_at.ensures.shortest at (c.in_ok-visit_step.ensures.shorter n least) in
           let less : n - (length c.loop-k.path.items + 1) ≡ n - (length c.args.path.now.items + 1) =
           ap (λ (xs : List Step). n - (length xs + 1)) was.path in
-          one_more_known (NoneStuck (n - (length c.args.path.now.items + 1))) c.args.play.now c.args.movers.now c.loop-k.k
+          one_more_known (NoneStuck (n - (length c.args.path.now.items + 1))) c.args.play.now c.args.movers.now
+          c.loop-k.k
           c.step_of-step.result (was.known (omega arith) n before) c.step_of-step.ensures.party
           (rw (← there, ← less) (c.in_ok-visit_step.ensures.none cut n least));
       tried = λ cut stuck.
