@@ -3,8 +3,10 @@
 
 use crate::common::{CPU, FIRST, PRIORITIES, QUEUE, SEEDS, shape};
 use cmwq_service::{Client, Completion, Context, Fault, ItemId, Service};
-use cmwq_trial::{Awaits, Doing, Failure, Party, Role, UNIFORM, trials};
+use cmwq_trial::{Awaits, Doing, Failure, Party, Role, Setup, Trials, UNIFORM, trials};
+use std::process::Abort;
 use std::sync::Wait;
+use std::thread::Threads;
 use std::time::Clock;
 
 #[derive(Drop)]
@@ -49,22 +51,28 @@ impl Service for Waiter {
 
 const WAITING: Doing = Doing::RunsAndWaits(0, Awaits::Completion);
 
+fn try_seeds<R: Threads + Wait + Clock + Sync + Abort + AllocGlobal>(
+    rt: &R,
+    setup: &Setup,
+) -> Trials {
+    let shape = shape(rt, 0);
+    trials(
+        rt,
+        rt.alloc(),
+        &shape,
+        setup,
+        0..SEEDS,
+        &|_seed| Waiter {
+            told: Completion::new(),
+        },
+        &|_progress| {},
+    )
+}
+
 #[test]
 fn a_completion_that_comes_too_late_is_found(rt: HostRuntime) {
-    let shape = shape(&rt, 0);
     for setup in [UNIFORM, PRIORITIES] {
-        let make = |_seed| Waiter {
-            told: Completion::new(),
-        };
-        let tried = trials(
-            &rt,
-            rt.alloc(),
-            &shape,
-            &setup,
-            0..SEEDS,
-            &make,
-            &|_progress| {},
-        );
+        let tried = try_seeds(&rt, &setup);
         assert_eq!(rt; tried.stopped, 0);
         assert!(rt;
             tried.stuck > 0 && tried.ended > 0,
