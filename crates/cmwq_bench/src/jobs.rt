@@ -15,6 +15,9 @@ const CALLERS: u8 = 4;
 
 const ITEMS: u16 = 64;
 
+/// How many entries are kept at most. Memory is reserved for all of them at once.
+const KEPT: u64 = 16_000_000;
+
 const QUEUE: QueueShape = QueueShape {
     max_active: 512,
     ..PLAIN
@@ -146,7 +149,7 @@ pub fn time<T: Threads + Wait + Clock + Sync>(
         .callers(CALLERS)
         .workers(workers)
         .items(ITEMS * u16::from(CALLERS))
-        .room(if keeps { 4_294_967_295 } else { 1 << 60 });
+        .room(if keeps { KEPT } else { 1 << 60 });
     for _ in 0..CALLERS {
         builder = builder.queue(QUEUE)?;
     }
