@@ -89,7 +89,8 @@ pub fn write_end<W: Sink>(sink: &mut W, version: u8, entries: u64) -> Result<(),
 
 fn write_queues<W: Sink>(sink: &mut W, queues: &[QueueShape]) -> Result<(), WriteFault>
     ensures ok { OnOk result (Appends (W.written sink.old) (W.written sink.new) (flat_map queue_text queues.now)) }
-    ensures err { OnErr result (AppendsFront (W.written sink.old) (W.written sink.new) (flat_map queue_text queues.now)) }
+    ensures err { OnErr result
+        (AppendsFront (W.written sink.old) (W.written sink.new) (flat_map queue_text queues.now)) }
     ensures grown { W.troubles sink.old ≤ W.troubles sink.new }
     ensures fault { OnErr result (Rises (W.troubles sink.old) (W.troubles sink.new)) }
 {

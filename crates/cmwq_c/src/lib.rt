@@ -114,7 +114,8 @@ pub extern "C" fn cmwq_step_line(
     out: &mut [u8],
     written: &mut usize,
 ) -> u32
-    ensures status { result ≡ if_live book.old.live (line_status book.old.held.book (call_read line.now) (length out.old)) }
+    ensures status { result
+        ≡ if_live book.old.live (line_status book.old.held.book (call_read line.now) (length out.old)) }
     ensures live { book.new.live ≡ book.old.live }
     ensures made { result ≡ 0
         → IfSome (call_read line.now)
@@ -183,7 +184,8 @@ pub extern "C" fn cmwq_ready(alloc: Global, book: &mut Handle, ticket: u64) -> b
 /// Says the bits of an item (`work_busy`): 1 if it is pending, plus 2 if it runs. 0 done, 1 no such item, 2 closed.
 #[unsafe(no_mangle)]
 pub extern "C" fn cmwq_bits(alloc: Global, book: &mut Handle, item: u16, bits: &mut u8) -> u32
-    ensures status { result ≡ if_live book.old.live (found_status (nat_lt item book.old.held.book.history.layout.items)) }
+    ensures status { result
+        ≡ if_live book.old.live (found_status (nat_lt item book.old.held.book.history.layout.items)) }
     ensures live { book.new.live ≡ book.old.live }
     ensures same { book.old.live ≡ true → book.new.held.book ≡ book.old.held.book }
     ensures bits { result ≡ 0 → bits.new ≡ legal.bits (past_in book.old.held.book.history) item }
@@ -214,7 +216,8 @@ pub extern "C" fn cmwq_serial(
     who: &WhoNumbers,
     serial: &mut u64,
 ) -> u32
-    ensures status { result ≡ if_live book.old.live (serial_status book.old.held.book.history.layout (who_of_numbers who.now)) }
+    ensures status { result
+        ≡ if_live book.old.live (serial_status book.old.held.book.history.layout (who_of_numbers who.now)) }
     ensures live { book.new.live ≡ book.old.live }
     ensures same { book.old.live ≡ true → book.new.held.book ≡ book.old.held.book }
     ensures serial { result ≡ 0

@@ -146,7 +146,8 @@ fn live<S: Source, O: Sink>(
     input: &mut S,
     output: &mut O,
 ) -> Result<Option<u64>, Refusal>
-    ensures ends { IfSome (S.left input.old) (λ text. LiveEnds text (O.written output.old) (O.written output.new) result) }
+    ensures ends { IfSome (S.left input.old)
+        (λ text. LiveEnds text (O.written output.old) (O.written output.new) result) }
     ensures flushed { OnOk result ((O.held output.new ≡ 0) ⊎ (output.new ≡ output.old)) }
     ensures read_fault { IsErrOf result Refusal.ReadFault → Rises (S.troubles input.old) (S.troubles input.new) }
     ensures write_fault { IsErrOf result Refusal.WriteFault → Rises (O.troubles output.old) (O.troubles output.new) }
@@ -165,7 +166,8 @@ fn answer_lines<S: Source, O: Sink>(
     stage: &mut Stage<Stepping>,
 ) -> Result<Option<u64>, Refusal>
     requires { stage.old ≡ Stage.Begin }
-    ensures ends { IfSome (S.left input.old) (λ text. LiveEnds text (O.written output.old) (O.written output.new) result) }
+    ensures ends { IfSome (S.left input.old)
+        (λ text. LiveEnds text (O.written output.old) (O.written output.new) result) }
     ensures flushed { OnOk result ((O.held output.new ≡ 0) ⊎ (output.new ≡ output.old)) }
     ensures read_fault { IsErrOf result Refusal.ReadFault → Rises (S.troubles input.old) (S.troubles input.new) }
     ensures write_fault { IsErrOf result Refusal.WriteFault → Rises (O.troubles output.old) (O.troubles output.new) }

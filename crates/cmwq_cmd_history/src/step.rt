@@ -13,7 +13,8 @@ use std::alloc::Global;
 /// Reads a file of calls, and then writes the history that they make. Answers how many calls were left out for want of
 /// room.
 fn step<S: Source, O: Sink>(alloc: Global, input: &mut S, output: &mut O) -> Result<u64, Refusal>
-    ensures ends { IfSome (S.left input.old) (λ text. StepEnds text (O.written output.old) (O.written output.new) result) }
+    ensures ends { IfSome (S.left input.old)
+        (λ text. StepEnds text (O.written output.old) (O.written output.new) result) }
     ensures flushed { OnOk result (O.held output.new ≡ 0) }
     ensures read_fault { IsErrOf result Refusal.ReadFault → Rises (S.troubles input.old) (S.troubles input.new) }
     ensures write_fault { IsErrOf result Refusal.WriteFault → Rises (O.troubles output.old) (O.troubles output.new) }

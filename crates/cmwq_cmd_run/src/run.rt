@@ -171,7 +171,8 @@ fn run<S: Source, O: Sink, R: Threads + Wait + Clock + Sync>(
     input: &mut S,
     output: &mut O,
 ) -> Result<Done, Failure>
-    ensures ends { IfSome (S.left input.old) (λ text. InputEnds text (O.written output.old) (O.written output.new) result) }
+    ensures ends { IfSome (S.left input.old)
+        (λ text. InputEnds text (O.written output.old) (O.written output.new) result) }
     ensures flushed { OnOk result (O.held output.new ≡ 0) }
     ensures read_fault { IsErrOf result (failure.Input fault.ReadFault)
         → Rises (S.troubles input.old) (S.troubles input.new) }

@@ -89,7 +89,8 @@ impl Judge {
             (λ verdict. OnOk verdict (has_room self.old.layout most_room (past_of self.old.entries) entry.who entry.call
             ≡ true)) }
         ensures seen { IfOk result (λ verdict. OnOk verdict (self.new ≡ seen_too self.old entry)) }
-        ensures wrong { IfOk result (λ verdict. IfErr verdict (Wants self.old.layout (past_of self.old.entries) entry)) }
+        ensures wrong { IfOk result
+            (λ verdict. IfErr verdict (Wants self.old.layout (past_of self.old.entries) entry)) }
         ensures same { IfOk result (λ verdict. OnErr verdict (self.new ≡ self.old)) }
         ensures full { OnErr result (IsLegal self.old.layout (entry ∷ past_of self.old.entries)
             × (has_room self.old.layout most_room (past_of self.old.entries) entry.who entry.call ≡ false)

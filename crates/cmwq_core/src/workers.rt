@@ -28,7 +28,8 @@ fn retire_answer(state: &State, worker: WorkerId) -> Reply
 #[inline(always)]
 fn start_answer(state: &State, worker: WorkerId, next: Option<Number>) -> Reply
     requires there { tables.IsThere state.now.layout (Worker worker) }
-    requires is { next ≡ option_map number_of_queueing (active.next state.now.layout (past_of state.now.entries) worker.pool) }
+    requires is { next
+        ≡ option_map number_of_queueing (active.next state.now.layout (past_of state.now.entries) worker.pool) }
     ensures { result
         ≡ start_of state.now.layout (past_of state.now.entries) worker
         (active.next state.now.layout (past_of state.now.entries) worker.pool) }

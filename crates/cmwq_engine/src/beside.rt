@@ -28,8 +28,8 @@ pub struct RunsAll<N: HubName, C, W> {
 impl<N: HubName, C: Crew, W: Work> Promise<Result<Ends<N>, RunFault>> for RunsAll<N, C, W> {
     ghost use Rattle.cmwq_engine.specs.Ended.{EndsAll};
 
-    ghost kept_by = { λ p r. EndsAll N.layout (W.does p.work.value N.layout) (C.calls p.crew.value) (C.roles p.crew.value N.layout)
-        r };
+    ghost kept_by = { λ p r. EndsAll N.layout (W.does p.work.value N.layout) (C.calls p.crew.value)
+        (C.roles p.crew.value N.layout) r };
 }
 
 /// The thread that runs all others.
@@ -104,7 +104,8 @@ pub fn stop<N: HubName, C: Crew, R: Wait>(rt: &R, hub: &Hub<N>, crew: &C) {
 
 /// The journal has the whole history of a hub whose threads have ended.
 fn has_all<N: HubName>(monitor: &mut Monitor<N>, journal: &mut Journal<N>) -> Result<(), RunFault>
-    ensures all { IfOk result (λ _. (journal.old.seen ≡ monitor.old.history) × (journal.new.seen ≡ monitor.old.history)) }
+    ensures all { IfOk result
+        (λ _. (journal.old.seen ≡ monitor.old.history) × (journal.new.seen ≡ monitor.old.history)) }
     ensures same { monitor.new ≡ monitor.old }
     ensures fault { IfErr result (λ f. is_silent f ≡ true) }
 {

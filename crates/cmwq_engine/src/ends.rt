@@ -48,7 +48,8 @@ impl<N: HubName, W: Work> Promise<WorkerEnd<N>> for RunsWork<N, W> {
     ghost use Rattle.cmwq_rt.specs.Running.{breaks_off};
     ghost use Rattle.cmwq_engine.specs.Ended.{WorkedFrom};
 
-    ghost kept_by = { λ p r. IfOk r.outcome (λ _. WorkedFrom N.layout (W.does p.work.value N.layout) p.worker.value r.worker)
+    ghost kept_by = { λ p r. IfOk r.outcome
+        (λ _. WorkedFrom N.layout (W.does p.work.value N.layout) p.worker.value r.worker)
         × IfErr r.outcome (λ f. breaks_off f ≡ true) };
 }
 

@@ -57,7 +57,8 @@ fn gather_caller<N: HubName, C: Crew>(
 ) -> Result<(u64, u64), RunFault>
     ensures share { IfOk result (λ t. (all.new.parts ≡ all.old.parts + 1) × (all.new.amount ≡ all.old.amount + t.0)) }
     ensures fault { IfErr end.outcome (λ f. breaks_off f ≡ true) → IfErr result (λ f. is_silent f ≡ true) }
-    ensures called { IfOk result (λ t. (k : ℕ) → IfOk end.outcome (λ full. CalledAt N.layout (C.calls crew.now) k full end.caller)
+    ensures called { IfOk result
+        (λ t. (k : ℕ) → IfOk end.outcome (λ full. CalledAt N.layout (C.calls crew.now) k full end.caller)
         → CalledIn N.layout (C.calls crew.now) k t.1 monitor.now.history) }
 {
     let _crew = crew;
@@ -186,7 +187,8 @@ fn gather_idle<N: HubName, C: Crew>(
     all: &mut Share<N>,
 ) -> Result<(), RunFault>
     requires { AreNewcomers N.layout (used (C.roles crew.now N.layout)) idle.items }
-    ensures share { IfOk result (λ _. (all.new.parts ≡ all.old.parts + length idle.items) × (all.new.amount ≡ all.old.amount)) }
+    ensures share { IfOk result
+        (λ _. (all.new.parts ≡ all.old.parts + length idle.items) × (all.new.amount ≡ all.old.amount)) }
     ensures fault { IfErr result (λ f. is_silent f ≡ true) }
     ensures silent { IfOk result (λ _. AreSilent N.layout (used (C.roles crew.now N.layout)) monitor.now.history) }
 {

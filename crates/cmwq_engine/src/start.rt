@@ -100,7 +100,8 @@ pub(crate) fn lend_callers<N: HubName, R: Wait>(
     many: u8,
     participants: &mut Participants<N>,
 ) -> Result<(), RunFault>
-    ensures all { IfOk result (λ _. participants.new ≡ record participants.old { callers = participants.old.callers + many }) }
+    ensures all { IfOk result
+        (λ _. participants.new ≡ record participants.old { callers = participants.old.callers + many }) }
     ensures fails { IfErr result (λ f. (f ≡ faults.NoPlace) × (N.layout.callers < participants.old.callers + many)) }
 {
     for _ in 0..many {

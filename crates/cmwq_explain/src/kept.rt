@@ -64,7 +64,7 @@ impl<S> Kept<S> {
     }
 
     /// Keeps these bytes too, if all before them are kept, they aren't too many, and there is memory.
-    fn keep(&mut self, bytes: &[u8])
+    fn keep_bytes(&mut self, bytes: &[u8])
         ensures inner { kept_inner self.new ≡ kept_inner self.old }
         ensures kept { KeepsToo self.old self.new bytes.now }
     {
@@ -96,7 +96,7 @@ impl<S: Source> Source for Kept<S> {
     {
         let answer = self.inner.read(buf);
         if let Ok(count) = answer {
-            self.keep(&buf[..count]);
+            self.keep_bytes(&buf[..count]);
         }
         answer
     }

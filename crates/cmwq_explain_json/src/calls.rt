@@ -191,13 +191,18 @@ fn sample_call(world: World<'_>, number: usize, at: usize, argument: &str) -> Js
     json
 }
 
-const HEAD: &str =
-    r#"{"cpus":1,"workers":1,"room":1,"queues":[{"name":"q","max_active":1,"high":true,"intensive":true}],"items":[{"name":"i","does":["#;
+const HEAD: &str = r#"{"cpus":1,"workers":1,"room":1,"#;
+
+const QUEUES: &str = r#""queues":[{"name":"q","max_active":1,"high":true,"intensive":true}],"#;
+
+const DOES: &str = r#""items":[{"name":"i","does":["#;
 
 /// Whether a sample script is taken in which someone makes these calls.
 pub fn takes(world: World<'_>, maker: Maker, calls: &str) -> Result<bool, AllocError> {
     let mut json = Json::new(world.alloc);
     json.put(HEAD);
+    json.put(QUEUES);
+    json.put(DOES);
     match maker {
         Maker::Item => {
             json.put(calls);

@@ -190,9 +190,11 @@ fn free_colour(colours: &mut [Colour; COLOURS], place: usize)
 fn serve_oldest(served: &mut Vec<Served>, overflow: &mut Overflow, queue: QueueId, bound: u64)
     requires fits { vec_len served.old < vec_capacity served.old }
     requires queue { queue.0 < length overflow.old.queues }
-    ensures served { served.new.items ≡ served_with_oldest served.old.items (tickets_at overflow.old.queues queue.0) bound }
+    ensures served { served.new.items
+        ≡ served_with_oldest served.old.items (tickets_at overflow.old.queues queue.0) bound }
     ensures capacity { vec_capacity served.new ≡ vec_capacity served.old }
-    ensures overflow { overflow.new ≡ with_tickets overflow.old queue.0 (without_oldest (tickets_at overflow.old.queues queue.0)) }
+    ensures overflow { overflow.new
+        ≡ with_tickets overflow.old queue.0 (without_oldest (tickets_at overflow.old.queues queue.0)) }
 {
     if let Some(ticket) = overflow.pop_front(queue) {
         served.push_reserved(Served { ticket, bound });

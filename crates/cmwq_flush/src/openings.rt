@@ -59,7 +59,10 @@ impl Model for Openings {
 
     ghost Value = { OpenRows };
 
-    ghost view = { λ o. record { rows = rows_of_nodes o.lists.lists o.rows; opened = opened_by o.lists.lists o.rows o.items } };
+    ghost view = { λ o. record {
+      rows = rows_of_nodes o.lists.lists o.rows;
+      opened = opened_by o.lists.lists o.rows o.items;
+    } };
 
     ghost invariant = { λ o. AreOpenings o.items o.lists o.rows };
 }

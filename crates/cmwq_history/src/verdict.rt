@@ -29,7 +29,8 @@ pub(crate) fn write_verdict<W: Sink>(
     illegal: Option<Illegal>,
 ) -> Result<(), Refusal>
     ensures ok { OnOk result (Appends (W.written sink.old) (W.written sink.new) (verdict_line_text entries illegal)) }
-    ensures err { OnErr result (AppendsFront (W.written sink.old) (W.written sink.new) (verdict_line_text entries illegal)) }
+    ensures err { OnErr result
+        (AppendsFront (W.written sink.old) (W.written sink.new) (verdict_line_text entries illegal)) }
     ensures flushed { OnOk result (W.held sink.new ≡ 0) }
     ensures only { IfErr result (λ e. e ≡ Refusal.WriteFault) }
     ensures fault { OnErr result (Rises (W.troubles sink.old) (W.troubles sink.new)) }

@@ -46,8 +46,8 @@ pub trait View<W: Sink> {
     ) -> Result<(), Refusal>
         requires version { 1 ≤ version }
         requires made { IsMadeOf Self.Made.is_of shape.now judge.now made.now }
-        ensures ends { WriteEnds (W.written sink.old) (W.written sink.new) (text_of self.now (file_in version judge.now))
-            result }
+        ensures ends { WriteEnds (W.written sink.old) (W.written sink.new)
+            (text_of self.now (file_in version judge.now)) result }
         ensures flushed { OnOk result (W.held sink.new ≡ 0) }
         ensures fault { IsErrOf result Refusal.WriteFault → Rises (W.troubles sink.old) (W.troubles sink.new) };
 }
@@ -63,7 +63,8 @@ fn write_view<S: Source, O: Sink, E: Sink, V: View<O>>(
     is_front: bool,
 ) -> Result<Option<Illegal>, Refusal>
     ensures ends { IfSome (S.left input.old)
-        (λ text. FrontViewEnds (V.text_of view.now) is_front text (O.written output.old) (O.written output.new) result) }
+        (λ text. FrontViewEnds (V.text_of view.now) is_front text (O.written output.old) (O.written output.new)
+        result) }
     ensures flushed { IsFlushed result (O.held output.new) }
     ensures read_fault { IsErrOf result Refusal.ReadFault → Rises (S.troubles input.old) (S.troubles input.new) }
     ensures write_fault { IsErrOf result Refusal.WriteFault → Rises (O.troubles output.old) (O.troubles output.new) }
@@ -109,8 +110,8 @@ pub fn run_view<S: Source, O: Sink, E: Sink, V: View<O>>(
     run_front_view(alloc, view, input, output, errors, false)
 }
 
-/// As `run_view`, but where `is_front` says so of a history of which a front was written, as `run_front_check` reads it.
-/// How many bytes of an unfinished last line were left out, if any were, is told on `errors` after the view.
+/// As `run_view`, but where `is_front` says so of a history of which a front was written, as `run_front_check` reads
+/// it. How many bytes of an unfinished last line were left out, if any were, is told on `errors` after the view.
 pub fn run_front_view<S: Source, O: Sink, E: Sink, V: View<O>>(
     alloc: Global,
     view: &V,

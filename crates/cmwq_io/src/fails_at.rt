@@ -80,7 +80,8 @@ impl<T> FailsAt<T> {
     pub fn interrupted(inner: T, call: u64, times: u64) -> FailsAt<T>
         requires { 0 < call }
         ensures inner { failing_inner result ≡ inner }
-        ensures plan { failing_plan result ≡ record { before = call - 1; times = times; trouble = Trouble.Interrupted } }
+        ensures plan { failing_plan result
+            ≡ record { before = call - 1; times = times; trouble = Trouble.Interrupted } }
         ensures troubles { failing_troubles result ≡ 0 }
         ensures outcomes { failing_outcomes result ≡ [] }
     {

@@ -33,7 +33,8 @@ pub fn read_value<S: Source>(alloc: Global, source: &mut S) -> Result<Value, Fau
     ensures value { IfOk result (λ value. IfSome (S.left source.old) (λ text. IsJson text (view value))) }
     ensures long { IsErrOf result Fault.TooLong → IfSome (S.left source.old) IsLong }
     ensures not_json { IsErrOf result Fault.NotJson → IfSome (S.left source.old) IsNoJson }
-    ensures only { IfErr result (λ e. (e ≡ Fault.NoMemory) ⊎ (e ≡ Fault.TooLong) ⊎ (e ≡ Fault.NotJson) ⊎ (e ≡ Fault.ReadFault)) }
+    ensures only { IfErr result
+        (λ e. (e ≡ Fault.NoMemory) ⊎ (e ≡ Fault.TooLong) ⊎ (e ≡ Fault.NotJson) ⊎ (e ≡ Fault.ReadFault)) }
     ensures fault { IsErrOf result Fault.ReadFault → Rises (S.troubles source.old) (S.troubles source.new) }
 {
     let bytes = read_bytes(alloc, source)?;

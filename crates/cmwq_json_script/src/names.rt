@@ -64,7 +64,11 @@ impl Model for Names {
 
     ghost Value = { Known };
 
-    ghost view = { λ n. record { items = map string_bytes n.items.keys; queues = map string_bytes n.queues.keys; cpus = n.cpus } };
+    ghost view = { λ n. record {
+      items = map string_bytes n.items.keys;
+      queues = map string_bytes n.queues.keys;
+      cpus = n.cpus;
+    } };
 
     ghost invariant = { λ n. (length n.items.keys ≤ most_items) × (length n.queues.keys ≤ most_queues) };
 }

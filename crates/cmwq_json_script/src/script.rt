@@ -132,7 +132,8 @@ fn with_names(
 ) -> Result<Result<Script, Refused>, AllocError>
     requires known { names.now ≡ spec.known_in (top_of top.now) (queues_of names.now queues) }
     requires queues { spec.queues_said (top_of top.now) ≡ Ok (queues_of names.now queues) }
-    ensures says { IfOk result (λ r. map_ok run_of r ≡ spec.with_queues (top_of top.now) (Ok (queues_of names.now queues))) }
+    ensures says { IfOk result
+        (λ r. map_ok run_of r ≡ spec.with_queues (top_of top.now) (Ok (queues_of names.now queues))) }
     ensures within { IfOk result (λ r. IfOk r MayRun) }
 {
     match read_items(alloc, items_in(top.version), names, top.items)? {
@@ -158,7 +159,8 @@ fn with_queues(
 
 /// The script of the lists of a top.
 fn read_lists(alloc: Global, top: &Top<'_>) -> Result<Result<Script, Refused>, AllocError>
-    ensures says { IfOk result (λ r. map_ok run_of r ≡ spec.with_queues (top_of top.now) (spec.queues_said (top_of top.now))) }
+    ensures says { IfOk result
+        (λ r. map_ok run_of r ≡ spec.with_queues (top_of top.now) (spec.queues_said (top_of top.now))) }
     ensures within { IfOk result (λ r. IfOk r MayRun) }
 {
     match read_queues(alloc, queues_in(top.version), top.queues)? {

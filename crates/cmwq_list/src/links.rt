@@ -56,7 +56,8 @@ pub(crate) fn unlink(
     requires item { item < length owners.old }
     requires listed { ¬ (IsUnlisted owners.old item) }
     ensures linked { AreLinked next.new prev.new owners.new lens.new }
-    ensures lists { lists_of next.new owners.new lens.new ≡ map (without_item item) (lists_of next.old owners.old lens.old) }
+    ensures lists { lists_of next.new owners.new lens.new
+        ≡ map (without_item item) (lists_of next.old owners.old lens.old) }
 {
     let owner = owners[item as usize];
     let before = prev[item as usize];

@@ -26,7 +26,10 @@ impl Model for Lists {
 
     ghost Value = { Listed };
 
-    ghost view = { λ t. record { items = length t.owners.items; lists = lists_of t.next.items t.owners.items t.lens.items } };
+    ghost view = { λ t. record {
+      items = length t.owners.items;
+      lists = lists_of t.next.items t.owners.items t.lens.items;
+    } };
 
     ghost invariant = { λ t. AreLinked t.next.items t.prev.items t.owners.items t.lens.items };
 }

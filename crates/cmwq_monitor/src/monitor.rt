@@ -32,8 +32,8 @@ use std::sync::{Wait, ledger};
 /// How many timers are fired in one hold of the lock, at most.
 pub const MOST_FIRES: u16 = 128;
 
-/// What a hub keeps under its lock. Contracts see its history, which is legal and is the execution's and the published one,
-/// whether it is closed, and whether it has failed.
+/// What a hub keeps under its lock. Contracts see its history, which is legal and is the execution's and the published
+/// one, whether it is closed, and whether it has failed.
 pub struct Monitor<N: HubName> {
     shape: Shape,
     execution: Execution,
@@ -104,12 +104,14 @@ impl<N: HubName> Monitor<N> {
             participant.old.who call plan.now }
         ensures made { IfOk result (λ reply. Extends N.layout participant.old call reply participant.new
             × InStep self.new.history participant.new) }
-        ensures reply { IfOk result (λ reply. reply ≡ (own_entry N.layout self.old.history participant.old call).reply) }
+        ensures reply { IfOk result
+            (λ reply. reply ≡ (own_entry N.layout self.old.history participant.old call).reply) }
         ensures seen { IfOk result
             (λ _. participant.new.seen ≡ self.old.history ++ own_entry N.layout self.old.history participant.old call
             ∷ []) }
         ensures goes_on { IfOk result (λ _. GoesOn self.old self.new) }
-        ensures failed { IfErr result (λ _. (self.new ≡ record self.old { failed = true }) × (participant.new ≡ participant.old)) }
+        ensures failed { IfErr result
+            (λ _. (self.new ≡ record self.old { failed = true }) × (participant.new ≡ participant.old)) }
     {
         let _call = call;
         let serial = participant.serial();
@@ -407,7 +409,8 @@ impl<N: HubName> Monitor<N> {
             (λ b. MatchBool b (GoesOn self.old self.new)
             ((self.new ≡ self.old) × WouldNot is_done N.layout self.old.history participant.old (calls.End ticket))) }
         ensures open { IfOk result (λ _. self.old.failed ≡ false) }
-        ensures stopped { IfErr result (λ f. (participant.new ≡ participant.old) × Stops participant.old (Some ticket) f) }
+        ensures stopped { IfErr result
+            (λ f. (participant.new ≡ participant.old) × Stops participant.old (Some ticket) f) }
         ensures leaves { IfErr result (λ f. LeavesHeld self.old f self.new) }
     {
         if self.failed {

@@ -32,7 +32,8 @@ impl<N: HubName> Model for Participant<N> {
 
     ghost view = { λ s. record { who = s.who; serial = s.serial; seen = s.prefix } };
 
-    ghost invariant = { λ s. IsThere N.layout s.who × (s.serial ≤ serial_of (past_of s.prefix) s.who) × (s.share.parts ≡ 1)
+    ghost invariant = { λ s. IsThere N.layout s.who × (s.serial ≤ serial_of (past_of s.prefix) s.who)
+        × (s.share.parts ≡ 1)
         × (s.share.amount ≡ s.serial) };
 }
 

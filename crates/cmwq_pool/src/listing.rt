@@ -54,7 +54,8 @@ pub(crate) fn is_listed(
 ) -> bool
     requires list { list < length lists.now.lists }
     requires noted { length notes.now ≡ lists.now.items }
-    ensures listed { result ≡ list_any (is_task number item.0) (map (noted_task notes.now) (list_at lists.now.lists list)) }
+    ensures listed { result
+        ≡ list_any (is_task number item.0) (map (noted_task notes.now) (list_at lists.now.lists list)) }
     ensures once { AreListedOnce lists.now }
 {
     let index = usize::from(item.0);

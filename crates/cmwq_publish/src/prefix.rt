@@ -26,7 +26,8 @@ impl<N: HubName> Model for Prefix<N> {
 
     ghost view = { λ f. f.seen.log };
 
-    ghost invariant = { λ f. (f.len ≡ length f.seen.log) × (f.seen.book ≡ N.book) × IsLegal N.layout (past_of f.seen.log) };
+    ghost invariant = { λ f. (f.len ≡ length f.seen.log) × (f.seen.book ≡ N.book)
+        × IsLegal N.layout (past_of f.seen.log) };
 }
 
 impl<N: HubName> Prefix<N> {

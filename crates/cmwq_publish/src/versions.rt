@@ -42,7 +42,13 @@ impl Absorb<Publish> for Versions {
 
     ghost state = { λ v. (v.shape, v.bits.items, v.serials.items, v.len, v.seen) };
 
-    ghost applied = { λ s op. (s.0, bits_with_mark s.1 op.item op.bits, counts_with_entry s.2 op.caller op.serial, op.len, op.seen) };
+    ghost applied = { λ s op. (
+      s.0,
+      bits_with_mark s.1 op.item op.bits,
+      counts_with_entry s.2 op.caller op.serial,
+      op.len,
+      op.seen,
+    ) };
 
     ghost never_fails = { Unit {0} };
 

@@ -120,7 +120,8 @@ impl Waiting {
         requires item { queueing.item.0 < self.old.items }
         requires number { IsNumberOfItem queueing self.old.queueings }
         ensures waited { result ≡ list_any (has_number queueing.number) self.old.queueings }
-        ensures rest { self.new ≡ record self.old { queueings = filter (is_other_waiting queueing.number) self.old.queueings } }
+        ensures rest { self.new
+            ≡ record self.old { queueings = filter (is_other_waiting queueing.number) self.old.queueings } }
     {
         let waits = self.waits(queueing);
         if waits {
@@ -134,7 +135,8 @@ impl Waiting {
         requires cpu { place.cpu.0 < most_cpus }
         requires place { place_of place.queue.0 place.cpu.0 < self.old.places }
         ensures taken { IfSome result (IsFirstTaken place.queue.0 place.cpu.0 self.old.queueings self.new.queueings) }
-        ensures none { IfNone result (AllByRecursion (λ x. is_on place.queue.0 place.cpu.0 x ≡ false) self.old.queueings) }
+        ensures none { IfNone result (AllByRecursion
+            (λ x. is_on place.queue.0 place.cpu.0 x ≡ false) self.old.queueings) }
         ensures same { IfNone result (self.new ≡ self.old) }
         ensures others { self.new ≡ record self.old { queueings = self.new.queueings } }
     {

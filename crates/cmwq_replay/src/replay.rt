@@ -31,7 +31,8 @@ fn table_of(alloc: Global, value: &Value) -> Result<String, Fault>
 
 /// Reads a scenario, and then writes its table.
 fn replay<S: Source, O: Sink>(alloc: Global, input: &mut S, output: &mut O) -> Result<(), Fault>
-    ensures ends { IfSome (S.left input.old) (λ text. ReplayEnds text (O.written output.old) (O.written output.new) result) }
+    ensures ends { IfSome (S.left input.old)
+        (λ text. ReplayEnds text (O.written output.old) (O.written output.new) result) }
     ensures flushed { OnOk result (O.held output.new ≡ 0) }
     ensures read_fault { IsErrOf result Fault.ReadFault → Rises (S.troubles input.old) (S.troubles input.new) }
     ensures write_fault { IsErrOf result Fault.WriteFault → Rises (O.troubles output.old) (O.troubles output.new) }

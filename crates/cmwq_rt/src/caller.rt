@@ -315,7 +315,8 @@ impl<N: HubName> Caller<N> {
         ticks: u32,
     ) -> Result<Reply, RunFault>
         requires { has_numbers N.layout (calls.Delay item queue cpu ticks) ≡ true }
-        ensures made { IfOk result (λ reply. Extends N.layout self.old (calls.Delay item queue cpu ticks) reply self.new) }
+        ensures made { IfOk result
+            (λ reply. Extends N.layout self.old (calls.Delay item queue cpu ticks) reply self.new) }
         ensures refused { IfErr result (λ f. Refused N.layout self.old (calls.Delay item queue cpu ticks) f self.new) }
     {
         self.make(
@@ -345,7 +346,8 @@ impl<N: HubName> Caller<N> {
         ticks: u32,
     ) -> Result<Reply, RunFault>
         requires { has_numbers N.layout (calls.Modify item queue cpu ticks) ≡ true }
-        ensures made { IfOk result (λ reply. Extends N.layout self.old (calls.Modify item queue cpu ticks) reply self.new) }
+        ensures made { IfOk result
+            (λ reply. Extends N.layout self.old (calls.Modify item queue cpu ticks) reply self.new) }
         ensures refused { IfErr result (λ f. Refused N.layout self.old (calls.Modify item queue cpu ticks) f self.new) }
     {
         self.make(

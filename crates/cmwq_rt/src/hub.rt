@@ -203,7 +203,8 @@ impl<N: HubName> Hub<N> {
         requires caller { is_caller participant.old.who ≡ true }
         requires begun { IsFiring N.layout N.layout.items participant.old participant.old }
         ensures fired { IfOk result.1 (λ _. HasFired N.layout participant.old participant.new) }
-        ensures stopped { IfErr result.1 (λ f. Stops participant.new None f × HasFiredSome participant.old participant.new) }
+        ensures stopped { IfErr result.1
+            (λ f. Stops participant.new None f × HasFiredSome participant.old participant.new) }
     {
         let mut monitor = monitor;
         let mut left = self.shape.counts().items;
@@ -259,8 +260,10 @@ impl<N: HubName> Hub<N> {
         most: u32,
     ) -> (MutexGuard<'a, Monitor<N>>, Result<(), RunFault>)
         requires { is_caller participant.old.who ≡ true }
-        ensures done { IfOk result.1 (λ _. Extends N.layout participant.old (calls.End ticket) replies.Done participant.new) }
-        ensures stopped { IfErr result.1 (λ f. (participant.new ≡ participant.old) × Stops participant.old (Some ticket) f) }
+        ensures done { IfOk result.1
+            (λ _. Extends N.layout participant.old (calls.End ticket) replies.Done participant.new) }
+        ensures stopped { IfErr result.1
+            (λ f. (participant.new ≡ participant.old) × Stops participant.old (Some ticket) f) }
     {
         let mut monitor = monitor;
         for _ in rt.forever() {

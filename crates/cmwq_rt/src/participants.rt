@@ -74,7 +74,8 @@ impl<N: HubName> Participants<N> {
     pub fn caller(&mut self) -> Result<Caller<N>, RunFault>
         ensures given { IfOk result (λ c. (c ≡ newcomer (whos.Caller (record { 0 = self.old.callers })))
             × (self.old.callers < N.layout.callers) × (self.new ≡ record self.old { callers = self.old.callers + 1 })) }
-        ensures none { IfErr result (λ f. (f ≡ NoPlace) × (self.old.callers ≡ N.layout.callers) × (self.new ≡ self.old)) }
+        ensures none { IfErr result
+            (λ f. (f ≡ NoPlace) × (self.old.callers ≡ N.layout.callers) × (self.new ≡ self.old)) }
     {
         if self.callers >= self.counts.callers {
             return Err(RunFault::NoPlace);

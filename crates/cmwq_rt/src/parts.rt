@@ -50,7 +50,8 @@ struct Rest {
 
 fn rest_of(alloc: Global, shape: &Shape, kept: u32) -> Result<Rest, NoMemory>
     ensures shapes { IfOk result (λ r. (r.shape ≡ shape.now) × (r.shape_of_monitor ≡ shape.now)) }
-    ensures execution { IfOk result (λ r. r.execution ≡ record { layout = shape.now; room = shape.now.room; entries = [] }) }
+    ensures execution { IfOk result
+        (λ r. r.execution ≡ record { layout = shape.now; room = shape.now.room; entries = [] }) }
     ensures tail { IfOk result (λ r. r.tail.all ≡ []) }
 {
     let (sleepers, condvars) = sleepers_of(alloc, shape)?;
@@ -79,8 +80,8 @@ fn copies_of(alloc: Global, shape: &Shape) -> Result<(Shape, Shape), NoMemory>
 }
 
 impl HubParts {
-    /// The execution, the published history with a reader for each caller, a condvar for each caller and worker, and the
-    /// ledger of entries.
+    /// The execution, the published history with a reader for each caller, a condvar for each caller and worker, and
+    /// the ledger of entries.
     ///
     /// # Errors
     /// `NoMemory` where memory runs out.

@@ -234,7 +234,8 @@ impl<'a, N: HubName, R: Wait> RunCtx<'a, N, R> {
         ensures later { Later self.old.participant self.new.participant }
         ensures made { IfOk result
             (λ reply. Extends N.layout self.old.participant (calls.Cancel item) reply self.new.participant) }
-        ensures refused { IfErr result (λ f. Refused N.layout self.old.participant (calls.Cancel item) f self.new.participant) }
+        ensures refused { IfErr result
+            (λ f. Refused N.layout self.old.participant (calls.Cancel item) f self.new.participant) }
         ensures fault { self.new.fault ≡ fault_after result self.old.fault }
         ensures item { self.new.item ≡ self.old.item }
     {
@@ -248,7 +249,8 @@ impl<'a, N: HubName, R: Wait> RunCtx<'a, N, R> {
     /// As of `queue`.
     pub fn sleep(&mut self) -> Result<Reply, RunFault>
         ensures later { Later self.old.participant self.new.participant }
-        ensures made { IfOk result (λ reply. Extends N.layout self.old.participant calls.Sleep reply self.new.participant) }
+        ensures made { IfOk result
+            (λ reply. Extends N.layout self.old.participant calls.Sleep reply self.new.participant) }
         ensures refused { IfErr result (λ f. Refused N.layout self.old.participant calls.Sleep f self.new.participant) }
         ensures fault { self.new.fault ≡ fault_after result self.old.fault }
         ensures item { self.new.item ≡ self.old.item }
@@ -262,7 +264,8 @@ impl<'a, N: HubName, R: Wait> RunCtx<'a, N, R> {
     /// As of `queue`.
     pub fn wake(&mut self) -> Result<Reply, RunFault>
         ensures later { Later self.old.participant self.new.participant }
-        ensures made { IfOk result (λ reply. Extends N.layout self.old.participant calls.Wake reply self.new.participant) }
+        ensures made { IfOk result
+            (λ reply. Extends N.layout self.old.participant calls.Wake reply self.new.participant) }
         ensures refused { IfErr result (λ f. Refused N.layout self.old.participant calls.Wake f self.new.participant) }
         ensures fault { self.new.fault ≡ fault_after result self.old.fault }
         ensures item { self.new.item ≡ self.old.item }
@@ -375,11 +378,13 @@ impl<'a, N: HubName, R: Wait> RunCtx<'a, N, R> {
         requires waits { is_wait call ≡ true }
         requires numbers { has_numbers N.layout call ≡ true }
         ensures later { Later self.old.participant self.new.participant }
-        ensures waited { IfOk result (λ reply. HasWaited N.layout self.old.participant call reply self.new.participant) }
+        ensures waited { IfOk result
+            (λ reply. HasWaited N.layout self.old.participant call reply self.new.participant) }
         ensures itself { item_called call ≡ Some self.old.item.0 → (result ≡ Err waits.Itself) × (self.new ≡ self.old) }
         ensures refused { IfErr result (λ f. is_refusal f ≡ true → (self.new.participant ≡ self.old.participant)
             ⊎ MakesOne N.layout self.old.participant calls.Wake self.new.participant) }
-        ensures full { IfErr result (λ f. f ≡ waits.Run Full → HadNoRoom N.layout self.old.participant self.new.participant) }
+        ensures full { IfErr result
+            (λ f. f ≡ waits.Run Full → HadNoRoom N.layout self.old.participant self.new.participant) }
         ensures fault { self.new.fault ≡ fault_after_wait result self.old.fault }
         ensures item { self.new.item ≡ self.old.item }
     {
@@ -407,10 +412,12 @@ impl<'a, N: HubName, R: Wait> RunCtx<'a, N, R> {
         requires waits { is_wait call ≡ true }
         requires numbers { has_numbers N.layout call ≡ true }
         ensures later { Later self.old.participant self.new.participant }
-        ensures waited { IfOk result (λ reply. HasWaited N.layout self.old.participant call reply self.new.participant) }
+        ensures waited { IfOk result
+            (λ reply. HasWaited N.layout self.old.participant call reply self.new.participant) }
         ensures refused { IfErr result (λ f. is_refusal f ≡ true → (self.new.participant ≡ self.old.participant)
             ⊎ MakesOne N.layout self.old.participant calls.Wake self.new.participant) }
-        ensures full { IfErr result (λ f. f ≡ waits.Run Full → HadNoRoom N.layout self.old.participant self.new.participant) }
+        ensures full { IfErr result
+            (λ f. f ≡ waits.Run Full → HadNoRoom N.layout self.old.participant self.new.participant) }
         ensures fault { self.new.fault ≡ fault_after_wait result self.old.fault }
         ensures item { self.new.item ≡ self.old.item }
     {
@@ -432,10 +439,12 @@ impl<'a, N: HubName, R: Wait> RunCtx<'a, N, R> {
         requires numbers { has_numbers N.layout call ≡ true }
         requires waits { is_tick call ≡ false }
         ensures later { Later self.old.participant self.new.participant }
-        ensures waited { IfOk result (λ reply. HasWaited N.layout self.old.participant call reply self.new.participant) }
+        ensures waited { IfOk result
+            (λ reply. HasWaited N.layout self.old.participant call reply self.new.participant) }
         ensures refused { IfErr result (λ f. is_refusal f ≡ true → (self.new.participant ≡ self.old.participant)
             ⊎ MakesOne N.layout self.old.participant calls.Wake self.new.participant) }
-        ensures full { IfErr result (λ f. f ≡ waits.Run Full → HadNoRoom N.layout self.old.participant self.new.participant) }
+        ensures full { IfErr result
+            (λ f. f ≡ waits.Run Full → HadNoRoom N.layout self.old.participant self.new.participant) }
         ensures fault { self.new.fault ≡ fault_after_wait result self.old.fault }
         ensures item { self.new.item ≡ self.old.item }
     {
@@ -472,9 +481,11 @@ impl<'a, N: HubName, R: Wait> RunCtx<'a, N, R> {
         requires numbers { has_numbers N.layout call ≡ true }
         requires waits { is_tick call ≡ false }
         ensures later { Later self.old.participant self.new.participant }
-        ensures waited { IfOk result (λ reply. SleepsThrough N.layout self.old.participant call reply self.new.participant) }
+        ensures waited { IfOk result
+            (λ reply. SleepsThrough N.layout self.old.participant call reply self.new.participant) }
         ensures refused { IfErr result (λ f. is_refusal f ≡ true → self.new.participant ≡ self.old.participant) }
-        ensures full { IfErr result (λ f. f ≡ waits.Run Full → SleepsInVain N.layout self.old.participant self.new.participant) }
+        ensures full { IfErr result
+            (λ f. f ≡ waits.Run Full → SleepsInVain N.layout self.old.participant self.new.participant) }
         ensures fault { self.new.fault ≡ fault_after_wait result self.old.fault }
         ensures item { self.new.item ≡ self.old.item }
     {

@@ -164,7 +164,8 @@ impl<N: HubName> Hub<N> {
     ) -> Result<(), RunFault>
         requires { is_caller participant.old.who ≡ false }
         ensures fault { IfErr result (λ f. breaks_off f ≡ true) }
-        ensures worked { IfOk result (λ _. HasWorked N.layout (W.does work.now N.layout) participant.old participant.new) }
+        ensures worked { IfOk result
+            (λ _. HasWorked N.layout (W.does work.now N.layout) participant.old participant.new) }
         ensures idle { IfOk result (λ _. active_in N.layout participant.new.seen ≡ 0) }
         ensures later { Later participant.old participant.new }
     {

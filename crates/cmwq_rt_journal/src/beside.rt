@@ -31,7 +31,7 @@ pub(crate) struct Beside<N: HubName> {
 }
 
 /// Keeps the journal in this thread while another runs all others.
-fn keep<
+fn keep_beside_run<
     's,
     E,
     N: HubName + Send + Sync + 's,
@@ -55,7 +55,8 @@ fn keep<
     ensures ends { IfOk result
         (λ b. EndsAll N.layout (W.does work.now N.layout) (C.calls crew.now) (C.roles crew.now N.layout) b.ends) }
     ensures legal { IfOk result (λ b. IsLegal N.layout (past_of b.journal.seen)) }
-    ensures kept { IfOk result (λ b. HasKept N.layout b.journal.seen (O.written output.old) (O.written output.new) b.kept) }
+    ensures kept { IfOk result
+        (λ b. HasKept N.layout b.journal.seen (O.written output.old) (O.written output.new) b.kept) }
     ensures grown { OnOk result (O.troubles output.old ≤ O.troubles output.new) }
     ensures sink { IfOk result
         (λ b. IfErr b.kept (λ f. is_of_sink f ≡ true → Rises (O.troubles output.old) (O.troubles output.new))) }
@@ -108,7 +109,8 @@ pub(crate) fn run_beside<
     ensures ends { IfOk result
         (λ b. EndsAll N.layout (W.does work.now N.layout) (C.calls crew.now) (C.roles crew.now N.layout) b.ends) }
     ensures legal { IfOk result (λ b. IsLegal N.layout (past_of b.journal.seen)) }
-    ensures kept { IfOk result (λ b. HasKept N.layout b.journal.seen (O.written output.old) (O.written output.new) b.kept) }
+    ensures kept { IfOk result
+        (λ b. HasKept N.layout b.journal.seen (O.written output.old) (O.written output.new) b.kept) }
     ensures grown { OnOk result (O.troubles output.old ≤ O.troubles output.new) }
     ensures sink { IfOk result
         (λ b. IfErr b.kept (λ f. is_of_sink f ≡ true → Rises (O.troubles output.old) (O.troubles output.new))) }
@@ -130,7 +132,7 @@ pub(crate) fn run_beside<
                 × OnOk result.0 (O.troubles output.entry.now ≤ O.troubles result.1.now)
                 × IfErr result.0 (λ f. (is_silent f ≡ true) × (result.1.now ≡ output.entry.now)) }
         {
-            let beside = keep(
+            let beside = keep_beside_run(
                 scope,
                 rt,
                 alloc,

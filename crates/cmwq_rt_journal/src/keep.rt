@@ -33,7 +33,8 @@ pub fn keep_journal<N: HubName, R: Wait + Clock, O: Sink>(
     output: &mut O,
 ) -> Result<(), JournalFault>
     ensures began { OnOk result (journal.old.seen ≡ []) }
-    ensures written { OnOk result (Appends (O.written output.old) (O.written output.new) (body_text 3 N.layout journal.new.seen)) }
+    ensures written { OnOk result
+        (Appends (O.written output.old) (O.written output.new) (body_text 3 N.layout journal.new.seen)) }
     ensures flushed { OnOk result (O.held output.new ≡ 0) }
     ensures legal { IsLegal N.layout (past_of journal.new.seen) }
     ensures grown { O.troubles output.old ≤ O.troubles output.new }
@@ -64,7 +65,8 @@ fn keep_from_start<N: HubName, R: Wait + Clock, O: Sink>(
     output: &mut O,
 ) -> Result<(), JournalFault>
     requires { journal.old.seen ≡ [] }
-    ensures written { OnOk result (Appends (O.written output.old) (O.written output.new) (body_text 3 N.layout journal.new.seen)) }
+    ensures written { OnOk result
+        (Appends (O.written output.old) (O.written output.new) (body_text 3 N.layout journal.new.seen)) }
     ensures flushed { OnOk result (O.held output.new ≡ 0) }
     ensures grown { O.troubles output.old ≤ O.troubles output.new }
     ensures broke { IfErr result

@@ -78,7 +78,8 @@ fn end_run<N: HubName, C: Crew, W: Work, R: Wait, O: Sink>(
     output: &mut O,
 ) -> Result<Tally, Unwritten>
     requires parts { N.parts ≡ shares }
-    requires ends { EndsAll N.layout (W.does work.now N.layout) (C.calls crew.now) (C.roles crew.now N.layout) beside.ends }
+    requires ends { EndsAll N.layout (W.does work.now N.layout) (C.calls crew.now) (C.roles crew.now N.layout)
+        beside.ends }
     requires legal { IsLegal N.layout (past_of beside.journal.seen) }
     ensures whole { IfOk result (λ t. (start : Option (List ℕ))
         → HasKept N.layout beside.journal.seen start (O.written output.old) beside.kept

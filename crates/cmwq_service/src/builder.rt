@@ -189,8 +189,8 @@ impl ShapeBuilder {
     fn misfit_of_counts(&self) -> Option<Misfit>
         ensures misfit { IfSome result (Misfits self.now) }
         ensures few { IfNone result (self.now.callers < 256) }
-        ensures none { IfNone result (are_counts self.now.cpus self.now.workers self.now.callers self.now.items self.now.room
-            ≡ true) }
+        ensures none { IfNone result
+            (are_counts self.now.cpus self.now.workers self.now.callers self.now.items self.now.room ≡ true) }
     {
         if !(1..=MOST_CPUS).contains(&self.cpus) {
             return Some(Misfit::Cpus(self.cpus));

@@ -82,8 +82,10 @@ pub trait Client {
 
     /// Queues an item (`queue_work_on`).
     final fn queue(&mut self, item: ItemId, queue: QueueId, cpu: CpuId) -> Result<Reply, Fault>
-        ensures made { IfOk result (λ reply. Extends layout (view self.old) (calls.Queue item queue cpu) reply (view self.new)) }
-        ensures denied { IfErr result (λ f. Denied layout (view self.old) (calls.Queue item queue cpu) f (view self.new)) }
+        ensures made { IfOk result
+            (λ reply. Extends layout (view self.old) (calls.Queue item queue cpu) reply (view self.new)) }
+        ensures denied { IfErr result
+            (λ f. Denied layout (view self.old) (calls.Queue item queue cpu) f (view self.new)) }
     {
         self.make(Call::Queue { item, queue, cpu })
     }
@@ -98,7 +100,8 @@ pub trait Client {
     ) -> Result<Reply, Fault>
         ensures made { IfOk result
             (λ reply. Extends layout (view self.old) (calls.Delay item queue cpu ticks) reply (view self.new)) }
-        ensures denied { IfErr result (λ f. Denied layout (view self.old) (calls.Delay item queue cpu ticks) f (view self.new)) }
+        ensures denied { IfErr result
+            (λ f. Denied layout (view self.old) (calls.Delay item queue cpu ticks) f (view self.new)) }
     {
         self.make(Call::Delay {
             item,
@@ -118,7 +121,8 @@ pub trait Client {
     ) -> Result<Reply, Fault>
         ensures made { IfOk result
             (λ reply. Extends layout (view self.old) (calls.Modify item queue cpu ticks) reply (view self.new)) }
-        ensures denied { IfErr result (λ f. Denied layout (view self.old) (calls.Modify item queue cpu ticks) f (view self.new)) }
+        ensures denied { IfErr result
+            (λ f. Denied layout (view self.old) (calls.Modify item queue cpu ticks) f (view self.new)) }
     {
         self.make(Call::Modify {
             item,
@@ -156,7 +160,8 @@ pub trait Client {
     final fn set_max(&mut self, queue: QueueId, max_active: u32) -> Result<Reply, Fault>
         ensures made { IfOk result
             (λ reply. Extends layout (view self.old) (calls.SetMax queue max_active) reply (view self.new)) }
-        ensures denied { IfErr result (λ f. Denied layout (view self.old) (calls.SetMax queue max_active) f (view self.new)) }
+        ensures denied { IfErr result
+            (λ f. Denied layout (view self.old) (calls.SetMax queue max_active) f (view self.new)) }
     {
         self.make(Call::SetMax { queue, max_active })
     }
@@ -182,7 +187,8 @@ pub trait Client {
     /// Lets so many ticks go by, and then fires what is due. Time is the sum of the ticks that all callers and the
     /// clock hand in.
     final fn tick(&mut self, ticks: u32) -> Result<Reply, Fault>
-        ensures done { IfOk result (λ reply. Completes layout (view self.old) (calls.Tick ticks) reply (view self.new)) }
+        ensures done { IfOk result
+            (λ reply. Completes layout (view self.old) (calls.Tick ticks) reply (view self.new)) }
         ensures broke { IfErr result (λ f. Interrupted layout (view self.old) (calls.Tick ticks) f (view self.new)) }
     {
         self.whole(Call::Tick { ticks })
@@ -190,7 +196,8 @@ pub trait Client {
 
     /// Waits until all that was queued on a queue before has ended (`flush_workqueue`).
     final fn flush(&mut self, queue: QueueId) -> Result<Reply, Fault>
-        ensures done { IfOk result (λ reply. Completes layout (view self.old) (calls.Flush queue) reply (view self.new)) }
+        ensures done { IfOk result
+            (λ reply. Completes layout (view self.old) (calls.Flush queue) reply (view self.new)) }
         ensures broke { IfErr result (λ f. Interrupted layout (view self.old) (calls.Flush queue) f (view self.new)) }
     {
         self.whole(Call::Flush { queue })
@@ -198,31 +205,38 @@ pub trait Client {
 
     /// Waits until the queueings of an item that are open have ended (`flush_work`).
     final fn flush_item(&mut self, item: ItemId) -> Result<Reply, Fault>
-        ensures done { IfOk result (λ reply. Completes layout (view self.old) (calls.FlushItem item) reply (view self.new)) }
-        ensures broke { IfErr result (λ f. Interrupted layout (view self.old) (calls.FlushItem item) f (view self.new)) }
+        ensures done { IfOk result
+            (λ reply. Completes layout (view self.old) (calls.FlushItem item) reply (view self.new)) }
+        ensures broke { IfErr result
+            (λ f. Interrupted layout (view self.old) (calls.FlushItem item) f (view self.new)) }
     {
         self.whole(Call::FlushItem { item })
     }
 
     /// The same, after queueing the item at once if it is delayed (`flush_delayed_work`).
     final fn flush_delayed(&mut self, item: ItemId) -> Result<Reply, Fault>
-        ensures done { IfOk result (λ reply. Completes layout (view self.old) (calls.FlushDelayed item) reply (view self.new)) }
-        ensures broke { IfErr result (λ f. Interrupted layout (view self.old) (calls.FlushDelayed item) f (view self.new)) }
+        ensures done { IfOk result
+            (λ reply. Completes layout (view self.old) (calls.FlushDelayed item) reply (view self.new)) }
+        ensures broke { IfErr result
+            (λ f. Interrupted layout (view self.old) (calls.FlushDelayed item) f (view self.new)) }
     {
         self.whole(Call::FlushDelayed { item })
     }
 
     /// Takes an item back and waits until it doesn't run (`cancel_work_sync`, `cancel_delayed_work_sync`).
     final fn cancel_sync(&mut self, item: ItemId) -> Result<Reply, Fault>
-        ensures done { IfOk result (λ reply. Completes layout (view self.old) (calls.CancelSync item) reply (view self.new)) }
-        ensures broke { IfErr result (λ f. Interrupted layout (view self.old) (calls.CancelSync item) f (view self.new)) }
+        ensures done { IfOk result
+            (λ reply. Completes layout (view self.old) (calls.CancelSync item) reply (view self.new)) }
+        ensures broke { IfErr result
+            (λ f. Interrupted layout (view self.old) (calls.CancelSync item) f (view self.new)) }
     {
         self.whole(Call::CancelSync { item })
     }
 
     /// Waits until a queue is empty (`drain_workqueue`), and then fires what is due.
     final fn drain(&mut self, queue: QueueId) -> Result<Reply, Fault>
-        ensures done { IfOk result (λ reply. Completes layout (view self.old) (calls.Drain queue) reply (view self.new)) }
+        ensures done { IfOk result
+            (λ reply. Completes layout (view self.old) (calls.Drain queue) reply (view self.new)) }
         ensures broke { IfErr result (λ f. Interrupted layout (view self.old) (calls.Drain queue) f (view self.new)) }
     {
         self.whole(Call::Drain { queue })
@@ -230,7 +244,8 @@ pub trait Client {
 
     /// Waits until a queue is empty, which is then gone (`destroy_workqueue`).
     final fn destroy(&mut self, queue: QueueId) -> Result<Reply, Fault>
-        ensures done { IfOk result (λ reply. Completes layout (view self.old) (calls.Destroy queue) reply (view self.new)) }
+        ensures done { IfOk result
+            (λ reply. Completes layout (view self.old) (calls.Destroy queue) reply (view self.new)) }
         ensures broke { IfErr result (λ f. Interrupted layout (view self.old) (calls.Destroy queue) f (view self.new)) }
     {
         self.whole(Call::Destroy { queue })

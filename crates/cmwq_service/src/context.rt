@@ -71,8 +71,10 @@ pub trait Context {
 
     /// Queues an item (`queue_work_on`).
     final fn queue(&mut self, item: ItemId, queue: QueueId, cpu: CpuId) -> Result<Reply, Fault>
-        ensures made { IfOk result (λ reply. Extends layout (view self.old) (calls.Queue item queue cpu) reply (view self.new)) }
-        ensures denied { IfErr result (λ f. Denied layout (view self.old) (calls.Queue item queue cpu) f (view self.new)) }
+        ensures made { IfOk result
+            (λ reply. Extends layout (view self.old) (calls.Queue item queue cpu) reply (view self.new)) }
+        ensures denied { IfErr result
+            (λ f. Denied layout (view self.old) (calls.Queue item queue cpu) f (view self.new)) }
     {
         self.make(Call::Queue { item, queue, cpu })
     }
@@ -87,7 +89,8 @@ pub trait Context {
     ) -> Result<Reply, Fault>
         ensures made { IfOk result
             (λ reply. Extends layout (view self.old) (calls.Delay item queue cpu ticks) reply (view self.new)) }
-        ensures denied { IfErr result (λ f. Denied layout (view self.old) (calls.Delay item queue cpu ticks) f (view self.new)) }
+        ensures denied { IfErr result
+            (λ f. Denied layout (view self.old) (calls.Delay item queue cpu ticks) f (view self.new)) }
     {
         self.make(Call::Delay {
             item,
@@ -107,7 +110,8 @@ pub trait Context {
     ) -> Result<Reply, Fault>
         ensures made { IfOk result
             (λ reply. Extends layout (view self.old) (calls.Modify item queue cpu ticks) reply (view self.new)) }
-        ensures denied { IfErr result (λ f. Denied layout (view self.old) (calls.Modify item queue cpu ticks) f (view self.new)) }
+        ensures denied { IfErr result
+            (λ f. Denied layout (view self.old) (calls.Modify item queue cpu ticks) f (view self.new)) }
     {
         self.make(Call::Modify {
             item,
@@ -143,31 +147,38 @@ pub trait Context {
 
     /// Waits until the queueings of another item that are open have ended (`flush_work`).
     final fn flush_item(&mut self, item: ItemId) -> Result<Reply, Fault>
-        ensures waited { IfOk result (λ reply. HasWaited layout (view self.old) (calls.FlushItem item) reply (view self.new)) }
-        ensures unwaited { IfErr result (λ f. Unwaited layout (view self.old) (calls.FlushItem item) f (view self.new)) }
+        ensures waited { IfOk result
+            (λ reply. HasWaited layout (view self.old) (calls.FlushItem item) reply (view self.new)) }
+        ensures unwaited { IfErr result
+            (λ f. Unwaited layout (view self.old) (calls.FlushItem item) f (view self.new)) }
     {
         self.wait(Call::FlushItem { item })
     }
 
     /// The same, after queueing the item at once if it is delayed (`flush_delayed_work`).
     final fn flush_delayed(&mut self, item: ItemId) -> Result<Reply, Fault>
-        ensures waited { IfOk result (λ reply. HasWaited layout (view self.old) (calls.FlushDelayed item) reply (view self.new)) }
-        ensures unwaited { IfErr result (λ f. Unwaited layout (view self.old) (calls.FlushDelayed item) f (view self.new)) }
+        ensures waited { IfOk result
+            (λ reply. HasWaited layout (view self.old) (calls.FlushDelayed item) reply (view self.new)) }
+        ensures unwaited { IfErr result
+            (λ f. Unwaited layout (view self.old) (calls.FlushDelayed item) f (view self.new)) }
     {
         self.wait(Call::FlushDelayed { item })
     }
 
     /// Takes another item back, and waits until it does not run (`cancel_work_sync`, `cancel_delayed_work_sync`).
     final fn cancel_sync(&mut self, item: ItemId) -> Result<Reply, Fault>
-        ensures waited { IfOk result (λ reply. HasWaited layout (view self.old) (calls.CancelSync item) reply (view self.new)) }
-        ensures unwaited { IfErr result (λ f. Unwaited layout (view self.old) (calls.CancelSync item) f (view self.new)) }
+        ensures waited { IfOk result
+            (λ reply. HasWaited layout (view self.old) (calls.CancelSync item) reply (view self.new)) }
+        ensures unwaited { IfErr result
+            (λ f. Unwaited layout (view self.old) (calls.CancelSync item) f (view self.new)) }
     {
         self.wait(Call::CancelSync { item })
     }
 
     /// Waits until all that was queued on another queue before has ended (`flush_workqueue`).
     final fn flush(&mut self, queue: QueueId) -> Result<Reply, Fault>
-        ensures waited { IfOk result (λ reply. HasWaited layout (view self.old) (calls.Flush queue) reply (view self.new)) }
+        ensures waited { IfOk result
+            (λ reply. HasWaited layout (view self.old) (calls.Flush queue) reply (view self.new)) }
         ensures unwaited { IfErr result (λ f. Unwaited layout (view self.old) (calls.Flush queue) f (view self.new)) }
     {
         self.wait(Call::Flush { queue })
@@ -175,7 +186,8 @@ pub trait Context {
 
     /// Waits until another queue is empty (`drain_workqueue`).
     final fn drain(&mut self, queue: QueueId) -> Result<Reply, Fault>
-        ensures waited { IfOk result (λ reply. HasWaited layout (view self.old) (calls.Drain queue) reply (view self.new)) }
+        ensures waited { IfOk result
+            (λ reply. HasWaited layout (view self.old) (calls.Drain queue) reply (view self.new)) }
         ensures unwaited { IfErr result (λ f. Unwaited layout (view self.old) (calls.Drain queue) f (view self.new)) }
     {
         self.wait(Call::Drain { queue })

@@ -66,7 +66,20 @@ impl Model for State {
     ghost view = { λ s. record { layout = layout_of s.counts s.queues.items; room = s.room; entries = s.entries } };
 
     ghost invariant = { λ s. IsState (layout_of s.counts s.queues.items) s.room s.entries
-        (record { pools = s.pools; books = s.books; timers = s.timers; time = s.time; serials = s.serials.items; flights = s.flights; tickets = s.tickets; gone = s.gone.items; pwqs = s.pwqs; most = s.most.items; frozen = s.frozen; owing = s.owing }) };
+        (record {
+          pools = s.pools;
+          books = s.books;
+          timers = s.timers;
+          time = s.time;
+          serials = s.serials.items;
+          flights = s.flights;
+          tickets = s.tickets;
+          gone = s.gone.items;
+          pwqs = s.pwqs;
+          most = s.most.items;
+          frozen = s.frozen;
+          owing = s.owing;
+        }) };
 }
 
 impl State {

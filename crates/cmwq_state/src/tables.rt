@@ -326,7 +326,8 @@ pub(crate) fn move_pwqs(
     requires opened_placed { IsPlacedIf (length queues.now) opened }
     requires behind { keeps_widths reply ≡ true
         → AreBehind (width_by queues.now most.now frozen) pwqs.old.counts pwqs.old.waiting }
-    requires placed { ArePlaced (length queues.now) (pwqs_after_opening opened (pwqs_after_end ended pwqs.old)).waiting }
+    requires placed { ArePlaced (length queues.now)
+        (pwqs_after_opening opened (pwqs_after_end ended pwqs.old)).waiting }
     ensures { IsPassed (width_by queues.now most.now frozen) (pwqs_after_opening opened (pwqs_after_end ended pwqs.old))
         pwqs.new }
 {

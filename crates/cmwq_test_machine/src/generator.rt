@@ -192,7 +192,7 @@ impl Generator {
     }
 
     /// Keeps which tickets stand and which workers have a run after this entry, which has this number.
-    pub(crate) fn keep(&mut self, entry: &Entry, number: Number) -> Result<(), AllocError> {
+    pub(crate) fn note_entry(&mut self, entry: &Entry, number: Number) -> Result<(), AllocError> {
         match (entry.call, entry.reply) {
             (_, reply) if reply.gives_ticket() => self.tickets.push((entry.who, number))?,
             (_, reply) if reply.number_started().is_some() => self.running.push(entry.who)?,

@@ -285,7 +285,7 @@ impl Machines {
             let number = self.entries.len() as Number;
             let (who, call) = generator.next();
             if let Some(entry) = self.step(rt, who, call, k % every.max(1) == 0) {
-                generator.keep(&entry, number).expect(rt, "memory");
+                generator.note_entry(&entry, number).expect(rt, "memory");
             }
         }
         self.compare(rt);

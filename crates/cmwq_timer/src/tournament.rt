@@ -38,7 +38,8 @@ impl Model for Tournament {
 
     ghost view = { λ t. t.rows.items };
 
-    ghost invariant = { λ t. (vec_len t.rows < 2 ^ 16) × AreLevels t.rows.items t.low.items t.middle.items t.high.items t.last };
+    ghost invariant = { λ t. (vec_len t.rows < 2 ^ 16)
+        × AreLevels t.rows.items t.low.items t.middle.items t.high.items t.last };
 }
 
 impl Tournament {

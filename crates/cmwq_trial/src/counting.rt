@@ -53,7 +53,7 @@ impl Trials {
     }
 
     /// One failure more is kept, if it is the first, or shorter than all.
-    fn keep(&mut self, failure: Failure)
+    fn record_failure(&mut self, failure: Failure)
         ensures counts { (self.new.ended ≡ self.old.ended) × (self.new.stuck ≡ self.old.stuck)
             × (self.new.stopped ≡ self.old.stopped) }
         ensures first { self.new.first_failure ≡ first_of self.old.first_failure failure }
@@ -80,7 +80,7 @@ impl Trials {
                     Failure::Stuck { .. } => self.stuck += 1,
                     Failure::Stopped { .. } => self.stopped += 1,
                 }
-                self.keep(failure);
+                self.record_failure(failure);
             }
         }
     }

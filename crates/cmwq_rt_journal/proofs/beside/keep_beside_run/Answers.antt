@@ -1,5 +1,5 @@
 use Rattle.cmwq_rt_journal.proofs.Kept.{keeps_so}
-use Rattle.cmwq_rt_journal.proofs.beside.keep.Goals as goal
+use Rattle.cmwq_rt_journal.proofs.beside.keep_beside_run.Goals as goal
 
 pub returns-clause-kept : goal.returns-clause-kept
 returns-clause-kept g c =
