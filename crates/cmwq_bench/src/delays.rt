@@ -136,6 +136,10 @@ impl Service for Delays {
             _ => Ok(()),
         }
     }
+
+    fn looks(&self) -> bool {
+        false
+    }
 }
 
 /// Queues an item a hundred times, `idle` or `loaded` as the word after `delays` says, and prints how many nanoseconds

@@ -229,6 +229,10 @@ impl Service for Jobs {
         }
         Ok(())
     }
+
+    fn looks(&self) -> bool {
+        false
+    }
 }
 
 /// What the words after `jobs` say.

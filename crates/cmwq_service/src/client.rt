@@ -44,7 +44,8 @@ pub trait Client {
         ensures { result ≡ (view self.now).serial };
 
     /// The bits of an item (`work_busy`): 1 if it is pending, plus 2 if it runs, after a history that begins with all
-    /// that the caller has seen. It takes no lock, and waits for nobody. None where the reader gives no guard.
+    /// that the caller has seen. It takes no lock, and waits for nobody. None where the reader gives no guard, and in a
+    /// service that says that it never looks (`Service::looks`).
     fn busy(&mut self, item: ItemId) -> Result<Option<u8>, Fault>
         ensures bits { IfOk result
             (λ o. MatchOption o (view self.new ≡ view self.old) (λ b. b ≡ bits (past_of (view self.new).seen) item.0)) }
