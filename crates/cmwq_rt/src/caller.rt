@@ -147,8 +147,8 @@ impl<N: HubName> Caller<N> {
         hub.call(rt, &mut self.participant, call)
     }
 
-    /// Makes calls of one entry each, one after another: 64 at most in one hold of the lock. The reply of each is written
-    /// to the place of the same number. It waits for nothing.
+    /// Makes calls of one entry each, one after another: 64 at most in one hold of the lock. The reply of each is
+    /// written to the place of the same number. It waits for nothing.
     ///
     /// # Errors
     /// Those of `make`, with how many calls were made before. No later call is made.
