@@ -1,6 +1,9 @@
 -- A batch of calls is made, one after another.
 use Rattle.cmwq_rt.specs.Common.{◌≡◌, ℕ, suc, ◌<◌, List, [], ◌∷◌, ◌++◌, length, refl, sym, ap, ◌∙◌, subst, take, drop}
 use Rattle.cmwq_rt.specs.Common.{◌+◌, ◌≤◌, take_more, get_or, append_assoc, arith, slice_get-get_or, Result, Ok, Err}
+use Rattle.cmwq_rt.specs.Common.{Option, NoMemory, Full, Unfinished, NoPlace, Closed, Stranger, NoThread}
+use Rattle.std.specs.Prelude.{IfSome}
+use Rattle.cmwq_rt.specs.Running.{breaks_off, fault_after}
 use Rattle.cmwq_rt.specs.Common.{IfOk, IfErr, Call, Reply, Layout, View, Extends, RunFault, Refused}
 use Rattle.cmwq_rt.specs.Common.{Bool, true, false, true≢false, Who}
 use Rattle.cmwq_model.specs.Prelude.{fits}
@@ -10,7 +13,7 @@ use Rattle.std.proofs.lemmas.List.{drop_more, length-take-le, length-append, len
 use Rattle.std.proofs.Math.Seq.{set-append_seam}
 use Rattle.std.proofs.Math.ListN.{set}
 use Rattle.cmwq_rt.specs.Later.{Later}
-use Rattle.cmwq_rt.specs.Batches.{MakesAll, MakesBatch, StopsBatch}
+use Rattle.cmwq_rt.specs.Batches.{MakesAll, MakesBatch, StopsBatch, fault_after_batch}
 use Rattle.cmwq_rt.specs.declared.batch.BatchFault.{BatchFault}
 use Rattle.cmwq_rt.proofs.Later.{later_self, later_trans, later_made, later_refused}
 
@@ -110,3 +113,21 @@ fits_at s who one calls k d lt same all = known (fits s who (get_or calls k d)) 
     known : (b : Bool) → fits s who (get_or calls k d) ≡ b → fits s one (get_or calls k d) ≡ true
     known true is = ap (λ w. fits s w (get_or calls k d)) same ∙ is
     known false is = absurd (true≢false (sym all ∙ list_all_at (fits s who) calls k d lt is))
+
+-- a run breaks off with what a batch answers, other than want of room
+pub batch_breaks_off : (s : Layout) (v : View) (calls : List Call) (old new : List Reply) (w : View)
+    (r : Result (Unit {0}) (BatchFault RunFault)) (before : Option RunFault)
+    → IfErr r (λ e. StopsBatch s v calls e.made e.fault old new w) → IfSome before (λ f. breaks_off f ≡ true)
+    → IfSome (fault_after_batch r before) (λ f. breaks_off f ≡ true)
+batch_breaks_off s v calls old new w (Ok u) before n so = so
+batch_breaks_off s v calls old new w (Err e) before stopped so = broke e.fault stopped.refused
+  where
+    broke : (f : RunFault) → Refused s stopped.middle stopped.next f w
+        → IfSome (fault_after (Err f) before) (λ g. breaks_off g ≡ true)
+    broke Full refused = so
+    broke (NoMemory ticket) refused = refl
+    broke Unfinished refused = absurd refused.1
+    broke NoPlace refused = absurd refused.1
+    broke Closed refused = refl
+    broke (Stranger own book) refused = refl
+    broke NoThread refused = absurd refused.1

@@ -79,6 +79,30 @@ pub trait Work {
             → does self.now N.layout item context.old.participant context.new.participant };
 }
 
+/// How many of a batch of so many calls were made.
+fn made_of_batch(answer: &Result<(), BatchFault<RunFault>>, calls: usize) -> usize {
+    match answer {
+        Ok(()) => calls,
+        Err(stopped) => stopped.made,
+    }
+}
+
+/// The fault of a run after a batch of its calls.
+fn fault_of_batch(
+    answer: &Result<(), BatchFault<RunFault>>,
+    before: Option<RunFault>,
+) -> Option<RunFault>
+    ensures { result ≡ fault_after_batch answer.now before }
+{
+    match answer {
+        Ok(()) => before,
+        Err(stopped) => match stopped.fault {
+            RunFault::Full => before,
+            fault => Some(fault),
+        },
+    }
+}
+
 /// Whether a run is asleep after the first of these replies, so many.
 fn is_asleep_after(replies: &[Reply], many: usize, before: bool) -> bool {
     let mut is_asleep = before;
@@ -171,7 +195,6 @@ impl<'a, N: HubName, R: Wait> RunCtx<'a, N, R> {
     ///
     /// # Errors
     /// Those of `queue`, with how many calls were made before. No later call is made.
-    #[tactic(auto, using(crate::proofs::Running::refused_breaks_off))]
     pub fn make_all(
         &mut self,
         calls: &[Call],
@@ -192,21 +215,9 @@ impl<'a, N: HubName, R: Wait> RunCtx<'a, N, R> {
         let answer = self
             .hub
             .call_all(self.rt, &mut self.participant, calls, replies);
-        let made = match answer {
-            Ok(()) => calls.len(),
-            Err(stopped) => stopped.made,
-        };
+        let made = made_of_batch(&answer, calls.len());
         self.is_asleep = is_asleep_after(replies, made, self.is_asleep);
-        match answer {
-            Ok(())
-            | Err(
-                BatchFault {
-                    fault: RunFault::Full,
-                    ..
-                },
-            ) => {}
-            Err(BatchFault { fault, .. }) => self.fault = Some(fault),
-        }
+        self.fault = fault_of_batch(&answer, self.fault);
         answer
     }
 
