@@ -47,6 +47,7 @@ enum Makes {
 }
 
 /// How many calls of the last batch were made, and how many of these did something.
+#[derive(Drop)]
 struct Together {
     makes: Makes,
     made: AtomicU32,
@@ -84,7 +85,7 @@ impl Service for Together {
         if self.makes != Makes::One || item.0 != 0 {
             return Ok(());
         }
-        let calls = [Call::Sleep, queue(1), queue(1), Call::Wake];
+        let calls = [queue(1), queue(1), Call::Sleep, Call::Wake];
         let mut replies = [Reply::No; 5];
         context.make_all(&calls, &mut replies)?;
         self.tell(calls.len(), &replies);
@@ -131,16 +132,13 @@ fn a_run_makes_calls_together(rt: HostRuntime) {
     let history = run(&rt, rt.alloc(), &shape(&rt, 100), &service).expect(&rt, "no fault");
     assert_eq!(rt; service.made.load(Ordering::SeqCst), 4);
     assert_eq!(rt; service.done.load(Ordering::SeqCst), 3);
-    let asleep = history
-        .iter()
-        .position(|entry| matches!(entry.call, Call::Sleep));
-    let awake = history
+    let woke = history
         .iter()
         .position(|entry| matches!(entry.call, Call::Wake));
-    let (asleep, awake) = (asleep.expect(&rt, "a sleep"), awake.expect(&rt, "a wake"));
-    assert_eq!(rt; asleep + 3, awake);
-    let who = history[asleep].who;
-    assert!(rt; history[asleep..awake].iter().all(|entry| entry.who == who));
+    let woke = woke.expect(&rt, "a wake");
+    let who = history[woke].who;
+    let made = history.iter().take(woke + 1).skip(woke - 3);
+    assert_eq!(rt; made.filter(|entry| entry.who == who).count(), 4);
 }
 
 #[test]
