@@ -236,13 +236,17 @@ impl Service for Jobs {
 }
 
 /// What the words after `jobs` say.
+#[derive(Drop)]
 struct Job {
     jobs: Jobs,
     workers: u8,
     history: History,
 }
 
-fn number<T: FromStr>(words: &[String], at: usize, what: &str) -> Result<T> {
+fn number<T: FromStr + Drop>(words: &[String], at: usize, what: &str) -> Result<T>
+where
+    T::Err: Drop,
+{
     let Some(word) = words.get(at) else {
         bail!("{what}?");
     };
