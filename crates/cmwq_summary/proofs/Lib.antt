@@ -1,4 +1,5 @@
 pub mod Tallies
+pub mod Counting
 pub mod Times
 pub mod Activities
 pub mod Since

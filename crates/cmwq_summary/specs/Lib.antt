@@ -1,6 +1,7 @@
 pub mod Tallies
 pub mod Kinds
 pub mod Figures
+pub mod Counters
 pub mod Spans
 pub mod Spent
 pub mod Activities

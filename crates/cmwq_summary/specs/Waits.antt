@@ -11,7 +11,8 @@ use Rattle.cmwq_summary.specs.Spans.{stretch}
 use Rattle.cmwq_summary.specs.Spent.{each_entry, each_tick}
 use Rattle.cmwq_summary.specs.Since.{added_since, IsMoment}
 use Rattle.cmwq_summary.specs.Extents.{Extent, largest, total, span_at}
-use Rattle.cmwq_summary.specs.Figures.{by_place_started}
+use Rattle.cmwq_summary.specs.declared.counter.Counter.TheVariants.{Starts}
+use Rattle.cmwq_summary.specs.Figures.{key_of}
 
 -- what came between the entry that opened the queueing that an entry starts, and that entry, which is counted
 abbrev pub start_wait : (Entry → ℕ) → Extent
@@ -19,16 +20,16 @@ start_wait amount past e = option_map_or (λ (x : Queueing). added_since amount 
 
 -- the longest wait of a start on a queue and CPU, and all of them together
 abbrev pub longest_start_entries : List Entry → ℕ → ℕ
-longest_start_entries past p = largest by_place_started (start_wait each_entry) past p
+longest_start_entries past p = largest (key_of Starts) (start_wait each_entry) past p
 
 abbrev pub longest_start_ticks : List Entry → ℕ → ℕ
-longest_start_ticks past p = largest by_place_started (start_wait each_tick) past p
+longest_start_ticks past p = largest (key_of Starts) (start_wait each_tick) past p
 
 abbrev pub all_start_entries : List Entry → ℕ → ℕ
-all_start_entries past p = total by_place_started (start_wait each_entry) past p
+all_start_entries past p = total (key_of Starts) (start_wait each_entry) past p
 
 abbrev pub all_start_ticks : List Entry → ℕ → ℕ
-all_start_ticks past p = total by_place_started (start_wait each_tick) past p
+all_start_ticks past p = total (key_of Starts) (start_wait each_tick) past p
 
 -- ---- when queueings were opened, by item
 

@@ -1,9 +1,12 @@
 //! How long a worker's runs were awake, and how long they slept.
-ghost use Rattle.std.specs.Prelude.{◌≡◌};
-ghost use Rattle.cmwq_summary.specs.Activities.{IsUpTo, asleep_until, awake_until, activity_from, doing_after};
+ghost use Rattle.std.specs.Prelude.{◌≡◌, ◌<◌, vec_len};
+ghost use Rattle.cmwq_summary.specs.Activities.{IsUpTo, MayAct, activities_after, activity_from, activity_in};
+ghost use Rattle.cmwq_summary.specs.Activities.{asleep_until, awake_until, doing_after};
+ghost use Rattle.cmwq_summary.specs.Figures.{worker_number};
 
+use crate::key::worker_number;
 use crate::span::{NO_TIME, Span};
-use cmwq_model::Reply;
+use cmwq_model::{Entry, Reply, Who, WorkerId};
 
 /// What a worker does.
 #[derive(Clone, Copy, PartialEq, Eq)]
@@ -81,5 +84,27 @@ impl Activity {
             awake: self.awake(now),
             asleep: self.asleep(now),
         };
+    }
+}
+
+/// What is kept of a worker.
+pub(crate) fn activity_in(activities: &Vec<Activity>, worker: WorkerId) -> Activity
+    requires { worker_number worker < vec_len activities.now }
+    ensures { result ≡ activity_in activities.now.items worker }
+{
+    activities[worker_number(worker)]
+}
+
+/// An entry of a worker may change what it does.
+pub(crate) fn act(activities: &mut Vec<Activity>, entry: &Entry, now: Span)
+    requires { MayAct entry.now.who activities.old.items now }
+    ensures { activities.new.items ≡ activities_after activities.old.items entry.now now }
+{
+    if let Who::Worker(worker) = entry.who {
+        let at = worker_number(worker);
+        if at < activities.len() {
+            let doing = activities[at].doing.after(entry.reply);
+            activities[at].begin(now, doing);
+        }
     }
 }

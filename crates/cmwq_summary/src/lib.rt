@@ -3,11 +3,11 @@
 
 mod activity;
 mod callers;
-mod cancelled;
+mod counter;
+mod counters;
 mod givings;
-mod items;
+mod key;
 mod kind;
-mod kinds;
 mod longest;
 mod openings;
 mod peaks;
@@ -16,8 +16,8 @@ mod span;
 mod summary;
 mod tally;
 mod totals;
-mod workers;
 
+pub use counter::Counter;
 pub use kind::{CALL_KINDS, REPLY_KINDS};
 pub use span::Span;
 pub use summary::Summary;

@@ -7,7 +7,7 @@ ghost use Rattle.cmwq_theory_steps.specs.Looks.{keeps_widths};
 ghost use Rattle.cmwq_summary.specs.Parts.{ArePeaks};
 ghost use Rattle.cmwq_summary.specs.Summed.{IsNext};
 
-use crate::places::{CPUS, place_in};
+use crate::key::{CPUS, place_in};
 use crate::tally::Tally;
 use cmwq_model::{NoMemory, Reply};
 use cmwq_state::Effect;

@@ -1,7 +1,7 @@
 //! The summary of a history.
 ghost use Rattle.std.specs.Prelude.{◌≡◌, ◌<◌, ◌≤◌, ◌*◌, true, [], ◌∷◌, length, IfOk};
 ghost use Rattle.cmwq_model.specs.Prelude.{now, has_time, most_cpus, most_workers};
-ghost use Rattle.cmwq_summary.specs.Figures as figures;
+ghost use Rattle.cmwq_summary.specs.Figures.{counted, keys_of};
 ghost use Rattle.cmwq_summary.specs.Activities.{behind};
 ghost use Rattle.cmwq_summary.specs.Spent as spans;
 ghost use Rattle.cmwq_summary.specs.Waits as waits;
@@ -9,18 +9,17 @@ ghost use Rattle.cmwq_summary.specs.TicketWaits as ticket_waits;
 ghost use Rattle.cmwq_summary.specs.Peaks as peaks;
 ghost use Rattle.cmwq_state.specs.Effects.{IsEffect};
 ghost use Rattle.cmwq_state.specs.Pwqs.{AreActiveCounts};
-ghost use Rattle.cmwq_summary.specs.Kinds.{call_kinds, reply_kinds};
 ghost use Rattle.cmwq_summary.specs.Summed.{past_summed, summed_with};
 
+use crate::activity::{Activity, IDLE, act, activity_in};
 use crate::callers::Callers;
-use crate::items::Items;
-use crate::kinds::Kinds;
+use crate::counter::Counter;
+use crate::counters::Counters;
 use crate::peaks::Peaks;
 use crate::places::Places;
 use crate::span::Span;
 use crate::totals::Total;
-use crate::workers::{Workers, activity_in};
-use cmwq_model::{CallerId, Entry, ItemId, NoMemory, Shape, WorkerId};
+use cmwq_model::{CallerId, Entry, NoMemory, Shape, WorkerId};
 use cmwq_state::{Effect, Trail};
 use std::alloc::Global;
 use std::marker::Model;
@@ -31,15 +30,15 @@ pub struct Summary {
     shape: Shape,
     entries: Trail<Entry>,
     time: u64,
-    kinds: Kinds,
-    items: Items,
+    counters: Counters,
     callers: Callers,
-    workers: Workers,
+    activities: Vec<Activity>,
     places: Places,
     peaks: Peaks,
 }
 
 impl Model for Summary {
+    ghost use Rattle.cmwq_model.specs.Prelude.{past_of};
     ghost use Rattle.cmwq_summary.specs.Parts.{IsSummary};
     ghost use Rattle.cmwq_summary.specs.Summed.{Summed};
 
@@ -47,7 +46,8 @@ impl Model for Summary {
 
     ghost view = { λ s. record { layout = s.shape; entries = s.entries } };
 
-    ghost invariant = { λ s. IsSummary s.shape s.entries s.time s.kinds s.items s.callers s.workers s.places s.peaks };
+    ghost invariant = { λ s. IsSummary s.shape (past_of s.entries) s.time s.counters s.callers s.activities.items
+        s.places s.peaks };
 }
 
 impl Summary {
@@ -56,10 +56,9 @@ impl Summary {
         ensures { IfOk result (λ summary. summary ≡ record { layout = shape; entries = [] }) }
     {
         let counts = shape.counts();
-        let kinds = Kinds::new(alloc)?;
-        let items = Items::new(alloc, counts.items)?;
+        let counters = Counters::new(alloc, &shape)?;
         let callers = Callers::new(alloc, counts.callers)?;
-        let workers = Workers::new(alloc, counts.cpus)?;
+        let activities = vec![in alloc; IDLE; Counter::WorkerRuns.keys(&shape)]?;
         let places = Places::new(alloc, counts.items, shape.queues().len())?;
         let peaks = Peaks::new(alloc, shape.queues().len())?;
         let entries = Trail::new();
@@ -67,10 +66,9 @@ impl Summary {
             shape,
             entries,
             time: 0,
-            kinds,
-            items,
+            counters,
             callers,
-            workers,
+            activities,
             places,
             peaks,
         })
@@ -91,10 +89,9 @@ impl Summary {
             entries: self.entries.len() + 1,
             ticks: self.time,
         };
-        self.kinds.add(effect);
-        self.items.add(effect);
+        self.counters.add(effect);
         self.callers.add(effect, now);
-        self.workers.add(effect, now);
+        act(&mut self.activities, &effect.entry, now);
         self.places.add(effect, now);
         self.peaks.add(effect, active_counts);
         self.entries.push(&effect.entry);
@@ -121,52 +118,12 @@ impl Summary {
         self.time
     }
 
-    /// How many calls there are of this kind.
-    pub fn calls(&self, kind: usize) -> u64
-        requires { kind < call_kinds }
-        ensures { result ≡ figures.calls_of_kind (past_summed self.now) kind }
+    /// How many entries a counter counts under this key.
+    pub fn count(&self, counter: Counter, key: usize) -> u64
+        requires { key < keys_of self.now.layout counter }
+        ensures { result ≡ counted counter (past_summed self.now) key }
     {
-        self.kinds.calls.count(kind)
-    }
-
-    /// How many replies there are of this kind.
-    pub fn replies(&self, kind: usize) -> u64
-        requires { kind < reply_kinds }
-        ensures { result ≡ figures.replies_of_kind (past_summed self.now) kind }
-    {
-        self.kinds.replies.count(kind)
-    }
-
-    /// How many runs of the item were started.
-    pub fn runs(&self, item: ItemId) -> u64
-        requires { item.0 < self.now.layout.items }
-        ensures { result ≡ figures.runs_of (past_summed self.now) item.0 }
-    {
-        self.items.runs.count(item.0.into())
-    }
-
-    /// How many queueings of the item were cancelled.
-    pub fn cancels(&self, item: ItemId) -> u64
-        requires { item.0 < self.now.layout.items }
-        ensures { result ≡ figures.cancels_of (past_summed self.now) item.0 }
-    {
-        self.items.cancels.count(item.0.into())
-    }
-
-    /// How many calls the caller made.
-    pub fn calls_by(&self, caller: CallerId) -> u64
-        requires { caller.0 < self.now.layout.callers }
-        ensures { result ≡ figures.calls_by (past_summed self.now) caller.0 }
-    {
-        self.callers.calls.count(caller.0.into())
-    }
-
-    /// How many tickets the caller was given.
-    pub fn tickets(&self, caller: CallerId) -> u64
-        requires { caller.0 < self.now.layout.callers }
-        ensures { result ≡ figures.tickets_by (past_summed self.now) caller.0 }
-    {
-        self.callers.tickets.count(caller.0.into())
+        self.counters.count(counter, key)
     }
 
     /// How long the caller's longest wait for a ticket was. The wait for one that is unended goes on until now.
@@ -180,14 +137,6 @@ impl Summary {
         self.callers.longest.of(caller).longer(waits)
     }
 
-    /// How many runs the worker with this number started.
-    pub fn starts_by(&self, worker: usize) -> u64
-        requires { worker < 2 * most_workers * self.now.layout.cpus }
-        ensures { result ≡ figures.starts_by (past_summed self.now) worker }
-    {
-        self.workers.runs.count(worker)
-    }
-
     /// How long the worker's runs were awake.
     pub fn awake(&self, worker: WorkerId) -> Span
         requires here { worker.pool.cpu.0 < self.now.layout.cpus }
@@ -195,7 +144,7 @@ impl Summary {
         ensures entries { result.entries ≡ spans.awake_entries (past_summed self.now) worker }
         ensures ticks { result.ticks ≡ spans.awake_ticks (past_summed self.now) worker }
     {
-        activity_in(&self.workers.activities, worker).awake(self.span())
+        activity_in(&self.activities, worker).awake(self.span())
     }
 
     /// How long they slept.
@@ -205,7 +154,7 @@ impl Summary {
         ensures entries { result.entries ≡ spans.asleep_entries (past_summed self.now) worker }
         ensures ticks { result.ticks ≡ spans.asleep_ticks (past_summed self.now) worker }
     {
-        activity_in(&self.workers.activities, worker).asleep(self.span())
+        activity_in(&self.activities, worker).asleep(self.span())
     }
 
     /// How many entries and ticks there are.
@@ -219,31 +168,7 @@ impl Summary {
         }
     }
 
-    /// How many queueings there were at the place with this number.
-    pub fn queueings_at(&self, place: usize) -> u64
-        requires { place < most_cpus * length self.now.layout.queues }
-        ensures { result ≡ figures.queueings_at (past_summed self.now) place }
-    {
-        self.places.queueings.count(place)
-    }
-
-    /// How many of them started.
-    pub fn starts_at(&self, place: usize) -> u64
-        requires { place < most_cpus * length self.now.layout.queues }
-        ensures { result ≡ figures.starts_at (past_summed self.now) place }
-    {
-        self.places.starts.count(place)
-    }
-
-    /// How many of them were cancelled before that.
-    pub fn cancels_at(&self, place: usize) -> u64
-        requires { place < most_cpus * length self.now.layout.queues }
-        ensures { result ≡ figures.cancels_at (past_summed self.now) place }
-    {
-        self.places.cancels.count(place)
-    }
-
-    /// How many of them were open at once, at most.
+    /// How many queueings of the place with this number were open at once, at most.
     pub fn most_open(&self, place: usize) -> u64
         requires { place < most_cpus * length self.now.layout.queues }
         ensures { result ≡ peaks.most_open_at place (past_summed self.now) }
@@ -259,7 +184,7 @@ impl Summary {
         self.peaks.most_active.count(place)
     }
 
-    /// How long the longest of those starts was waited for.
+    /// How long the longest of the starts there was waited for.
     pub fn longest_start(&self, place: usize) -> Span
         requires { place < most_cpus * length self.now.layout.queues }
         ensures entries { result.entries ≡ waits.longest_start_entries (past_summed self.now) place }

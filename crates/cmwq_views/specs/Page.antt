@@ -6,9 +6,9 @@ use Rattle.std.specs.Prelude.{flat_map, codes, decimal}
 use Rattle.cmwq_model.specs.declared.id.WorkerId.{WorkerId}
 use Rattle.cmwq_model.specs.declared.entry.Entry.{Entry}
 use Rattle.cmwq_model.specs.Prelude.{Layout, now, width}
-use Rattle.cmwq_summary.specs.Kinds.{call_kinds, reply_kinds}
-use Rattle.cmwq_summary.specs.Figures.{calls_of_kind, replies_of_kind, runs_of, cancels_of, calls_by, tickets_by}
-use Rattle.cmwq_summary.specs.Figures.{starts_by, queueings_at, starts_at, cancels_at}
+use Rattle.cmwq_summary.specs.declared.counter.Counter.{Counter}
+use Rattle.cmwq_summary.specs.declared.counter.Counter.TheVariants as counter
+use Rattle.cmwq_summary.specs.Figures.{counted, keys_of}
 use Rattle.cmwq_summary.specs.Spent.{awake_entries, awake_ticks, asleep_entries, asleep_ticks}
 use Rattle.cmwq_summary.specs.Waits.{longest_start_entries, longest_start_ticks, all_start_entries, all_start_ticks}
 use Rattle.cmwq_summary.specs.Peaks.{most_open_at, most_active_at}
@@ -79,12 +79,13 @@ longest_text many entries ticks = waited_text (codes ", longest wait ") many ent
 abbrev pub mean_text : ℕ → ℕ → ℕ → List ℕ
 mean_text many entries ticks = waited_text (codes ", mean wait ") many (entries / many) (ticks / many)
 
-abbrev pub caller_row : List Entry → ℕ → List ℕ
-caller_row past c =
-    if calls_by past c == 0 then []
-    else named_number (codes "caller c") c ++ named_number (codes ": calls ") (calls_by past c)
-    ++ named_number (codes ", tickets ") (tickets_by past c)
-    ++ longest_text (tickets_by past c) (longest_wait_entries past c) (longest_wait_ticks past c) ++ line_end
+abbrev pub caller_row : List Entry → ℕ → ℕ → List ℕ
+caller_row past c calls =
+    if calls == 0 then []
+    else named_number (codes "caller c") c ++ named_number (codes ": calls ") calls
+    ++ named_number (codes ", tickets ") (counted counter.CallerTickets past c)
+    ++ longest_text (counted counter.CallerTickets past c) (longest_wait_entries past c) (longest_wait_ticks past c)
+    ++ line_end
 
 -- how long so many starts waited: the longest wait, and the mean of all of them together
 abbrev pub starts_text : ℕ → ℕ → ℕ → ℕ → ℕ → List ℕ
@@ -105,36 +106,40 @@ peaks_text most_open most_active = named_number (codes ", most open ") most_open
 
 abbrev pub place_figures : Layout → List Entry → ℕ → List ℕ
 place_figures s past p =
-    opened_text (queueings_at past p) (starts_at past p)
-    ++ (bounds_text (cancels_at past p) (width s past (p / most_cpus))
+    opened_text (counted counter.Queueings past p) (counted counter.Starts past p)
+    ++ (bounds_text (counted counter.Cancels past p) (width s past (p / most_cpus))
     ++ peaks_text (most_open_at p past) (most_active_at s p past))
 
 abbrev pub place_waits : List Entry → ℕ → List ℕ
 place_waits past p =
-    starts_text (starts_at past p) (longest_start_entries past p) (longest_start_ticks past p)
+    starts_text (counted counter.Starts past p) (longest_start_entries past p) (longest_start_ticks past p)
     (all_start_entries past p) (all_start_ticks past p)
 
 abbrev pub place_row : Layout → List Entry → ℕ → List ℕ
-place_row s past p = if queueings_at past p == 0 then [] else place_name p ++ place_figures s past p
+place_row s past p = if counted counter.Queueings past p == 0 then [] else place_name p ++ place_figures s past p
     ++ place_waits past p ++ line_end
 
 abbrev pub row_text : Layout → List Entry → Table → ℕ → List ℕ
-row_text s past table.Calls k = call_row k (calls_of_kind past k)
-row_text s past table.Replies k = reply_row k (replies_of_kind past k)
+row_text s past table.Calls k = call_row k (counted counter.Calls past k)
+row_text s past table.Replies k = reply_row k (counted counter.Replies past k)
 row_text s past table.Places p = place_row s past p
-row_text s past table.Workers w = worker_row past (worker_of_row w) (starts_by past w)
-row_text s past table.Items i = item_row i (runs_of past i) (cancels_of past i)
-row_text s past table.Callers c = caller_row past c
+row_text s past table.Workers w = worker_row past (worker_of_row w) (counted counter.WorkerRuns past w)
+row_text s past table.Items i = item_row i (counted counter.ItemRuns past i) (counted counter.ItemCancels past i)
+row_text s past table.Callers c = caller_row past c (counted counter.CallerCalls past c)
 
 -- ---- the tables
 
+-- what its rows are numbered by
+abbrev pub counter_of : Table → Counter
+counter_of table.Calls = counter.Calls
+counter_of table.Replies = counter.Replies
+counter_of table.Places = counter.Queueings
+counter_of table.Workers = counter.WorkerRuns
+counter_of table.Items = counter.ItemRuns
+counter_of table.Callers = counter.CallerCalls
+
 abbrev pub row_count : Layout → Table → ℕ
-row_count s table.Calls = call_kinds
-row_count s table.Replies = reply_kinds
-row_count s table.Places = most_cpus * length s.queues
-row_count s table.Workers = 2 * most_workers * s.cpus
-row_count s table.Items = s.items
-row_count s table.Callers = s.callers
+row_count s t = keys_of s (counter_of t)
 
 -- the rows of the numbers below this one, in their order
 unfoldable pub rows_text : (ℕ → List ℕ) → ℕ → List ℕ

@@ -9,14 +9,14 @@ ghost use Rattle.cmwq_views.specs.Page.{row_count};
 ghost use Rattle.cmwq_views.specs.declared.table.Table.TheVariants as TheTable;
 
 use crate::name::{call_name, reply_name};
-use crate::number::{OF_POOL, caller_at, item_at, worker_at};
+use crate::number::{caller_at, worker_at};
 use crate::progress::Progress;
 use crate::row::Row;
 use crate::table::Table;
 use crate::write::Rows;
-use cmwq_base::{CallerId, ItemId, QueueId, WorkerId};
+use cmwq_base::{CallerId, QueueId, WorkerId};
 use cmwq_model::MOST_CPUS;
-use cmwq_summary::{CALL_KINDS, REPLY_KINDS, Span, Total};
+use cmwq_summary::{Counter, Span, Total};
 
 /// How many CPUs a shape may have.
 const CPUS: usize = MOST_CPUS as usize;
@@ -25,16 +25,7 @@ const CPUS: usize = MOST_CPUS as usize;
 fn rows_in(progress: &Progress<'_>, table: Table) -> usize
     ensures { result ≡ row_count progress.now.layout table }
 {
-    let shape = progress.summary().shape();
-    let counts = shape.counts();
-    match table {
-        Table::Calls => CALL_KINDS,
-        Table::Replies => REPLY_KINDS,
-        Table::Places => CPUS * shape.queues().len(),
-        Table::Workers => 2 * OF_POOL * usize::from(counts.cpus),
-        Table::Items => counts.items.into(),
-        Table::Callers => counts.callers.into(),
-    }
+    table.counter().keys(progress.summary().shape())
 }
 
 /// The row of a table with this number, from 0.
@@ -43,20 +34,14 @@ fn row(progress: &Progress<'_>, table: Table, at: usize) -> Row
     ensures { result ≡ row_text progress.now.layout (past_of progress.now.entries) table at }
 {
     let summary = progress.summary();
+    let many = summary.count(table.counter(), at);
     match table {
-        Table::Calls => call_row(at, summary.calls(at)),
-        Table::Replies => reply_row(at, summary.replies(at)),
+        Table::Calls => call_row(at, many),
+        Table::Replies => reply_row(at, many),
         Table::Places => place_row(progress, at),
-        Table::Workers => worker_row(
-            progress,
-            worker_at(summary.shape(), at),
-            summary.starts_by(at),
-        ),
-        Table::Items => {
-            let item = item_at(summary.shape(), at);
-            item_row(item, summary.runs(item), summary.cancels(item))
-        }
-        Table::Callers => caller_row(progress, caller_at(summary.shape(), at)),
+        Table::Workers => worker_row(progress, worker_at(summary.shape(), at), many),
+        Table::Items => item_row(at, many, summary.count(Counter::ItemCancels, at)),
+        Table::Callers => caller_row(progress, caller_at(summary.shape(), at), many),
     }
 }
 
@@ -88,12 +73,12 @@ fn reply_row(kind: usize, replies: u64) -> Row
     row
 }
 
-fn item_row(item: ItemId, runs: u64, cancels: u64) -> Row
-    ensures { result ≡ item_row item.0 runs cancels }
+fn item_row(item: usize, runs: u64, cancels: u64) -> Row
+    ensures { result ≡ item_row item runs cancels }
 {
     let mut row = Row::new();
     if runs > 0 || cancels > 0 {
-        row.push_figure("item ", item.0.into());
+        row.push_figure("item ", item as u64);
         row.push_figure(": runs ", runs);
         row.push_figure(", cancels ", cancels);
         row.push("\n");
@@ -101,15 +86,14 @@ fn item_row(item: ItemId, runs: u64, cancels: u64) -> Row
     row
 }
 
-fn caller_row(progress: &Progress<'_>, caller: CallerId) -> Row
+fn caller_row(progress: &Progress<'_>, caller: CallerId, calls: u64) -> Row
     requires { caller.0 < progress.now.layout.callers }
-    ensures { result ≡ caller_row (past_of progress.now.entries) caller.0 }
+    ensures { result ≡ caller_row (past_of progress.now.entries) caller.0 calls }
 {
     let summary = progress.summary();
-    let calls = summary.calls_by(caller);
     let mut row = Row::new();
     if calls > 0 {
-        let tickets = summary.tickets(caller);
+        let tickets = summary.count(Counter::CallerTickets, caller.0.into());
         row.push_figure("caller c", caller.0.into());
         row.push_figure(": calls ", calls);
         row.push_figure(", tickets ", tickets);
@@ -258,8 +242,12 @@ fn push_figures(row: &mut Row, progress: &Progress<'_>, place: usize)
 {
     let summary = progress.summary();
     let wide = width_at(progress, place);
-    push_opened(row, summary.queueings_at(place), summary.starts_at(place));
-    push_bounds(row, summary.cancels_at(place), wide.into());
+    push_opened(
+        row,
+        summary.count(Counter::Queueings, place),
+        summary.count(Counter::Starts, place),
+    );
+    push_bounds(row, summary.count(Counter::Cancels, place), wide.into());
     push_peaks(row, summary.most_open(place), summary.most_active(place));
 }
 
@@ -273,7 +261,7 @@ fn push_waits(row: &mut Row, progress: &Progress<'_>, place: usize)
     let summary = progress.summary();
     let longest = summary.longest_start(place);
     let all = summary.all_starts(place);
-    push_starts(row, summary.starts_at(place), longest, all);
+    push_starts(row, summary.count(Counter::Starts, place), longest, all);
 }
 
 fn place_row(progress: &Progress<'_>, place: usize) -> Row

@@ -1,43 +1,18 @@
 use Rattle.cmwq_model.specs.Prelude.{most_cpus}
 use Rattle.std.proofs.Common.{◌≡◌, ◌*◌, ◌∷◌, length, ap, ◌∙◌, refl, arith}
 use Rattle.std.specs.Prelude.{option_map}
-use Rattle.cmwq_summary.specs.Figures.{by_place_opened, by_place_started, by_place_cancelled, cancelled_from}
-use Rattle.cmwq_summary.specs.Figures.{place_number}
+use Rattle.cmwq_summary.specs.declared.counter.Counter.TheVariants.{Starts}
+use Rattle.cmwq_summary.specs.Figures.{key_of, place_number}
 use Rattle.cmwq_summary.specs.Spent.{each_entry, each_tick}
 use Rattle.cmwq_summary.specs.Waits.{start_wait, wait_at_start}
 use Rattle.cmwq_summary.specs.Activities.{behind}
 use Rattle.cmwq_refinement.specs.Flights.{starting}
-use Rattle.cmwq_summary.proofs.Tallies.{counts_few, told_tally}
 use Rattle.cmwq_summary.proofs.Extents.{longest_goes_on, totals_few, totals_go_on}
 use Rattle.cmwq_summary.proofs.Waits.{openings_go_on, waits_are, waited_few, waited_soon}
 use Rattle.cmwq_summary.proofs.places.Places.add.Goals as goal
 
-pub add-requires : goal.add-requires
-add-requires c = let few = c.requires.2.few in
-    record {
-      few =
-          counts_few by_place_opened (most_cpus * length c.requires.0.queues) c.requires.1 _ (omega arith)
-          c.requires.4.queueings;
-    }
-
 pub add-requires-2 : goal.add-requires-2
-add-requires-2 c = let few = c.requires.2.few in
-    record {
-      few =
-          counts_few by_place_cancelled (most_cpus * length c.requires.0.queues) c.requires.1 _ (omega arith)
-          c.requires.4.cancels;
-    }
-
-pub add-requires-3 : goal.add-requires-3
-add-requires-3 c = let few = c.requires.2.few in
-    record {
-      few =
-          counts_few by_place_started (most_cpus * length c.requires.0.queues) c.requires.1 _ (omega arith)
-          c.requires.4.starts;
-    }
-
-pub add-requires-5 : goal.add-requires-5
-add-requires-5 c = totals_few c.requires.1 _ c.requires.2.few c.requires.4.totals.few
+add-requires-2 c = totals_few c.requires.1 _ c.requires.2.few c.requires.4.totals.few
 
 pub returns : goal.returns
 returns c s past next now are =
@@ -49,24 +24,15 @@ returns c s past next now are =
     let extent = waits_are s past e next.effect.legal c.args.self.now.openings are.openings in
     let few = next.few in
     record {
-      queueings =
-          told_tally by_place_opened many past e _ _ _ (c.place_in.ensures ∙ ap (option_map place_number) told.opened)
-          c.add.ensures are.queueings;
-      starts = told_tally by_place_started many past e _ _ _ started c.add-3.ensures are.starts;
-      cancels =
-          told_tally by_place_cancelled many past e _ _ _
-          (c.place_in-2.ensures
-          ∙ ap (option_map place_number) (c.cancelled.ensures ∙ ap (cancelled_from e.reply) told.ended)) c.add-2.ensures
-          are.cancels;
       openings =
-          rw (c.add-6.ensures, told.opened, now)
+          rw (c.add-3.ensures, told.opened, now)
           (openings_go_on s past e next.effect.legal c.args.self.now.openings are.openings);
       longest =
-          rw (c.add-4.ensures, started, wait)
-          (longest_goes_on by_place_started (start_wait each_entry) (start_wait each_tick) many past e _ _ _ refl extent
+          rw (c.add.ensures, started, wait)
+          (longest_goes_on (key_of Starts) (start_wait each_entry) (start_wait each_tick) many past e _ _ _ refl extent
           are.longest);
-      totals = rw (c.add-5.ensures, started, wait)
-          (totals_go_on by_place_started (start_wait each_entry) (start_wait each_tick) many past e _ _ _ refl extent
+      totals = rw (c.add-2.ensures, started, wait)
+          (totals_go_on (key_of Starts) (start_wait each_entry) (start_wait each_tick) many past e _ _ _ refl extent
           (waited_few c.args.self.now.openings (starting past e) (behind (e ∷ past)) (omega arith))
           (waited_soon c.args.self.now.openings (starting past e) (behind (e ∷ past)) next.soon) are.totals);
     }

@@ -9,15 +9,15 @@ pub activity_in-requires : goal.activity_in-requires
 activity_in-requires c =
     let r = rw (← c.self.view_is) at c.requires in let b = c.self.inside in
     let inside = number_inside c.args.worker b.shape.cpus r.here r.index in let many =
-    c.self.invariant.workers_are.activities.many_are in
+    c.self.invariant.activities_are.many_are in
     omega arith
 
 pub asleep-requires : goal.asleep-requires
 asleep-requires c =
     let r = rw (← c.self.view_is) at c.requires in let b = c.self.inside in let i = c.self.invariant in let past =
     past_of b.entries in
-    let is : IsActivity past c.args.worker (activity_in b.workers.activities.items c.args.worker) =
-    i.workers_are.activities.each c.args.worker r.here r.index in
+    let is : IsActivity past c.args.worker (activity_in b.activities.items c.args.worker) =
+    i.activities_are.each c.args.worker r.here r.index in
     let soon : now past ≤ 4611686018427387904 = let time = i.time_is in let small = i.soon in omega arith in
     let span : c.span.result ≡ behind past = rw (← c.self.view_is) at c.span.ensures.is in
     let entries = ap (λ (x : Span). x.entries) span in let most = c.span.ensures.few in
@@ -27,10 +27,10 @@ asleep-requires c =
 pub returns : goal.returns
 returns c =
     let r = rw (← c.self.view_is) at c.requires in let b = c.self.inside in let past = past_of b.entries in
-    let is : IsActivity past c.args.worker (activity_in b.workers.activities.items c.args.worker) =
-    c.self.invariant.workers_are.activities.each c.args.worker r.here r.index in
+    let is : IsActivity past c.args.worker (activity_in b.activities.items c.args.worker) =
+    c.self.invariant.activities_are.each c.args.worker r.here r.index in
     let span : c.span.result ≡ behind past = rw (← c.self.view_is) at c.span.ensures.is in
-    let made : c.asleep.result ≡ asleep_until (activity_in b.workers.activities.items c.args.worker) c.span.result =
+    let made : c.asleep.result ≡ asleep_until (activity_in b.activities.items c.args.worker) c.span.result =
     c.asleep.ensures ∙ ap (λ a. asleep_until a c.span.result) c.activity_in.ensures in
     let read = asleep_read past c.args.worker _ c.span.result span is in
     rw (← c.self.view_is) record {
