@@ -5,9 +5,8 @@ pub mod Counters
 pub mod Spans
 pub mod Spent
 pub mod Activities
-pub mod Since
-pub mod Extents
 pub mod Waits
+pub mod Openings
 pub mod Peaks
 pub mod TicketWaits
 pub mod Givings

@@ -2,23 +2,23 @@
 ghost use Rattle.std.specs.Prelude.{◌≡◌, ◌<◌, ◌≤◌, ◌*◌, true, [], ◌∷◌, length, IfOk};
 ghost use Rattle.cmwq_model.specs.Prelude.{now, has_time, most_cpus, most_workers};
 ghost use Rattle.cmwq_summary.specs.Figures.{counted, keys_of};
-ghost use Rattle.cmwq_summary.specs.Activities.{behind};
-ghost use Rattle.cmwq_summary.specs.Spent as spans;
-ghost use Rattle.cmwq_summary.specs.Waits as waits;
-ghost use Rattle.cmwq_summary.specs.TicketWaits as ticket_waits;
+ghost use Rattle.cmwq_summary.specs.Openings.{start_waits_at};
+ghost use Rattle.cmwq_summary.specs.Spans.{behind};
+ghost use Rattle.cmwq_summary.specs.Spent.{spent_by};
+ghost use Rattle.cmwq_summary.specs.TicketWaits.{longest_wait};
 ghost use Rattle.cmwq_summary.specs.Peaks as peaks;
 ghost use Rattle.cmwq_state.specs.Effects.{IsEffect};
 ghost use Rattle.cmwq_state.specs.Pwqs.{AreActiveCounts};
 ghost use Rattle.cmwq_summary.specs.Summed.{past_summed, summed_with};
 
-use crate::activity::{Activity, IDLE, act, activity_in};
-use crate::callers::Callers;
+use crate::activity::{Activity, IDLE, Spent, act, activity_in};
 use crate::counter::Counter;
 use crate::counters::Counters;
 use crate::peaks::Peaks;
-use crate::places::Places;
 use crate::span::Span;
-use crate::totals::Total;
+use crate::start_waits::StartWaits;
+use crate::ticket_waits::TicketWaits;
+use crate::waits::Waited;
 use cmwq_model::{CallerId, Entry, NoMemory, Shape, WorkerId};
 use cmwq_state::{Effect, Trail};
 use std::alloc::Global;
@@ -31,9 +31,9 @@ pub struct Summary {
     entries: Trail<Entry>,
     time: u64,
     counters: Counters,
-    callers: Callers,
+    ticket_waits: TicketWaits,
+    start_waits: StartWaits,
     activities: Vec<Activity>,
-    places: Places,
     peaks: Peaks,
 }
 
@@ -46,8 +46,8 @@ impl Model for Summary {
 
     ghost view = { λ s. record { layout = s.shape; entries = s.entries } };
 
-    ghost invariant = { λ s. IsSummary s.shape (past_of s.entries) s.time s.counters s.callers s.activities.items
-        s.places s.peaks };
+    ghost invariant = { λ s. IsSummary s.shape (past_of s.entries) s.time s.counters s.ticket_waits
+        s.start_waits s.activities.items s.peaks };
 }
 
 impl Summary {
@@ -55,21 +55,20 @@ impl Summary {
     pub fn new(alloc: Global, shape: Shape) -> Result<Summary, NoMemory>
         ensures { IfOk result (λ summary. summary ≡ record { layout = shape; entries = [] }) }
     {
-        let counts = shape.counts();
         let counters = Counters::new(alloc, &shape)?;
-        let callers = Callers::new(alloc, counts.callers)?;
+        let ticket_waits = TicketWaits::new(alloc, &shape)?;
+        let start_waits = StartWaits::new(alloc, &shape)?;
         let activities = vec![in alloc; IDLE; Counter::WorkerRuns.keys(&shape)]?;
-        let places = Places::new(alloc, counts.items, shape.queues().len())?;
-        let peaks = Peaks::new(alloc, shape.queues().len())?;
+        let peaks = Peaks::new(alloc, Counter::Queueings.keys(&shape))?;
         let entries = Trail::new();
         Ok(Summary {
             shape,
             entries,
             time: 0,
             counters,
-            callers,
+            ticket_waits,
+            start_waits,
             activities,
-            places,
             peaks,
         })
     }
@@ -90,9 +89,9 @@ impl Summary {
             ticks: self.time,
         };
         self.counters.add(effect);
-        self.callers.add(effect, now);
+        self.ticket_waits.add(effect, now);
+        self.start_waits.add(effect, now);
         act(&mut self.activities, &effect.entry, now);
-        self.places.add(effect, now);
         self.peaks.add(effect, active_counts);
         self.entries.push(&effect.entry);
     }
@@ -129,32 +128,20 @@ impl Summary {
     /// How long the caller's longest wait for a ticket was. The wait for one that is unended goes on until now.
     pub fn longest_wait(&self, caller: CallerId) -> Span
         requires { caller.0 < self.now.layout.callers }
-        ensures entries { result.entries ≡ ticket_waits.longest_wait_entries (past_summed self.now) caller.0 }
-        ensures ticks { result.ticks ≡ ticket_waits.longest_wait_ticks (past_summed self.now) caller.0 }
+        ensures { result ≡ longest_wait (past_summed self.now) caller.0 }
     {
         let caller = usize::from(caller.0);
-        let waits = self.callers.givings.waits(caller, self.span());
-        self.callers.longest.of(caller).longer(waits)
+        let goes_on = self.ticket_waits.givings.waits(caller, self.span());
+        self.ticket_waits.waits.at(caller).longest.longer(goes_on)
     }
 
-    /// How long the worker's runs were awake.
-    pub fn awake(&self, worker: WorkerId) -> Span
+    /// How long the worker's runs were awake, and how long they slept.
+    pub fn spent(&self, worker: WorkerId) -> Spent
         requires here { worker.pool.cpu.0 < self.now.layout.cpus }
         requires index { worker.index < most_workers }
-        ensures entries { result.entries ≡ spans.awake_entries (past_summed self.now) worker }
-        ensures ticks { result.ticks ≡ spans.awake_ticks (past_summed self.now) worker }
+        ensures { result ≡ spent_by (past_summed self.now) worker }
     {
-        activity_in(&self.activities, worker).awake(self.span())
-    }
-
-    /// How long they slept.
-    pub fn asleep(&self, worker: WorkerId) -> Span
-        requires here { worker.pool.cpu.0 < self.now.layout.cpus }
-        requires index { worker.index < most_workers }
-        ensures entries { result.entries ≡ spans.asleep_entries (past_summed self.now) worker }
-        ensures ticks { result.ticks ≡ spans.asleep_ticks (past_summed self.now) worker }
-    {
-        activity_in(&self.activities, worker).asleep(self.span())
+        activity_in(&self.activities, worker).until(self.span())
     }
 
     /// How many entries and ticks there are.
@@ -184,21 +171,11 @@ impl Summary {
         self.peaks.most_active.count(place)
     }
 
-    /// How long the longest of the starts there was waited for.
-    pub fn longest_start(&self, place: usize) -> Span
+    /// How long the starts there were waited for.
+    pub fn start_waits(&self, place: usize) -> Waited
         requires { place < most_cpus * length self.now.layout.queues }
-        ensures entries { result.entries ≡ waits.longest_start_entries (past_summed self.now) place }
-        ensures ticks { result.ticks ≡ waits.longest_start_ticks (past_summed self.now) place }
+        ensures { result ≡ start_waits_at (past_summed self.now) place }
     {
-        self.places.longest.of(place)
-    }
-
-    /// How long all of them were waited for together.
-    pub fn all_starts(&self, place: usize) -> Total
-        requires { place < most_cpus * length self.now.layout.queues }
-        ensures entries { result.entries ≡ waits.all_start_entries (past_summed self.now) place }
-        ensures ticks { result.ticks ≡ waits.all_start_ticks (past_summed self.now) place }
-    {
-        self.places.totals.of(place)
+        self.start_waits.waits.at(place)
     }
 }

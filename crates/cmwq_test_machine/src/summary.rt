@@ -5,7 +5,7 @@ ghost use Rattle.std.specs.Prelude.{◌≡◌};
 use crate::fixture::{CALLER, FIRST, FLUSH, SMALL, WORKER, queue, shape};
 use cmwq_core::{Execution, Judge};
 use cmwq_model::{Call, CallerId, ItemId, QueueId, Who};
-use cmwq_summary::{CALL_KINDS, Counter, REPLY_KINDS, Span, Summary, Total};
+use cmwq_summary::{CALL_KINDS, Counter, REPLY_KINDS, Span, Summary};
 use std::process::Abort;
 
 /// An execution, which its judge follows, and the summary of its entries.
@@ -83,7 +83,8 @@ fn count_calls(rt: &impl Abort, summary: &Summary) {
         assert_eq!(rt; summary.count(counter, key), many);
     }
     assert!(rt; summary.longest_wait(CallerId(0)) == entries(4));
-    assert!(rt; summary.awake(FIRST) == entries(3) && summary.asleep(FIRST) == entries(1));
+    let spent = summary.spent(FIRST);
+    assert!(rt; spent.awake == entries(3) && spent.asleep == entries(1));
 }
 
 /// What became of the queueings on the one queue.
@@ -91,16 +92,9 @@ fn count_queueings(rt: &impl Abort, summary: &Summary) {
     let _counts = summary.shape().counts();
     assert!(rt; !summary.shape().queues().is_empty());
     assert_eq!(rt; (summary.most_open(0), summary.most_active(0)), (1, 1));
-    let longest = Span {
-        entries: 2,
-        ticks: 3,
-    };
-    assert!(rt; summary.longest_start(0) == longest);
-    let all = Total {
-        entries: 2,
-        ticks: 3,
-    };
-    assert!(rt; summary.all_starts(0) == all);
+    let waited = summary.start_waits(0);
+    assert_eq!(rt; (waited.longest.entries, waited.longest.ticks), (2, 3));
+    assert_eq!(rt; (waited.all.entries, waited.all.ticks), (2, 3));
 }
 
 /// An item is queued, runs, sleeps and finishes while a caller flushes, and another is queued and taken back.

@@ -9,10 +9,13 @@ use Rattle.cmwq_model.specs.Prelude.{Layout, now, width}
 use Rattle.cmwq_summary.specs.declared.counter.Counter.{Counter}
 use Rattle.cmwq_summary.specs.declared.counter.Counter.TheVariants as counter
 use Rattle.cmwq_summary.specs.Figures.{counted, keys_of}
-use Rattle.cmwq_summary.specs.Spent.{awake_entries, awake_ticks, asleep_entries, asleep_ticks}
-use Rattle.cmwq_summary.specs.Waits.{longest_start_entries, longest_start_ticks, all_start_entries, all_start_ticks}
+use Rattle.cmwq_summary.specs.declared.span.Span.{Span}
+use Rattle.cmwq_summary.specs.declared.waits.Total.{Total}
+use Rattle.cmwq_summary.specs.declared.waits.Waited.{Waited}
+use Rattle.cmwq_summary.specs.Openings.{start_waits_at}
+use Rattle.cmwq_summary.specs.Spent.{spent_by}
 use Rattle.cmwq_summary.specs.Peaks.{most_open_at, most_active_at}
-use Rattle.cmwq_summary.specs.TicketWaits.{longest_wait_entries, longest_wait_ticks}
+use Rattle.cmwq_summary.specs.TicketWaits.{longest_wait}
 use Rattle.cmwq_views.specs.Names.{call_name, reply_name}
 use Rattle.cmwq_views.specs.declared.table.Table.{Table}
 use Rattle.cmwq_views.specs.declared.table.Table.TheVariants as table
@@ -55,29 +58,30 @@ abbrev pub worker_name : WorkerId → List ℕ
 worker_name w = named_number (codes "w") w.pool.cpu.0 ++ named_number (letter_of_pool w.pool.high) w.index
 
 -- how long something went on
-abbrev pub span_text : List ℕ → ℕ → ℕ → List ℕ
-span_text name entries ticks = named_number name entries ++ named_number (codes " entries and ") ticks ++ codes " ticks"
+abbrev pub span_text : List ℕ → Span → List ℕ
+span_text name x = named_number name x.entries ++ named_number (codes " entries and ") x.ticks ++ codes " ticks"
 
 abbrev pub worker_row : List Entry → WorkerId → ℕ → List ℕ
 worker_row past w runs =
     if runs == 0 then []
     else codes "worker " ++ worker_name w ++ named_number (codes ": runs ") runs
-    ++ span_text (codes ", awake ") (awake_entries past w) (awake_ticks past w)
-    ++ span_text (codes ", asleep ") (asleep_entries past w) (asleep_ticks past w) ++ line_end
+    ++ span_text (codes ", awake ") (spent_by past w).awake
+    ++ span_text (codes ", asleep ") (spent_by past w).asleep ++ line_end
 
 abbrev pub place_name : ℕ → List ℕ
 place_name p = named_number (codes "queue ") (p / most_cpus) ++ named_number (codes " on CPU ") (p % most_cpus)
 
 -- how long so many things waited, or a dash where there are none
-abbrev pub waited_text : List ℕ → ℕ → ℕ → ℕ → List ℕ
-waited_text name many entries ticks = if many == 0 then name ++ codes "-" else span_text name entries ticks
+abbrev pub waited_text : List ℕ → ℕ → Span → List ℕ
+waited_text name many x = if many == 0 then name ++ codes "-" else span_text name x
 
-abbrev pub longest_text : ℕ → ℕ → ℕ → List ℕ
-longest_text many entries ticks = waited_text (codes ", longest wait ") many entries ticks
+abbrev pub longest_text : ℕ → Span → List ℕ
+longest_text many x = waited_text (codes ", longest wait ") many x
 
 -- the mean is rounded down
-abbrev pub mean_text : ℕ → ℕ → ℕ → List ℕ
-mean_text many entries ticks = waited_text (codes ", mean wait ") many (entries / many) (ticks / many)
+abbrev pub mean_text : ℕ → Total → List ℕ
+mean_text many all = waited_text (codes ", mean wait ") many
+    (record { entries = all.entries / many; ticks = all.ticks / many })
 
 abbrev pub caller_row : List Entry → ℕ → ℕ → List ℕ
 caller_row past c calls =
@@ -88,9 +92,8 @@ caller_row past c calls =
     ++ line_end
 
 -- how long so many starts waited: the longest wait, and the mean of all of them together
-abbrev pub starts_text : ℕ → ℕ → ℕ → ℕ → ℕ → List ℕ
-starts_text many entries ticks all_entries all_ticks =
-    longest_text many entries ticks ++ mean_text many all_entries all_ticks
+abbrev pub starts_text : ℕ → Waited → List ℕ
+starts_text many w = longest_text many w.longest ++ mean_text many w.all
 
 -- how many queueings and starts there are, and how many cancelled ones, and the width
 abbrev pub opened_text : ℕ → ℕ → List ℕ
@@ -111,9 +114,7 @@ place_figures s past p =
     ++ peaks_text (most_open_at p past) (most_active_at s p past))
 
 abbrev pub place_waits : List Entry → ℕ → List ℕ
-place_waits past p =
-    starts_text (counted counter.Starts past p) (longest_start_entries past p) (longest_start_ticks past p)
-    (all_start_entries past p) (all_start_ticks past p)
+place_waits past p = starts_text (counted counter.Starts past p) (start_waits_at past p)
 
 abbrev pub place_row : Layout → List Entry → ℕ → List ℕ
 place_row s past p = if counted counter.Queueings past p == 0 then [] else place_name p ++ place_figures s past p

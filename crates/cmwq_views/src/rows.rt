@@ -16,7 +16,7 @@ use crate::table::Table;
 use crate::write::Rows;
 use cmwq_base::{CallerId, QueueId, WorkerId};
 use cmwq_model::MOST_CPUS;
-use cmwq_summary::{Counter, Span, Total};
+use cmwq_summary::{Counter, Span, Total, Waited};
 
 /// How many CPUs a shape may have.
 const CPUS: usize = MOST_CPUS as usize;
@@ -117,7 +117,7 @@ pub(crate) fn push_worker(row: &mut Row, worker: WorkerId)
 /// Spells how long something went on.
 fn push_span(row: &mut Row, name: &str, span: Span)
     requires { length row.old + (length name.now + 60) ≤ 512 }
-    ensures exact { row.new ≡ row.old ++ span_text name.now span.entries span.ticks }
+    ensures exact { row.new ≡ row.old ++ span_text name.now span }
     ensures short { length row.new ≤ length row.old + (length name.now + 60) }
 {
     row.push_figure(name, span.entries);
@@ -136,8 +136,9 @@ fn worker_row(progress: &Progress<'_>, worker: WorkerId, runs: u64) -> Row
         row.push("worker ");
         push_worker(&mut row, worker);
         row.push_figure(": runs ", runs);
-        push_span(&mut row, ", awake ", summary.awake(worker));
-        push_span(&mut row, ", asleep ", summary.asleep(worker));
+        let spent = summary.spent(worker);
+        push_span(&mut row, ", awake ", spent.awake);
+        push_span(&mut row, ", asleep ", spent.asleep);
         row.push("\n");
     }
     row
@@ -166,7 +167,7 @@ fn width_at(progress: &Progress<'_>, place: usize) -> u32
 /// Spells the longest wait of so many.
 fn push_longest(row: &mut Row, many: u64, longest: Span)
     requires { length row.old + 75 ≤ 512 }
-    ensures exact { row.new ≡ row.old ++ longest_text many longest.entries longest.ticks }
+    ensures exact { row.new ≡ row.old ++ longest_text many longest }
     ensures short { length row.new ≤ length row.old + 75 }
 {
     if many == 0 {
@@ -180,7 +181,7 @@ fn push_longest(row: &mut Row, many: u64, longest: Span)
 /// Spells the mean wait of so many, which waited so long together.
 fn push_mean(row: &mut Row, many: u64, all: Total)
     requires { length row.old + 111 ≤ 512 }
-    ensures exact { row.new ≡ row.old ++ mean_text many all.entries all.ticks }
+    ensures exact { row.new ≡ row.old ++ mean_text many all }
     ensures short { length row.new ≤ length row.old + 111 }
 {
     if many == 0 {
@@ -194,13 +195,13 @@ fn push_mean(row: &mut Row, many: u64, all: Total)
 }
 
 /// Spells how long so many starts waited.
-fn push_starts(row: &mut Row, many: u64, longest: Span, all: Total)
+fn push_starts(row: &mut Row, many: u64, waited: Waited)
     requires { length row.old + 186 ≤ 512 }
-    ensures exact { row.new ≡ row.old ++ starts_text many longest.entries longest.ticks all.entries all.ticks }
+    ensures exact { row.new ≡ row.old ++ starts_text many waited }
     ensures short { length row.new ≤ length row.old + 186 }
 {
-    push_longest(row, many, longest);
-    push_mean(row, many, all);
+    push_longest(row, many, waited.longest);
+    push_mean(row, many, waited.all);
 }
 
 /// Spells how many queueings and starts there are.
@@ -259,9 +260,11 @@ fn push_waits(row: &mut Row, progress: &Progress<'_>, place: usize)
     ensures short { length row.new ≤ length row.old + 186 }
 {
     let summary = progress.summary();
-    let longest = summary.longest_start(place);
-    let all = summary.all_starts(place);
-    push_starts(row, summary.count(Counter::Starts, place), longest, all);
+    push_starts(
+        row,
+        summary.count(Counter::Starts, place),
+        summary.start_waits(place),
+    );
 }
 
 fn place_row(progress: &Progress<'_>, place: usize) -> Row

@@ -22,15 +22,28 @@ add-requires-2 c =
     let r = rw (← c.self.view_is) at c.requires in let b = c.self.inside in let i = c.self.invariant in
     let past = past_of b.entries in let t = c.args.effect.now in
     let ticks : c.from.result ≡ ticks_told t.entry.call = c.from.ensures ∙ c.ticks.ensures.ticks in
-    let next : IsNext b.shape past t =
-    next_is b.shape b.entries t b.time c.counts-counts.ensures.limits r.effect i.time_is i.soon r.time r.few in (
-      b.shape,
-      past,
-      next,
-      now_behind b.entries t.entry b.time c.len.result c.from.result c.len.ensures.len i.time_is
-          ticks,
-      i.callers_are,
-    )
+    record {
+      layout = b.shape;
+      past = past;
+      next =
+          next_is b.shape b.entries t b.time c.counts-counts.ensures.limits r.effect i.time_is i.soon r.time r.few;
+      now_is = now_behind b.entries t.entry b.time c.len.result c.from.result c.len.ensures.len i.time_is ticks;
+      are = i.ticket_waits_are;
+    }
+
+pub add-requires-3 : goal.add-requires-3
+add-requires-3 c =
+    let r = rw (← c.self.view_is) at c.requires in let b = c.self.inside in let i = c.self.invariant in
+    let past = past_of b.entries in let t = c.args.effect.now in
+    let ticks : c.from.result ≡ ticks_told t.entry.call = c.from.ensures ∙ c.ticks.ensures.ticks in
+    record {
+      layout = b.shape;
+      past = past;
+      next =
+          next_is b.shape b.entries t b.time c.counts-counts.ensures.limits r.effect i.time_is i.soon r.time r.few;
+      now_is = now_behind b.entries t.entry b.time c.len.result c.from.result c.len.ensures.len i.time_is ticks;
+      are = i.start_waits_are;
+    }
 
 pub act-requires : goal.act-requires
 act-requires c =
@@ -41,21 +54,6 @@ act-requires c =
     next_is b.shape b.entries t b.time c.counts-counts.ensures.limits r.effect i.time_is i.soon r.time r.few in
     rw (now_behind b.entries t.entry b.time c.len.result c.from.result c.len.ensures.len i.time_is ticks)
     (may_act b.shape past t _ next i.activities_are)
-
-pub add-requires-3 : goal.add-requires-3
-add-requires-3 c =
-    let r = rw (← c.self.view_is) at c.requires in let b = c.self.inside in let i = c.self.invariant in
-    let past = past_of b.entries in let t = c.args.effect.now in
-    let ticks : c.from.result ≡ ticks_told t.entry.call = c.from.ensures ∙ c.ticks.ensures.ticks in
-    let next : IsNext b.shape past t =
-    next_is b.shape b.entries t b.time c.counts-counts.ensures.limits r.effect i.time_is i.soon r.time r.few in (
-      b.shape,
-      past,
-      next,
-      now_behind b.entries t.entry b.time c.len.result c.from.result c.len.ensures.len i.time_is
-          ticks,
-      i.places_are,
-    )
 
 pub add-requires-4 : goal.add-requires-4
 add-requires-4 c =
@@ -77,8 +75,8 @@ invariant_of-self c =
       time_is = time_more past e b.time c.from.result i.time_is ticks;
       soon = rw ticks (time_within past e.call b.time i.time_is i.soon r.time);
       counters_are = counted_on b.shape past t _ _ r.effect c.add.ensures i.counters_are;
-      callers_are = c.add-2.ensures b.shape past next to i.callers_are;
+      ticket_waits_are = c.add-2.ensures b.shape past next to i.ticket_waits_are;
+      start_waits_are = c.add-3.ensures b.shape past next to i.start_waits_are;
       activities_are = rw (c.act.ensures, to) (acted_are b.shape past t _ next i.activities_are);
-      places_are = c.add-3.ensures b.shape past next to i.places_are;
       peaks_are = c.add-4.ensures b.shape past next r.active i.peaks_are;
     }

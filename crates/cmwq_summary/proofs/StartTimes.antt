@@ -1,10 +1,10 @@
 -- How long the queueings waited that are started, and when those were opened that have not started.
-use Rattle.std.proofs.Common.{◌≡◌, ℕ, ◌<◌, ◌≤◌, Bool, true, false, List, [], ◌∷◌, length, get_or, set, eqb, Option}
+use Rattle.std.proofs.Common.{◌≡◌, ℕ, ◌<◌, Bool, true, false, List, [], ◌∷◌, length, get_or, set, eqb, Option}
 use Rattle.std.proofs.Common.{Some, None, refl, sym, ap, ◌∙◌, subst, arith, replicate, length-set, get_or-set_other}
 use Rattle.std.proofs.Common.{get_or-set_same, filter, option_to_list}
 use Rattle.std.proofs.lemmas.List.{length-replicate}
 use Rattle.std.proofs.lemmas.Bool.{eqb-true, eqb-false, eq-eqb}
-use Rattle.std.specs.Prelude.{if◌then◌else◌, ◌&&◌, not, option_map}
+use Rattle.std.specs.Prelude.{if◌then◌else◌, ◌&&◌, not}
 use Rattle.std.specs.Option.{option_or, option_map_or}
 use Rattle.cmwq_model.specs.declared.entry.Entry.{Entry}
 use Rattle.cmwq_model.specs.declared.record.Queueing.{Queueing}
@@ -25,14 +25,9 @@ use Rattle.cmwq_refinement.proofs.FlightRefine.{row_of}
 use Rattle.cmwq_refinement.proofs.FlightReads.{starts_are_unstarted}
 use Rattle.cmwq_summary.specs.declared.span.Span.{Span}
 use Rattle.cmwq_summary.specs.declared.span.TheConstants.{NO_TIME}
-use Rattle.cmwq_summary.specs.Activities.{behind}
-use Rattle.cmwq_summary.specs.Spent.{each_entry, each_tick}
-use Rattle.cmwq_summary.specs.Since.{added_since, IsMoment}
-use Rattle.cmwq_summary.specs.Extents.{span_at}
-use Rattle.cmwq_summary.specs.Figures.{place_number}
-use Rattle.cmwq_summary.specs.Waits.{start_wait, AreOpeningMoments, wait_at_start, with_opening}
-use Rattle.cmwq_summary.proofs.Since.{moment_stays, moment_now, stretch_entries, stretch_ticks}
-use Rattle.cmwq_summary.proofs.Extents.{IsExtent}
+use Rattle.cmwq_summary.specs.Spans.{behind, since, stretch}
+use Rattle.cmwq_summary.specs.Openings.{start_wait, AreOpeningMoments, IsMoment, span_at, wait_at_start, with_opening}
+use Rattle.cmwq_summary.proofs.Moments.{moment_now, moment_stays}
 
 -- ---- when they were opened
 
@@ -46,6 +41,10 @@ none_opened items =
     }
 
 module _ (s : Layout) (past : List Entry) (e : Entry) (legal : IsLegal s (e ∷ past)) where
+  still_moment : {n : ℕ} {m : Span} → IsMoment past n m → IsMoment (e ∷ past) n m
+  still_moment {n} {m} moment = let known = moment.known in
+      record { known = omega arith; is = moment.is ∙ sym (moment_stays past e n known) }
+
   -- what is opened is its item's queueing that hasn't started
   opened_waits : (y : Queueing) → opening past e ≡ Some y → unstarted_queueing (e ∷ past) y.item.0 ≡ Some y
   opened_waits y is =
@@ -88,8 +87,7 @@ module _ (s : Layout) (past : List Entry) (e : Entry) (legal : IsLegal s (e ∷ 
       by : (o : Option Queueing) → opening past e ≡ o → AreOpeningMoments s.items (e ∷ past) (with_opening moments o to)
       by None none = record {
         many_are = are.many_are;
-        each = λ i x h is. moment_stays past e x.number (span_at moments i)
-            (are.each i x h (was_there i x (ap (of_item i) none) is));
+        each = λ i x h is. still_moment (are.each i x h (was_there i x (ap (of_item i) none) is));
       }
       by (Some y) opened = record {
         many_are = length-set moments y.item.0 to ∙ are.many_are;
@@ -109,58 +107,27 @@ module _ (s : Layout) (past : List Entry) (e : Entry) (legal : IsLegal s (e ∷ 
               subst (λ n. get_or (set moments y.item.0 to) n NO_TIME ≡ to) here
               (get_or-set_same moments y.item.0 to NO_TIME inside) in
               subst (IsMoment (e ∷ past) x.number) (sym at)
-              (subst (λ n. IsMoment (e ∷ past) n to) number (moment_now past e))
+              (subst (λ n. IsMoment (e ∷ past) n to) number
+              (record { known = omega arith; is = sym (moment_now past e) }))
           one i x h is false differs =
               let other : of_item i (opening past e) ≡ None =
               ap (of_item i) opened ∙ ap (λ (b : Bool). if b then Some y else None) differs in
               let at : get_or (set moments y.item.0 to) i NO_TIME ≡ span_at moments i =
               get_or-set_other moments y.item.0 i to NO_TIME (λ same. eqb-false y.item.0 i differs (sym same)) in
               subst (IsMoment (e ∷ past) x.number) (sym at)
-              (moment_stays past e x.number (span_at moments i) (are.each i x h (was_there i x other is)))
+              (still_moment (are.each i x h (was_there i x other is)))
 
   -- ---- how long what is started waited
 
   pub waits_are : (moments : List Span) → AreOpeningMoments s.items past moments
-      → IsExtent (start_wait each_entry) (start_wait each_tick) past e (option_map place_number (starting past e))
-      (wait_at_start moments (starting past e) (behind (e ∷ past)))
+      → wait_at_start moments (starting past e) (behind (e ∷ past)) ≡ start_wait past e
   waits_are moments are = by (starting past e) refl
     where
-      to : Span
-      to = behind (e ∷ past)
-
-      since : (Entry → ℕ) → Option Queueing → ℕ
-      since amount o = option_map_or (λ (x : Queueing). added_since amount (e ∷ past) x.number) o 0
-
-      by : (o : Option Queueing) → starting past e ≡ o
-          → IsExtent (start_wait each_entry) (start_wait each_tick) past e (option_map place_number o)
-          (wait_at_start moments o to)
-      by None none =
-          record {
-            entries_are = λ k h. absurd (let never : None ≡ Some k = h in cc);
-            ticks_are =
-                λ k h. absurd (let never : None ≡ Some k = h in cc);
-          }
-      by (Some x) started = record {
-        entries_are = λ k h. stretch_entries (e ∷ past) x.number (span_at moments x.item.0) moment
-            ∙ ap (since each_entry) (sym started);
-        ticks_are = λ k h. stretch_ticks (e ∷ past) x.number (span_at moments x.item.0) moment
-            ∙ ap (since each_tick) (sym started);
-      }
-        where
-          moment : IsMoment (e ∷ past) x.number (span_at moments x.item.0)
-          moment =
-              let start = starts_are_unstarted s past e x legal started in
-              let waits : unstarted_queueing past x.item.0 ≡ Some x =
-              sym (ap (λ (f : Flight). f.unstarted) (row_of s past x.item.0 start.0)) ∙ start.1 in
-              moment_stays past e x.number (span_at moments x.item.0) (are.each x.item.0 x start.0 waits)
-
--- a wait is small where the moment is
-pub waited_few : (moments : List Span) (o : Option Queueing) (to : Span) → to.entries ≤ 4611686018427387904
-    → (wait_at_start moments o to).entries ≤ 4611686018427387904
-waited_few moments None to few = omega arith
-waited_few moments (Some x) to few = omega arith
-
-pub waited_soon : (moments : List Span) (o : Option Queueing) (to : Span) → to.ticks ≤ 4611686018427387904
-    → (wait_at_start moments o to).ticks ≤ 4611686018427387904
-waited_soon moments None to soon = omega arith
-waited_soon moments (Some x) to soon = omega arith
+      by : (o : Option Queueing) → starting past e ≡ o → wait_at_start moments o (behind (e ∷ past))
+          ≡ option_map_or (λ (x : Queueing). since (e ∷ past) x.number) o NO_TIME
+      by None none = refl
+      by (Some x) started =
+          let start = starts_are_unstarted s past e x legal started in
+          let waits : unstarted_queueing past x.item.0 ≡ Some x =
+          sym (ap (λ (f : Flight). f.unstarted) (row_of s past x.item.0 start.0)) ∙ start.1 in
+          ap (λ m. stretch m (behind (e ∷ past))) (still_moment (are.each x.item.0 x start.0 waits)).is
