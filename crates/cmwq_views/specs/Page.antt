@@ -88,36 +88,29 @@ caller_row past c calls =
     if calls == 0 then []
     else named_number (codes "caller c") c ++ named_number (codes ": calls ") calls
     ++ named_number (codes ", tickets ") (counted counter.CallerTickets past c)
-    ++ longest_text (counted counter.CallerTickets past c) (longest_wait_entries past c) (longest_wait_ticks past c)
-    ++ line_end
+    ++ longest_text (counted counter.CallerTickets past c) (longest_wait past c) ++ line_end
 
 -- how long so many starts waited: the longest wait, and the mean of all of them together
 abbrev pub starts_text : ℕ → Waited → List ℕ
 starts_text many w = longest_text many w.longest ++ mean_text many w.all
 
--- how many queueings and starts there are, and how many cancelled ones, and the width
-abbrev pub opened_text : ℕ → ℕ → List ℕ
-opened_text queueings starts = named_number (codes ": queueings ") queueings ++ named_number (codes ", starts ") starts
+-- numbers, each after its heading
+abbrev pub numbers_text : List (List ℕ × ℕ) → List ℕ
+numbers_text numbers = flat_map (λ (n : List ℕ × ℕ). named_number n.0 n.1) numbers
 
-abbrev pub bounds_text : ℕ → ℕ → List ℕ
-bounds_text cancels wide = named_number (codes ", cancelled ") cancels ++ named_number (codes ", width ") wide
-
--- how many were open and active at once, at most
-abbrev pub peaks_text : ℕ → ℕ → List ℕ
-peaks_text most_open most_active = named_number (codes ", most open ") most_open
-    ++ named_number (codes ", most active ") most_active
-
-abbrev pub place_figures : Layout → List Entry → ℕ → List ℕ
-place_figures s past p =
-    opened_text (counted counter.Queueings past p) (counted counter.Starts past p)
-    ++ (bounds_text (counted counter.Cancels past p) (width s past (p / most_cpus))
-    ++ peaks_text (most_open_at p past) (most_active_at s p past))
+-- how many queueings, starts and cancelled queueings there are of a queue on a CPU, its width, and how many were open and
+-- active at once, at most
+abbrev pub place_numbers : Layout → List Entry → ℕ → List (List ℕ × ℕ)
+place_numbers s past p =
+    (codes ": queueings ", counted counter.Queueings past p) ∷ (codes ", starts ", counted counter.Starts past p)
+    ∷ (codes ", cancelled ", counted counter.Cancels past p) ∷ (codes ", width ", width s past (p / most_cpus))
+    ∷ (codes ", most open ", most_open_at p past) ∷ (codes ", most active ", most_active_at s p past) ∷ []
 
 abbrev pub place_waits : List Entry → ℕ → List ℕ
 place_waits past p = starts_text (counted counter.Starts past p) (start_waits_at past p)
 
 abbrev pub place_row : Layout → List Entry → ℕ → List ℕ
-place_row s past p = if counted counter.Queueings past p == 0 then [] else place_name p ++ place_figures s past p
+place_row s past p = if counted counter.Queueings past p == 0 then [] else place_name p ++ numbers_text (place_numbers s past p)
     ++ place_waits past p ++ line_end
 
 abbrev pub row_text : Layout → List Entry → Table → ℕ → List ℕ

@@ -1,9 +1,10 @@
 //! How the rows of each table are spelled.
-ghost use Rattle.std.specs.Prelude.{◌≡◌, ◌+◌, ◌*◌, ◌/◌, ◌<◌, ◌≤◌, ◌++◌, length};
+ghost use Rattle.std.specs.Prelude.{◌≡◌, ◌+◌, ◌*◌, ◌/◌, ◌<◌, ◌≤◌, ◌++◌, true, flat_map, length, nat_le};
+ghost use Rattle.std.specs.List.{list_all};
 ghost use Rattle.cmwq_model.specs.Prelude.{past_of, width, most_cpus, most_workers};
 ghost use Rattle.cmwq_summary.specs.Kinds.{call_kinds, reply_kinds};
 ghost use Rattle.cmwq_views.specs.Page.{call_row, reply_row, item_row, caller_row, longest_text, mean_text};
-ghost use Rattle.cmwq_views.specs.Page.{starts_text, opened_text, bounds_text, peaks_text, place_figures, place_waits};
+ghost use Rattle.cmwq_views.specs.Page.{starts_text, named_number, numbers_text, place_numbers, place_waits};
 ghost use Rattle.cmwq_views.specs.Page.{span_text, worker_of_row, worker_name, worker_row, place_name, row_text};
 ghost use Rattle.cmwq_views.specs.Page.{row_count};
 ghost use Rattle.cmwq_views.specs.declared.table.Table.TheVariants as TheTable;
@@ -204,52 +205,38 @@ fn push_starts(row: &mut Row, many: u64, waited: Waited)
     push_mean(row, many, waited.all);
 }
 
-/// Spells how many queueings and starts there are.
-fn push_opened(row: &mut Row, queueings: u64, starts: u64)
-    requires { length row.old + 70 ≤ 512 }
-    ensures exact { row.new ≡ row.old ++ opened_text queueings starts }
-    ensures short { length row.new ≤ length row.old + 70 }
+/// Spells numbers, each after its heading.
+fn push_numbers(row: &mut Row, numbers: &[(&str, u64)])
+    requires short { list_all (λ n. nat_le (length n.0.now) 20) numbers.now ≡ true }
+    requires room { length row.old + 40 * length numbers.now ≤ 512 }
+    ensures exact { row.new ≡ row.old ++ flat_map (λ n. named_number n.0.now n.1) numbers.now }
+    ensures short { length row.new ≤ length row.old + 40 * length numbers.now }
 {
-    row.push_figure(": queueings ", queueings);
-    row.push_figure(", starts ", starts);
+    for (heading, number) in numbers {
+        row.push_figure(heading, *number);
+    }
 }
 
-/// Spells how many cancelled ones there are, and the width.
-fn push_bounds(row: &mut Row, cancels: u64, wide: u64)
-    requires { length row.old + 70 ≤ 512 }
-    ensures exact { row.new ≡ row.old ++ bounds_text cancels wide }
-    ensures short { length row.new ≤ length row.old + 70 }
-{
-    row.push_figure(", cancelled ", cancels);
-    row.push_figure(", width ", wide);
-}
-
-/// Spells how many were open and active at once, at most.
-fn push_peaks(row: &mut Row, most_open: u64, most_active: u64)
-    requires { length row.old + 70 ≤ 512 }
-    ensures exact { row.new ≡ row.old ++ peaks_text most_open most_active }
-    ensures short { length row.new ≤ length row.old + 70 }
-{
-    row.push_figure(", most open ", most_open);
-    row.push_figure(", most active ", most_active);
-}
-
-/// Spells all that of a queue and CPU.
-fn push_figures(row: &mut Row, progress: &Progress<'_>, place: usize)
+/// Spells the numbers of a queue and CPU.
+fn push_place_numbers(row: &mut Row, progress: &Progress<'_>, place: usize)
     requires place { place < most_cpus * length progress.now.layout.queues }
-    requires room { length row.old + 210 ≤ 512 }
-    ensures exact { row.new ≡ row.old ++ place_figures progress.now.layout (past_of progress.now.entries) place }
-    ensures short { length row.new ≤ length row.old + 210 }
+    requires room { length row.old + 240 ≤ 512 }
+    ensures exact { row.new ≡ row.old
+        ++ numbers_text (place_numbers progress.now.layout (past_of progress.now.entries) place) }
+    ensures short { length row.new ≤ length row.old + 240 }
 {
     let summary = progress.summary();
-    let wide = width_at(progress, place);
-    push_opened(
+    push_numbers(
         row,
-        summary.count(Counter::Queueings, place),
-        summary.count(Counter::Starts, place),
+        &[
+            (": queueings ", summary.count(Counter::Queueings, place)),
+            (", starts ", summary.count(Counter::Starts, place)),
+            (", cancelled ", summary.count(Counter::Cancels, place)),
+            (", width ", width_at(progress, place).into()),
+            (", most open ", summary.most_open(place)),
+            (", most active ", summary.most_active(place)),
+        ],
     );
-    push_bounds(row, summary.count(Counter::Cancels, place), wide.into());
-    push_peaks(row, summary.most_open(place), summary.most_active(place));
 }
 
 /// Spells how long the starts there waited.
@@ -271,11 +258,11 @@ fn place_row(progress: &Progress<'_>, place: usize) -> Row
     requires { place < most_cpus * length progress.now.layout.queues }
     ensures { result ≡ row_text progress.now.layout (past_of progress.now.entries) TheTable.Places place }
 {
-    let queueings = progress.summary().queueings_at(place);
+    let queueings = progress.summary().count(Counter::Queueings, place);
     let mut row = Row::new();
     if queueings > 0 {
         push_place(&mut row, place);
-        push_figures(&mut row, progress, place);
+        push_place_numbers(&mut row, progress, place);
         push_waits(&mut row, progress, place);
         row.push("\n");
     }
