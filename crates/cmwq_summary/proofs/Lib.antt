@@ -1,3 +1,4 @@
+pub mod Tables
 pub mod Tallies
 pub mod Counting
 pub mod Times

@@ -11,6 +11,7 @@ use Rattle.cmwq_summary.specs.declared.waits.Waited.{Waited}
 use Rattle.cmwq_summary.specs.declared.waits.TheConstants.{NOTHING}
 use Rattle.cmwq_summary.specs.Spans.{IsSmall}
 use Rattle.cmwq_summary.specs.Tallies.{Key}
+use Rattle.cmwq_summary.proofs.Tables.{updated}
 use Rattle.cmwq_summary.specs.Waits.{Wait, waited, waited_at, with_wait, with_wait_at, AreWaits, HaveRoom, IsFewTotal}
 
 module _ (key : Key) (wait : Wait) (many : ℕ) where
@@ -47,35 +48,23 @@ module _ (key : Key) (wait : Wait) (many : ℕ) where
   }
   waits_go_on past e rows (Some j) x is x_is small are = record {
     many_are = length-set rows j _ ∙ are.many_are;
-    each = λ k h. rw is (by k h (eqb j k) refl);
-    few = λ k. few k (cases_lt k (length rows)) (eqb j k) refl;
+    each = λ k h. let long = are.many_are in
+        rw is (updated more rows j k NOTHING (omega arith)
+        ∙ ap₂ (λ (w : Waited) (y : Span). if eqb j k then with_wait w y else w) (are.each k h) x_is);
+    few = λ k. few k (cases_lt k (length rows));
   }
     where
-      more : Waited
-      more = with_wait (waited_at rows j) x
+      more : Waited → Waited
+      more w = with_wait w x
 
-      there : (k : ℕ) → k < length rows → j ≡ k → waited_at (set rows j more) k ≡ more
-      there k h here = subst (λ n. get_or (set rows j more) n NOTHING ≡ more) here
-          (get_or-set_same rows j more NOTHING (omega arith))
+      by : (w : Waited) (b : Bool) → IsFewTotal past w.all → IsFewTotal (e ∷ past) (if b then more w else w).all
+      by w true before = record { entries = omega arith; ticks = omega arith }
+      by w false before = record { entries = omega arith; ticks = omega arith }
 
-      other : (k : ℕ) → eqb j k ≡ false → waited_at (set rows j more) k ≡ waited_at rows k
-      other k differs = get_or-set_other rows j k more NOTHING (λ same. eqb-false j k differs (sym same))
-
-      by : (k : ℕ) → k < many → (b : Bool) → eqb j k ≡ b → waited_at (set rows j more) k
-          ≡ (if b then with_wait (waited key wait past k) (wait past e) else waited key wait past k)
-      by k h true same =
-          let here : j ≡ k = eqb-true j k same in let long = are.many_are in
-          there k (omega arith) here
-          ∙ subst (λ n. more ≡ with_wait (waited key wait past n) (wait past e)) here
-          (ap₂ with_wait (are.each j (omega arith)) x_is)
-      by k h false differs = other k differs ∙ are.each k h
-
-      few : (k : ℕ) → (k < length rows) ⊎ (length rows ≤ k) → (b : Bool) → eqb j k ≡ b
-          → IsFewTotal (e ∷ past) (waited_at (set rows j more) k).all
-      few k (inr beyond) b same =
-          let long = length-set rows j more in
-          rw (get_or_past (set rows j more) k NOTHING (omega arith)) record { entries = omega arith; ticks = omega arith }
-      few k (inl h) true same = let before = are.few j in
-          rw (there k h (eqb-true j k same)) record { entries = omega arith; ticks = omega arith }
-      few k (inl h) false differs = let before = are.few k in
-          rw (other k differs) record { entries = omega arith; ticks = omega arith }
+      few : (k : ℕ) → (k < length rows) ⊎ (length rows ≤ k)
+          → IsFewTotal (e ∷ past) (waited_at (set rows j (more (waited_at rows j))) k).all
+      few k (inl h) = rw (updated more rows j k NOTHING h) (by (waited_at rows k) (eqb j k) (are.few k))
+      few k (inr h) =
+          let long = length-set rows j (more (waited_at rows j)) in
+          rw (get_or_past (set rows j (more (waited_at rows j))) k NOTHING (omega arith))
+          record { entries = omega arith; ticks = omega arith }
