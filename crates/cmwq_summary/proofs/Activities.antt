@@ -1,6 +1,6 @@
 -- What is kept of a worker goes on with each entry.
 use Rattle.cmwq_model.specs.Prelude.{most_workers}
-use Rattle.std.proofs.Common.{◌≡◌, ◌≢◌, ℕ, ◌+◌, ◌*◌, ◌-◌, ◌<◌, ◌≤◌, Bool, true, false, List, [], ◌∷◌, length, get_or}
+use Rattle.std.proofs.Common.{◌≡◌, ◌≢◌, ℕ, ◌+◌, ◌*◌, ◌<◌, Bool, true, false, List, [], ◌∷◌, length, get_or}
 use Rattle.std.proofs.Common.{set, Option, Some, None, refl, sym, ap, ap₂, ◌∙◌, subst, arith, replicate, length-set}
 use Rattle.std.proofs.Common.{get_or-set_other, get_or-set_same}
 use Rattle.std.proofs.lemmas.List.{length-replicate, get_or-replicate}
@@ -11,7 +11,7 @@ use Rattle.cmwq_model.specs.declared.id.Who.TheVariants.{Caller, Worker}
 use Rattle.cmwq_model.specs.declared.reply.Reply.{Reply}
 use Rattle.cmwq_model.specs.declared.reply.Reply.TheVariants as reply
 use Rattle.cmwq_model.specs.declared.entry.Entry.{Entry}
-use Rattle.cmwq_model.specs.Prelude.{Layout, now, ticks_told, runs_awake, runs_asleep, is_asleep, asleep_after}
+use Rattle.cmwq_model.specs.Prelude.{Layout, now, runs_awake, runs_asleep, is_asleep, asleep_after}
 use Rattle.cmwq_model.specs.Prelude.{last_start, run, is_by, same_who, same_worker, IsLegal}
 use Rattle.cmwq_theory_steps.specs.RunSteps.{run_after}
 use Rattle.cmwq_theory_steps.proofs.RunSteps.{workers_run_on}
@@ -21,164 +21,120 @@ use Rattle.cmwq_theory_steps.proofs.Reasons.{sleep_reason, wake_reason}
 use Rattle.cmwq_theory_steps.proofs.ItemRuns.{same_worker-true, same_worker_itself}
 use Rattle.cmwq_summary.specs.declared.span.Span.{Span}
 use Rattle.cmwq_summary.specs.declared.activity.Doing.{Doing}
-use Rattle.cmwq_summary.specs.declared.activity.Doing.TheVariants as doing
 use Rattle.cmwq_summary.specs.declared.activity.Activity.{Activity}
 use Rattle.cmwq_summary.specs.declared.activity.TheConstants.{IDLE}
 use Rattle.cmwq_summary.specs.Activities.{AreActivities, IsActivity, IsUpTo, MayAct, activities_after, acted_by}
-use Rattle.cmwq_summary.specs.Activities.{activity_in, asleep_until, awake_until, activity_from, behind, doing_after}
-use Rattle.cmwq_summary.specs.Activities.{is_running, is_sleeping}
+use Rattle.cmwq_summary.specs.Activities.{activity_in, activity_from, doing_after, is_running, is_sleeping}
+use Rattle.cmwq_summary.specs.Activities.{span_until, spent_until}
+use Rattle.cmwq_summary.specs.declared.activity.Spent.{Spent}
+use Rattle.cmwq_summary.specs.declared.span.TheConstants.{NO_TIME}
+use Rattle.cmwq_summary.specs.Spans.{behind, passing, plus, IsSmall, IsWithin}
+use Rattle.cmwq_summary.proofs.Times.{small_then}
+use Rattle.cmwq_summary.proofs.Moments.{behind_more, plus_nothing, small_before, span_is}
 use Rattle.cmwq_state.specs.Tables.{IsThere}
 use Rattle.cmwq_model.proofs.Limits.{limits_of}
 use Rattle.cmwq_state.proofs.Steps.{fits_there}
 use Rattle.cmwq_state.specs.declared.effect.Effect.{Effect}
 use Rattle.cmwq_summary.specs.Summed.{IsNext}
 use Rattle.cmwq_summary.specs.Figures.{worker_number}
-use Rattle.cmwq_summary.specs.Spent.{asleep_entries, asleep_ticks, awake_entries, awake_ticks, sum_while}
+use Rattle.cmwq_summary.specs.Spent.{asleep, awake, spent_by, sum_while}
 use Rattle.cmwq_theory_steps.proofs.OwedSteps.{same_starter}
 
 -- ---- at first
 
 pub idle_at_first : (w : WorkerId) → IsActivity [] w IDLE
 unfolding sum_while now last_start is_asleep
-idle_at_first w = record {
-  runs = refl;
-  sleeps = refl;
-  since_entries = omega arith;
-  since_ticks = omega arith;
-  early_entries = omega arith;
-  early_ticks = omega arith;
-  awake_entries_are = refl;
-  awake_ticks_are = refl;
-  asleep_entries_are = refl;
-  asleep_ticks_are = refl;
-}
-
--- ---- the moment after a past, and after an entry
-
-pub up_to_now : (past : List Entry) (w : WorkerId) (a : Activity) → IsActivity past w a
-    → length past ≤ 4611686018427387904 → now past ≤ 4611686018427387904 → IsUpTo a (behind past)
-up_to_now past w a is few soon =
-    let since_entries = is.since_entries in let since_ticks = is.since_ticks in let early_entries = is.early_entries in
-    let early_ticks = is.early_ticks in
+idle_at_first w =
     record {
-      entries = since_entries;
-      ticks = since_ticks;
-      awake_entries = omega arith;
-      awake_ticks = omega arith;
-      asleep_entries = omega arith;
-      asleep_ticks = omega arith;
+      runs = refl;
+      sleeps = refl;
+      since = record { entries = omega arith; ticks = omega arith };
+      spent = refl;
     }
 
-module _ (past : List Entry) (e : Entry) (w : WorkerId) (a : Activity) (is : IsActivity past w a) where
-  ticks_more : now (e ∷ past) ≡ now past + ticks_told e.call
-  unfolding now
-  ticks_more = refl
+-- ---- until a moment
 
-  pub up_to : length past < 4611686018427387904 → now (e ∷ past) ≤ 4611686018427387904 → IsUpTo a (behind (e ∷ past))
-  up_to few soon =
-      let more = ticks_more in let since_entries = is.since_entries in let since_ticks = is.since_ticks in
-      let early_entries = is.early_entries in let early_ticks = is.early_ticks in
+spent_is : (a b : Spent) → a.awake ≡ b.awake → a.asleep ≡ b.asleep → a ≡ b
+spent_is a b p q = ap₂ (λ (x y : Span). let m : Spent = record { awake = x; asleep = y } in m) p q
+
+-- nothing takes longer than all
+sum_within : (during : List Entry → Bool) (past : List Entry) → IsWithin (sum_while during past) (behind past)
+unfolding sum_while now
+sum_within during [] = record { entries = omega arith; ticks = omega arith }
+sum_within during (e ∷ past) = rw (behind_more past e) (by (during past) (sum_within during past))
+  where
+    by : (b : Bool) → IsWithin (sum_while during past) (behind past)
+        → IsWithin (plus (sum_while during past) (if b then passing e else NO_TIME)) (plus (behind past) (passing e))
+    by true is = record { entries = omega arith; ticks = omega arith }
+    by false is = record { entries = omega arith; ticks = omega arith }
+
+module _ (past : List Entry) (w : WorkerId) (a : Activity) (is : IsActivity past w a) where
+  -- while all is small the sums are
+  sum_small : (b : Bool) (sum : Span) (during : List Entry → Bool) → IsSmall (behind past)
+      → span_until b sum a.since (behind past) ≡ sum_while during past → IsSmall sum
+  sum_small true sum during small same =
+      let all = sum_within during past in let entries = ap (λ (x : Span). x.entries) same in
+      let ticks = ap (λ (x : Span). x.ticks) same in record { entries = omega arith; ticks = omega arith }
+  sum_small false sum during small same =
+      let all = sum_within during past in let entries = ap (λ (x : Span). x.entries) same in
+      let ticks = ap (λ (x : Span). x.ticks) same in record { entries = omega arith; ticks = omega arith }
+
+  pub up_to : (to : Span) → IsSmall (behind past) → IsSmall to → IsUpTo a to
+  up_to to small moment =
       record {
-        entries = omega arith;
-        ticks = omega arith;
-        awake_entries = omega arith;
-        awake_ticks = omega arith;
-        asleep_entries = omega arith;
-        asleep_ticks = omega arith;
+        awake = sum_small (is_running a.doing) a.spent.awake (awake w) small (ap (λ (x : Spent). x.awake) is.spent);
+        asleep = sum_small (is_sleeping a.doing) a.spent.asleep (asleep w) small
+            (ap (λ (x : Spent). x.asleep) is.spent);
+        moment = moment;
       }
 
   -- what goes on has one entry more, and its ticks
-  one_more : (b : Bool) (sum since at next total amount : ℕ) → since ≤ at → next ≡ at + amount
-      → (if b then sum + (at - since) else sum) ≡ total → (if b then sum + (next - since) else sum)
-      ≡ total + (if b then amount else 0)
-  one_more true sum since at next total amount h more same = omega arith
-  one_more false sum since at next total amount h more same = omega arith
+  one_more : (b : Bool) (sum at step total : Span) → IsWithin a.since at → span_until b sum a.since at ≡ total
+      → span_until b sum a.since (plus at step) ≡ plus total (if b then step else NO_TIME)
+  one_more true sum at step total within same =
+      let entries = ap (λ (x : Span). x.entries) same in let ticks = ap (λ (x : Span). x.ticks) same in
+      span_is _ _ (omega arith) (omega arith)
+  one_more false sum at step total within same = same ∙ sym (plus_nothing total)
 
-  entries_more : length (e ∷ past) ≡ length past + 1
-  entries_more = omega arith
+  module _ (e : Entry) where
+    spent_more : spent_until a (behind (e ∷ past)) ≡ spent_by (e ∷ past) w
+    unfolding sum_while
+    spent_more = ap (spent_until a) (behind_more past e)
+        ∙ spent_is (spent_until a (plus (behind past) (passing e))) (spent_by (e ∷ past) w)
+        (rw is.runs
+        (one_more (is_running a.doing) a.spent.awake (behind past) (passing e) _ is.since
+        (ap (λ (x : Spent). x.awake) is.spent)))
+        (rw is.sleeps
+        (one_more (is_sleeping a.doing) a.spent.asleep (behind past) (passing e) _ is.since
+        (ap (λ (x : Spent). x.asleep) is.spent)))
 
-  awake_entries_more : (awake_until a (behind (e ∷ past))).entries ≡ awake_entries (e ∷ past) w
-  unfolding sum_while
-  awake_entries_more =
-      rw is.runs
-      (one_more (is_running a.doing) a.awake.entries a.since.entries (length past) _ _ 1 is.since_entries entries_more
-      is.awake_entries_are)
+    -- a worker that does what it did
+    pub goes_on : runs_awake (e ∷ past) w ≡ runs_awake past w → runs_asleep (e ∷ past) w ≡ runs_asleep past w
+        → IsActivity (e ∷ past) w a
+    goes_on runs sleeps =
+        let since = is.since in
+        record {
+          runs = runs ∙ is.runs;
+          sleeps = sleeps ∙ is.sleeps;
+          since = rw (behind_more past e) record { entries = omega arith; ticks = omega arith };
+          spent = spent_more;
+        }
 
-  awake_ticks_more : (awake_until a (behind (e ∷ past))).ticks ≡ awake_ticks (e ∷ past) w
-  unfolding sum_while
-  awake_ticks_more =
-      rw is.runs
-      (one_more (is_running a.doing) a.awake.ticks a.since.ticks (now past) _ _ (ticks_told e.call) is.since_ticks
-      ticks_more is.awake_ticks_are)
-
-  asleep_entries_more : (asleep_until a (behind (e ∷ past))).entries ≡ asleep_entries (e ∷ past) w
-  unfolding sum_while
-  asleep_entries_more =
-      rw is.sleeps
-      (one_more (is_sleeping a.doing) a.asleep.entries a.since.entries (length past) _ _ 1 is.since_entries entries_more
-      is.asleep_entries_are)
-
-  asleep_ticks_more : (asleep_until a (behind (e ∷ past))).ticks ≡ asleep_ticks (e ∷ past) w
-  unfolding sum_while
-  asleep_ticks_more =
-      rw is.sleeps
-      (one_more (is_sleeping a.doing) a.asleep.ticks a.since.ticks (now past) _ _ (ticks_told e.call) is.since_ticks
-      ticks_more is.asleep_ticks_are)
-
-  -- a worker that does what it did
-  pub goes_on : runs_awake (e ∷ past) w ≡ runs_awake past w → runs_asleep (e ∷ past) w ≡ runs_asleep past w
-      → IsActivity (e ∷ past) w a
-  goes_on runs sleeps =
-      let more = ticks_more in let since_entries = is.since_entries in let since_ticks = is.since_ticks in
-      record {
-        runs = runs ∙ is.runs;
-        sleeps = sleeps ∙ is.sleeps;
-        since_entries = omega arith;
-        since_ticks = omega arith;
-        early_entries = is.early_entries;
-        early_ticks = is.early_ticks;
-        awake_entries_are = awake_entries_more;
-        awake_ticks_are = awake_ticks_more;
-        asleep_entries_are = asleep_entries_more;
-        asleep_ticks_are = asleep_ticks_more;
-      }
-
-  -- a worker that begins something
-  pub begins : (d : Doing) → length past < 4611686018427387904 → now (e ∷ past) ≤ 4611686018427387904
-      → runs_awake (e ∷ past) w ≡ is_running d → runs_asleep (e ∷ past) w ≡ is_sleeping d
-      → IsActivity (e ∷ past) w (activity_from a (behind (e ∷ past)) d)
-  begins d few soon runs sleeps = record {
-    runs = runs;
-    sleeps = sleeps;
-    since_entries = omega arith;
-    since_ticks = omega arith;
-    early_entries =
-        within (is_running a.doing) (is_sleeping a.doing) (apart a.doing) a.awake.entries a.asleep.entries
-        a.since.entries (length (e ∷ past)) is.early_entries (let since = is.since_entries in omega arith);
-    early_ticks =
-        within (is_running a.doing) (is_sleeping a.doing) (apart a.doing) a.awake.ticks a.asleep.ticks a.since.ticks
-        (now (e ∷ past)) is.early_ticks (let since = is.since_ticks in let more = ticks_more in omega arith);
-    awake_entries_are = nothing_more (is_running d) _ (length (e ∷ past)) ∙ awake_entries_more;
-    awake_ticks_are = nothing_more (is_running d) _ (now (e ∷ past)) ∙ awake_ticks_more;
-    asleep_entries_are = nothing_more (is_sleeping d) _ (length (e ∷ past)) ∙ asleep_entries_more;
-    asleep_ticks_are = nothing_more (is_sleeping d) _ (now (e ∷ past)) ∙ asleep_ticks_more;
-  }
-    where
-      nothing_more : (b : Bool) (sum at : ℕ) → (if b then sum + (at - at) else sum) ≡ sum
-      nothing_more true sum at = omega arith
-      nothing_more false sum at = refl
-
-      apart : (d : Doing) → is_running d ≡ true → is_sleeping d ≡ false
-      apart doing.Nothing h = refl
-      apart doing.Runs h = refl
-      apart doing.Sleeps h = cc
-
-      within : (b c : Bool) → (b ≡ true → c ≡ false) → (awake asleep since at : ℕ) → awake + asleep ≤ since → since ≤ at
-          → (if b then awake + (at - since) else awake) + (if c then asleep + (at - since) else asleep) ≤ at
-      within true true apart awake asleep since at early h = let never : true ≡ false = apart refl in cc
-      within true false apart awake asleep since at early h = omega arith
-      within false true apart awake asleep since at early h = omega arith
-      within false false apart awake asleep since at early h = omega arith
+    -- a worker that begins something
+    pub begins : (d : Doing) → runs_awake (e ∷ past) w ≡ is_running d → runs_asleep (e ∷ past) w ≡ is_sleeping d
+        → IsActivity (e ∷ past) w (activity_from a (behind (e ∷ past)) d)
+    begins d runs sleeps =
+        record {
+          runs = runs;
+          sleeps = sleeps;
+          since = record { entries = omega arith; ticks = omega arith };
+          spent = spent_is _ _ (nothing_more (is_running d) _ (behind (e ∷ past)))
+              (nothing_more (is_sleeping d) _ (behind (e ∷ past))) ∙ spent_more;
+        }
+      where
+        nothing_more : (b : Bool) (sum at : Span) → span_until b sum at at ≡ sum
+        nothing_more true sum at = span_is _ sum (omega arith) (omega arith)
+        nothing_more false sum at = refl
 
 -- ---- what a worker does after an entry
 
@@ -287,7 +243,7 @@ module _ (s : Layout) (past : List Entry) (e : Entry) (legal : IsLegal s (e ∷ 
       → IsActivity (e ∷ past) w (activity_in old w)
   still w here small other =
       let same = by_other s past e w legal other in
-      goes_on past e w (activity_in old w) (are.each w here small) same.0 same.1
+      goes_on past w (activity_in old w) (are.each w here small) e same.0 same.1
 
   pub callers_change_none : (c : Who) → e.who ≡ c → ((w : WorkerId) → same_who c (Worker w) ≡ false)
       → AreActivities s.cpus (e ∷ past) old
@@ -299,11 +255,10 @@ module _ (s : Layout) (past : List Entry) (e : Entry) (legal : IsLegal s (e ∷ 
       }
 
   pub workers_change_theirs : (v : WorkerId) → e.who ≡ Worker v → v.pool.cpu.0 < s.cpus → v.index < most_workers
-      → length past < 4611686018427387904 → now (e ∷ past) ≤ 4611686018427387904
       → AreActivities s.cpus (e ∷ past)
       (set old (worker_number v)
       (activity_from (activity_in old v) (behind (e ∷ past)) (doing_after e.reply (activity_in old v).doing)))
-  workers_change_theirs v who there tiny few soon =
+  workers_change_theirs v who there tiny =
       record {
         many_are = length-set old (worker_number v) _ ∙ are.many_are;
         each =
@@ -322,8 +277,8 @@ module _ (s : Layout) (past : List Entry) (e : Entry) (legal : IsLegal s (e ∷ 
           let is : v ≡ w = same_worker-true v w same in
           let own = by_itself s past e v (activity_in old v) legal who (are.each v there tiny) in
           let begin =
-          begins past e v (activity_in old v) (are.each v there tiny)
-          (doing_after e.reply (activity_in old v).doing) few soon own.0 own.1 in
+          begins past v (activity_in old v) (are.each v there tiny) e
+          (doing_after e.reply (activity_in old v).doing) own.0 own.1 in
           subst (λ x. IsActivity (e ∷ past) x (get_or (set old (worker_number v) after) (worker_number x) IDLE)) is
           (subst (IsActivity (e ∷ past) v) (sym (get_or-set_same old (worker_number v) after IDLE inside)) begin)
       by w here small false other =
@@ -345,7 +300,7 @@ acted_are s past t old next are = by t.entry.who refl (fits_there s t.entry.who 
     by (Worker v) who there =
         let least = (limits_of s next.inside).workers.1 in
         workers_change_theirs s past t.entry next.effect.legal old are v who there.0 (let less : v.index < s.workers =
-        there.1 in omega arith) next.few next.soon
+        there.1 in omega arith)
 
 pub may_act : (s : Layout) (past : List Entry) (t : Effect) (old : List Activity) → IsNext s past t
     → AreActivities s.cpus past old → MayAct t.entry.who old (behind (t.entry ∷ past))
@@ -357,14 +312,5 @@ may_act s past t old next are = by t.entry.who (fits_there s t.entry.who t.entry
     by (Worker v) there =
         let least = (limits_of s next.inside).workers.1 in
         let less : v.index < most_workers = let few : v.index < s.workers = there.1 in omega arith in
-        up_to past t.entry v (activity_in old v) (are.each v there.0 less) next.few next.soon
-
--- ---- what is read of one worker
-
-pub awake_read : (past : List Entry) (w : WorkerId) (a : Activity) (to : Span) → to ≡ behind past → IsActivity past w a
-    → ((awake_until a to).entries ≡ awake_entries past w) × ((awake_until a to).ticks ≡ awake_ticks past w)
-awake_read past w a to is are = rw is (are.awake_entries_are, are.awake_ticks_are)
-
-pub asleep_read : (past : List Entry) (w : WorkerId) (a : Activity) (to : Span) → to ≡ behind past → IsActivity past w a
-    → ((asleep_until a to).entries ≡ asleep_entries past w) × ((asleep_until a to).ticks ≡ asleep_ticks past w)
-asleep_read past w a to is are = rw is (are.asleep_entries_are, are.asleep_ticks_are)
+        up_to past v (activity_in old v) (are.each v there.0 less) (behind (t.entry ∷ past))
+        (small_before past t.entry (small_then next)) (small_then next)

@@ -8,7 +8,7 @@ use Rattle.std.proofs.lemmas.List.{length-replicate, get_or-replicate, get_or_pa
 use Rattle.std.proofs.lemmas.List.Sums.{count_by-le-length}
 use Rattle.std.proofs.lemmas.List.Filters.{sum_by-filter_both}
 use Rattle.std.proofs.lemmas.Bool.{cases_lt, eqb-true, eqb-false}
-use Rattle.std.specs.Prelude.{slice_index, option_map}
+use Rattle.std.specs.Prelude.{if◌then◌else◌, slice_index, option_map}
 use Rattle.cmwq_lemmas.proofs.Lists.{count_by-cons, count_append}
 use Rattle.cmwq_lemmas.proofs.Members.{found}
 use Rattle.cmwq_model.specs.declared.entry.Entry.{Entry}
@@ -27,6 +27,7 @@ use Rattle.cmwq_summary.specs.Figures.{place_number}
 use Rattle.cmwq_theory_steps.specs.Looks.{keeps_widths}
 use Rattle.cmwq_summary.specs.Tallies.{with_one}
 use Rattle.cmwq_summary.proofs.ActiveRises.{no_more_active}
+use Rattle.cmwq_summary.proofs.Tables.{updated}
 use Rattle.cmwq_summary.specs.Peaks.{peak, open_count_at, active_count_at, most_open_at, most_active_at, AreMeasured}
 use Rattle.cmwq_summary.specs.Peaks.{AreRaised, raised_at, without_one}
 
@@ -84,26 +85,20 @@ count_one k (Some x) there =
 with_one_at : (counts : List ℕ) (o : Option ℕ) (k : ℕ) → k < length counts
     → slice_index (with_one counts o) k ≡ slice_index counts k + one (is_at o k)
 with_one_at counts None k h = omega arith
-with_one_at counts (Some j) k h = by (eqb j k) refl
+with_one_at counts (Some j) k h = updated (λ n. n + 1) counts j k 0 h ∙ by (eqb j k)
   where
-    by : (b : Bool) → eqb j k ≡ b → get_or (set counts j (slice_index counts j + 1)) k 0 ≡ slice_index counts k + one b
-    by true same = let here : j ≡ k = eqb-true j k same in
-        subst (λ n. get_or (set counts n (slice_index counts n + 1)) k 0 ≡ slice_index counts k + 1) (sym here)
-        (get_or-set_same counts k (slice_index counts k + 1) 0 h)
-    by false other = get_or-set_other counts j k (slice_index counts j + 1) 0 (λ e. eqb-false j k other (sym e))
-        ∙ omega arith
+    by : (b : Bool) → (if b then slice_index counts k + 1 else slice_index counts k) ≡ slice_index counts k + one b
+    by true = refl
+    by false = omega arith
 
 without_one_at : (counts : List ℕ) (o : Option ℕ) (k : ℕ) → k < length counts → slice_index (without_one counts o) k
     ≡ slice_index counts k - one (is_at o k)
 without_one_at counts None k h = omega arith
-without_one_at counts (Some j) k h = by (eqb j k) refl
+without_one_at counts (Some j) k h = updated (λ n. n - 1) counts j k 0 h ∙ by (eqb j k)
   where
-    by : (b : Bool) → eqb j k ≡ b → get_or (set counts j (slice_index counts j - 1)) k 0 ≡ slice_index counts k - one b
-    by true same = let here : j ≡ k = eqb-true j k same in
-        subst (λ n. get_or (set counts n (slice_index counts n - 1)) k 0 ≡ slice_index counts k - 1) (sym here)
-        (get_or-set_same counts k (slice_index counts k - 1) 0 h)
-    by false other = get_or-set_other counts j k (slice_index counts j - 1) 0 (λ e. eqb-false j k other (sym e))
-        ∙ omega arith
+    by : (b : Bool) → (if b then slice_index counts k - 1 else slice_index counts k) ≡ slice_index counts k - one b
+    by true = refl
+    by false = omega arith
 
 pub length_with_one : (counts : List ℕ) (o : Option ℕ) → length (with_one counts o) ≡ length counts
 length_with_one counts None = refl
@@ -187,19 +182,18 @@ module _ (s : Layout) (past : List Entry) (e : Entry) (legal : IsLegal s (e ∷ 
           → AreMeasured (λ k. peak (measure k)) many (e ∷ past) (raised_at old o now)
       of None is =
           record { many_are = are.many_are; each = λ k h. are.each k h ∙ sym (no_more k (ap (λ o. is_at o k) is)) }
-      of (Some j) is = record { many_are = length-set old j _ ∙ are.many_are; each = λ k h. by k h (eqb j k) refl }
+      of (Some j) is =
+          record {
+            many_are = length-set old j _ ∙ are.many_are;
+            each = λ k h. let long = are.many_are in
+                updated (λ n. max n (slice_index now j)) old j k 0 (omega arith) ∙ by k h (eqb j k) refl;
+          }
         where
           by : (k : ℕ) → k < many → (b : Bool) → eqb j k ≡ b
-              → get_or (set old j (max (slice_index old j) (slice_index now j))) k 0
+              → (if b then max (slice_index old k) (slice_index now j) else slice_index old k)
               ≡ max (peak (measure k) past) (measure k (e ∷ past))
-          by k h true same =
-              let here : j ≡ k = eqb-true j k same in let there : k < length old = let m = are.many_are in
-              omega arith in
-              subst (λ n. get_or (set old n (max (slice_index old n) (slice_index now n))) k 0
-              ≡ max (peak (measure k) past) (measure k (e ∷ past))) (sym here)
-              (get_or-set_same old k _ 0 there ∙ ap₂ max (are.each k h) (is_now.each k h))
-          by k h false other = get_or-set_other old j k _ 0 (λ e. eqb-false j k other (sym e)) ∙ are.each k h
-              ∙ sym (no_more k (ap (λ o. is_at o k) is ∙ other))
+          by k h true same = rw (eqb-true j k same) (ap₂ max (are.each k h) (is_now.each k h))
+          by k h false other = are.each k h ∙ sym (no_more k (ap (λ o. is_at o k) is ∙ other))
 
   pub most_open_goes_on : (many : ℕ) (old open_now : List ℕ) → AreMeasured most_open_at many past old
       → AreMeasured open_count_at many (e ∷ past) open_now

@@ -1,9 +1,11 @@
+pub mod Tables
 pub mod Tallies
+pub mod Counting
 pub mod Times
 pub mod Activities
-pub mod Since
-pub mod Extents
-pub mod Waits
+pub mod Moments
+pub mod WaitTables
+pub mod StartTimes
 pub mod TicketTimes
 pub mod ActiveRises
 pub mod Greatest

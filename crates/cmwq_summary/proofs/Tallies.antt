@@ -8,6 +8,7 @@ use Rattle.std.specs.Prelude.{if◌then◌else◌, slice_index}
 use Rattle.cmwq_model.specs.declared.entry.Entry.{Entry}
 use Rattle.cmwq_model.specs.Prelude.{is_at}
 use Rattle.cmwq_summary.specs.Tallies.{Key, tally, IsTallyTable, with_one}
+use Rattle.cmwq_summary.proofs.Tables.{updated}
 
 -- at first nothing is counted
 pub none_tallied : (key : Key) (many : ℕ) → IsTallyTable key many [] (replicate many 0)
@@ -43,21 +44,16 @@ pub tally_goes_on : (key : Key) (many : ℕ) (past : List Entry) (e : Entry) (co
 unfolding tally
 tally_goes_on key many past e counts None is t =
     record { many_are = t.many_are; each = λ k h. let same = t.each k h in rw is (omega arith) }
-tally_goes_on key many past e counts (Some j) is t =
-    record { many_are = length-set counts j _ ∙ t.many_are; each = λ k h. rw is (by k h (eqb j k) refl) }
+tally_goes_on key many past e counts (Some j) is t = record {
+  many_are = length-set counts j _ ∙ t.many_are;
+  each = λ k h. let long = t.many_are in
+      rw is (updated (λ n. n + 1) counts j k 0 (omega arith)
+      ∙ (ap (λ n. if eqb j k then n + 1 else n) (t.each k h) ∙ by (eqb j k) (tally key past k)));
+}
   where
-    more : ℕ
-    more = slice_index counts j + 1
-
-    by : (k : ℕ) → k < many → (b : Bool) → eqb j k ≡ b
-        → get_or (set counts j more) k 0 ≡ tally key past k + (if b then 1 else 0)
-    by k h true same =
-        let here : j ≡ k = eqb-true j k same in
-        let there : j < length counts = let m = t.many_are in omega arith in
-        let one_more = t.each k h in
-        rw (← here) (get_or-set_same counts j more 0 there ∙ ap (λ n. n + 1) (t.each j (omega arith)))
-    by k h false other = let kept = t.each k h in get_or-set_other counts j k more 0 (λ e. eqb-false j k other (sym e))
-        ∙ omega arith
+    by : (b : Bool) (n : ℕ) → (if b then n + 1 else n) ≡ n + (if b then 1 else 0)
+    by true n = refl
+    by false n = omega arith
 
 pub told_tally : (key : Key) (many : ℕ) (past : List Entry) (e : Entry) (old new : List ℕ) (at : Option ℕ)
     → at ≡ key past e → new ≡ with_one old at → IsTallyTable key many past old → IsTallyTable key many (e ∷ past) new

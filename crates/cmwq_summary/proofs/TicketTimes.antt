@@ -10,7 +10,7 @@ use Rattle.std.specs.Prelude.{option_map, slice_get}
 use Rattle.std.specs.Option.{option_map_or}
 use Rattle.cmwq_model.specs.declared.entry.Entry.{Entry}
 use Rattle.cmwq_model.specs.declared.record.Ticket.{Ticket}
-use Rattle.cmwq_model.specs.Prelude.{Layout, now, is_held_by, ticket_in, unended_tickets, IsLegal}
+use Rattle.cmwq_model.specs.Prelude.{Layout, is_held_by, ticket_in, unended_tickets, IsLegal}
 use Rattle.cmwq_lemmas.proofs.Members.{In, of_in, in_filter, option_in, found}
 use Rattle.cmwq_ticket.specs.Rows.{TicketBook, TicketRows, is_numbered, is_other_ticket, is_row_crowded}
 use Rattle.cmwq_ticket.specs.Rows.{tickets_of_caller, comes_before}
@@ -27,40 +27,14 @@ use Rattle.cmwq_refinement.proofs.TicketsRefine.{entries_apply_to_tickets, no_ti
 use Rattle.cmwq_refinement.proofs.TicketsRefine.{tickets_refine}
 use Rattle.cmwq_summary.specs.declared.span.Span.{Span}
 use Rattle.cmwq_summary.specs.declared.givings.Giving.{Giving}
-use Rattle.cmwq_summary.specs.Activities.{behind}
+use Rattle.cmwq_summary.specs.declared.span.TheConstants.{NO_TIME}
 use Rattle.cmwq_summary.specs.Figures.{caller_number}
-use Rattle.cmwq_summary.specs.Spans.{stretch}
-use Rattle.cmwq_summary.specs.Spent.{each_entry, each_tick}
-use Rattle.cmwq_summary.specs.Since.{added_since, IsMoment}
+use Rattle.cmwq_summary.specs.Spans.{behind, moment, since, stretch}
 use Rattle.cmwq_summary.specs.Givings.{GivingRows, HasRoomForGiving, giving_at, giving_of, givings_of, givings_to}
-use Rattle.cmwq_summary.specs.Givings.{is_giving, is_other_giving, moment_behind, since_giving, waited_till_end}
+use Rattle.cmwq_summary.specs.Givings.{is_giving, is_other_giving, since_giving, waited_till_end}
 use Rattle.cmwq_summary.specs.Givings.{waits_since, with_giving, without_giving}
 use Rattle.cmwq_summary.specs.TicketWaits.{ended_wait, oldest_ticket, unended_wait}
-use Rattle.cmwq_summary.proofs.Since.{moment_stays, now_more, since_earlier, since_newest, since_within}
-use Rattle.cmwq_summary.proofs.Since.{stretch_entries, stretch_ticks}
-use Rattle.cmwq_summary.proofs.Extents.{IsExtent}
-
--- ---- the moment after an entry
-
-pub moment_is : (past : List Entry) (n : ℕ) → n < length past → IsMoment past n (moment_behind past n)
-moment_is past n h = let within = since_within past n in let entries = within.0 in let ticks = within.1 in
-    record { known = h; entries = omega arith; ticks = omega arith }
-
-same_span : (a b c d : ℕ) → a ≡ c → b ≡ d → (let m : Span = record { entries = a; ticks = b } in m)
-    ≡ (let m : Span = record { entries = c; ticks = d } in m)
-same_span a b c d p q = ap₂ (λ (x y : ℕ). let m : Span = record { entries = x; ticks = y } in m) p q
-
-moment_is_now : (past : List Entry) (e : Entry) → moment_behind (e ∷ past) (length past) ≡ behind (e ∷ past)
-moment_is_now past e =
-    let entry = since_newest each_entry past e in let tick = since_newest each_tick past e in
-    same_span _ _ _ _ (omega arith) (omega arith)
-
-moment_same : (past : List Entry) (e : Entry) (n : ℕ) → n < length past
-    → moment_behind (e ∷ past) n ≡ moment_behind past n
-moment_same past e n h =
-    let entry = since_earlier each_entry past e n h in let tick = since_earlier each_tick past e n h in let more =
-    now_more past e in
-    same_span _ _ _ _ (omega arith) (omega arith)
+use Rattle.cmwq_summary.proofs.Moments.{moment_now, moment_stays}
 
 -- ---- rows of tickets, and of their givings
 
@@ -69,7 +43,7 @@ held_same : (past : List Entry) (e : Entry) (p : Ticket → Bool) (ts : List Tic
     ≡ map (giving_of past) (filter p ts)
 held_same past e p [] h = refl
 held_same past e p (t ∷ ts) h =
-    by (p t) (ap (giving_at t.number) (moment_same past e t.number h.0)) (held_same past e p ts h.1)
+    by (p t) (ap (giving_at t.number) (moment_stays past e t.number h.0)) (held_same past e p ts h.1)
   where
     by : (b : Bool) → giving_of (e ∷ past) t ≡ giving_of past t → map (giving_of (e ∷ past)) (filter p ts)
         ≡ map (giving_of past) (filter p ts)
@@ -161,7 +135,7 @@ module _ (s : Layout) (past : List Entry) (e : Entry) (legal : IsLegal s (e ∷ 
       → giving_of (e ∷ past) t ≡ giving_at (length past) (behind (e ∷ past))
   given_now t is =
       let number = (ticket_in_is e (length past) t is).number in
-      ap (λ n. giving_at n (moment_behind (e ∷ past) n)) number ∙ ap (giving_at (length past)) (moment_is_now past e)
+      ap (λ n. giving_at n (moment (e ∷ past) n)) number ∙ ap (giving_at (length past)) (moment_now past e)
 
   pub givings_go_on : with_giving (without_giving (givings_of s past) (ticket_ended past e))
       (option_map caller_number (ticket_in e (length past))) (giving_at (length past) (behind (e ∷ past)))
@@ -217,87 +191,48 @@ module _ (s : Layout) (past : List Entry) (e : Entry) (legal : IsLegal s (e ∷ 
       of_in (λ u. u.number < length past) (unended_tickets past) t (unended_below past)
       (in_filter (is_ended_by e) (unended_tickets past) t here).0
 
-  pub ended_waits_are : IsExtent (ended_wait each_entry) (ended_wait each_tick) past e
-      (option_map caller_number (ticket_ended past e))
-      (waited_till_end (givings_of s past) (ticket_ended past e) (behind (e ∷ past)))
+  pub ended_waits_are : waited_till_end (givings_of s past) (ticket_ended past e) (behind (e ∷ past)) ≡ ended_wait past e
   ended_waits_are = by (ticket_ended past e) refl (entries_apply_to_tickets s past e legal).ended
     where
-      since : (Entry → ℕ) → Option Ticket → ℕ
-      since amount o = option_map_or (λ (t : Ticket). added_since amount (e ∷ past) t.number) o 0
+      to : Span
+      to = behind (e ∷ past)
 
       by : (o : Option Ticket) → ticket_ended past e ≡ o → MayEndTicket o (tickets_of s past)
-          → IsExtent (ended_wait each_entry) (ended_wait each_tick) past e (option_map caller_number o)
-          (waited_till_end (givings_of s past) o (behind (e ∷ past)))
-      by None none may =
-          record {
-            entries_are = λ k h. absurd (let never : None ≡ Some k = h in cc);
-            ticks_are =
-                λ k h. absurd (let never : None ≡ Some k = h in cc);
-          }
-      by (Some t) ended may = record {
-        entries_are = λ k h. ap (λ (m : Span). m.entries) waited
-            ∙ stretch_entries (e ∷ past) t.number (moment_behind past t.number) moment
-            ∙ ap (since each_entry) (sym ended);
-        ticks_are = λ k h. ap (λ (m : Span). m.ticks) waited
-            ∙ stretch_ticks (e ∷ past) t.number (moment_behind past t.number) moment ∙ ap (since each_tick) (sym ended);
-      }
+          → waited_till_end (givings_of s past) o to
+          ≡ option_map_or (λ (t : Ticket). since (e ∷ past) t.number) o NO_TIME
+      by None none may = refl
+      by (Some t) ended may =
+          ap (λ (gs : List Giving). since_giving (find (is_giving t.number) gs) to)
+          (row_map past (tickets_of s past).rows t.caller.0)
+          ∙ ap (λ (o : Option Giving). since_giving o to) (found_map past t.number row)
+          ∙ one (find (is_numbered t.number) row) refl may
+          ∙ ap (λ m. stretch m to) (sym (moment_stays past e t.number (ended_below t ended)))
         where
           row : List Ticket
           row = tickets_of_caller (tickets_of s past).rows t.caller.0
 
-          to : Span
-          to = behind (e ∷ past)
-
-          moment : IsMoment (e ∷ past) t.number (moment_behind past t.number)
-          moment = moment_stays past e t.number (moment_behind past t.number)
-              (moment_is past t.number (ended_below t ended))
-
           one : (o : Option Ticket) → find (is_numbered t.number) row ≡ o → is_some o ≡ true
-              → since_giving (option_map (giving_of past) o) to ≡ stretch (moment_behind past t.number) to
+              → since_giving (option_map (giving_of past) o) to ≡ stretch (moment past t.number) to
           one None none some = cc
           one (Some u) is some =
-              ap (λ n. stretch (moment_behind past n) to)
+              ap (λ n. stretch (moment past n) to)
               (eqb-true u.number t.number (found (is_numbered t.number) row u is).1)
-
-          waited : waited_till_end (givings_of s past) (Some t) to ≡ stretch (moment_behind past t.number) to
-          waited = ap (λ (gs : List Giving). since_giving (find (is_giving t.number) gs) to)
-              (row_map past (tickets_of s past).rows t.caller.0)
-              ∙ ap (λ (o : Option Giving). since_giving o to) (found_map past t.number row)
-              ∙ one (find (is_numbered t.number) row) refl may
 
 -- ---- how long the oldest ticket of a caller waits
 
 pub givings_many : (s : Layout) (past : List Entry) → length (givings_of s past) ≡ s.callers
 givings_many s past = simp length-map (simp length-map at (rows_for_callers s past))
 
-pub unended_waits_are : (s : Layout) (past : List Entry) (c : ℕ) (to : Span) → c < s.callers → to ≡ behind past
-    → ((waits_since (givings_of s past) c to).entries ≡ unended_wait each_entry past c)
-    × ((waits_since (givings_of s past) c to).ticks ≡ unended_wait each_tick past c)
-unended_waits_are s past c to less now =
-    rw now (
-      ap (λ (m : Span). m.entries) oldest ∙ (waits (oldest_ticket past c) refl).0,
-      ap (λ (m : Span). m.ticks) oldest ∙ (waits (oldest_ticket past c) refl).1,
-    )
+pub unended_waits_are : (s : Layout) (past : List Entry) (c : ℕ) → c < s.callers
+    → waits_since (givings_of s past) c (behind past) ≡ unended_wait past c
+unended_waits_are s past c less =
+    ap (λ (gs : List Giving). since_giving (slice_get gs 0) (behind past))
+    (row_map past (tickets_of s past).rows c
+    ∙ ap (map (giving_of past)) (row_is s.callers (unended_tickets past) c less))
+    ∙ ap (λ (o : Option Giving). since_giving o (behind past))
+    (first_map past (is_held_by (the_caller c)) (unended_tickets past)) ∙ by (oldest_ticket past c)
   where
-    oldest : waits_since (givings_of s past) c (behind past)
-        ≡ since_giving (option_map (giving_of past) (oldest_ticket past c)) (behind past)
-    oldest = ap (λ (gs : List Giving). since_giving (slice_get gs 0) (behind past))
-        (row_map past (tickets_of s past).rows c
-        ∙ ap (map (giving_of past)) (row_is s.callers (unended_tickets past) c less))
-        ∙ ap (λ (o : Option Giving). since_giving o (behind past))
-        (first_map past (is_held_by (the_caller c)) (unended_tickets past))
-
-    since : (Entry → ℕ) → Option Ticket → ℕ
-    since amount o = option_map_or (λ (t : Ticket). added_since amount past t.number) o 0
-
-    waits : (o : Option Ticket) → oldest_ticket past c ≡ o
-        → ((since_giving (option_map (giving_of past) o) (behind past)).entries ≡ since each_entry o)
-        × ((since_giving (option_map (giving_of past) o) (behind past)).ticks ≡ since each_tick o)
-    waits None is = (refl, refl)
-    waits (Some t) is =
-        let here = (found (is_held_by (the_caller c)) (unended_tickets past) t is).0 in
-        let below = of_in (λ u. u.number < length past) (unended_tickets past) t (unended_below past) here in
-        let moment = moment_is past t.number below in (
-          stretch_entries past t.number (moment_behind past t.number) moment,
-          stretch_ticks past t.number (moment_behind past t.number) moment,
-        )
+    by : (o : Option Ticket) → since_giving (option_map (giving_of past) o) (behind past)
+        ≡ option_map_or (λ (t : Ticket). since past t.number) o NO_TIME
+    by None = refl
+    by (Some t) = refl

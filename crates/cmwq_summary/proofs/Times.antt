@@ -4,7 +4,7 @@ use Rattle.std.proofs.lemmas.List.{length-reverse}
 use Rattle.cmwq_model.specs.declared.entry.Entry.{Entry}
 use Rattle.cmwq_summary.specs.declared.span.Span.{Span}
 use Rattle.cmwq_state.specs.declared.effect.Effect.{Effect}
-use Rattle.cmwq_summary.specs.Activities.{behind}
+use Rattle.cmwq_summary.specs.Spans.{behind, IsSmall}
 use Rattle.cmwq_summary.specs.Summed.{IsNext}
 use Rattle.cmwq_model.specs.Prelude.{Layout, is_layout, ticks_told, now, has_time, most_time, past_of}
 use Rattle.cmwq_state.specs.Effects.{IsEffect}
@@ -35,3 +35,6 @@ next_is s entries t time inside effect is soon h few =
     let as_many : length (past_of entries) ≡ length entries = length-reverse entries in
     let within = time_within (past_of entries) t.entry.call time is soon h in
     record { inside = inside; effect = effect; few = omega arith; soon = omega arith }
+
+pub small_then : {s : Layout} {past : List Entry} {t : Effect} → IsNext s past t → IsSmall (behind (t.entry ∷ past))
+small_then next = let few = next.few in record { entries = omega arith; ticks = next.soon }

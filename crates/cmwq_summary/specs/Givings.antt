@@ -1,28 +1,21 @@
 -- When the unended tickets were given: a row for each caller, by age.
-use Rattle.std.specs.Prelude.{ℕ, ◌-◌, ◌<◌, ◌==◌, ◌++◌, Bool, not, List, [], ◌∷◌, length, map, filter, find, slice_get}
+use Rattle.std.specs.Prelude.{ℕ, ◌<◌, ◌==◌, ◌++◌, Bool, not, List, [], ◌∷◌, length, map, filter, find, slice_get}
 use Rattle.std.specs.Prelude.{slice_index_or, slice_set, Option, Some, None}
 use Rattle.std.specs.Option.{option_map_or}
 use Rattle.cmwq_model.specs.declared.entry.Entry.{Entry}
 use Rattle.cmwq_model.specs.declared.record.Ticket.{Ticket}
-use Rattle.cmwq_model.specs.Prelude.{Layout, now}
+use Rattle.cmwq_model.specs.Prelude.{Layout}
 use Rattle.cmwq_refinement.specs.Tickets.{tickets_of}
 use Rattle.cmwq_summary.specs.declared.span.Span.{Span}
 use Rattle.cmwq_summary.specs.declared.span.TheConstants.{NO_TIME}
 use Rattle.cmwq_summary.specs.declared.givings.Giving.{Giving}
-use Rattle.cmwq_summary.specs.Spans.{stretch}
-use Rattle.cmwq_summary.specs.Spent.{each_entry, each_tick}
-use Rattle.cmwq_summary.specs.Since.{added_since}
-
--- how many entries and ticks there were up to the entry with this number, and so up to the giving of a ticket
-abbrev pub moment_behind : List Entry → ℕ → Span
-moment_behind past n =
-    record { entries = length past - added_since each_entry past n; ticks = now past - added_since each_tick past n }
+use Rattle.cmwq_summary.specs.Spans.{moment, stretch}
 
 abbrev pub giving_at : ℕ → Span → Giving
 giving_at n moment = record { number = n; moment = moment }
 
 abbrev pub giving_of : List Entry → Ticket → Giving
-giving_of past t = giving_at t.number (moment_behind past t.number)
+giving_of past t = giving_at t.number (moment past t.number)
 
 abbrev pub GivingRows : Type 0
 GivingRows = List (List Giving)

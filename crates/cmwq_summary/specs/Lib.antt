@@ -1,12 +1,12 @@
 pub mod Tallies
 pub mod Kinds
 pub mod Figures
+pub mod Counters
 pub mod Spans
 pub mod Spent
 pub mod Activities
-pub mod Since
-pub mod Extents
 pub mod Waits
+pub mod Openings
 pub mod Peaks
 pub mod TicketWaits
 pub mod Givings

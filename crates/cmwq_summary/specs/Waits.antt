@@ -1,47 +1,54 @@
--- How long queueings waited for their start, by the queue and the CPU where they were queued.
-use Rattle.std.specs.Prelude.{◌≡◌, ℕ, ◌<◌, List, ◌∷◌, length, Some, None, Option, slice_set}
-use Rattle.std.specs.Option.{option_map_or}
+-- How long was waited, by a key: the longest wait, and all together.
+use Rattle.std.specs.Prelude.{◌≡◌, ℕ, ◌+◌, ◌*◌, ◌<◌, ◌≤◌, if◌then◌else◌, List, [], ◌∷◌, length, slice_index_or}
+use Rattle.std.specs.Prelude.{slice_set, Option, Some, None}
 use Rattle.cmwq_model.specs.declared.entry.Entry.{Entry}
-use Rattle.cmwq_model.specs.declared.record.Queueing.{Queueing}
-use Rattle.cmwq_model.specs.Prelude.{unstarted_queueing}
-use Rattle.cmwq_refinement.specs.Flights.{starting}
+use Rattle.cmwq_model.specs.Prelude.{is_at}
 use Rattle.cmwq_summary.specs.declared.span.Span.{Span}
-use Rattle.cmwq_summary.specs.declared.span.TheConstants.{NO_TIME}
-use Rattle.cmwq_summary.specs.Spans.{stretch}
-use Rattle.cmwq_summary.specs.Spent.{each_entry, each_tick}
-use Rattle.cmwq_summary.specs.Since.{added_since, IsMoment}
-use Rattle.cmwq_summary.specs.Extents.{Extent, largest, total, span_at}
-use Rattle.cmwq_summary.specs.Figures.{by_place_started}
+use Rattle.cmwq_summary.specs.declared.waits.Total.{Total}
+use Rattle.cmwq_summary.specs.declared.waits.Waited.{Waited}
+use Rattle.cmwq_summary.specs.declared.waits.TheConstants.{NOTHING}
+use Rattle.cmwq_summary.specs.Spans.{longer}
+use Rattle.cmwq_summary.specs.Tallies.{Key}
 
--- what came between the entry that opened the queueing that an entry starts, and that entry, which is counted
-abbrev pub start_wait : (Entry → ℕ) → Extent
-start_wait amount past e = option_map_or (λ (x : Queueing). added_since amount (e ∷ past) x.number) (starting past e) 0
+-- the wait that an entry ends, by the past before it
+abbrev pub Wait : Type 0
+Wait = List Entry → Entry → Span
 
--- the longest wait of a start on a queue and CPU, and all of them together
-abbrev pub longest_start_entries : List Entry → ℕ → ℕ
-longest_start_entries past p = largest by_place_started (start_wait each_entry) past p
+abbrev pub plus_span : Total → Span → Total
+plus_span t x = record { entries = t.entries + x.entries; ticks = t.ticks + x.ticks }
 
-abbrev pub longest_start_ticks : List Entry → ℕ → ℕ
-longest_start_ticks past p = largest by_place_started (start_wait each_tick) past p
+abbrev pub with_wait : Waited → Span → Waited
+with_wait w x = record { longest = longer w.longest x; all = plus_span w.all x }
 
-abbrev pub all_start_entries : List Entry → ℕ → ℕ
-all_start_entries past p = total by_place_started (start_wait each_entry) past p
+-- of the waits that are ended under this number
+unfoldable pub waited : Key → Wait → List Entry → ℕ → Waited
+waited key wait [] k = NOTHING
+waited key wait (e ∷ past) k =
+    if is_at (key past e) k then with_wait (waited key wait past k) (wait past e) else waited key wait past k
 
-abbrev pub all_start_ticks : List Entry → ℕ → ℕ
-all_start_ticks past p = total by_place_started (start_wait each_tick) past p
+-- ---- a table has what was waited under each number
 
--- ---- when queueings were opened, by item
+abbrev pub waited_at : List Waited → ℕ → Waited
+waited_at rows k = slice_index_or rows k NOTHING
 
-pub record AreOpeningMoments (items : ℕ) (past : List Entry) (moments : List Span) : Type 0 where
-  pub many_are : length moments ≡ items
-  pub each : (i : ℕ) (x : Queueing) → i < items → unstarted_queueing past i ≡ Some x
-      → IsMoment past x.number (span_at moments i)
+pub record IsFewTotal (past : List Entry) (t : Total) : Type 0 where
+  pub entries : t.entries ≤ 4611686018427387904 * length past
+  pub ticks : t.ticks ≤ 4611686018427387904 * length past
 
--- the table after an entry, and how long the queueing waited that is started now
-abbrev pub with_opening : List Span → Option Queueing → Span → List Span
-with_opening moments None to = moments
-with_opening moments (Some x) to = slice_set moments x.item.0 to
+pub record AreWaits (key : Key) (wait : Wait) (many : ℕ) (past : List Entry) (rows : List Waited) : Type 0 where
+  pub many_are : length rows ≡ many
+  pub each : (k : ℕ) → k < many → waited_at rows k ≡ waited key wait past k
+  pub few : (k : ℕ) → IsFewTotal past (waited_at rows k).all
 
-abbrev pub wait_at_start : List Span → Option Queueing → Span → Span
-wait_at_start moments None to = NO_TIME
-wait_at_start moments (Some x) to = stretch (span_at moments x.item.0) to
+-- the table after a wait under this number, where it has that
+abbrev pub with_wait_at : List Waited → Option ℕ → Span → List Waited
+with_wait_at rows None x = rows
+with_wait_at rows (Some k) x = slice_set rows k (with_wait (waited_at rows k) x)
+
+-- each sum has room for one wait more
+pub record HasRoom (w : Waited) : Type 0 where
+  pub entries : w.all.entries < 85070591730234615865843651857942052864
+  pub ticks : w.all.ticks < 85070591730234615865843651857942052864
+
+abbrev pub HaveRoom : List Waited → Type 0
+HaveRoom rows = (k : ℕ) → HasRoom (waited_at rows k)

@@ -104,7 +104,7 @@ impl Model for Givings {
 
 impl Givings {
     /// Those of so many callers, which have no ticket. The error says that memory ran out.
-    pub(crate) fn new(alloc: Global, callers: u8) -> Result<Givings, NoMemory>
+    pub(crate) fn new(alloc: Global, callers: usize) -> Result<Givings, NoMemory>
         ensures { IfOk result (λ givings. givings ≡ replicate callers []) }
     {
         Ok(Givings {
@@ -172,10 +172,10 @@ fn since(giving: Option<Giving>, now: Span) -> Span
 }
 
 /// An empty row for each caller.
-fn new_rows(alloc: Global, callers: u8) -> Result<Vec<Row>, NoMemory>
+fn new_rows(alloc: Global, callers: usize) -> Result<Vec<Row>, NoMemory>
     ensures { IfOk result (λ rows. rows.items ≡ replicate callers []) }
 {
-    let mut rows = Vec::with_capacity(alloc, usize::from(callers))?;
+    let mut rows = Vec::with_capacity(alloc, callers)?;
     for _ in 0..callers {
         rows.push_reserved(Row::new(alloc)?);
     }

@@ -2,23 +2,23 @@
 #![tactic(auto)]
 
 mod activity;
-mod callers;
-mod cancelled;
+mod counter;
+mod counters;
 mod givings;
-mod items;
+mod key;
 mod kind;
-mod kinds;
-mod longest;
 mod openings;
 mod peaks;
-mod places;
 mod span;
+mod start_waits;
 mod summary;
 mod tally;
-mod totals;
-mod workers;
+mod ticket_waits;
+mod waits;
 
+pub use activity::Spent;
+pub use counter::Counter;
 pub use kind::{CALL_KINDS, REPLY_KINDS};
 pub use span::Span;
 pub use summary::Summary;
-pub use totals::Total;
+pub use waits::{Total, Waited};

@@ -1,7 +1,6 @@
 //! When the queueings were opened that have not started.
 ghost use Rattle.std.specs.Prelude.{◌≡◌, replicate, IfOk};
-ghost use Rattle.cmwq_summary.specs.Extents.{span_at};
-ghost use Rattle.cmwq_summary.specs.Waits.{wait_at_start, with_opening};
+ghost use Rattle.cmwq_summary.specs.Openings.{span_at, wait_at_start, with_opening};
 ghost use Rattle.cmwq_summary.specs.declared.span.TheConstants as constants;
 
 use crate::span::{NO_TIME, Span};
@@ -26,11 +25,11 @@ impl Model for Openings {
 
 impl Openings {
     /// Those of so many items that were never queued. The error says that memory ran out.
-    pub(crate) fn new(alloc: Global, items: u16) -> Result<Openings, NoMemory>
+    pub(crate) fn new(alloc: Global, items: usize) -> Result<Openings, NoMemory>
         ensures { IfOk result (λ openings. openings ≡ replicate items constants.NO_TIME) }
     {
         Ok(Openings {
-            moments: vec![in alloc; NO_TIME; usize::from(items)]?,
+            moments: vec![in alloc; NO_TIME; items]?,
         })
     }
 

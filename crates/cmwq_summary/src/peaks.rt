@@ -1,13 +1,13 @@
 //! The most that is open and active at once, by queue and CPU.
-ghost use Rattle.std.specs.Prelude.{◌≡◌, ◌<◌, [], ◌∷◌, List, length, IfOk};
+ghost use Rattle.std.specs.Prelude.{◌≡◌, ◌*◌, [], ◌∷◌, List, length, IfOk};
 ghost use Rattle.cmwq_model.specs.declared.entry.Entry as entries;
-ghost use Rattle.cmwq_model.specs.Prelude.{Layout};
+ghost use Rattle.cmwq_model.specs.Prelude.{Layout, most_cpus};
 ghost use Rattle.cmwq_state.specs.Pwqs.{AreActiveCounts};
 ghost use Rattle.cmwq_theory_steps.specs.Looks.{keeps_widths};
 ghost use Rattle.cmwq_summary.specs.Parts.{ArePeaks};
 ghost use Rattle.cmwq_summary.specs.Summed.{IsNext};
 
-use crate::places::{CPUS, place_in};
+use crate::key::place_in;
 use crate::tally::Tally;
 use cmwq_model::{NoMemory, Reply};
 use cmwq_state::Effect;
@@ -23,12 +23,10 @@ pub(crate) struct Peaks {
 }
 
 impl Peaks {
-    /// Those of no entries. The error says that memory ran out.
-    pub(crate) fn new(alloc: Global, queues: usize) -> Result<Peaks, NoMemory>
-        requires { queues < 256 }
-        ensures { IfOk result (λ peaks. (s : Layout) → length s.queues ≡ queues → ArePeaks s [] peaks) }
+    /// Those of no entries, at so many places. The error says that memory ran out.
+    pub(crate) fn new(alloc: Global, places: usize) -> Result<Peaks, NoMemory>
+        ensures { IfOk result (λ peaks. (s : Layout) → most_cpus * length s.queues ≡ places → ArePeaks s [] peaks) }
     {
-        let places = CPUS * queues;
         let open = Tally::new(alloc, places)?;
         let most_open = Tally::new(alloc, places)?;
         let most_active = Tally::new(alloc, places)?;

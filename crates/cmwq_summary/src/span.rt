@@ -1,6 +1,6 @@
 //! Spans of a history: how many entries, and how many ticks.
-ghost use Rattle.std.specs.Prelude.{◌≡◌, ◌+◌, ◌-◌, ◌<◌, ◌≤◌};
-ghost use Rattle.cmwq_summary.specs.Spans.{longer, stretch, with_stretch};
+ghost use Rattle.std.specs.Prelude.{◌≡◌};
+ghost use Rattle.cmwq_summary.specs.Spans.{longer, plus, stretch, IsSmall};
 
 /// So many entries and so many ticks.
 #[derive(Clone, Copy, PartialEq, Eq)]
@@ -16,16 +16,15 @@ pub(crate) const NO_TIME: Span = Span {
 };
 
 impl Span {
-    /// The span and the stretch from one moment to another.
-    pub(crate) fn with_stretch(self, from: Span, to: Span) -> Span
-        requires order { (from.entries ≤ to.entries) × (from.ticks ≤ to.ticks) }
-        requires entries { self.entries + (to.entries - from.entries) < 9223372036854775808 }
-        requires ticks { self.ticks + (to.ticks - from.ticks) < 9223372036854775808 }
-        ensures { result ≡ with_stretch self from to }
+    /// Both together.
+    pub(crate) fn plus(self, other: Span) -> Span
+        requires this { IsSmall self }
+        requires that { IsSmall other }
+        ensures { result ≡ plus self other }
     {
         Span {
-            entries: self.entries + (to.entries - from.entries),
-            ticks: self.ticks + (to.ticks - from.ticks),
+            entries: self.entries + other.entries,
+            ticks: self.ticks + other.ticks,
         }
     }
 

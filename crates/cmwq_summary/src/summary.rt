@@ -1,26 +1,25 @@
 //! The summary of a history.
 ghost use Rattle.std.specs.Prelude.{◌≡◌, ◌<◌, ◌≤◌, ◌*◌, true, [], ◌∷◌, length, IfOk};
 ghost use Rattle.cmwq_model.specs.Prelude.{now, has_time, most_cpus, most_workers};
-ghost use Rattle.cmwq_summary.specs.Figures as figures;
-ghost use Rattle.cmwq_summary.specs.Activities.{behind};
-ghost use Rattle.cmwq_summary.specs.Spent as spans;
-ghost use Rattle.cmwq_summary.specs.Waits as waits;
-ghost use Rattle.cmwq_summary.specs.TicketWaits as ticket_waits;
+ghost use Rattle.cmwq_summary.specs.Figures.{counted, keys_of};
+ghost use Rattle.cmwq_summary.specs.Openings.{start_waits_at};
+ghost use Rattle.cmwq_summary.specs.Spans.{behind};
+ghost use Rattle.cmwq_summary.specs.Spent.{spent_by};
+ghost use Rattle.cmwq_summary.specs.TicketWaits.{longest_wait};
 ghost use Rattle.cmwq_summary.specs.Peaks as peaks;
 ghost use Rattle.cmwq_state.specs.Effects.{IsEffect};
 ghost use Rattle.cmwq_state.specs.Pwqs.{AreActiveCounts};
-ghost use Rattle.cmwq_summary.specs.Kinds.{call_kinds, reply_kinds};
 ghost use Rattle.cmwq_summary.specs.Summed.{past_summed, summed_with};
 
-use crate::callers::Callers;
-use crate::items::Items;
-use crate::kinds::Kinds;
+use crate::activity::{Activity, IDLE, Spent, act, activity_in};
+use crate::counter::Counter;
+use crate::counters::Counters;
 use crate::peaks::Peaks;
-use crate::places::Places;
 use crate::span::Span;
-use crate::totals::Total;
-use crate::workers::{Workers, activity_in};
-use cmwq_model::{CallerId, Entry, ItemId, NoMemory, Shape, WorkerId};
+use crate::start_waits::StartWaits;
+use crate::ticket_waits::TicketWaits;
+use crate::waits::Waited;
+use cmwq_model::{CallerId, Entry, NoMemory, Shape, WorkerId};
 use cmwq_state::{Effect, Trail};
 use std::alloc::Global;
 use std::marker::Model;
@@ -31,15 +30,15 @@ pub struct Summary {
     shape: Shape,
     entries: Trail<Entry>,
     time: u64,
-    kinds: Kinds,
-    items: Items,
-    callers: Callers,
-    workers: Workers,
-    places: Places,
+    counters: Counters,
+    ticket_waits: TicketWaits,
+    start_waits: StartWaits,
+    activities: Vec<Activity>,
     peaks: Peaks,
 }
 
 impl Model for Summary {
+    ghost use Rattle.cmwq_model.specs.Prelude.{past_of};
     ghost use Rattle.cmwq_summary.specs.Parts.{IsSummary};
     ghost use Rattle.cmwq_summary.specs.Summed.{Summed};
 
@@ -47,7 +46,8 @@ impl Model for Summary {
 
     ghost view = { λ s. record { layout = s.shape; entries = s.entries } };
 
-    ghost invariant = { λ s. IsSummary s.shape s.entries s.time s.kinds s.items s.callers s.workers s.places s.peaks };
+    ghost invariant = { λ s. IsSummary s.shape (past_of s.entries) s.time s.counters s.ticket_waits
+        s.start_waits s.activities.items s.peaks };
 }
 
 impl Summary {
@@ -55,23 +55,20 @@ impl Summary {
     pub fn new(alloc: Global, shape: Shape) -> Result<Summary, NoMemory>
         ensures { IfOk result (λ summary. summary ≡ record { layout = shape; entries = [] }) }
     {
-        let counts = shape.counts();
-        let kinds = Kinds::new(alloc)?;
-        let items = Items::new(alloc, counts.items)?;
-        let callers = Callers::new(alloc, counts.callers)?;
-        let workers = Workers::new(alloc, counts.cpus)?;
-        let places = Places::new(alloc, counts.items, shape.queues().len())?;
-        let peaks = Peaks::new(alloc, shape.queues().len())?;
+        let counters = Counters::new(alloc, &shape)?;
+        let ticket_waits = TicketWaits::new(alloc, &shape)?;
+        let start_waits = StartWaits::new(alloc, &shape)?;
+        let activities = vec![in alloc; IDLE; Counter::WorkerRuns.keys(&shape)]?;
+        let peaks = Peaks::new(alloc, Counter::Queueings.keys(&shape))?;
         let entries = Trail::new();
         Ok(Summary {
             shape,
             entries,
             time: 0,
-            kinds,
-            items,
-            callers,
-            workers,
-            places,
+            counters,
+            ticket_waits,
+            start_waits,
+            activities,
             peaks,
         })
     }
@@ -91,11 +88,10 @@ impl Summary {
             entries: self.entries.len() + 1,
             ticks: self.time,
         };
-        self.kinds.add(effect);
-        self.items.add(effect);
-        self.callers.add(effect, now);
-        self.workers.add(effect, now);
-        self.places.add(effect, now);
+        self.counters.add(effect);
+        self.ticket_waits.add(effect, now);
+        self.start_waits.add(effect, now);
+        act(&mut self.activities, &effect.entry, now);
         self.peaks.add(effect, active_counts);
         self.entries.push(&effect.entry);
     }
@@ -121,91 +117,31 @@ impl Summary {
         self.time
     }
 
-    /// How many calls there are of this kind.
-    pub fn calls(&self, kind: usize) -> u64
-        requires { kind < call_kinds }
-        ensures { result ≡ figures.calls_of_kind (past_summed self.now) kind }
+    /// How many entries a counter counts under this key.
+    pub fn count(&self, counter: Counter, key: usize) -> u64
+        requires { key < keys_of self.now.layout counter }
+        ensures { result ≡ counted counter (past_summed self.now) key }
     {
-        self.kinds.calls.count(kind)
-    }
-
-    /// How many replies there are of this kind.
-    pub fn replies(&self, kind: usize) -> u64
-        requires { kind < reply_kinds }
-        ensures { result ≡ figures.replies_of_kind (past_summed self.now) kind }
-    {
-        self.kinds.replies.count(kind)
-    }
-
-    /// How many runs of the item were started.
-    pub fn runs(&self, item: ItemId) -> u64
-        requires { item.0 < self.now.layout.items }
-        ensures { result ≡ figures.runs_of (past_summed self.now) item.0 }
-    {
-        self.items.runs.count(item.0.into())
-    }
-
-    /// How many queueings of the item were cancelled.
-    pub fn cancels(&self, item: ItemId) -> u64
-        requires { item.0 < self.now.layout.items }
-        ensures { result ≡ figures.cancels_of (past_summed self.now) item.0 }
-    {
-        self.items.cancels.count(item.0.into())
-    }
-
-    /// How many calls the caller made.
-    pub fn calls_by(&self, caller: CallerId) -> u64
-        requires { caller.0 < self.now.layout.callers }
-        ensures { result ≡ figures.calls_by (past_summed self.now) caller.0 }
-    {
-        self.callers.calls.count(caller.0.into())
-    }
-
-    /// How many tickets the caller was given.
-    pub fn tickets(&self, caller: CallerId) -> u64
-        requires { caller.0 < self.now.layout.callers }
-        ensures { result ≡ figures.tickets_by (past_summed self.now) caller.0 }
-    {
-        self.callers.tickets.count(caller.0.into())
+        self.counters.count(counter, key)
     }
 
     /// How long the caller's longest wait for a ticket was. The wait for one that is unended goes on until now.
     pub fn longest_wait(&self, caller: CallerId) -> Span
         requires { caller.0 < self.now.layout.callers }
-        ensures entries { result.entries ≡ ticket_waits.longest_wait_entries (past_summed self.now) caller.0 }
-        ensures ticks { result.ticks ≡ ticket_waits.longest_wait_ticks (past_summed self.now) caller.0 }
+        ensures { result ≡ longest_wait (past_summed self.now) caller.0 }
     {
         let caller = usize::from(caller.0);
-        let waits = self.callers.givings.waits(caller, self.span());
-        self.callers.longest.of(caller).longer(waits)
+        let goes_on = self.ticket_waits.givings.waits(caller, self.span());
+        self.ticket_waits.waits.at(caller).longest.longer(goes_on)
     }
 
-    /// How many runs the worker with this number started.
-    pub fn starts_by(&self, worker: usize) -> u64
-        requires { worker < 2 * most_workers * self.now.layout.cpus }
-        ensures { result ≡ figures.starts_by (past_summed self.now) worker }
-    {
-        self.workers.runs.count(worker)
-    }
-
-    /// How long the worker's runs were awake.
-    pub fn awake(&self, worker: WorkerId) -> Span
+    /// How long the worker's runs were awake, and how long they slept.
+    pub fn spent(&self, worker: WorkerId) -> Spent
         requires here { worker.pool.cpu.0 < self.now.layout.cpus }
         requires index { worker.index < most_workers }
-        ensures entries { result.entries ≡ spans.awake_entries (past_summed self.now) worker }
-        ensures ticks { result.ticks ≡ spans.awake_ticks (past_summed self.now) worker }
+        ensures { result ≡ spent_by (past_summed self.now) worker }
     {
-        activity_in(&self.workers.activities, worker).awake(self.span())
-    }
-
-    /// How long they slept.
-    pub fn asleep(&self, worker: WorkerId) -> Span
-        requires here { worker.pool.cpu.0 < self.now.layout.cpus }
-        requires index { worker.index < most_workers }
-        ensures entries { result.entries ≡ spans.asleep_entries (past_summed self.now) worker }
-        ensures ticks { result.ticks ≡ spans.asleep_ticks (past_summed self.now) worker }
-    {
-        activity_in(&self.workers.activities, worker).asleep(self.span())
+        activity_in(&self.activities, worker).until(self.span())
     }
 
     /// How many entries and ticks there are.
@@ -219,31 +155,7 @@ impl Summary {
         }
     }
 
-    /// How many queueings there were at the place with this number.
-    pub fn queueings_at(&self, place: usize) -> u64
-        requires { place < most_cpus * length self.now.layout.queues }
-        ensures { result ≡ figures.queueings_at (past_summed self.now) place }
-    {
-        self.places.queueings.count(place)
-    }
-
-    /// How many of them started.
-    pub fn starts_at(&self, place: usize) -> u64
-        requires { place < most_cpus * length self.now.layout.queues }
-        ensures { result ≡ figures.starts_at (past_summed self.now) place }
-    {
-        self.places.starts.count(place)
-    }
-
-    /// How many of them were cancelled before that.
-    pub fn cancels_at(&self, place: usize) -> u64
-        requires { place < most_cpus * length self.now.layout.queues }
-        ensures { result ≡ figures.cancels_at (past_summed self.now) place }
-    {
-        self.places.cancels.count(place)
-    }
-
-    /// How many of them were open at once, at most.
+    /// How many queueings of the place with this number were open at once, at most.
     pub fn most_open(&self, place: usize) -> u64
         requires { place < most_cpus * length self.now.layout.queues }
         ensures { result ≡ peaks.most_open_at place (past_summed self.now) }
@@ -259,21 +171,11 @@ impl Summary {
         self.peaks.most_active.count(place)
     }
 
-    /// How long the longest of those starts was waited for.
-    pub fn longest_start(&self, place: usize) -> Span
+    /// How long the starts there were waited for.
+    pub fn start_waits(&self, place: usize) -> Waited
         requires { place < most_cpus * length self.now.layout.queues }
-        ensures entries { result.entries ≡ waits.longest_start_entries (past_summed self.now) place }
-        ensures ticks { result.ticks ≡ waits.longest_start_ticks (past_summed self.now) place }
+        ensures { result ≡ start_waits_at (past_summed self.now) place }
     {
-        self.places.longest.of(place)
-    }
-
-    /// How long all of them were waited for together.
-    pub fn all_starts(&self, place: usize) -> Total
-        requires { place < most_cpus * length self.now.layout.queues }
-        ensures entries { result.entries ≡ waits.all_start_entries (past_summed self.now) place }
-        ensures ticks { result.ticks ≡ waits.all_start_ticks (past_summed self.now) place }
-    {
-        self.places.totals.of(place)
+        self.start_waits.waits.at(place)
     }
 }

@@ -5,7 +5,7 @@ ghost use Rattle.std.specs.Prelude.{◌≡◌};
 use crate::fixture::{CALLER, FIRST, FLUSH, SMALL, WORKER, queue, shape};
 use cmwq_core::{Execution, Judge};
 use cmwq_model::{Call, CallerId, ItemId, QueueId, Who};
-use cmwq_summary::{CALL_KINDS, Span, Summary, Total};
+use cmwq_summary::{CALL_KINDS, Counter, REPLY_KINDS, Span, Summary};
 use std::process::Abort;
 
 /// An execution, which its judge follows, and the summary of its entries.
@@ -64,43 +64,37 @@ fn entries(entries: u64) -> Span {
 /// Who does what, how often and how long.
 fn count_calls(rt: &impl Abort, summary: &Summary) {
     let counts = summary.shape().counts();
-    assert!(rt; counts.callers > 0 && counts.items > 1 && counts.cpus > 0 && CALL_KINDS == 21);
+    assert!(rt; counts.callers > 0 && counts.items > 1 && counts.cpus > 0);
+    assert!(rt; CALL_KINDS == 21 && REPLY_KINDS == 30);
     assert_eq!(rt; (summary.len(), summary.time()), (10, 3));
-    assert_eq!(rt; (summary.calls(0), summary.replies(0)), (2, 2));
-    let caller = CallerId(0);
-    assert_eq!(rt; (summary.calls_by(caller), summary.tickets(caller)), (6, 1));
-    assert!(rt; summary.longest_wait(caller) == entries(4));
-    assert_eq!(rt;
-        (summary.runs(ItemId(0)), summary.cancels(ItemId(1))),
-        (1, 1)
-    );
-    assert_eq!(rt; summary.starts_by(0), 1);
-    assert!(rt; summary.awake(FIRST) == entries(3) && summary.asleep(FIRST) == entries(1));
+    for (counter, key, many) in [
+        (Counter::Calls, 0, 2),
+        (Counter::Replies, 0, 2),
+        (Counter::CallerCalls, 0, 6),
+        (Counter::CallerTickets, 0, 1),
+        (Counter::ItemRuns, 0, 1),
+        (Counter::ItemCancels, 1, 1),
+        (Counter::WorkerRuns, 0, 1),
+        (Counter::Queueings, 0, 2),
+        (Counter::Starts, 0, 1),
+        (Counter::Cancels, 0, 1),
+    ] {
+        assert!(rt; key < counter.keys(summary.shape()));
+        assert_eq!(rt; summary.count(counter, key), many);
+    }
+    assert!(rt; summary.longest_wait(CallerId(0)) == entries(4));
+    let spent = summary.spent(FIRST);
+    assert!(rt; spent.awake == entries(3) && spent.asleep == entries(1));
 }
 
 /// What became of the queueings on the one queue.
 fn count_queueings(rt: &impl Abort, summary: &Summary) {
     let _counts = summary.shape().counts();
     assert!(rt; !summary.shape().queues().is_empty());
-    assert_eq!(rt;
-        (
-            summary.queueings_at(0),
-            summary.starts_at(0),
-            summary.cancels_at(0)
-        ),
-        (2, 1, 1)
-    );
     assert_eq!(rt; (summary.most_open(0), summary.most_active(0)), (1, 1));
-    let longest = Span {
-        entries: 2,
-        ticks: 3,
-    };
-    assert!(rt; summary.longest_start(0) == longest);
-    let all = Total {
-        entries: 2,
-        ticks: 3,
-    };
-    assert!(rt; summary.all_starts(0) == all);
+    let waited = summary.start_waits(0);
+    assert_eq!(rt; (waited.longest.entries, waited.longest.ticks), (2, 3));
+    assert_eq!(rt; (waited.all.entries, waited.all.ticks), (2, 3));
 }
 
 /// An item is queued, runs, sleeps and finishes while a caller flushes, and another is queued and taken back.

@@ -6,13 +6,16 @@ use Rattle.std.specs.Prelude.{flat_map, codes, decimal}
 use Rattle.cmwq_model.specs.declared.id.WorkerId.{WorkerId}
 use Rattle.cmwq_model.specs.declared.entry.Entry.{Entry}
 use Rattle.cmwq_model.specs.Prelude.{Layout, now, width}
-use Rattle.cmwq_summary.specs.Kinds.{call_kinds, reply_kinds}
-use Rattle.cmwq_summary.specs.Figures.{calls_of_kind, replies_of_kind, runs_of, cancels_of, calls_by, tickets_by}
-use Rattle.cmwq_summary.specs.Figures.{starts_by, queueings_at, starts_at, cancels_at}
-use Rattle.cmwq_summary.specs.Spent.{awake_entries, awake_ticks, asleep_entries, asleep_ticks}
-use Rattle.cmwq_summary.specs.Waits.{longest_start_entries, longest_start_ticks, all_start_entries, all_start_ticks}
+use Rattle.cmwq_summary.specs.declared.counter.Counter.{Counter}
+use Rattle.cmwq_summary.specs.declared.counter.Counter.TheVariants as counter
+use Rattle.cmwq_summary.specs.Figures.{counted, keys_of}
+use Rattle.cmwq_summary.specs.declared.span.Span.{Span}
+use Rattle.cmwq_summary.specs.declared.waits.Total.{Total}
+use Rattle.cmwq_summary.specs.declared.waits.Waited.{Waited}
+use Rattle.cmwq_summary.specs.Openings.{start_waits_at}
+use Rattle.cmwq_summary.specs.Spent.{spent_by}
 use Rattle.cmwq_summary.specs.Peaks.{most_open_at, most_active_at}
-use Rattle.cmwq_summary.specs.TicketWaits.{longest_wait_entries, longest_wait_ticks}
+use Rattle.cmwq_summary.specs.TicketWaits.{longest_wait}
 use Rattle.cmwq_views.specs.Names.{call_name, reply_name}
 use Rattle.cmwq_views.specs.declared.table.Table.{Table}
 use Rattle.cmwq_views.specs.declared.table.Table.TheVariants as table
@@ -55,86 +58,82 @@ abbrev pub worker_name : WorkerId → List ℕ
 worker_name w = named_number (codes "w") w.pool.cpu.0 ++ named_number (letter_of_pool w.pool.high) w.index
 
 -- how long something went on
-abbrev pub span_text : List ℕ → ℕ → ℕ → List ℕ
-span_text name entries ticks = named_number name entries ++ named_number (codes " entries and ") ticks ++ codes " ticks"
+abbrev pub span_text : List ℕ → Span → List ℕ
+span_text name x = named_number name x.entries ++ named_number (codes " entries and ") x.ticks ++ codes " ticks"
 
 abbrev pub worker_row : List Entry → WorkerId → ℕ → List ℕ
 worker_row past w runs =
     if runs == 0 then []
     else codes "worker " ++ worker_name w ++ named_number (codes ": runs ") runs
-    ++ span_text (codes ", awake ") (awake_entries past w) (awake_ticks past w)
-    ++ span_text (codes ", asleep ") (asleep_entries past w) (asleep_ticks past w) ++ line_end
+    ++ span_text (codes ", awake ") (spent_by past w).awake
+    ++ span_text (codes ", asleep ") (spent_by past w).asleep ++ line_end
 
 abbrev pub place_name : ℕ → List ℕ
 place_name p = named_number (codes "queue ") (p / most_cpus) ++ named_number (codes " on CPU ") (p % most_cpus)
 
 -- how long so many things waited, or a dash where there are none
-abbrev pub waited_text : List ℕ → ℕ → ℕ → ℕ → List ℕ
-waited_text name many entries ticks = if many == 0 then name ++ codes "-" else span_text name entries ticks
+abbrev pub waited_text : List ℕ → ℕ → Span → List ℕ
+waited_text name many x = if many == 0 then name ++ codes "-" else span_text name x
 
-abbrev pub longest_text : ℕ → ℕ → ℕ → List ℕ
-longest_text many entries ticks = waited_text (codes ", longest wait ") many entries ticks
+abbrev pub longest_text : ℕ → Span → List ℕ
+longest_text many x = waited_text (codes ", longest wait ") many x
 
 -- the mean is rounded down
-abbrev pub mean_text : ℕ → ℕ → ℕ → List ℕ
-mean_text many entries ticks = waited_text (codes ", mean wait ") many (entries / many) (ticks / many)
+abbrev pub mean_text : ℕ → Total → List ℕ
+mean_text many all = waited_text (codes ", mean wait ") many
+    (record { entries = all.entries / many; ticks = all.ticks / many })
 
-abbrev pub caller_row : List Entry → ℕ → List ℕ
-caller_row past c =
-    if calls_by past c == 0 then []
-    else named_number (codes "caller c") c ++ named_number (codes ": calls ") (calls_by past c)
-    ++ named_number (codes ", tickets ") (tickets_by past c)
-    ++ longest_text (tickets_by past c) (longest_wait_entries past c) (longest_wait_ticks past c) ++ line_end
+abbrev pub caller_row : List Entry → ℕ → ℕ → List ℕ
+caller_row past c calls =
+    if calls == 0 then []
+    else named_number (codes "caller c") c ++ named_number (codes ": calls ") calls
+    ++ named_number (codes ", tickets ") (counted counter.CallerTickets past c)
+    ++ longest_text (counted counter.CallerTickets past c) (longest_wait past c) ++ line_end
 
 -- how long so many starts waited: the longest wait, and the mean of all of them together
-abbrev pub starts_text : ℕ → ℕ → ℕ → ℕ → ℕ → List ℕ
-starts_text many entries ticks all_entries all_ticks =
-    longest_text many entries ticks ++ mean_text many all_entries all_ticks
+abbrev pub starts_text : ℕ → Waited → List ℕ
+starts_text many w = longest_text many w.longest ++ mean_text many w.all
 
--- how many queueings and starts there are, and how many cancelled ones, and the width
-abbrev pub opened_text : ℕ → ℕ → List ℕ
-opened_text queueings starts = named_number (codes ": queueings ") queueings ++ named_number (codes ", starts ") starts
+-- numbers, each after its heading
+abbrev pub numbers_text : List (List ℕ × ℕ) → List ℕ
+numbers_text numbers = flat_map (λ (n : List ℕ × ℕ). named_number n.0 n.1) numbers
 
-abbrev pub bounds_text : ℕ → ℕ → List ℕ
-bounds_text cancels wide = named_number (codes ", cancelled ") cancels ++ named_number (codes ", width ") wide
-
--- how many were open and active at once, at most
-abbrev pub peaks_text : ℕ → ℕ → List ℕ
-peaks_text most_open most_active = named_number (codes ", most open ") most_open
-    ++ named_number (codes ", most active ") most_active
-
-abbrev pub place_figures : Layout → List Entry → ℕ → List ℕ
-place_figures s past p =
-    opened_text (queueings_at past p) (starts_at past p)
-    ++ (bounds_text (cancels_at past p) (width s past (p / most_cpus))
-    ++ peaks_text (most_open_at p past) (most_active_at s p past))
+-- how many queueings, starts and cancelled queueings there are of a queue on a CPU, its width, and how many were open and
+-- active at once, at most
+abbrev pub place_numbers : Layout → List Entry → ℕ → List (List ℕ × ℕ)
+place_numbers s past p =
+    (codes ": queueings ", counted counter.Queueings past p) ∷ (codes ", starts ", counted counter.Starts past p)
+    ∷ (codes ", cancelled ", counted counter.Cancels past p) ∷ (codes ", width ", width s past (p / most_cpus))
+    ∷ (codes ", most open ", most_open_at p past) ∷ (codes ", most active ", most_active_at s p past) ∷ []
 
 abbrev pub place_waits : List Entry → ℕ → List ℕ
-place_waits past p =
-    starts_text (starts_at past p) (longest_start_entries past p) (longest_start_ticks past p)
-    (all_start_entries past p) (all_start_ticks past p)
+place_waits past p = starts_text (counted counter.Starts past p) (start_waits_at past p)
 
 abbrev pub place_row : Layout → List Entry → ℕ → List ℕ
-place_row s past p = if queueings_at past p == 0 then [] else place_name p ++ place_figures s past p
+place_row s past p = if counted counter.Queueings past p == 0 then [] else place_name p ++ numbers_text (place_numbers s past p)
     ++ place_waits past p ++ line_end
 
 abbrev pub row_text : Layout → List Entry → Table → ℕ → List ℕ
-row_text s past table.Calls k = call_row k (calls_of_kind past k)
-row_text s past table.Replies k = reply_row k (replies_of_kind past k)
+row_text s past table.Calls k = call_row k (counted counter.Calls past k)
+row_text s past table.Replies k = reply_row k (counted counter.Replies past k)
 row_text s past table.Places p = place_row s past p
-row_text s past table.Workers w = worker_row past (worker_of_row w) (starts_by past w)
-row_text s past table.Items i = item_row i (runs_of past i) (cancels_of past i)
-row_text s past table.Callers c = caller_row past c
+row_text s past table.Workers w = worker_row past (worker_of_row w) (counted counter.WorkerRuns past w)
+row_text s past table.Items i = item_row i (counted counter.ItemRuns past i) (counted counter.ItemCancels past i)
+row_text s past table.Callers c = caller_row past c (counted counter.CallerCalls past c)
 
 -- ---- the tables
 
+-- what its rows are numbered by
+abbrev pub counter_of : Table → Counter
+counter_of table.Calls = counter.Calls
+counter_of table.Replies = counter.Replies
+counter_of table.Places = counter.Queueings
+counter_of table.Workers = counter.WorkerRuns
+counter_of table.Items = counter.ItemRuns
+counter_of table.Callers = counter.CallerCalls
+
 abbrev pub row_count : Layout → Table → ℕ
-row_count s table.Calls = call_kinds
-row_count s table.Replies = reply_kinds
-row_count s table.Places = most_cpus * length s.queues
-row_count s table.Workers = 2 * most_workers * s.cpus
-row_count s table.Items = s.items
-row_count s table.Callers = s.callers
+row_count s t = keys_of s (counter_of t)
 
 -- the rows of the numbers below this one, in their order
 unfoldable pub rows_text : (ℕ → List ℕ) → ℕ → List ℕ

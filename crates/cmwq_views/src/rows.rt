@@ -1,22 +1,23 @@
 //! How the rows of each table are spelled.
-ghost use Rattle.std.specs.Prelude.{◌≡◌, ◌+◌, ◌*◌, ◌/◌, ◌<◌, ◌≤◌, ◌++◌, length};
+ghost use Rattle.std.specs.Prelude.{◌≡◌, ◌+◌, ◌*◌, ◌/◌, ◌<◌, ◌≤◌, ◌++◌, true, flat_map, length, nat_le};
+ghost use Rattle.std.specs.List.{list_all};
 ghost use Rattle.cmwq_model.specs.Prelude.{past_of, width, most_cpus, most_workers};
 ghost use Rattle.cmwq_summary.specs.Kinds.{call_kinds, reply_kinds};
 ghost use Rattle.cmwq_views.specs.Page.{call_row, reply_row, item_row, caller_row, longest_text, mean_text};
-ghost use Rattle.cmwq_views.specs.Page.{starts_text, opened_text, bounds_text, peaks_text, place_figures, place_waits};
+ghost use Rattle.cmwq_views.specs.Page.{starts_text, named_number, numbers_text, place_numbers, place_waits};
 ghost use Rattle.cmwq_views.specs.Page.{span_text, worker_of_row, worker_name, worker_row, place_name, row_text};
 ghost use Rattle.cmwq_views.specs.Page.{row_count};
 ghost use Rattle.cmwq_views.specs.declared.table.Table.TheVariants as TheTable;
 
 use crate::name::{call_name, reply_name};
-use crate::number::{OF_POOL, caller_at, item_at, worker_at};
+use crate::number::{caller_at, worker_at};
 use crate::progress::Progress;
 use crate::row::Row;
 use crate::table::Table;
 use crate::write::Rows;
-use cmwq_base::{CallerId, ItemId, QueueId, WorkerId};
+use cmwq_base::{CallerId, QueueId, WorkerId};
 use cmwq_model::MOST_CPUS;
-use cmwq_summary::{CALL_KINDS, REPLY_KINDS, Span, Total};
+use cmwq_summary::{Counter, Span, Total, Waited};
 
 /// How many CPUs a shape may have.
 const CPUS: usize = MOST_CPUS as usize;
@@ -25,16 +26,7 @@ const CPUS: usize = MOST_CPUS as usize;
 fn rows_in(progress: &Progress<'_>, table: Table) -> usize
     ensures { result ≡ row_count progress.now.layout table }
 {
-    let shape = progress.summary().shape();
-    let counts = shape.counts();
-    match table {
-        Table::Calls => CALL_KINDS,
-        Table::Replies => REPLY_KINDS,
-        Table::Places => CPUS * shape.queues().len(),
-        Table::Workers => 2 * OF_POOL * usize::from(counts.cpus),
-        Table::Items => counts.items.into(),
-        Table::Callers => counts.callers.into(),
-    }
+    table.counter().keys(progress.summary().shape())
 }
 
 /// The row of a table with this number, from 0.
@@ -43,20 +35,14 @@ fn row(progress: &Progress<'_>, table: Table, at: usize) -> Row
     ensures { result ≡ row_text progress.now.layout (past_of progress.now.entries) table at }
 {
     let summary = progress.summary();
+    let many = summary.count(table.counter(), at);
     match table {
-        Table::Calls => call_row(at, summary.calls(at)),
-        Table::Replies => reply_row(at, summary.replies(at)),
+        Table::Calls => call_row(at, many),
+        Table::Replies => reply_row(at, many),
         Table::Places => place_row(progress, at),
-        Table::Workers => worker_row(
-            progress,
-            worker_at(summary.shape(), at),
-            summary.starts_by(at),
-        ),
-        Table::Items => {
-            let item = item_at(summary.shape(), at);
-            item_row(item, summary.runs(item), summary.cancels(item))
-        }
-        Table::Callers => caller_row(progress, caller_at(summary.shape(), at)),
+        Table::Workers => worker_row(progress, worker_at(summary.shape(), at), many),
+        Table::Items => item_row(at, many, summary.count(Counter::ItemCancels, at)),
+        Table::Callers => caller_row(progress, caller_at(summary.shape(), at), many),
     }
 }
 
@@ -88,12 +74,12 @@ fn reply_row(kind: usize, replies: u64) -> Row
     row
 }
 
-fn item_row(item: ItemId, runs: u64, cancels: u64) -> Row
-    ensures { result ≡ item_row item.0 runs cancels }
+fn item_row(item: usize, runs: u64, cancels: u64) -> Row
+    ensures { result ≡ item_row item runs cancels }
 {
     let mut row = Row::new();
     if runs > 0 || cancels > 0 {
-        row.push_figure("item ", item.0.into());
+        row.push_figure("item ", item as u64);
         row.push_figure(": runs ", runs);
         row.push_figure(", cancels ", cancels);
         row.push("\n");
@@ -101,15 +87,14 @@ fn item_row(item: ItemId, runs: u64, cancels: u64) -> Row
     row
 }
 
-fn caller_row(progress: &Progress<'_>, caller: CallerId) -> Row
+fn caller_row(progress: &Progress<'_>, caller: CallerId, calls: u64) -> Row
     requires { caller.0 < progress.now.layout.callers }
-    ensures { result ≡ caller_row (past_of progress.now.entries) caller.0 }
+    ensures { result ≡ caller_row (past_of progress.now.entries) caller.0 calls }
 {
     let summary = progress.summary();
-    let calls = summary.calls_by(caller);
     let mut row = Row::new();
     if calls > 0 {
-        let tickets = summary.tickets(caller);
+        let tickets = summary.count(Counter::CallerTickets, caller.0.into());
         row.push_figure("caller c", caller.0.into());
         row.push_figure(": calls ", calls);
         row.push_figure(", tickets ", tickets);
@@ -133,7 +118,7 @@ pub(crate) fn push_worker(row: &mut Row, worker: WorkerId)
 /// Spells how long something went on.
 fn push_span(row: &mut Row, name: &str, span: Span)
     requires { length row.old + (length name.now + 60) ≤ 512 }
-    ensures exact { row.new ≡ row.old ++ span_text name.now span.entries span.ticks }
+    ensures exact { row.new ≡ row.old ++ span_text name.now span }
     ensures short { length row.new ≤ length row.old + (length name.now + 60) }
 {
     row.push_figure(name, span.entries);
@@ -152,8 +137,9 @@ fn worker_row(progress: &Progress<'_>, worker: WorkerId, runs: u64) -> Row
         row.push("worker ");
         push_worker(&mut row, worker);
         row.push_figure(": runs ", runs);
-        push_span(&mut row, ", awake ", summary.awake(worker));
-        push_span(&mut row, ", asleep ", summary.asleep(worker));
+        let spent = summary.spent(worker);
+        push_span(&mut row, ", awake ", spent.awake);
+        push_span(&mut row, ", asleep ", spent.asleep);
         row.push("\n");
     }
     row
@@ -182,7 +168,7 @@ fn width_at(progress: &Progress<'_>, place: usize) -> u32
 /// Spells the longest wait of so many.
 fn push_longest(row: &mut Row, many: u64, longest: Span)
     requires { length row.old + 75 ≤ 512 }
-    ensures exact { row.new ≡ row.old ++ longest_text many longest.entries longest.ticks }
+    ensures exact { row.new ≡ row.old ++ longest_text many longest }
     ensures short { length row.new ≤ length row.old + 75 }
 {
     if many == 0 {
@@ -196,7 +182,7 @@ fn push_longest(row: &mut Row, many: u64, longest: Span)
 /// Spells the mean wait of so many, which waited so long together.
 fn push_mean(row: &mut Row, many: u64, all: Total)
     requires { length row.old + 111 ≤ 512 }
-    ensures exact { row.new ≡ row.old ++ mean_text many all.entries all.ticks }
+    ensures exact { row.new ≡ row.old ++ mean_text many all }
     ensures short { length row.new ≤ length row.old + 111 }
 {
     if many == 0 {
@@ -210,57 +196,47 @@ fn push_mean(row: &mut Row, many: u64, all: Total)
 }
 
 /// Spells how long so many starts waited.
-fn push_starts(row: &mut Row, many: u64, longest: Span, all: Total)
+fn push_starts(row: &mut Row, many: u64, waited: Waited)
     requires { length row.old + 186 ≤ 512 }
-    ensures exact { row.new ≡ row.old ++ starts_text many longest.entries longest.ticks all.entries all.ticks }
+    ensures exact { row.new ≡ row.old ++ starts_text many waited }
     ensures short { length row.new ≤ length row.old + 186 }
 {
-    push_longest(row, many, longest);
-    push_mean(row, many, all);
+    push_longest(row, many, waited.longest);
+    push_mean(row, many, waited.all);
 }
 
-/// Spells how many queueings and starts there are.
-fn push_opened(row: &mut Row, queueings: u64, starts: u64)
-    requires { length row.old + 70 ≤ 512 }
-    ensures exact { row.new ≡ row.old ++ opened_text queueings starts }
-    ensures short { length row.new ≤ length row.old + 70 }
+/// Spells numbers, each after its heading.
+fn push_numbers(row: &mut Row, numbers: &[(&str, u64)])
+    requires short { list_all (λ n. nat_le (length n.0.now) 20) numbers.now ≡ true }
+    requires room { length row.old + 40 * length numbers.now ≤ 512 }
+    ensures exact { row.new ≡ row.old ++ flat_map (λ n. named_number n.0.now n.1) numbers.now }
+    ensures short { length row.new ≤ length row.old + 40 * length numbers.now }
 {
-    row.push_figure(": queueings ", queueings);
-    row.push_figure(", starts ", starts);
+    for (heading, number) in numbers {
+        row.push_figure(heading, *number);
+    }
 }
 
-/// Spells how many cancelled ones there are, and the width.
-fn push_bounds(row: &mut Row, cancels: u64, wide: u64)
-    requires { length row.old + 70 ≤ 512 }
-    ensures exact { row.new ≡ row.old ++ bounds_text cancels wide }
-    ensures short { length row.new ≤ length row.old + 70 }
-{
-    row.push_figure(", cancelled ", cancels);
-    row.push_figure(", width ", wide);
-}
-
-/// Spells how many were open and active at once, at most.
-fn push_peaks(row: &mut Row, most_open: u64, most_active: u64)
-    requires { length row.old + 70 ≤ 512 }
-    ensures exact { row.new ≡ row.old ++ peaks_text most_open most_active }
-    ensures short { length row.new ≤ length row.old + 70 }
-{
-    row.push_figure(", most open ", most_open);
-    row.push_figure(", most active ", most_active);
-}
-
-/// Spells all that of a queue and CPU.
-fn push_figures(row: &mut Row, progress: &Progress<'_>, place: usize)
+/// Spells the numbers of a queue and CPU.
+fn push_place_numbers(row: &mut Row, progress: &Progress<'_>, place: usize)
     requires place { place < most_cpus * length progress.now.layout.queues }
-    requires room { length row.old + 210 ≤ 512 }
-    ensures exact { row.new ≡ row.old ++ place_figures progress.now.layout (past_of progress.now.entries) place }
-    ensures short { length row.new ≤ length row.old + 210 }
+    requires room { length row.old + 240 ≤ 512 }
+    ensures exact { row.new ≡ row.old
+        ++ numbers_text (place_numbers progress.now.layout (past_of progress.now.entries) place) }
+    ensures short { length row.new ≤ length row.old + 240 }
 {
     let summary = progress.summary();
-    let wide = width_at(progress, place);
-    push_opened(row, summary.queueings_at(place), summary.starts_at(place));
-    push_bounds(row, summary.cancels_at(place), wide.into());
-    push_peaks(row, summary.most_open(place), summary.most_active(place));
+    push_numbers(
+        row,
+        &[
+            (": queueings ", summary.count(Counter::Queueings, place)),
+            (", starts ", summary.count(Counter::Starts, place)),
+            (", cancelled ", summary.count(Counter::Cancels, place)),
+            (", width ", width_at(progress, place).into()),
+            (", most open ", summary.most_open(place)),
+            (", most active ", summary.most_active(place)),
+        ],
+    );
 }
 
 /// Spells how long the starts there waited.
@@ -271,20 +247,22 @@ fn push_waits(row: &mut Row, progress: &Progress<'_>, place: usize)
     ensures short { length row.new ≤ length row.old + 186 }
 {
     let summary = progress.summary();
-    let longest = summary.longest_start(place);
-    let all = summary.all_starts(place);
-    push_starts(row, summary.starts_at(place), longest, all);
+    push_starts(
+        row,
+        summary.count(Counter::Starts, place),
+        summary.start_waits(place),
+    );
 }
 
 fn place_row(progress: &Progress<'_>, place: usize) -> Row
     requires { place < most_cpus * length progress.now.layout.queues }
     ensures { result ≡ row_text progress.now.layout (past_of progress.now.entries) TheTable.Places place }
 {
-    let queueings = progress.summary().queueings_at(place);
+    let queueings = progress.summary().count(Counter::Queueings, place);
     let mut row = Row::new();
     if queueings > 0 {
         push_place(&mut row, place);
-        push_figures(&mut row, progress, place);
+        push_place_numbers(&mut row, progress, place);
         push_waits(&mut row, progress, place);
         row.push("\n");
     }

@@ -1,3 +1,9 @@
+//! The tables of a page.
+ghost use Rattle.std.specs.Prelude.{◌≡◌};
+ghost use Rattle.cmwq_views.specs.Page.{counter_of};
+
+use cmwq_summary::Counter;
+
 /// What the rows of a page are told of.
 #[derive(Clone, Copy)]
 pub(crate) enum Table {
@@ -24,3 +30,19 @@ pub(crate) const TABLES: [Table; 6] = [
     Table::Items,
     Table::Callers,
 ];
+
+impl Table {
+    /// What its rows are numbered by.
+    pub(crate) fn counter(self) -> Counter
+        ensures { result ≡ counter_of self }
+    {
+        match self {
+            Table::Calls => Counter::Calls,
+            Table::Replies => Counter::Replies,
+            Table::Places => Counter::Queueings,
+            Table::Workers => Counter::WorkerRuns,
+            Table::Items => Counter::ItemRuns,
+            Table::Callers => Counter::CallerCalls,
+        }
+    }
+}

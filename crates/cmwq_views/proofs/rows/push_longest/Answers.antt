@@ -13,5 +13,5 @@ pub returns-else-many-eq0-clause-exact : goal.returns-else-many-eq0-clause-exact
 returns-else-many-eq0-clause-exact c =
     let l = c.args.longest in
     rw (ap (λ (b : Bool). if b then codes ", longest wait " ++ codes "-"
-    else span_text (codes ", longest wait ") l.entries l.ticks) (ne_eqb c.args.many 0 c.if-many-eq0.false))
+    else span_text (codes ", longest wait ") l) (ne_eqb c.args.many 0 c.if-many-eq0.false))
     c.push_span.ensures.exact

@@ -13,7 +13,7 @@ pub returns-else-many-eq0-clause-exact : goal.returns-else-many-eq0-clause-exact
 returns-else-many-eq0-clause-exact c =
     let a = c.args.all in let n = c.args.many in
     rw (ap (λ (b : Bool). if b then codes ", mean wait " ++ codes "-"
-    else span_text (codes ", mean wait ") (a.entries / n) (a.ticks / n)) (ne_eqb n 0 c.if-many-eq0.false))
+    else span_text (codes ", mean wait ") (record { entries = a.entries / n; ticks = a.ticks / n })) (ne_eqb n 0 c.if-many-eq0.false))
     (rw (
       c.push-else-many-eq0.ensures.exact,
       c.push_sum-else-many-eq0.ensures.exact,

@@ -1,37 +1,34 @@
-use Rattle.std.proofs.Common.{◌≡◌, ap, ap₂, ◌∙◌, max}
+use Rattle.std.proofs.Common.{◌≡◌, ap₂, ap, ◌∙◌}
 use Rattle.cmwq_model.specs.Prelude.{past_of}
-use Rattle.cmwq_summary.specs.declared.span.Span.{Span}
-use Rattle.cmwq_summary.specs.Activities.{behind}
-use Rattle.cmwq_summary.specs.Extents.{span_at}
-use Rattle.cmwq_summary.specs.Givings.{givings_of, waits_since}
+use Rattle.cmwq_summary.specs.declared.waits.Waited.{Waited}
+use Rattle.cmwq_summary.specs.Givings.{waits_since, givings_of}
+use Rattle.cmwq_summary.specs.Spans.{behind, longer}
+use Rattle.cmwq_summary.specs.TicketWaits.{by_ticket_ended, ended_wait}
+use Rattle.cmwq_summary.specs.Waits.{waited}
 use Rattle.cmwq_summary.proofs.TicketTimes.{givings_many, unended_waits_are}
 use Rattle.cmwq_summary.proofs.summary.Summary.longest_wait.Goals as goal
 
-pub waits-waits-requires : goal.waits-waits-requires
-waits-waits-requires c =
+pub waits-goes_on-requires : goal.waits-goes_on-requires
+waits-goes_on-requires c =
     let r = rw (← c.self.view_is) at c.requires in let b = c.self.inside in
     let many = givings_many b.shape (past_of b.entries) in
-    rw (c.from-caller.ensures, c.self.invariant.callers_are.givings, many) r
+    rw (c.from-caller.ensures, c.self.invariant.ticket_waits_are.givings, many) r
 
-pub of-requires : goal.of-requires
-of-requires c =
+pub at-requires : goal.at-requires
+at-requires c =
     let r = rw (← c.self.view_is) at c.requires in
-    rw (c.from-caller.ensures, c.self.invariant.callers_are.longest.many_are) r
+    rw (c.from-caller.ensures, c.self.invariant.ticket_waits_are.waits.many_are) r
 
 pub returns : goal.returns
 returns c =
     let r = rw (← c.self.view_is) at c.requires in let b = c.self.inside in let past = past_of b.entries in
-    let callers = c.self.invariant.callers_are in
+    let are = c.self.invariant.ticket_waits_are in
     let span : c.span.result ≡ behind past = rw (← c.self.view_is) at c.span.ensures.is in
-    let waits : c.waits-waits.result ≡ waits_since (givings_of b.shape past) c.args.caller.0 c.span.result =
-    rw (c.from-caller.ensures, callers.givings) at c.waits-waits.ensures in
-    let ended : c.of.result ≡ span_at b.callers.longest c.args.caller.0 = rw c.from-caller.ensures at c.of.ensures in
-    let unended = unended_waits_are b.shape past c.args.caller.0 c.span.result r span in
-    rw (← c.self.view_is) record {
-      entries = ap (λ (x : Span). x.entries) c.longer.ensures
-          ∙ ap₂ max (ap (λ (x : Span). x.entries) ended ∙ callers.longest.each_entries c.args.caller.0 r)
-          (ap (λ (x : Span). x.entries) waits ∙ unended.0);
-      ticks = ap (λ (x : Span). x.ticks) c.longer.ensures
-          ∙ ap₂ max (ap (λ (x : Span). x.ticks) ended ∙ callers.longest.each_ticks c.args.caller.0 r)
-          (ap (λ (x : Span). x.ticks) waits ∙ unended.1);
-    }
+    let waits : c.waits-goes_on.result ≡ waits_since (givings_of b.shape past) c.args.caller.0 (behind past) =
+    rw (c.from-caller.ensures, are.givings, span) at c.waits-goes_on.ensures in
+    let ended : c.at.result ≡ waited by_ticket_ended ended_wait past c.args.caller.0 =
+    rw c.from-caller.ensures at c.at.ensures ∙ are.waits.each c.args.caller.0 r in
+    rw (← c.self.view_is)
+    (c.longer.ensures
+    ∙ ap₂ longer (ap (λ (w : Waited). w.longest) ended)
+    (waits ∙ unended_waits_are b.shape past c.args.caller.0 r))

@@ -1,5 +1,7 @@
-use Rattle.std.proofs.Common.{refl, sym, arith, ap, length}
-use Rattle.cmwq_model.specs.Prelude.{now, Layout}
+use Rattle.std.proofs.Common.{refl, sym, arith}
+use Rattle.cmwq_model.specs.Prelude.{now}
+use Rattle.cmwq_summary.proofs.Activities.{idle_all}
+use Rattle.cmwq_summary.proofs.Counting.{none_counted}
 use Rattle.cmwq_summary.proofs.summary.Summary.new.Goals as goal
 
 pub invariant_of-result : goal.invariant_of-result
@@ -7,12 +9,11 @@ unfolding now
 invariant_of-result c = rw c.new-entries.ensures record {
   time_is = refl;
   soon = omega arith;
-  kinds_are = c.in_ok-kinds.ensures;
-  items_are = rw (← ap (λ (s : Layout). s.items) c.counts-counts.ensures.counts) (c.in_ok-items.ensures);
-  callers_are =
-      c.in_ok-callers.ensures c.args.shape (sym (ap (λ (s : Layout). s.callers) c.counts-counts.ensures.counts));
-  workers_are = rw (← ap (λ (s : Layout). s.cpus) c.counts-counts.ensures.counts) (c.in_ok-workers.ensures);
-  peaks_are = c.in_ok-peaks.ensures c.args.shape (sym (ap length c.queues-2.ensures));
-  places_are =
-      rw (← c.queues.ensures, ← ap (λ (s : Layout). s.items) c.counts-counts.ensures.counts) (c.in_ok-places.ensures);
+  counters_are = rw (c.in_ok-counters.ensures) (none_counted c.args.shape);
+  ticket_waits_are = c.in_ok-ticket_waits.ensures;
+  start_waits_are = c.in_ok-start_waits.ensures;
+  activities_are =
+      rw (c.in_ok-activities.ensures.items_if_clones_equal (λ y same. same), c.keys.ensures)
+      (idle_all c.args.shape.cpus);
+  peaks_are = c.in_ok-peaks.ensures c.args.shape (sym c.keys-2.ensures);
 }
