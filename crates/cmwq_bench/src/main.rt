@@ -1,9 +1,11 @@
 //! What `bench/run` times beside the words of `cmwq`. At a number from 1 to 4: so many callers, each on a thread of its
 //! own, that look at an item over and over, without a lock. At `ticks`, a number of callers and one of readers: so many
 //! callers that tick one hub, of which so many may look. At `steps`: the calls of a file, made in a Book. At `jobs`:
-//! runs of a service. At `trials`, a number of seeds: trials of a service.
+//! runs of a service. At `delays`: how long an item waits for its start. At `trials`, a number of seeds: trials of a
+//! service.
 #![tactic(auto)]
 
+mod delays;
 mod jobs;
 mod schedules;
 mod steps;
@@ -192,6 +194,9 @@ fn main(rt: HostRuntime) -> Result<()> {
     }
     if words.first().is_some_and(|word| word.as_str() == "jobs") {
         return jobs::time(&rt, &rt, words);
+    }
+    if words.first().is_some_and(|word| word.as_str() == "delays") {
+        return delays::time(&rt, &rt, words);
     }
     if words.first().is_some_and(|word| word.as_str() == "trials") {
         return schedules::time(&rt, &rt, words);

@@ -83,7 +83,10 @@ fn write_view<S: Source, O: Sink, E: Sink, V: View<O>>(
             tell_left_out(errors, file.left_out);
             Ok(None)
         }
-        Err(illegal) => Ok(Some(illegal)),
+        Err(illegal) => {
+            tell_left_out(errors, file.left_out);
+            Ok(Some(illegal))
+        }
     }
 }
 
@@ -111,7 +114,8 @@ pub fn run_view<S: Source, O: Sink, E: Sink, V: View<O>>(
 }
 
 /// As `run_view`, but where `is_front` says so of a history of which a front was written, as `run_front_check` reads
-/// it. How many bytes of an unfinished last line were left out, if any were, is told on `errors` after the view.
+/// it. How many bytes of an unfinished last line were left out, if any were, is told on `errors`, after the view or
+/// before the verdict.
 pub fn run_front_view<S: Source, O: Sink, E: Sink, V: View<O>>(
     alloc: Global,
     view: &V,

@@ -1,4 +1,5 @@
 pub mod Later
+pub mod Batching
 pub mod Settling
 pub mod Placing
 pub mod Following

@@ -5,5 +5,6 @@ pub mod Scripts
 pub mod Ending
 pub mod Starting
 pub mod Running
+pub mod Batches
 pub mod Waiting
 pub mod Prelude

@@ -14,6 +14,7 @@ pub use Rattle.cmwq_monitor.specs.Starts.{StartsOne}
 pub use Rattle.cmwq_monitor.specs.Steps.{HasEnded, HasEndedSome}
 pub use Rattle.cmwq_monitor.specs.Whole.{HadNoRoom, MakesEntries, EndsWhole, Completes, BrokeOff, Stops, is_tick}
 pub use Rattle.cmwq_monitor.specs.Whole.{ticket_in_reply}
+pub use Rattle.cmwq_rt.specs.Batches.{MakesAll, MakesBatch, StopsBatch}
 pub use Rattle.cmwq_rt.specs.Later.{Later}
 pub use Rattle.cmwq_rt.specs.Places.{Places, first_worker, after_worker, next_after, worker_by_number, all_free}
 pub use Rattle.cmwq_rt.specs.Places.{AreCounts, IsNextPlace}

@@ -1,5 +1,6 @@
 //! A caller of a hub.
-ghost use Rattle.std.specs.Prelude.{◌≡◌, ◌<◌, [], true, false, IfOk, IfErr, MatchOption, Some, None};
+ghost use Rattle.std.specs.Prelude.{◌≡◌, ◌<◌, ◌≤◌, ◌&&◌, [], true, false, length, IfOk, IfErr, MatchOption, Some, None};
+ghost use Rattle.std.specs.List.{list_all};
 ghost use mathlib.Core.List.{IsPrefix};
 ghost use Rattle.cmwq_model.specs.Prelude.{has_numbers, is_callers, past_of, IsLegal, bits};
 ghost use Rattle.cmwq_model.specs.declared.call.Call.TheVariants as calls;
@@ -8,7 +9,9 @@ ghost use Rattle.cmwq_monitor.specs.Calls.{Extends};
 ghost use Rattle.cmwq_monitor.specs.Faults.{Refused, IsStranger};
 ghost use Rattle.cmwq_monitor.specs.Whole.{Completes, BrokeOff, is_tick, ticket_in_reply};
 ghost use Rattle.cmwq_monitor.specs.Settled.{Settles};
+ghost use Rattle.cmwq_rt.specs.Batches.{MakesBatch, StopsBatch};
 
+use crate::batch::BatchFault;
 use crate::hub::Hub;
 use crate::worker::Worker;
 use cmwq_model::{Call, CpuId, ItemId, Number, QueueId, Queueing, Reply, Who};
@@ -142,6 +145,28 @@ impl<N: HubName> Caller<N> {
     {
         let _who = self.participant.who();
         hub.call(rt, &mut self.participant, call)
+    }
+
+    /// Makes calls of one entry each, one after another: 64 at most in one hold of the lock. The reply of each is
+    /// written to the place of the same number. It waits for nothing.
+    ///
+    /// # Errors
+    /// Those of `make`, with how many calls were made before. No later call is made.
+    pub fn make_all<R: Wait>(
+        &mut self,
+        rt: &R,
+        hub: &Hub<N>,
+        calls: &[Call],
+        replies: &mut [Reply],
+    ) -> Result<(), BatchFault<RunFault>>
+        requires callers { list_all (λ c. is_callers c && has_numbers N.layout c) calls.now ≡ true }
+        requires room { length calls.now ≤ length replies.old }
+        ensures made { IfOk result (λ _. MakesBatch N.layout self.old calls.now replies.old replies.new self.new) }
+        ensures stopped { IfErr result
+            (λ e. StopsBatch N.layout self.old calls.now e.made e.fault replies.old replies.new self.new) }
+    {
+        let _who = self.participant.who();
+        hub.call_all(rt, &mut self.participant, calls, replies)
     }
 
     /// A whole call under the lock, which is let go while the call waits: it makes its entry and those that belong to

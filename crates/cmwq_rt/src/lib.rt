@@ -5,6 +5,7 @@
 //! test `all_fit`. The words that the contracts cite are in `specs::Prelude`.
 #![tactic(auto)]
 
+mod batch;
 mod caller;
 mod completion;
 mod condvars;
@@ -22,6 +23,7 @@ mod waiting;
 mod work;
 mod worker;
 
+pub use batch::BatchFault;
 pub use caller::Caller;
 pub use cmwq_core::check;
 pub use cmwq_model::{

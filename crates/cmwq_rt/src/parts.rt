@@ -90,10 +90,28 @@ impl HubParts {
         ensures readers { IfOk result (λ p. p.opening.readers ≡ shape.now.callers) }
         ensures fault { IfErr result (λ f. f ≡ faults.NoMemory None) }
     {
+        let readers = shape.counts().callers;
+        HubParts::keeping_all(rt, alloc, shape, readers)
+    }
+
+    /// The same, with so many readers in place of one for each caller (`with_readers`).
+    ///
+    /// # Errors
+    /// `NoMemory` where memory runs out.
+    pub fn keeping_all<R: Wait>(
+        rt: &R,
+        alloc: Global,
+        shape: &Shape,
+        readers: u8,
+    ) -> Result<HubParts, RunFault>
+        ensures shape { IfOk result (λ p. p.shape ≡ shape.now) }
+        ensures readers { IfOk result (λ p. p.opening.readers ≡ readers) }
+        ensures fault { IfErr result (λ f. f ≡ faults.NoMemory None) }
+    {
         let Ok(kept) = u32::try_from(shape.counts().room) else {
             return Err(RunFault::NoMemory { ticket: None });
         };
-        HubParts::keeping(rt, alloc, shape, kept)
+        HubParts::with_readers(rt, alloc, shape, kept, readers)
     }
 
     /// How many entries a hub of this shape is to keep at a time, at least: those of one hold of the lock. Where fewer
@@ -124,8 +142,7 @@ impl HubParts {
     }
 
     /// The same, with so many readers in place of one for each caller: the callers that are given out first have one
-    /// each, and `busy` of the others answers None. Each reader makes all entries dearer, whether it looks or not, so
-    /// who never looks is to have none.
+    /// each, and `busy` of the others returns None. Each reader makes all entries dearer, whether it looks or not.
     ///
     /// # Errors
     /// `NoMemory` where memory runs out.
@@ -169,18 +186,22 @@ impl HubParts {
         })
     }
 
-    /// The same of a hub that drops all that it keeps where there is no space for more, for who wants no history: no
-    /// journal is to be kept of it.
+    /// The same of a hub that drops all that it keeps when there is no space for more. No journal is to be kept of it.
     ///
     /// # Errors
     /// `NoMemory` where memory runs out.
-    pub fn dropping<R: Wait>(rt: &R, alloc: Global, shape: &Shape) -> Result<HubParts, RunFault>
+    pub fn dropping<R: Wait>(
+        rt: &R,
+        alloc: Global,
+        shape: &Shape,
+        readers: u8,
+    ) -> Result<HubParts, RunFault>
         ensures shape { IfOk result (λ p. p.shape ≡ shape.now) }
-        ensures readers { IfOk result (λ p. p.opening.readers ≡ shape.now.callers) }
+        ensures readers { IfOk result (λ p. p.opening.readers ≡ readers) }
         ensures fault { IfErr result (λ f. f ≡ faults.NoMemory None) }
     {
         let kept = HubParts::least_kept(shape);
-        let mut parts = HubParts::keeping(rt, alloc, shape, kept)?;
+        let mut parts = HubParts::with_readers(rt, alloc, shape, kept, readers)?;
         parts.is_dropping = true;
         Ok(parts)
     }
@@ -194,13 +215,14 @@ impl HubParts {
         rt: &R,
         alloc: Global,
         shape: &Shape,
+        readers: u8,
         turnstile: Arc<Turnstile, Global>,
     ) -> Result<HubParts, RunFault>
         ensures shape { IfOk result (λ p. p.shape ≡ shape.now) }
-        ensures readers { IfOk result (λ p. p.opening.readers ≡ shape.now.callers) }
+        ensures readers { IfOk result (λ p. p.opening.readers ≡ readers) }
         ensures fault { IfErr result (λ f. f ≡ faults.NoMemory None) }
     {
-        let mut parts = HubParts::new(rt, alloc, shape)?;
+        let mut parts = HubParts::keeping_all(rt, alloc, shape, readers)?;
         parts.turns = Some(turnstile);
         Ok(parts)
     }

@@ -1,5 +1,6 @@
 //! What workers run.
-ghost use Rattle.std.specs.Prelude.{◌≡◌, ◌⊎◌, ◌<◌, true, false, IfOk, IfErr, None, Some, Err};
+ghost use Rattle.std.specs.Prelude.{◌≡◌, ◌⊎◌, ◌<◌, ◌≤◌, ◌&&◌, true, false, length, IfOk, IfErr, None, Some, Err};
+ghost use Rattle.std.specs.List.{list_all};
 ghost use Rattle.cmwq_model.specs.Prelude.{has_numbers, is_callers, is_workers, item_called};
 ghost use Rattle.cmwq_model.specs.declared.call.Call.TheVariants as calls;
 ghost use Rattle.cmwq_monitor.specs.Participants.{is_caller};
@@ -7,6 +8,7 @@ ghost use Rattle.cmwq_monitor.specs.Calls.{Extends};
 ghost use Rattle.cmwq_monitor.specs.Faults.{Refused, is_full};
 ghost use Rattle.cmwq_monitor.specs.declared.fault.RunFault.TheVariants.{Full};
 ghost use Rattle.cmwq_monitor.specs.declared.fault.RunFault.TheVariants as faults;
+ghost use Rattle.cmwq_rt.specs.Batches.{MakesBatch, StopsBatch, fault_after_batch};
 ghost use Rattle.cmwq_rt.specs.Later.{Later};
 ghost use Rattle.cmwq_rt.specs.Starting.{HasStarted};
 ghost use Rattle.cmwq_rt.specs.Running.{RunsItem, MakesOne, fault_after, breaks_off};
@@ -15,6 +17,7 @@ ghost use Rattle.cmwq_rt.specs.Waiting.{is_refusal, is_wait};
 ghost use Rattle.cmwq_rt.specs.declared.wait_fault.WaitFault.TheVariants as waits;
 ghost use Rattle.cmwq_monitor.specs.Whole.{is_tick};
 
+use crate::batch::BatchFault;
 use crate::caller::Caller;
 use crate::completion::Completion;
 use crate::hub::Hub;
@@ -74,6 +77,43 @@ pub trait Work {
         ensures later { Later context.old.participant context.new.participant }
         ensures done { context.new.fault ≡ None
             → does self.now N.layout item context.old.participant context.new.participant };
+}
+
+/// How many of a batch of so many calls were made.
+fn made_of_batch(answer: &Result<(), BatchFault<RunFault>>, calls: usize) -> usize {
+    match answer {
+        Ok(()) => calls,
+        Err(stopped) => stopped.made,
+    }
+}
+
+/// The fault of a run after a batch of its calls.
+fn fault_of_batch(
+    answer: &Result<(), BatchFault<RunFault>>,
+    before: Option<RunFault>,
+) -> Option<RunFault>
+    ensures { result ≡ fault_after_batch answer.now before }
+{
+    match answer {
+        Ok(()) => before,
+        Err(stopped) => match stopped.fault {
+            RunFault::Full => before,
+            fault => Some(fault),
+        },
+    }
+}
+
+/// Whether a run is asleep after the first of these replies, so many.
+fn is_asleep_after(replies: &[Reply], many: usize, before: bool) -> bool {
+    let mut is_asleep = before;
+    for reply in replies.iter().take(many) {
+        match reply {
+            Reply::Slept => is_asleep = true,
+            Reply::Woke => is_asleep = false,
+            _ => {}
+        }
+    }
+    is_asleep
 }
 
 impl<'a, N: HubName, R: Wait> RunCtx<'a, N, R> {
@@ -147,6 +187,37 @@ impl<'a, N: HubName, R: Wait> RunCtx<'a, N, R> {
             Ok(_) | Err(RunFault::Full) => {}
             Err(fault) => self.fault = Some(fault),
         }
+        answer
+    }
+
+    /// Makes calls of the worker, one after another: one entry each, 64 at most in one hold of the lock. The reply of
+    /// each is written to the place of the same number.
+    ///
+    /// # Errors
+    /// Those of `queue`, with how many calls were made before. No later call is made.
+    pub fn make_all(
+        &mut self,
+        calls: &[Call],
+        replies: &mut [Reply],
+    ) -> Result<(), BatchFault<RunFault>>
+        requires workers { list_all (λ c. is_workers c && has_numbers N.layout c) calls.now ≡ true }
+        requires room { length calls.now ≤ length replies.old }
+        ensures later { Later self.old.participant self.new.participant }
+        ensures made { IfOk result
+            (λ _. MakesBatch N.layout self.old.participant calls.now replies.old replies.new self.new.participant) }
+        ensures stopped { IfErr result
+            (λ e. StopsBatch N.layout self.old.participant calls.now e.made e.fault replies.old replies.new
+            self.new.participant) }
+        ensures fault { self.new.fault ≡ fault_after_batch result self.old.fault }
+        ensures item { self.new.item ≡ self.old.item }
+    {
+        let _who = self.participant.who();
+        let answer = self
+            .hub
+            .call_all(self.rt, &mut self.participant, calls, replies);
+        let made = made_of_batch(&answer, calls.len());
+        self.is_asleep = is_asleep_after(replies, made, self.is_asleep);
+        self.fault = fault_of_batch(&answer, self.fault);
         answer
     }
 

@@ -32,17 +32,6 @@ pub struct Report {
     pub full: u64,
 }
 
-/// The parts of a hub that keeps all its entries. Scripts never look, so it has no readers.
-fn unread_parts<R: Wait>(rt: &R, alloc: Global, shape: &Shape) -> Result<HubParts, RunFault>
-    ensures shape { IfOk result (λ p. p.shape ≡ shape.now) }
-    ensures fault { IfErr result (λ f. f ≡ faults.NoMemory None) }
-{
-    match u32::try_from(shape.counts().room) {
-        Ok(kept) => HubParts::with_readers(rt, alloc, shape, kept, 0),
-        Err(_) => Err(RunFault::NoMemory { ticket: None }),
-    }
-}
-
 /// Runs scripts on a hub of these parts, whose shape is this one.
 fn run_parts<'x, W: Work + Sync, R: Threads + Wait + Sync>(
     rt: &'x R,
@@ -131,7 +120,8 @@ pub fn run_scripts_lending<'x, W: Work + Sync, R: Threads + Wait + Sync>(
     ensures counted { IfOk result (λ r. r.answered ≡ length r.history.items) }
     ensures fails { IfErr result (FailsAs shape.now (map (λ s. s.items) scripts.now) lent) }
 {
-    match unread_parts(rt, alloc, shape) {
+    // scripts never look, so it has no readers
+    match HubParts::keeping_all(rt, alloc, shape, 0) {
         Ok(parts) => run_parts(rt, alloc, shape, parts, scripts, lent, work),
         Err(fault) => Err(fault),
     }

@@ -17,7 +17,9 @@ use Rattle.cmwq_monitor.specs.Whole.{Completes, BrokeOff}
 use Rattle.cmwq_monitor.specs.declared.fault.RunFault.{RunFault}
 use Rattle.cmwq_monitor.proofs.Beginnings.{prefix_self, prefix_trans}
 use Rattle.cmwq_monitor.proofs.Entries.{gains_none, gains_more}
+use Rattle.cmwq_rt.specs.Batches.{MakesAll, MakesBatch, StopsBatch}
 use Rattle.cmwq_rt.specs.Later.{Later}
+use Rattle.cmwq_rt.specs.declared.batch.BatchFault.{BatchFault}
 use Rattle.cmwq_service.specs.Calls.{Continues, GoesOn, IsAfter}
 
 pub goes_self : (a v : View) → v ≡ a → GoesOn a v
@@ -43,6 +45,23 @@ pub goes_whole : (s : Layout) (a v w : View) (c : Call) (o : Result Reply RunFau
     → IfOk o (λ r. Completes s v c r w) → IfErr o (λ f. BrokeOff s v c f w) → GoesOn a w
 goes_whole s a v w c (Ok r) so done broke = goes_gains a v w done.entries so done.gains
 goes_whole s a v w c (Err f) so done broke = goes_broke s a v w c f so broke
+
+goes_all : (s : Layout) (a v w : View) (cs : List Call) (rs : List Reply) → GoesOn a v → MakesAll s v cs rs w
+    → GoesOn a w
+goes_all s a v w [] [] so same = subst (GoesOn a) (sym same) so
+goes_all s a v w [] (q ∷ rs) so none = absurd none
+goes_all s a v w (d ∷ cs) [] so none = absurd none
+goes_all s a v w (d ∷ cs) (q ∷ rs) so (u, first, all) =
+    goes_all s a u w cs rs (goes_extends s a v u d q so first) all
+
+pub goes_batch : (s : Layout) (a v w : View) (cs : List Call) (old new : List Reply)
+    (o : Result (Unit {0}) (BatchFault RunFault))
+    → GoesOn a v → IfOk o (λ _. MakesBatch s v cs old new w)
+    → IfErr o (λ e. StopsBatch s v cs e.made e.fault old new w) → GoesOn a w
+goes_batch s a v w cs old new (Ok u) so made stopped = goes_all s a v w cs made.replies so made.makes
+goes_batch s a v w cs old new (Err e) so made stopped =
+    goes_refused s a stopped.middle w stopped.next e.fault
+    (goes_all s a v stopped.middle (take e.made cs) stopped.makes.replies so stopped.makes.makes) stopped.refused
 
 -- the seen is a beginning
 begins_after : (a w : View) → IsPrefix a.seen w.seen → take (length a.seen) w.seen ≡ a.seen

@@ -1,13 +1,18 @@
 -- What a call of a service answers, and what it leaves.
-use Rattle.std.specs.Prelude.{◌≡◌, ◌⊎◌, ◌≤◌, false, List, length, take}
-use Rattle.cmwq_model.specs.Prelude.{Layout, has_numbers}
+use Rattle.std.specs.Prelude.{◌≡◌, ◌⊎◌, ◌≤◌, ℕ, Bool, ◌&&◌, false, List, length, take, Result, Ok, Err}
+use Rattle.std.specs.List.{list_all}
+use Rattle.cmwq_model.specs.Prelude.{Layout, has_numbers, is_callers, is_workers}
 use Rattle.cmwq_model.specs.declared.call.Call.{Call}
 use Rattle.cmwq_model.specs.declared.call.Call.TheVariants as call
 use Rattle.cmwq_model.specs.declared.entry.Entry.{Entry}
+use Rattle.cmwq_model.specs.declared.reply.Reply.{Reply}
 use Rattle.cmwq_monitor.specs.Participants.{View, Gains}
 use Rattle.cmwq_monitor.specs.Faults.{Refused}
 use Rattle.cmwq_monitor.specs.Whole.{BrokeOff}
+use Rattle.cmwq_monitor.specs.declared.fault.RunFault.{RunFault}
+use Rattle.cmwq_rt.specs.Batches.{StopsBatch}
 use Rattle.cmwq_rt.specs.Later.{Later}
+use Rattle.cmwq_rt.specs.declared.batch.BatchFault.{BatchFault}
 use Rattle.cmwq_rt.specs.Running.{MakesOne}
 use Rattle.cmwq_rt.specs.declared.wait_fault.WaitFault.{WaitFault}
 use Rattle.cmwq_rt.specs.declared.wait_fault.WaitFault.TheVariants as wait
@@ -20,6 +25,20 @@ abbrev pub Denied : Layout → View → Call → Fault → View → Type 0
 Denied s v c Outside w = (has_numbers s c ≡ false) × (w ≡ v)
 Denied s v c (Run f) w = Refused s v c f w
 Denied _ _ _ f _ = ⊥
+
+-- a call that callers make, or workers, with its numbers inside the shape
+abbrev pub is_of_caller : Layout → Call → Bool
+is_of_caller s c = is_callers c && has_numbers s c
+
+abbrev pub is_of_worker : Layout → Call → Bool
+is_of_worker s c = is_workers c && has_numbers s c
+
+-- A batch of calls stopped: one of them isn't of its maker, and none was made, or the hub refused one.
+abbrev pub DeniedBatch : (Call → Bool) → Layout → View → List Call → ℕ → Fault → List Reply → List Reply → View → Type 0
+DeniedBatch is_own s v cs made Outside old new w =
+    (made ≡ 0) × (list_all is_own cs ≡ false) × (new ≡ old) × (w ≡ v)
+DeniedBatch is_own s v cs made (Run f) old new w = StopsBatch s v cs made f old new w
+DeniedBatch _ _ _ _ _ f _ _ _ = ⊥
 
 -- a call of several entries: so too, or it stopped after some of them
 abbrev pub Interrupted : Layout → View → Call → Fault → View → Type 0
@@ -41,6 +60,11 @@ IsFaultOfWait wait.Deadlock (Deadlock _ _) = Unit {0}
 IsFaultOfWait wait.NoCaller (NoCaller _ _) = Unit {0}
 IsFaultOfWait (wait.Run f) (Run g) = g ≡ f
 IsFaultOfWait _ _ = ⊥
+
+-- the answer of a hub to a batch, as a service sees it
+abbrev pub IsBatchAnswer : Result (Unit {0}) (BatchFault RunFault) → Result (Unit {0}) (BatchFault Fault) → Type 0
+IsBatchAnswer (Ok u) answer = answer ≡ Ok u
+IsBatchAnswer (Err stopped) answer = answer ≡ Err (record { made = stopped.made; fault = Run stopped.fault })
 
 -- the same caller, which sees all that it had seen, and has made these entries since and no others
 pub record Continues (v w : View) : Type 0 where

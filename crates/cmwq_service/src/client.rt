@@ -2,10 +2,10 @@
 ghost use Rattle.std.specs.Prelude.{◌≡◌};
 ghost use Rattle.cmwq_service.specs.Calls.{GoesOn};
 
-use crate::fault::Fault;
+use crate::fault::{Fault, are_of_callers, in_batch};
 use crate::start::Start;
 use cmwq_model::{Call, CpuId, ItemId, Number, QueueId, Reply, Shape};
-use cmwq_rt::{Caller, Completion, Hub, HubName, turns};
+use cmwq_rt::{BatchFault, Caller, Completion, Hub, HubName, turns};
 use std::marker::PhantomData;
 use std::sync::Wait;
 
@@ -18,13 +18,14 @@ use std::sync::Wait;
 /// `NoMemory` where the hub has failed, `Full`. It has made no entry then; but a call of several entries may break off
 /// after some of them, with `NoMemory`, which tells a ticket that stands unended.
 pub trait Client {
-    ghost use Rattle.std.specs.Prelude.{◌≡◌, [], false, true, IfOk, IfErr, OnOk, MatchOption, None};
+    ghost use Rattle.std.specs.Prelude.{◌≡◌, ◌≤◌, [], false, true, length, IfOk, IfErr, OnOk, MatchOption, None};
     ghost use Rattle.cmwq_model.specs.declared.call.Call.TheVariants as calls;
     ghost use Rattle.cmwq_model.specs.Prelude.{IsLegal, Layout, past_of, bits, has_numbers, is_callers};
     ghost use Rattle.cmwq_monitor.specs.Calls.{Extends};
     ghost use Rattle.cmwq_monitor.specs.Participants.{View, Gains};
     ghost use Rattle.cmwq_monitor.specs.Whole.{Completes};
-    ghost use Rattle.cmwq_service.specs.Calls.{Denied, Interrupted};
+    ghost use Rattle.cmwq_rt.specs.Batches.{MakesBatch};
+    ghost use Rattle.cmwq_service.specs.Calls.{Denied, DeniedBatch, is_of_caller, Interrupted};
     ghost use Rattle.cmwq_monitor.specs.declared.fault.RunFault.TheVariants.{NoMemory};
     ghost use Rattle.cmwq_service.specs.declared.fault.Fault.TheVariants.{Outside, Run};
 
@@ -43,7 +44,8 @@ pub trait Client {
         ensures { result ≡ (view self.now).serial };
 
     /// The bits of an item (`work_busy`): 1 if it is pending, plus 2 if it runs, after a history that begins with all
-    /// that the caller has seen. It takes no lock, and waits for nobody. None where the reader gives no guard.
+    /// that the caller has seen. It takes no lock, and waits for nobody. None where the reader gives no guard, and in a
+    /// service that says that it never looks (`Service::looks`).
     fn busy(&mut self, item: ItemId) -> Result<Option<u8>, Fault>
         ensures bits { IfOk result
             (λ o. MatchOption o (view self.new ≡ view self.old) (λ b. b ≡ bits (past_of (view self.new).seen) item.0)) }
@@ -57,6 +59,20 @@ pub trait Client {
         requires { is_callers call ≡ true }
         ensures made { IfOk result (λ reply. Extends layout (view self.old) call reply (view self.new)) }
         ensures denied { IfErr result (λ f. Denied layout (view self.old) call f (view self.new)) };
+
+    /// Makes calls of one entry each, one after another: 64 at most in one hold of the hub's lock, which is faster than
+    /// one hold for each. The reply of each is written to the place of the same number.
+    ///
+    /// # Errors
+    /// Those of `make`, with how many calls were made before; no later call is made. `Outside` also where one of them
+    /// is no call of callers; none is made then.
+    fn make_all(&mut self, calls: &[Call], replies: &mut [Reply]) -> Result<(), BatchFault<Fault>>
+        requires room { length calls.now ≤ length replies.old }
+        ensures made { IfOk result
+            (λ _. MakesBatch layout (view self.old) calls.now replies.old replies.new (view self.new)) }
+        ensures denied { IfErr result
+            (λ e. DeniedBatch (is_of_caller layout) layout (view self.old) calls.now e.made e.fault replies.old
+            replies.new (view self.new)) };
 
     /// A whole call: it makes its entry and those that belong to it, and waits where it gives a ticket. Each method
     /// below of a call of several entries makes its call by this one.
@@ -321,6 +337,16 @@ impl<'a, N: HubName, B: Start, R: Wait> Client for HubClient<'a, N, B, R> {
             Ok(reply) => Ok(reply),
             Err(fault) => Err(Fault::Run { fault }),
         }
+    }
+
+    fn make_all(&mut self, calls: &[Call], replies: &mut [Reply]) -> Result<(), BatchFault<Fault>> {
+        if !are_of_callers(self.hub.shape(), calls) {
+            return Err(BatchFault {
+                made: 0,
+                fault: Fault::Outside,
+            });
+        }
+        in_batch(self.caller.make_all(self.rt, self.hub, calls, replies))
     }
 
     fn whole(&mut self, call: Call) -> Result<Reply, Fault> {

@@ -3,10 +3,10 @@ ghost use Rattle.std.specs.Prelude.{◌≡◌};
 ghost use Rattle.cmwq_rt.specs.Later.{Later};
 ghost use Rattle.cmwq_service.specs.Calls.{IsAfter};
 
-use crate::fault::{Fault, fault_of_wait};
+use crate::fault::{Fault, are_of_workers, fault_of_wait, in_batch};
 use crate::start::Start;
 use cmwq_model::{Call, CpuId, ItemId, QueueId, Reply, Shape};
-use cmwq_rt::{Completion, HubName, RunCtx};
+use cmwq_rt::{BatchFault, Completion, HubName, RunCtx};
 use std::marker::PhantomData;
 use std::sync::Wait;
 
@@ -18,14 +18,15 @@ use std::sync::Wait;
 /// a call answers what the hub does, as `Fault::Run`: `Full` where there is no room for it, `NoMemory` where the hub
 /// has failed. It has made no entry then.
 pub trait Context {
-    ghost use Rattle.std.specs.Prelude.{◌≡◌, true, IfOk, IfErr, None};
+    ghost use Rattle.std.specs.Prelude.{◌≡◌, ◌≤◌, true, length, IfOk, IfErr, None};
     ghost use Rattle.cmwq_model.specs.declared.call.Call.TheVariants as calls;
     ghost use Rattle.cmwq_model.specs.Prelude.{Layout, is_workers};
     ghost use Rattle.cmwq_monitor.specs.Calls.{Extends};
     ghost use Rattle.cmwq_monitor.specs.Participants.{View};
     ghost use Rattle.cmwq_rt.specs.Waiting.{HasWaited, is_wait};
     ghost use Rattle.cmwq_monitor.specs.declared.fault.RunFault.TheVariants.{NoMemory};
-    ghost use Rattle.cmwq_service.specs.Calls.{Denied, Unwaited};
+    ghost use Rattle.cmwq_rt.specs.Batches.{MakesBatch};
+    ghost use Rattle.cmwq_service.specs.Calls.{Denied, DeniedBatch, is_of_worker, Unwaited};
     ghost use Rattle.cmwq_service.specs.declared.fault.Fault.TheVariants.{Run};
 
     /// The shape of its hub.
@@ -43,6 +44,20 @@ pub trait Context {
         requires { is_workers call ≡ true }
         ensures made { IfOk result (λ reply. Extends layout (view self.old) call reply (view self.new)) }
         ensures denied { IfErr result (λ f. Denied layout (view self.old) call f (view self.new)) };
+
+    /// Makes calls of the worker, one after another: 64 at most in one hold of the hub's lock, which is faster than
+    /// one hold for each. The reply of each is written to the place of the same number.
+    ///
+    /// # Errors
+    /// Those of `make`, with how many calls were made before; no later call is made. `Outside` also where one of them
+    /// is no call of workers; none is made then.
+    fn make_all(&mut self, calls: &[Call], replies: &mut [Reply]) -> Result<(), BatchFault<Fault>>
+        requires room { length calls.now ≤ length replies.old }
+        ensures made { IfOk result
+            (λ _. MakesBatch layout (view self.old) calls.now replies.old replies.new (view self.new)) }
+        ensures denied { IfErr result
+            (λ e. DeniedBatch (is_of_worker layout) layout (view self.old) calls.now e.made e.fault replies.old
+            replies.new (view self.new)) };
 
     /// Waits, by a caller that the library lends to it. The run sleeps meanwhile, and wakes after it. Each method below
     /// waits by this one.
@@ -241,6 +256,17 @@ impl<'a, N: HubName, B: Start, R: Wait> Context for HubContext<'a, N, B, R> {
             Ok(reply) => Ok(reply),
             Err(fault) => Err(Fault::Run { fault }),
         }
+    }
+
+    #[tactic(auto, using(crate::proofs::Continuing::after_later))]
+    fn make_all(&mut self, calls: &[Call], replies: &mut [Reply]) -> Result<(), BatchFault<Fault>> {
+        if !are_of_workers(self.run.shape(), calls) {
+            return Err(BatchFault {
+                made: 0,
+                fault: Fault::Outside,
+            });
+        }
+        in_batch(self.run.make_all(calls, replies))
     }
 
     #[tactic(auto, using(crate::proofs::Continuing::after_later))]

@@ -11,7 +11,7 @@ use crate::builder::OWN_CALLERS;
 use crate::client::{Client, HubClient};
 use crate::context::HubContext;
 use crate::fault::Fault;
-pub use crate::running::run_served;
+pub use crate::running::{readers_of, run_served};
 use crate::service::Service;
 use crate::signal::Signal;
 use crate::start::Start;

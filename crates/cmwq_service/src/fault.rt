@@ -1,12 +1,13 @@
 //! Why a call isn't answered, and why a service stopped.
 ghost use Rattle.std.specs.Prelude.{◌≡◌, true, None};
+ghost use Rattle.std.specs.List.{list_all};
 ghost use Rattle.cmwq_monitor.specs.declared.fault.RunFault.TheVariants.{NoMemory};
 ghost use Rattle.cmwq_rt.specs.Waiting.{is_wait};
-ghost use Rattle.cmwq_service.specs.Calls.{IsFaultOfWait};
+ghost use Rattle.cmwq_service.specs.Calls.{IsBatchAnswer, IsFaultOfWait, is_of_caller, is_of_worker};
 ghost use Rattle.cmwq_service.specs.declared.fault.Fault.TheVariants.{Run};
 
-use cmwq_model::{Call, Entry, ItemId};
-use cmwq_rt::{RunFault, WaitFault};
+use cmwq_model::{Call, Entry, ItemId, Shape};
+use cmwq_rt::{BatchFault, RunFault, WaitFault};
 use std::alloc::{AllocError, AllocFailed};
 use thiserror::Error;
 
@@ -67,6 +68,45 @@ pub(crate) fn fault_of_wait(item: ItemId, call: Call, fault: WaitFault) -> Fault
         WaitFault::Deadlock => Fault::Deadlock { item, awaited },
         WaitFault::NoCaller => Fault::NoCaller { item, awaited },
         WaitFault::Run { fault } => Fault::Run { fault },
+    }
+}
+
+/// Whether callers make such calls, and all numbers are inside the shape.
+pub(crate) fn are_of_callers(shape: &Shape, calls: &[Call]) -> bool
+    ensures { result ≡ list_all (is_of_caller shape.now) calls.now }
+{
+    calls
+        .iter()
+        .all(|call| call.is_callers() && shape.has_numbers(*call))
+}
+
+/// Whether workers make such calls, and all numbers are inside the shape.
+pub(crate) fn are_of_workers(shape: &Shape, calls: &[Call]) -> bool
+    ensures { result ≡ list_all (is_of_worker shape.now) calls.now }
+{
+    calls
+        .iter()
+        .all(|call| call.is_workers() && shape.has_numbers(*call))
+}
+
+/// What the hub answered to a batch, as a service sees it.
+pub(crate) fn in_batch(answer: Result<(), BatchFault<RunFault>>) -> Result<(), BatchFault<Fault>>
+    ensures { IsBatchAnswer answer result }
+{
+    match answer {
+        Ok(()) => Ok(()),
+        Err(BatchFault { made, fault }) => Err(BatchFault {
+            made,
+            fault: Fault::Run { fault },
+        }),
+    }
+}
+
+impl From<BatchFault<Fault>> for Fault {
+    ghost from_gives = { λ stopped fault. fault ≡ stopped.fault };
+
+    fn from(stopped: BatchFault<Fault>) -> Fault {
+        stopped.fault
     }
 }
 

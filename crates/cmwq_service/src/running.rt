@@ -1,5 +1,5 @@
 //! Runs a service on threads.
-ghost use Rattle.std.specs.Prelude.{◌≡◌, ℕ, List, IfOk, IfErr, OnOk};
+ghost use Rattle.std.specs.Prelude.{◌≡◌, ◌⊎◌, ℕ, List, IfOk, IfErr, OnOk};
 ghost use Rattle.cmwq_model.specs.Prelude.{Layout, past_of};
 ghost use Rattle.cmwq_model.specs.declared.entry.Entry as entries;
 ghost use Rattle.cmwq_core.specs.Relied.{IsReliable};
@@ -51,6 +51,17 @@ fn give_all<S: Service>(
             fault,
             history: entries,
         }),
+    }
+}
+
+/// How many callers of the service look at items.
+pub fn readers_of<S: Service>(shape: &Shape, service: &S) -> u8
+    ensures { (result ≡ 0) ⊎ (result ≡ shape.now.callers) }
+{
+    if service.looks() {
+        shape.counts().callers
+    } else {
+        0
     }
 }
 
@@ -127,7 +138,7 @@ pub fn run_with_waits<S: Service + Send + Sync, R: Threads + Wait + Clock + Sync
         Ok(serving) => serving,
         Err(fault) => return Err(stopped_at_first(alloc, fault)),
     };
-    match HubParts::new(rt, alloc, shape) {
+    match HubParts::keeping_all(rt, alloc, shape, readers_of(shape, service)) {
         Ok(parts) => run_served(rt, alloc, parts, &serving),
         Err(fault) => Err(stopped_at_first(alloc, Fault::Run { fault })),
     }
@@ -163,7 +174,7 @@ pub fn run_dropping_with_waits<S: Service + Send + Sync, R: Threads + Wait + Clo
     ensures { OnOk result ((history : List entries.Entry) × IsServed shape.now waits S.calls S.does history) }
 {
     let serving = Serving::new(rt, service, shape, waits)?;
-    match HubParts::dropping(rt, alloc, shape) {
+    match HubParts::dropping(rt, alloc, shape, readers_of(shape, service)) {
         Ok(parts) => {
             let (_rest, outcome) = run_parts(rt, alloc, parts, &serving);
             match outcome {

@@ -51,6 +51,12 @@ pub trait Service {
         Ok(())
     }
 
+    /// Whether a caller of the service looks at items by `busy`. Each entry costs less if none does, and `busy` then
+    /// returns None.
+    fn looks(&self) -> bool {
+        true
+    }
+
     /// How long after a tick of the system's clock comes the next one, which the library hands in until `end` has come
     /// to its end. A late one isn't made up for. There are none where it is left out: time is then what callers hand in
     /// by `tick`. Where both do, the ticks add up.

@@ -8,7 +8,7 @@ ghost use Rattle.cmwq_service_journal.specs.declared.writing.Unwritten.TheVarian
 use cmwq_io::Sink;
 use cmwq_model::Shape;
 use cmwq_rt_journal::{Unwritten as Unended, run_with_journal};
-use cmwq_service::crew::Serving;
+use cmwq_service::crew::{Serving, readers_of};
 use cmwq_service::{Fault, Service};
 use std::alloc::Global;
 use std::sync::Wait;
@@ -79,7 +79,7 @@ pub fn run_writing_with_waits<S: Service + Send + Sync, R: Threads + Wait + Cloc
         Ok(serving) => serving,
         Err(fault) => return Err(Unwritten::Stopped { fault }),
     };
-    let readers = shape.counts().callers;
+    let readers = readers_of(shape, service);
     match run_with_journal(rt, alloc, shape, readers, kept, &serving, &serving, output) {
         Ok(tally) => Ok(tally.answered),
         Err(Unended::Sink) => Err(Unwritten::Sink),

@@ -391,7 +391,7 @@ fn parts_of<R: Wait + Abort + AllocGlobal>(rt: &R, shape: &Shape, fate: Fate) ->
     let parts = match fate {
         Fate::Kept => HubParts::new(rt, alloc, shape),
         Fate::Seen { readers } => HubParts::with_readers(rt, alloc, shape, 100, readers),
-        Fate::Dropped => HubParts::dropping(rt, alloc, shape),
+        Fate::Dropped => HubParts::dropping(rt, alloc, shape, shape.counts().callers),
         Fate::Taken { kept, .. } => HubParts::keeping(rt, alloc, shape, kept),
     };
     parts.expect(rt, "memory")

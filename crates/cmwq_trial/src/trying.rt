@@ -9,7 +9,7 @@ use crate::failure::{Failure, Tried};
 use crate::party::{Party, Scene, have_callers_ended};
 use cmwq_model::{Entry, NoMemory, Shape};
 use cmwq_rt::{HubParts, RunFault};
-use cmwq_service::crew::{Serving, run_served};
+use cmwq_service::crew::{Serving, readers_of, run_served};
 use cmwq_service::{Fault, Service, Stopped};
 use cmwq_turns::{Schedule, Seat, Turnstile};
 use std::alloc::Global;
@@ -153,7 +153,7 @@ pub(crate) fn try_at<S: Service + Send + Sync, R: Threads + Wait + Sync>(
         Ok(serving) => serving,
         Err(fault) => return Err(stopped_at_first(alloc, seed, fault)),
     };
-    let parts = match HubParts::in_turns(rt, alloc, shape, shared) {
+    let parts = match HubParts::in_turns(rt, alloc, shape, readers_of(shape, service), shared) {
         Ok(parts) => parts,
         Err(fault) => return Err(stopped_at_first(alloc, seed, Fault::Run { fault })),
     };
