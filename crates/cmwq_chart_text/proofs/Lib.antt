@@ -1,7 +1,3 @@
-pub mod Below
 pub mod Filling
-pub mod Halves
 pub mod Ranges
-pub mod Stacked
-mod Tops
-pub mod Unmarked
+pub mod Halves

@@ -1,41 +1,46 @@
--- The text of a picture: its head, its bands one below the other, and its end.
-use Rattle.std.specs.Prelude.{ℕ, ◌+◌, List, [], ◌++◌, length, flat_map, slice_get}
-use Rattle.std.specs.Option.{option_map_or}
-use Rattle.std.specs.List.{range_with_len}
+-- The text of a picture: its head, its parts one after the other, and its end.
+use Rattle.std.specs.Prelude.{ℕ, List, [], ◌∷◌, ◌++◌, flat_map, max}
+use Rattle.std.specs.List.{fold}
 use Rattle.cmwq_model.specs.declared.entry.Entry.{Entry}
 use Rattle.cmwq_chart_text.specs.declared.figures.Figure.{Figure}
-use Rattle.cmwq_chart_text.specs.declared.figures.Row.{Row}
 use Rattle.cmwq_chart_text.specs.declared.page.Page.{Page}
 use Rattle.cmwq_chart_text.specs.declared.page.Window.{Window}
-use Rattle.cmwq_chart_text.specs.Bands.{Content, band_top, band_contents}
-use Rattle.cmwq_chart_text.specs.BandText.{band_text}
-use Rattle.cmwq_chart_text.specs.FrameText.{picture_head, picture_end}
-use Rattle.cmwq_chart_text.specs.LevelText.{scale_of}
+use Rattle.cmwq_chart_text.specs.declared.part.Frame.{Frame}
+use Rattle.cmwq_chart_text.specs.declared.part.Part.{Part}
+use Rattle.cmwq_chart_text.specs.declared.templates.TheConstants as template
+use Rattle.cmwq_chart_text.specs.Drawings.{Drawing, below, page_drawn}
+use Rattle.cmwq_chart_text.specs.Figures.{figure_open}
+use Rattle.cmwq_chart_text.specs.Filled.{filled_template}
 use Rattle.cmwq_chart_text.specs.Pages.{page_of}
+use Rattle.cmwq_chart_text.specs.PartText.{part_text}
 
--- what stands in each band of a page, and what the height of a level stands for
-pub record Drawing : Type 0 where
-  pub page : Page
-  pub scale : ℕ
-  pub bands : List Content
+pub record Pictured : Type 0 where
+  pub frame : Frame
+  pub drawn : Drawing
 
--- what a window shows of n entries, which have these rows and shapes
-abbrev pub drawing_on : Page → List Row → List Figure → Drawing
-drawing_on p rows figures = record { page = p; scale = scale_of figures; bands = band_contents p rows figures }
+abbrev pub pictured : Frame → List Part → ℕ → Pictured
+pictured g parts top = record { frame = g; drawn = record { parts = parts; top = top } }
 
-abbrev pub drawing_of : Window → ℕ → List Row → List Figure → Drawing
-drawing_of w n rows figures = drawing_on (page_of w n) rows figures
+-- the row of a queue on a CPU is as high as the most that are ever open somewhere, or as four
+abbrev pub scale_of : List Figure → ℕ
+scale_of figures = fold (λ most f. max most (figure_open f)) 4 figures
 
-abbrev pub band_at : Page → List Entry → ℕ → List Content → ℕ → List ℕ
-band_at p entries scale contents band =
-    option_map_or (band_text p entries scale band (band_top contents band)) (slice_get contents band) []
+-- what a window shows of n entries, which have these shapes
+abbrev pub frame_of : Page → List Figure → Frame
+frame_of p figures = record { page = p; scale = scale_of figures }
 
-abbrev pub bands_text : Page → List Entry → ℕ → List Content → ℕ → List ℕ
-bands_text p entries scale contents end = flat_map (band_at p entries scale contents) (range_with_len 0 end)
+abbrev pub picture_on : Page → List Figure → Pictured
+picture_on p figures = record { frame = frame_of p figures; drawn = page_drawn p figures }
 
-abbrev pub picture_height : List Content → ℕ
-picture_height contents = band_top contents (length contents) + 8
+abbrev pub picture_of : Window → ℕ → List Figure → Pictured
+picture_of w n figures = picture_on (page_of w n) figures
 
-unfoldable pub picture_text : Drawing → List Entry → List ℕ
-picture_text d entries = picture_head d.page (picture_height d.bands)
-    ++ (bands_text d.page entries d.scale d.bands (length d.bands) ++ picture_end)
+abbrev pub head_text : Page → ℕ → List ℕ
+head_text p height = filled_template template.HEAD.now (height ∷ height ∷ height ∷ p.first ∷ p.end ∷ [])
+
+abbrev pub parts_text : Frame → List Entry → List Part → List ℕ
+parts_text g entries parts = flat_map (part_text g entries) parts
+
+unfoldable pub picture_text : Pictured → List Entry → List ℕ
+picture_text d entries = head_text d.frame.page (below d.drawn.top 8)
+    ++ (parts_text d.frame entries d.drawn.parts ++ template.END.now)

@@ -1,10 +1,9 @@
 //! What is drawn, and in which rows.
-ghost use Rattle.std.specs.Prelude.{◌≡◌, ◌+◌, ◌<◌, ◌≤◌, ◌++◌, IfOk, OnOk, map};
+ghost use Rattle.std.specs.Prelude.{◌≡◌, ◌<◌, ◌≤◌, IfOk, map};
 ghost use Rattle.cmwq_chart_text.specs.Figures as spec;
 ghost use Rattle.cmwq_chart_text.specs.declared.figures.Figure.TheVariants as figure;
-ghost use Rattle.cmwq_chart_text.specs.declared.figures.Row.TheVariants as row;
 
-use cmwq_chart::{Bar, CallerLane, CallerWait, Level, Shapes, Sign, Sleep, WaitSign};
+use cmwq_chart::{Bar, CallerWait, Level, Shapes, Sign, Sleep, WaitSign};
 use cmwq_model::{CallerId, Place, Who, WorkerId};
 use std::alloc::{AllocError, Global};
 
@@ -23,53 +22,36 @@ pub enum Figure {
 /// below its bars.
 #[derive(Clone, Copy)]
 pub enum Row {
-    Caller(CallerLane),
+    Caller(CallerId),
     Worker(WorkerId),
     Place(Place),
 }
 
-fn caller_row(caller: CallerId) -> usize
-    ensures row { result ≡ spec.caller_row_number caller }
-    ensures within { result < spec.most_rows }
-{
-    caller.0.into()
-}
-
-fn worker_row(worker: WorkerId) -> usize
-    ensures row { result ≡ spec.worker_row_number worker }
-    ensures within { result < spec.most_rows }
-{
-    let high = if worker.pool.high { 256 } else { 0 };
-    256 + 512 * usize::from(worker.pool.cpu.0) + high + usize::from(worker.index)
-}
-
-fn place_row(place: Place) -> usize
-    ensures row { result ≡ spec.place_row_number place }
-    ensures within { result < spec.most_rows }
-{
-    131_328 + 256 * usize::from(place.queue.0) + usize::from(place.cpu.0)
-}
-
 impl Row {
-    /// Its number.
+    /// Its number: callers come first, then workers by CPU, pool and index, then places by queue and CPU.
     pub(crate) fn number(self) -> usize
         ensures number { result ≡ spec.row_number self }
         ensures within { result < spec.most_rows }
     {
         match self {
-            Row::Caller(lane) => caller_row(lane.caller),
-            Row::Worker(worker) => worker_row(worker),
-            Row::Place(place) => place_row(place),
+            Row::Caller(caller) => caller.0.into(),
+            Row::Worker(worker) => {
+                let high = if worker.pool.high { 256 } else { 0 };
+                256 + 512 * usize::from(worker.pool.cpu.0) + high + usize::from(worker.index)
+            }
+            Row::Place(place) => 131_328
+                + 256 * usize::from(place.queue.0)
+                + usize::from(place.cpu.0),
         }
     }
 
-    /// How high it is.
-    pub(crate) fn height(self) -> u32
-        ensures height { result ≡ spec.row_height self }
-        ensures few { result ≤ 4608 }
+    /// How high it is with so many rows of waits.
+    pub(crate) fn height(self, waits: u32) -> u32
+        requires { waits ≤ 64 }
+        ensures { result ≡ spec.row_height self waits }
     {
         match self {
-            Row::Caller(lane) => 18 * (1 + u32::from(lane.rows)),
+            Row::Caller(_) => 18 * (1 + waits),
             Row::Worker(_) => 28,
             Row::Place(_) => 36,
         }
@@ -77,21 +59,20 @@ impl Row {
 }
 
 impl Figure {
-    /// The number of its row.
-    pub(crate) fn row(self) -> usize
-        ensures row { result ≡ spec.figure_row self }
-        ensures within { result < spec.most_rows }
+    /// Its row.
+    pub(crate) fn row(self) -> Row
+        ensures { result ≡ spec.figure_row self }
     {
         match self {
-            Figure::Wait(wait) => caller_row(wait.caller),
-            Figure::WaitSign(sign) => caller_row(sign.caller),
-            Figure::Bar(bar) => worker_row(bar.worker),
-            Figure::Sleep(sleep) => worker_row(sleep.worker),
+            Figure::Wait(wait) => Row::Caller(wait.caller),
+            Figure::WaitSign(sign) => Row::Caller(sign.caller),
+            Figure::Bar(bar) => Row::Worker(bar.worker),
+            Figure::Sleep(sleep) => Row::Worker(sleep.worker),
             Figure::Sign(sign) => match sign.who {
-                Who::Caller(caller) => caller_row(caller),
-                Who::Worker(worker) => worker_row(worker),
+                Who::Caller(caller) => Row::Caller(caller),
+                Who::Worker(worker) => Row::Worker(worker),
             },
-            Figure::Level(level) => place_row(level.place),
+            Figure::Level(level) => Row::Place(level.place),
         }
     }
 
@@ -123,7 +104,19 @@ impl Figure {
         }
     }
 
-    /// Whether it is a level at which nothing is open.
+    /// Up to which row of its caller's waits it stands, the first of which is 1, and 0 if it stands in none.
+    pub(crate) fn wait_rows(self) -> u32
+        ensures rows { result ≡ spec.wait_rows self }
+        ensures few { result ≤ 64 }
+    {
+        match self {
+            Figure::Wait(wait) => wait.row.min(63) + 1,
+            Figure::WaitSign(sign) => sign.row.min(63) + 1,
+            _ => 0,
+        }
+    }
+
+    /// Whether it is a level at which nothing is open, which shows nothing.
     pub(crate) fn is_flat(self) -> bool
         ensures { result ≡ spec.is_flat self }
     {
@@ -144,112 +137,63 @@ impl Figure {
     }
 }
 
-fn push_callers(rows: &mut Vec<Row>, lanes: &[CallerLane]) -> Result<(), AllocError>
-    ensures { OnOk result (rows.new.items ≡ rows.old.items ++ map row.Caller lanes.now) }
+fn of_waits(alloc: Global, waits: &[CallerWait]) -> Result<Vec<Figure>, AllocError>
+    ensures { IfOk result (λ figures. figures.items ≡ map figure.Wait waits.now) }
 {
-    for lane in lanes {
-        rows.push(Row::Caller(*lane))?;
-    }
-    Ok(())
+    waits.iter().map(|wait| Figure::Wait(*wait)).collect(alloc)
 }
 
-fn push_workers(rows: &mut Vec<Row>, workers: &[WorkerId]) -> Result<(), AllocError>
-    ensures { OnOk result (rows.new.items ≡ rows.old.items ++ map row.Worker workers.now) }
+fn of_wait_signs(alloc: Global, wait_signs: &[WaitSign]) -> Result<Vec<Figure>, AllocError>
+    ensures { IfOk result (λ figures. figures.items ≡ map figure.WaitSign wait_signs.now) }
 {
-    for worker in workers {
-        rows.push(Row::Worker(*worker))?;
-    }
-    Ok(())
+    wait_signs
+        .iter()
+        .map(|sign| Figure::WaitSign(*sign))
+        .collect(alloc)
 }
 
-fn push_places(rows: &mut Vec<Row>, places: &[Place]) -> Result<(), AllocError>
-    ensures { OnOk result (rows.new.items ≡ rows.old.items ++ map row.Place places.now) }
+fn of_bars(alloc: Global, bars: &[Bar]) -> Result<Vec<Figure>, AllocError>
+    ensures { IfOk result (λ figures. figures.items ≡ map figure.Bar bars.now) }
 {
-    for place in places {
-        rows.push(Row::Place(*place))?;
-    }
-    Ok(())
+    bars.iter().map(|bar| Figure::Bar(*bar)).collect(alloc)
 }
 
-/// The rows of callers, workers and places.
-pub(crate) fn rows_of(alloc: Global, shapes: &Shapes) -> Result<Vec<Row>, AllocError>
-    ensures rows { IfOk result
-        (λ rows. rows.items
-        ≡ spec.drawn_rows shapes.now.callers.lanes.items shapes.now.lanes.items shapes.now.places.items) }
+fn of_sleeps(alloc: Global, sleeps: &[Sleep]) -> Result<Vec<Figure>, AllocError>
+    ensures { IfOk result (λ figures. figures.items ≡ map figure.Sleep sleeps.now) }
 {
-    let mut rows = Vec::new(alloc);
-    push_callers(&mut rows, &shapes.callers.lanes)?;
-    push_workers(&mut rows, &shapes.lanes)?;
-    push_places(&mut rows, &shapes.places)?;
-    Ok(rows)
+    sleeps
+        .iter()
+        .map(|sleep| Figure::Sleep(*sleep))
+        .collect(alloc)
 }
 
-fn push_waits(figures: &mut Vec<Figure>, waits: &[CallerWait]) -> Result<(), AllocError>
-    ensures { OnOk result (figures.new.items ≡ figures.old.items ++ map figure.Wait waits.now) }
+fn of_signs(alloc: Global, signs: &[Sign]) -> Result<Vec<Figure>, AllocError>
+    ensures { IfOk result (λ figures. figures.items ≡ map figure.Sign signs.now) }
 {
-    for wait in waits {
-        figures.push(Figure::Wait(*wait))?;
-    }
-    Ok(())
+    signs.iter().map(|sign| Figure::Sign(*sign)).collect(alloc)
 }
 
-fn push_wait_signs(figures: &mut Vec<Figure>, signs: &[WaitSign]) -> Result<(), AllocError>
-    ensures { OnOk result (figures.new.items ≡ figures.old.items ++ map figure.WaitSign signs.now) }
+fn of_levels(alloc: Global, levels: &[Level]) -> Result<Vec<Figure>, AllocError>
+    ensures { IfOk result (λ figures. figures.items ≡ map figure.Level levels.now) }
 {
-    for sign in signs {
-        figures.push(Figure::WaitSign(*sign))?;
-    }
-    Ok(())
+    levels
+        .iter()
+        .map(|level| Figure::Level(*level))
+        .collect(alloc)
 }
 
-fn push_bars(figures: &mut Vec<Figure>, bars: &[Bar]) -> Result<(), AllocError>
-    ensures { OnOk result (figures.new.items ≡ figures.old.items ++ map figure.Bar bars.now) }
-{
-    for bar in bars {
-        figures.push(Figure::Bar(*bar))?;
-    }
-    Ok(())
-}
-
-fn push_sleeps(figures: &mut Vec<Figure>, sleeps: &[Sleep]) -> Result<(), AllocError>
-    ensures { OnOk result (figures.new.items ≡ figures.old.items ++ map figure.Sleep sleeps.now) }
-{
-    for sleep in sleeps {
-        figures.push(Figure::Sleep(*sleep))?;
-    }
-    Ok(())
-}
-
-fn push_signs(figures: &mut Vec<Figure>, signs: &[Sign]) -> Result<(), AllocError>
-    ensures { OnOk result (figures.new.items ≡ figures.old.items ++ map figure.Sign signs.now) }
-{
-    for sign in signs {
-        figures.push(Figure::Sign(*sign))?;
-    }
-    Ok(())
-}
-
-fn push_levels(figures: &mut Vec<Figure>, levels: &[Level]) -> Result<(), AllocError>
-    ensures { OnOk result (figures.new.items ≡ figures.old.items ++ map figure.Level levels.now) }
-{
-    for level in levels {
-        figures.push(Figure::Level(*level))?;
-    }
-    Ok(())
-}
-
-/// All shapes, in the order in which they are drawn.
+/// All shapes, in the order in which those of a row are drawn.
 pub(crate) fn figures_of(alloc: Global, shapes: &Shapes) -> Result<Vec<Figure>, AllocError>
     ensures { IfOk result
-        (λ figures. figures.items ≡ spec.figures_of shapes.now.callers.waits.items shapes.now.callers.signs.items
-        shapes.now.bars.items shapes.now.sleeps.items shapes.now.signs.items shapes.now.levels.items) }
+        (λ figures. figures.items
+        ≡ spec.figures_of shapes.now.callers.waits.items shapes.now.callers.signs.items shapes.now.bars.items
+        shapes.now.sleeps.items shapes.now.signs.items shapes.now.levels.items) }
 {
-    let mut figures = Vec::new(alloc);
-    push_waits(&mut figures, &shapes.callers.waits)?;
-    push_wait_signs(&mut figures, &shapes.callers.signs)?;
-    push_bars(&mut figures, &shapes.bars)?;
-    push_sleeps(&mut figures, &shapes.sleeps)?;
-    push_signs(&mut figures, &shapes.signs)?;
-    push_levels(&mut figures, &shapes.levels)?;
+    let mut figures = of_waits(alloc, &shapes.callers.waits)?;
+    figures.append(&mut of_wait_signs(alloc, &shapes.callers.signs)?)?;
+    figures.append(&mut of_bars(alloc, &shapes.bars)?)?;
+    figures.append(&mut of_sleeps(alloc, &shapes.sleeps)?)?;
+    figures.append(&mut of_signs(alloc, &shapes.signs)?)?;
+    figures.append(&mut of_levels(alloc, &shapes.levels)?)?;
     Ok(figures)
 }

@@ -60,7 +60,8 @@ fn write_from<W: Sink>(
     next: usize,
 ) -> Result<(), WriteFault>
     requires { next + length template.now ≤ 9223372036854775807 }
-    ensures ok { OnOk result (Appends (W.written sink.old) (W.written sink.new) (filled_from template.now numbers.now next)) }
+    ensures ok { OnOk result
+        (Appends (W.written sink.old) (W.written sink.new) (filled_from template.now numbers.now next)) }
     ensures err { OnErr result
         (AppendsFront (W.written sink.old) (W.written sink.new) (filled_from template.now numbers.now next)) }
     ensures grown { W.troubles sink.old ≤ W.troubles sink.new }
@@ -83,7 +84,8 @@ pub fn write_filled<W: Sink>(
     template: &str,
     numbers: &[u64],
 ) -> Result<(), WriteFault>
-    ensures ok { OnOk result (Appends (W.written sink.old) (W.written sink.new) (filled_template template.now numbers.now)) }
+    ensures ok { OnOk result
+        (Appends (W.written sink.old) (W.written sink.new) (filled_template template.now numbers.now)) }
     ensures err { OnErr result
         (AppendsFront (W.written sink.old) (W.written sink.new) (filled_template template.now numbers.now)) }
     ensures grown { W.troubles sink.old ≤ W.troubles sink.new }

@@ -1,21 +1,15 @@
 //! The text of a picture: what a browser shows of the shapes of a history, as SVG.
 #![tactic(auto)]
 
-mod band_text;
-mod bands;
-mod bars;
-mod captions;
+mod drawn;
 mod figures;
 mod filled;
-mod frame;
-mod levels;
-mod names;
+mod notes;
 mod page;
+mod part;
 mod picture;
-mod signs;
-mod sleeps;
 mod spans;
-mod waits;
+mod templates;
 
 pub use filled::write_filled;
 pub use page::Window;

@@ -1,84 +1,83 @@
 //! A picture, and its text.
-ghost use Rattle.std.specs.Prelude.{◌≡◌, ◌+◌, ◌<◌, ◌≤◌, IfOk, OnOk, OnErr, length};
+ghost use Rattle.std.specs.Prelude.{◌≡◌, ◌<◌, ◌≤◌, IfOk, OnOk, OnErr};
 ghost use Rattle.std.specs.Io.KnownBytes.{Appends};
 ghost use Rattle.cmwq_io.specs.Counts.{Rises};
 ghost use Rattle.cmwq_io.specs.Moves.{AppendsFront};
-ghost use Rattle.cmwq_model.specs.Prelude.{most_callers};
-ghost use Rattle.cmwq_chart.specs.Lanes.{most_lanes};
-ghost use Rattle.cmwq_chart.specs.Levels.{most_places};
-ghost use Rattle.cmwq_chart_text.specs.Bands.{band_top};
-ghost use Rattle.cmwq_chart_text.specs.Figures.{figures_of as all_figures, drawn_rows};
+ghost use Rattle.cmwq_chart_text.specs.Figures.{figures_of as all_figures};
 ghost use Rattle.cmwq_chart_text.specs.PictureText as spec;
 
-use crate::band_text::write_band;
-use crate::bands::{Band, bands_of};
-use crate::figures::{figures_of, rows_of};
-use crate::frame::{write_end, write_head};
-use crate::levels::scale_of;
+use crate::drawn::Drawn;
+use crate::figures::{Figure, figures_of};
+use crate::filled::write_filled;
 use crate::page::{Page, Window};
-use cmwq_base::{Sink, WriteFault, flush_all};
+use crate::part::{Frame, Part, write_part};
+use crate::templates::{END, HEAD};
+use cmwq_base::{Sink, WriteFault, flush_all, write_all};
 use cmwq_chart::Shapes;
 use cmwq_model::Entry;
 use std::alloc::{AllocError, Global};
 use std::marker::Model;
 
-/// What a picture shows: what stands in each band of the page, and where.
+/// What a picture shows: parts, and where they stand.
 #[derive(Drop)]
 pub struct Picture {
-    page: Page,
-    scale: u32,
-    bands: Vec<Band>,
+    frame: Frame,
+    drawn: Drawn,
 }
 
 impl Model for Picture {
-    ghost use Rattle.std.specs.Prelude.{◌<◌, ◌≤◌, length};
-    ghost use Rattle.cmwq_chart_text.specs.PictureText.{Drawing};
+    ghost use Rattle.std.specs.Prelude.{◌<◌};
+    ghost use Rattle.cmwq_chart_text.specs.PictureText.{Pictured};
 
-    ghost Value = { Drawing };
+    ghost Value = { Pictured };
 
-    ghost view = { λ p. record { page = p.page; scale = p.scale; bands = p.bands.items } };
+    ghost view = { λ p. record { frame = p.frame; drawn = p.drawn } };
 
-    ghost invariant = { λ p. (0 < p.scale) × (length p.bands.items ≤ 1073741824) };
+    ghost invariant = { λ p. 0 < p.frame.scale };
 }
 
-/// The height of the upper edge of what stands below these bands.
-#[tactic(auto, unfolding(crate::specs::Bands::band_top))]
-fn bands_height(bands: &[Band]) -> u64
-    requires { length bands.now ≤ 1073741824 }
-    ensures top { result ≡ band_top bands.now (length bands.now) }
-    ensures few { result ≤ 5000000000000000000 }
+/// The most that are ever open in one of the levels, or four if that is more.
+fn scale_of(figures: &[Figure]) -> u32
+    ensures scale { result ≡ spec.scale_of figures.now }
+    ensures some { 0 < result }
 {
-    let mut top = 74;
-    for band in bands {
-        top += band.height();
+    let mut most = 4;
+    for figure in figures {
+        most = most.max(figure.open_count());
     }
-    top
+    most
 }
 
-/// Writes bands, one below the other.
-fn write_bands<W: Sink>(
-    sink: &mut W,
-    page: &Page,
-    entries: &[Entry],
-    scale: u32,
-    bands: &[Band],
-) -> Result<(), WriteFault>
-    requires few { length bands.now ≤ 1073741824 }
-    requires scale { 0 < scale }
-    ensures ok { OnOk result
-        (Appends (W.written sink.old) (W.written sink.new)
-        (spec.bands_text page.now entries.now scale bands.now (length bands.now))) }
+/// Writes the head of a picture of this height, with its style.
+fn write_head<W: Sink>(sink: &mut W, page: &Page, height: u32) -> Result<(), WriteFault>
+    ensures ok { OnOk result (Appends (W.written sink.old) (W.written sink.new) (spec.head_text page.now height)) }
     ensures err { OnErr result
-        (AppendsFront (W.written sink.old) (W.written sink.new)
-        (spec.bands_text page.now entries.now scale bands.now (length bands.now))) }
+        (AppendsFront (W.written sink.old) (W.written sink.new) (spec.head_text page.now height)) }
     ensures grown { W.troubles sink.old ≤ W.troubles sink.new }
     ensures fault { OnErr result (Rises (W.troubles sink.old) (W.troubles sink.new)) }
 {
-    let mut top = 74;
-    for number in 0..bands.len() {
-        let band = &bands[number];
-        write_band(sink, page, entries, scale, number as u64, top, band)?;
-        top += band.height();
+    let height = u64::from(height);
+    let numbers = [height, height, height, page.first.into(), page.end.into()];
+    write_filled(sink, HEAD, &numbers)
+}
+
+/// Writes parts, one after the other.
+fn write_parts<W: Sink>(
+    sink: &mut W,
+    frame: &Frame,
+    entries: &[Entry],
+    parts: &[Part],
+) -> Result<(), WriteFault>
+    requires { 0 < frame.now.scale }
+    ensures ok { OnOk result
+        (Appends (W.written sink.old) (W.written sink.new) (spec.parts_text frame.now entries.now parts.now)) }
+    ensures err { OnErr result
+        (AppendsFront (W.written sink.old) (W.written sink.new) (spec.parts_text frame.now entries.now parts.now)) }
+    ensures grown { W.troubles sink.old ≤ W.troubles sink.new }
+    ensures fault { OnErr result (Rises (W.troubles sink.old) (W.troubles sink.new)) }
+{
+    for part in parts {
+        write_part(sink, frame, entries, part)?;
     }
     Ok(())
 }
@@ -87,25 +86,24 @@ fn write_bands<W: Sink>(
 #[tactic(auto, unfolding(crate::specs::PictureText::picture_text))]
 fn write_picture<W: Sink>(
     sink: &mut W,
-    page: &Page,
-    scale: u32,
-    bands: &[Band],
+    frame: &Frame,
     entries: &[Entry],
+    parts: &[Part],
+    top: u32,
 ) -> Result<(), WriteFault>
-    requires few { length bands.now ≤ 1073741824 }
-    requires scale { 0 < scale }
+    requires { 0 < frame.now.scale }
     ensures ok { OnOk result
         (Appends (W.written sink.old) (W.written sink.new)
-        (spec.picture_text (record { page = page.now; scale = scale; bands = bands.now }) entries.now)) }
+        (spec.picture_text (spec.pictured frame.now parts.now top) entries.now)) }
     ensures err { OnErr result
         (AppendsFront (W.written sink.old) (W.written sink.new)
-        (spec.picture_text (record { page = page.now; scale = scale; bands = bands.now }) entries.now)) }
+        (spec.picture_text (spec.pictured frame.now parts.now top) entries.now)) }
     ensures flushed { OnOk result (W.held sink.new ≡ 0) }
     ensures fault { OnErr result (Rises (W.troubles sink.old) (W.troubles sink.new)) }
 {
-    write_head(sink, page, bands_height(bands) + 8)?;
-    write_bands(sink, page, entries, scale, bands)?;
-    write_end(sink)?;
+    write_head(sink, &frame.page, top.saturating_add(8))?;
+    write_parts(sink, frame, entries, parts)?;
+    write_all(sink, END.as_bytes())?;
     flush_all(sink)?;
     Ok(())
 }
@@ -119,24 +117,20 @@ impl Picture {
         entries: usize,
         shapes: &Shapes,
     ) -> Result<Picture, AllocError>
-        requires entries { entries ≤ 1073741824 }
-        requires callers { length shapes.now.callers.lanes.items ≤ most_callers }
-        requires lanes { length shapes.now.lanes.items ≤ most_lanes }
-        requires places { length shapes.now.places.items ≤ most_places }
+        requires { entries ≤ 1073741824 }
         ensures { IfOk result
             (λ picture. picture
-            ≡ spec.drawing_of window entries
-            (drawn_rows shapes.now.callers.lanes.items shapes.now.lanes.items shapes.now.places.items)
-            (all_figures shapes.now.callers.waits.items shapes.now.callers.signs.items shapes.now.bars.items shapes.now.sleeps.items shapes.now.signs.items shapes.now.levels.items)) }
+            ≡ spec.picture_of window entries
+            (all_figures shapes.now.callers.waits.items shapes.now.callers.signs.items shapes.now.bars.items
+            shapes.now.sleeps.items shapes.now.signs.items shapes.now.levels.items)) }
     {
         let page = Page::new(window, entries);
-        let rows = rows_of(alloc, shapes)?;
         let figures = figures_of(alloc, shapes)?;
-        let bands = bands_of(alloc, &page, &rows, &figures)?;
+        let drawn = Drawn::new(alloc, &page, &figures)?;
+        let scale = scale_of(&figures);
         Ok(Picture {
-            page,
-            scale: scale_of(&figures),
-            bands,
+            frame: Frame { page, scale },
+            drawn,
         })
     }
 
@@ -145,12 +139,19 @@ impl Picture {
     /// # Errors
     /// `WriteFault` where the sink fails, also at the flush; a front of the picture has been written then.
     pub fn write<W: Sink>(&self, sink: &mut W, entries: &[Entry]) -> Result<(), WriteFault>
-        ensures ok { OnOk result (Appends (W.written sink.old) (W.written sink.new) (spec.picture_text self.now entries.now)) }
+        ensures ok { OnOk result
+            (Appends (W.written sink.old) (W.written sink.new) (spec.picture_text self.now entries.now)) }
         ensures err { OnErr result
             (AppendsFront (W.written sink.old) (W.written sink.new) (spec.picture_text self.now entries.now)) }
         ensures flushed { OnOk result (W.held sink.new ≡ 0) }
         ensures fault { OnErr result (Rises (W.troubles sink.old) (W.troubles sink.new)) }
     {
-        write_picture(sink, &self.page, self.scale, &self.bands, entries)
+        write_picture(
+            sink,
+            &self.frame,
+            entries,
+            self.drawn.parts(),
+            self.drawn.top(),
+        )
     }
 }

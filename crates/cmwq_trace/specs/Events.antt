@@ -1,6 +1,6 @@
 -- The events of a trace, in the Trace Event Format, and their texts. A time is the number of an entry.
 use Rattle.std.specs.Prelude.{ℕ, ◌+◌, ◌-◌, ◌*◌, Bool, true, false, if◌then◌else◌, List, [], ◌∷◌, ◌++◌, map, flat_map}
-use Rattle.std.specs.Prelude.{Option, is_some, codes}
+use Rattle.std.specs.Prelude.{Option, is_some}
 use Rattle.std.specs.Option.{option_map_or}
 use Rattle.std.specs.List.{range_with_len}
 use Rattle.cmwq_model.specs.declared.id.CallerId.{CallerId}
@@ -16,8 +16,11 @@ use Rattle.cmwq_chart.specs.declared.waits.CallerWait.{CallerWait}
 use Rattle.cmwq_chart_text.specs.Filled.{filled_template}
 use Rattle.cmwq_trace.specs.declared.event.Event.{Event}
 use Rattle.cmwq_trace.specs.declared.event.Event.TheVariants as event
+use Rattle.cmwq_trace.specs.declared.event.TheConstants.{CPU, END, HEAD, LANE, LEVEL, ROW, RUN, RUN_ON, SLEEP, WAIT}
+use Rattle.cmwq_trace.specs.declared.event.TheConstants.{WAIT_ON}
 
--- ---- a process for the queues, one for the callers, in which each row of a caller's waits is a thread, and one for each pool, in which each worker is a thread
+-- ---- a process for the queues, one for the callers, in which each row of a caller's waits is a thread, and one for
+-- each pool, in which each worker is a thread
 
 abbrev pub pool_process : PoolId → ℕ
 pool_process p = 3 + 2 * p.cpu.0 + (if p.high then 1 else 0)
@@ -42,34 +45,16 @@ entries_between from to end = option_map_or (λ last. last + 1) to end - from
 
 -- ---- what the texts are, with a hole for each number
 
-unfoldable pub wait_template : Bool → List ℕ
-wait_template true =
-    codes ",\n{\"args\":{\"caller\":\"c$\",\"done\":true,\"ticket\":$},\"cat\":\"wait\",\"dur\":$,\"name\":\"ticket $\",\"ph\":\"X\",\"pid\":2,\"tid\":$,\"ts\":$}"
-wait_template false =
-    codes ",\n{\"args\":{\"caller\":\"c$\",\"done\":false,\"ticket\":$},\"cat\":\"wait\",\"dur\":$,\"name\":\"ticket $\",\"ph\":\"X\",\"pid\":2,\"tid\":$,\"ts\":$}"
-
-unfoldable pub run_template : Bool → List ℕ
-run_template true =
-    codes ",\n{\"args\":{\"finished\":true,\"item\":$,\"queueing\":$,\"worker\":\"w$~$\"},\"cat\":\"run\",\"dur\":$,\"name\":\"item $\",\"ph\":\"X\",\"pid\":$,\"tid\":$,\"ts\":$}"
-run_template false =
-    codes ",\n{\"args\":{\"finished\":false,\"item\":$,\"queueing\":$,\"worker\":\"w$~$\"},\"cat\":\"run\",\"dur\":$,\"name\":\"item $\",\"ph\":\"X\",\"pid\":$,\"tid\":$,\"ts\":$}"
-
-unfoldable pub event_template : Event → List ℕ
-event_template event.Head =
-    codes "{\"traceEvents\":[\n{\"args\":{\"name\":\"queues\"},\"name\":\"process_name\",\"ph\":\"M\",\"pid\":1},\n{\"args\":{\"name\":\"callers\"},\"name\":\"process_name\",\"ph\":\"M\",\"pid\":2}"
-event_template (event.Cpu c) =
-    codes ",\n{\"args\":{\"name\":\"CPU $\"},\"name\":\"process_name\",\"ph\":\"M\",\"pid\":$},\n{\"args\":{\"name\":\"CPU $, high priority\"},\"name\":\"process_name\",\"ph\":\"M\",\"pid\":$}"
-event_template (event.Row c r) =
-    codes ",\n{\"args\":{\"name\":\"c$, row $\"},\"name\":\"thread_name\",\"ph\":\"M\",\"pid\":2,\"tid\":$}"
-event_template (event.Lane w) =
-    codes ",\n{\"args\":{\"name\":\"w$~$\"},\"name\":\"thread_name\",\"ph\":\"M\",\"pid\":$,\"tid\":$}"
-event_template (event.Wait wait) = wait_template (is_some wait.to)
-event_template (event.Run bar) = run_template (is_some bar.to)
-event_template (event.Sleep sleep) =
-    codes ",\n{\"args\":{\"worker\":\"w$~$\"},\"cat\":\"sleep\",\"dur\":$,\"name\":\"asleep\",\"ph\":\"X\",\"pid\":$,\"tid\":$,\"ts\":$}"
-event_template (event.Level level) =
-    codes ",\n{\"args\":{\"active\":$,\"open\":$,\"width\":$},\"name\":\"queue $ on CPU $\",\"ph\":\"C\",\"pid\":1,\"ts\":$}"
-event_template event.End = codes "\n]}\n"
+abbrev pub event_template : Event → List ℕ
+event_template event.Head = HEAD.now
+event_template (event.Cpu c) = CPU.now
+event_template (event.Row c r) = ROW.now
+event_template (event.Lane w) = LANE.now
+event_template (event.Wait wait) = if is_some wait.to then WAIT.now else WAIT_ON.now
+event_template (event.Run bar) = if is_some bar.to then RUN.now else RUN_ON.now
+event_template (event.Sleep sleep) = SLEEP.now
+event_template (event.Level level) = LEVEL.now
+event_template event.End = END.now
 
 -- ---- the numbers, and 0 beyond
 
@@ -127,11 +112,10 @@ rows_events lane = map (event.Row lane.caller) (range_with_len 0 lane.rows)
 
 abbrev pub names_of : ℕ → List CallerLane → List WorkerId → List Event
 names_of cpus callers lanes =
-    event.Head ∷ (map cpu_event (range_with_len 0 cpus) ++ (flat_map rows_events callers ++ map event.Lane lanes))
+    event.Head ∷ [] ++ map cpu_event (range_with_len 0 cpus) ++ flat_map rows_events callers ++ map event.Lane lanes
 
 unfoldable pub events_of : Layout → List CallerLane → List WorkerId → List CallerWait → List Bar → List Sleep
     → List Level → List Event
 events_of s callers lanes waits bars sleeps levels =
-    names_of s.cpus callers lanes
-    ++ (map event.Wait waits
-    ++ (map event.Run bars ++ (map event.Sleep sleeps ++ (map event.Level levels ++ event.End ∷ []))))
+    names_of s.cpus callers lanes ++ map event.Wait waits ++ map event.Run bars ++ map event.Sleep sleeps
+    ++ map event.Level levels ++ event.End ∷ []

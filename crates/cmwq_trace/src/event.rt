@@ -27,6 +27,44 @@ pub enum Event {
     End,
 }
 
+const HEAD: &str = "{\"traceEvents\":[\n\
+    {\"args\":{\"name\":\"queues\"},\"name\":\"process_name\",\"ph\":\"M\",\"pid\":1},\n\
+    {\"args\":{\"name\":\"callers\"},\"name\":\"process_name\",\"ph\":\"M\",\"pid\":2}";
+
+const CPU: &str =
+    ",\n{\"args\":{\"name\":\"CPU $\"},\"name\":\"process_name\",\"ph\":\"M\",\"pid\":$},\n\
+    {\"args\":{\"name\":\"CPU $, high priority\"},\"name\":\"process_name\",\"ph\":\"M\",\"pid\":$}";
+
+const ROW: &str =
+    ",\n{\"args\":{\"name\":\"c$, row $\"},\"name\":\"thread_name\",\"ph\":\"M\",\"pid\":2,\"tid\":$}";
+
+const LANE: &str =
+    ",\n{\"args\":{\"name\":\"w$~$\"},\"name\":\"thread_name\",\"ph\":\"M\",\"pid\":$,\"tid\":$}";
+
+const WAIT: &str =
+    ",\n{\"args\":{\"caller\":\"c$\",\"done\":true,\"ticket\":$},\"cat\":\"wait\",\"dur\":$,\
+    \"name\":\"ticket $\",\"ph\":\"X\",\"pid\":2,\"tid\":$,\"ts\":$}";
+
+const WAIT_ON: &str =
+    ",\n{\"args\":{\"caller\":\"c$\",\"done\":false,\"ticket\":$},\"cat\":\"wait\",\"dur\":$,\
+    \"name\":\"ticket $\",\"ph\":\"X\",\"pid\":2,\"tid\":$,\"ts\":$}";
+
+const RUN: &str = ",\n{\"args\":{\"finished\":true,\"item\":$,\"queueing\":$,\"worker\":\"w$~$\"},\
+    \"cat\":\"run\",\"dur\":$,\"name\":\"item $\",\"ph\":\"X\",\"pid\":$,\"tid\":$,\"ts\":$}";
+
+const RUN_ON: &str =
+    ",\n{\"args\":{\"finished\":false,\"item\":$,\"queueing\":$,\"worker\":\"w$~$\"},\
+    \"cat\":\"run\",\"dur\":$,\"name\":\"item $\",\"ph\":\"X\",\"pid\":$,\"tid\":$,\"ts\":$}";
+
+const SLEEP: &str = ",\n{\"args\":{\"worker\":\"w$~$\"},\"cat\":\"sleep\",\"dur\":$,\
+    \"name\":\"asleep\",\"ph\":\"X\",\"pid\":$,\"tid\":$,\"ts\":$}";
+
+const LEVEL: &str =
+    ",\n{\"args\":{\"active\":$,\"open\":$,\"width\":$},\"name\":\"queue $ on CPU $\",\
+    \"ph\":\"C\",\"pid\":1,\"ts\":$}";
+
+const END: &str = "\n]}\n";
+
 /// The process of a pool.
 fn pool_process(pool: PoolId) -> u64
     ensures { result ≡ spec.pool_process pool }
@@ -67,49 +105,20 @@ fn entries_between(from: u32, to: Option<u32>, end: u64) -> u64
     end.saturating_sub(from.into())
 }
 
-/// What the templates are, in each of which `$` stands for a number, and `~` for a character.
-#[tactic(auto, unfolding(crate::specs::Events::event_template))]
+/// What the template of an event is, in which `$` stands for a number, and `~` for a character.
 fn template(event: &Event) -> &'static str
     ensures { result.now ≡ spec.event_template event.now }
 {
     match event {
-        Event::Head =>
-            "{\"traceEvents\":[\n{\"args\":{\"name\":\"queues\"},\"name\":\"process_name\",\"ph\":\"M\",\"pid\":1},\n{\"args\":{\"name\":\"callers\"},\"name\":\"process_name\",\"ph\":\"M\",\"pid\":2}",
-        Event::Cpu(_) =>
-            ",\n{\"args\":{\"name\":\"CPU $\"},\"name\":\"process_name\",\"ph\":\"M\",\"pid\":$},\n{\"args\":{\"name\":\"CPU $, high priority\"},\"name\":\"process_name\",\"ph\":\"M\",\"pid\":$}",
-        Event::Row(_, _) =>
-            ",\n{\"args\":{\"name\":\"c$, row $\"},\"name\":\"thread_name\",\"ph\":\"M\",\"pid\":2,\"tid\":$}",
-        Event::Lane(_) =>
-            ",\n{\"args\":{\"name\":\"w$~$\"},\"name\":\"thread_name\",\"ph\":\"M\",\"pid\":$,\"tid\":$}",
-        Event::Wait(wait) => wait_template(wait.to.is_some()),
-        Event::Run(bar) => run_template(bar.to.is_some()),
-        Event::Sleep(_) =>
-            ",\n{\"args\":{\"worker\":\"w$~$\"},\"cat\":\"sleep\",\"dur\":$,\"name\":\"asleep\",\"ph\":\"X\",\"pid\":$,\"tid\":$,\"ts\":$}",
-        Event::Level(_) =>
-            ",\n{\"args\":{\"active\":$,\"open\":$,\"width\":$},\"name\":\"queue $ on CPU $\",\"ph\":\"C\",\"pid\":1,\"ts\":$}",
-        Event::End => "\n]}\n",
-    }
-}
-
-#[tactic(auto, unfolding(crate::specs::Events::wait_template))]
-fn wait_template(is_done: bool) -> &'static str
-    ensures { result.now ≡ spec.wait_template is_done }
-{
-    if is_done {
-        ",\n{\"args\":{\"caller\":\"c$\",\"done\":true,\"ticket\":$},\"cat\":\"wait\",\"dur\":$,\"name\":\"ticket $\",\"ph\":\"X\",\"pid\":2,\"tid\":$,\"ts\":$}"
-    } else {
-        ",\n{\"args\":{\"caller\":\"c$\",\"done\":false,\"ticket\":$},\"cat\":\"wait\",\"dur\":$,\"name\":\"ticket $\",\"ph\":\"X\",\"pid\":2,\"tid\":$,\"ts\":$}"
-    }
-}
-
-#[tactic(auto, unfolding(crate::specs::Events::run_template))]
-fn run_template(is_finished: bool) -> &'static str
-    ensures { result.now ≡ spec.run_template is_finished }
-{
-    if is_finished {
-        ",\n{\"args\":{\"finished\":true,\"item\":$,\"queueing\":$,\"worker\":\"w$~$\"},\"cat\":\"run\",\"dur\":$,\"name\":\"item $\",\"ph\":\"X\",\"pid\":$,\"tid\":$,\"ts\":$}"
-    } else {
-        ",\n{\"args\":{\"finished\":false,\"item\":$,\"queueing\":$,\"worker\":\"w$~$\"},\"cat\":\"run\",\"dur\":$,\"name\":\"item $\",\"ph\":\"X\",\"pid\":$,\"tid\":$,\"ts\":$}"
+        Event::Head => HEAD,
+        Event::Cpu(_) => CPU,
+        Event::Row(_, _) => ROW,
+        Event::Lane(_) => LANE,
+        Event::Wait(wait) => if wait.to.is_some() { WAIT } else { WAIT_ON },
+        Event::Run(bar) => if bar.to.is_some() { RUN } else { RUN_ON },
+        Event::Sleep(_) => SLEEP,
+        Event::Level(_) => LEVEL,
+        Event::End => END,
     }
 }
 
@@ -243,7 +252,8 @@ fn level_numbers(level: &Level) -> [u64; 10]
 /// Writes an event of a history of so many entries.
 pub(crate) fn write_event<W: Sink>(sink: &mut W, end: u64, event: &Event) -> Result<(), WriteFault>
     ensures ok { OnOk result (Appends (W.written sink.old) (W.written sink.new) (spec.event_text end event.now)) }
-    ensures err { OnErr result (AppendsFront (W.written sink.old) (W.written sink.new) (spec.event_text end event.now)) }
+    ensures err { OnErr result
+        (AppendsFront (W.written sink.old) (W.written sink.new) (spec.event_text end event.now)) }
     ensures grown { W.troubles sink.old ≤ W.troubles sink.new }
     ensures fault { OnErr result (Rises (W.troubles sink.old) (W.troubles sink.new)) }
 {

@@ -38,49 +38,43 @@ fn push_callers(events: &mut Vec<Event>, callers: &[CallerLane]) -> Result<(), A
     Ok(())
 }
 
-fn push_lanes(events: &mut Vec<Event>, lanes: &[WorkerId]) -> Result<(), AllocError>
-    ensures { OnOk result (events.new.items ≡ events.old.items ++ map TheEvent.Lane lanes.now) }
+fn of_lanes(alloc: Global, lanes: &[WorkerId]) -> Result<Vec<Event>, AllocError>
+    ensures { IfOk result (λ events. events.items ≡ map TheEvent.Lane lanes.now) }
 {
-    for worker in lanes {
-        events.push(Event::Lane(*worker))?;
-    }
-    Ok(())
+    lanes
+        .iter()
+        .map(|worker| Event::Lane(*worker))
+        .collect(alloc)
 }
 
-fn push_waits(events: &mut Vec<Event>, waits: &[CallerWait]) -> Result<(), AllocError>
-    ensures { OnOk result (events.new.items ≡ events.old.items ++ map TheEvent.Wait waits.now) }
+fn of_waits(alloc: Global, waits: &[CallerWait]) -> Result<Vec<Event>, AllocError>
+    ensures { IfOk result (λ events. events.items ≡ map TheEvent.Wait waits.now) }
 {
-    for wait in waits {
-        events.push(Event::Wait(*wait))?;
-    }
-    Ok(())
+    waits.iter().map(|wait| Event::Wait(*wait)).collect(alloc)
 }
 
-fn push_runs(events: &mut Vec<Event>, bars: &[Bar]) -> Result<(), AllocError>
-    ensures { OnOk result (events.new.items ≡ events.old.items ++ map TheEvent.Run bars.now) }
+fn of_runs(alloc: Global, bars: &[Bar]) -> Result<Vec<Event>, AllocError>
+    ensures { IfOk result (λ events. events.items ≡ map TheEvent.Run bars.now) }
 {
-    for bar in bars {
-        events.push(Event::Run(*bar))?;
-    }
-    Ok(())
+    bars.iter().map(|bar| Event::Run(*bar)).collect(alloc)
 }
 
-fn push_sleeps(events: &mut Vec<Event>, sleeps: &[Sleep]) -> Result<(), AllocError>
-    ensures { OnOk result (events.new.items ≡ events.old.items ++ map TheEvent.Sleep sleeps.now) }
+fn of_sleeps(alloc: Global, sleeps: &[Sleep]) -> Result<Vec<Event>, AllocError>
+    ensures { IfOk result (λ events. events.items ≡ map TheEvent.Sleep sleeps.now) }
 {
-    for sleep in sleeps {
-        events.push(Event::Sleep(*sleep))?;
-    }
-    Ok(())
+    sleeps
+        .iter()
+        .map(|sleep| Event::Sleep(*sleep))
+        .collect(alloc)
 }
 
-fn push_levels(events: &mut Vec<Event>, levels: &[Level]) -> Result<(), AllocError>
-    ensures { OnOk result (events.new.items ≡ events.old.items ++ map TheEvent.Level levels.now) }
+fn of_levels(alloc: Global, levels: &[Level]) -> Result<Vec<Event>, AllocError>
+    ensures { IfOk result (λ events. events.items ≡ map TheEvent.Level levels.now) }
 {
-    for level in levels {
-        events.push(Event::Level(*level))?;
-    }
-    Ok(())
+    levels
+        .iter()
+        .map(|level| Event::Level(*level))
+        .collect(alloc)
 }
 
 /// The names of processes and threads.
@@ -96,7 +90,7 @@ fn names_of(
     names.push(Event::Head)?;
     push_cpus(&mut names, cpus)?;
     push_callers(&mut names, callers)?;
-    push_lanes(&mut names, lanes)?;
+    names.append(&mut of_lanes(alloc, lanes)?)?;
     Ok(names)
 }
 
@@ -110,10 +104,10 @@ pub fn events_of(alloc: Global, shape: &Shape, shapes: &Shapes) -> Result<Vec<Ev
 {
     let cpus = shape.counts().cpus;
     let mut events = names_of(alloc, cpus, &shapes.callers.lanes, &shapes.lanes)?;
-    push_waits(&mut events, &shapes.callers.waits)?;
-    push_runs(&mut events, &shapes.bars)?;
-    push_sleeps(&mut events, &shapes.sleeps)?;
-    push_levels(&mut events, &shapes.levels)?;
+    events.append(&mut of_waits(alloc, &shapes.callers.waits)?)?;
+    events.append(&mut of_runs(alloc, &shapes.bars)?)?;
+    events.append(&mut of_sleeps(alloc, &shapes.sleeps)?)?;
+    events.append(&mut of_levels(alloc, &shapes.levels)?)?;
     events.push(Event::End)?;
     Ok(events)
 }

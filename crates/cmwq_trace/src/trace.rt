@@ -11,7 +11,8 @@ use cmwq_base::{Sink, WriteFault, flush_all};
 /// Writes events, one after the other.
 fn write_events<W: Sink>(sink: &mut W, end: u64, events: &[Event]) -> Result<(), WriteFault>
     ensures ok { OnOk result (Appends (W.written sink.old) (W.written sink.new) (spec.events_text end events.now)) }
-    ensures err { OnErr result (AppendsFront (W.written sink.old) (W.written sink.new) (spec.events_text end events.now)) }
+    ensures err { OnErr result
+        (AppendsFront (W.written sink.old) (W.written sink.new) (spec.events_text end events.now)) }
     ensures grown { W.troubles sink.old ≤ W.troubles sink.new }
     ensures fault { OnErr result (Rises (W.troubles sink.old) (W.troubles sink.new)) }
 {
@@ -27,7 +28,8 @@ fn write_events<W: Sink>(sink: &mut W, end: u64, events: &[Event]) -> Result<(),
 /// `WriteFault` if the sink fails, also at the flush; a front of the text was written then.
 pub fn write_trace<W: Sink>(sink: &mut W, end: u64, events: &[Event]) -> Result<(), WriteFault>
     ensures ok { OnOk result (Appends (W.written sink.old) (W.written sink.new) (spec.events_text end events.now)) }
-    ensures err { OnErr result (AppendsFront (W.written sink.old) (W.written sink.new) (spec.events_text end events.now)) }
+    ensures err { OnErr result
+        (AppendsFront (W.written sink.old) (W.written sink.new) (spec.events_text end events.now)) }
     ensures flushed { OnOk result (W.held sink.new ≡ 0) }
     ensures fault { OnErr result (Rises (W.troubles sink.old) (W.troubles sink.new)) }
 {

@@ -10,19 +10,18 @@ use Rattle.cmwq_chart.specs.Bars.{bars_of}
 use Rattle.cmwq_chart.specs.CallerWaits.{callers_of, caller_waits_of, wait_signs_of}
 use Rattle.cmwq_chart.specs.Lanes.{lanes_of}
 use Rattle.cmwq_chart.specs.Levels.{levels_of}
-use Rattle.cmwq_chart.specs.Shapes.{caller_lanes_in, places_in}
+use Rattle.cmwq_chart.specs.Shapes.{places_in}
 use Rattle.cmwq_chart.specs.Signs.{signs_of}
 use Rattle.cmwq_chart.specs.Sleeps.{sleeps_of}
 use Rattle.cmwq_chart_text.specs.declared.page.Window.{Window}
-use Rattle.cmwq_chart_text.specs.Figures.{figures_of, drawn_rows}
-use Rattle.cmwq_chart_text.specs.PictureText.{drawing_of, picture_text}
+use Rattle.cmwq_chart_text.specs.Figures.{figures_of}
+use Rattle.cmwq_chart_text.specs.PictureText.{picture_of, picture_text}
 
 -- the picture of what a window shows of a history
 unfoldable pub chart_text : Window → Layout → List Entry → List ℕ
 chart_text w s entries =
     picture_text
-    (drawing_of w (length entries)
-    (drawn_rows (caller_lanes_in s entries) (lanes_of s entries) (places_in s entries))
+    (picture_of w (length entries)
     (figures_of (caller_waits_of (past_of entries) (callers_of s entries))
     (wait_signs_of (past_of entries) (callers_of s entries)) (bars_of (past_of entries))
     (sleeps_of (past_of entries) (lanes_of s entries)) (signs_of (past_of entries))

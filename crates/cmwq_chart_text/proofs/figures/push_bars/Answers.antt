@@ -1,8 +1,0 @@
-use Rattle.cmwq_chart_text.specs.declared.figures.Figure.TheVariants.{Bar}
-use Rattle.cmwq_chart_text.proofs.Stacked.{mapped_more}
-use Rattle.cmwq_chart_text.proofs.figures.push_bars.Goals as goal
-
-pub loop-bar-preserved : goal.loop-bar-preserved
-loop-bar-preserved c =
-    mapped_more Bar c.args.bars.now c.loop-bar.bar-index _ _ _ _ c.loop-bar-test.true c.loop-bar.invariant
-    c.in_ok-push.ensures.items

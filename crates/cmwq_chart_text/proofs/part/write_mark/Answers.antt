@@ -1,0 +1,37 @@
+use Rattle.std.proofs.Common.{◌++◌}
+use Rattle.std.proofs.lemmas.Result.{err_from_is_err_and}
+use Rattle.std.proofs.KnownBytes.{Appends-trans}
+use Rattle.cmwq_base.proofs.Fronts.{front_before, front_after}
+use Rattle.cmwq_chart_text.specs.declared.templates.TheConstants.{MARK_END}
+use Rattle.cmwq_chart_text.specs.PartText.{line_at, mark_text}
+use Rattle.cmwq_chart_text.proofs.part.write_mark.Goals as goal
+
+pub returns-in_err-write_filled-clause-err : goal.returns-in_err-write_filled-clause-err
+unfolding mark_text
+returns-in_err-write_filled-clause-err g c =
+    let p = err_from_is_err_and c.from_residual.result c.from_residual.ensures.1 in
+    rw (p.1) (front_before _ _ _ (line_at c.args.entries.now c.args.at ++ MARK_END.now)
+    c.in_err-write_filled.ensures.err)
+
+pub returns-in_err-write_line_at-clause-err : goal.returns-in_err-write_line_at-clause-err
+unfolding mark_text
+returns-in_err-write_line_at-clause-err g c =
+    let p = err_from_is_err_and c.from_residual-in_err-write_line_at.result
+    c.from_residual-in_err-write_line_at.ensures.1 in
+    rw (p.1) (front_after _ _ _ _ _ c.in_ok-write_filled.ensures.ok
+    (front_before _ _ _ MARK_END.now c.in_err-write_line_at.ensures.err))
+
+pub returns-in_err-write_all-clause-err : goal.returns-in_err-write_all-clause-err
+unfolding mark_text
+returns-in_err-write_all-clause-err g c =
+    let p = err_from_is_err_and c.from_residual-in_err-write_all.result c.from_residual-in_err-write_all.ensures.1 in
+    rw (p.1) (front_after _ _ _ _ _ c.in_ok-write_filled.ensures.ok
+    (front_after _ _ _ _ _ c.in_ok-write_line_at.ensures.ok
+    (rw (c.as_bytes.ensures.value) at c.in_err-write_all.ensures.err)))
+
+pub returns-clause-ok : goal.returns-clause-ok
+unfolding mark_text
+returns-clause-ok g c =
+    Appends-trans _ _ _ _ _ c.in_ok-write_filled.ensures.ok
+    (Appends-trans _ _ _ _ _ c.in_ok-write_line_at.ensures.ok
+    (rw (c.as_bytes.ensures.value) at c.in_ok-write_all.ensures.ok))
