@@ -67,7 +67,7 @@ fn bar_from(
 }
 
 /// Adds a bar after the others, where there is one.
-fn keep(bars: &mut Vec<Bar>, bar: Option<Bar>) -> Result<(), AllocError>
+fn push_if_some(bars: &mut Vec<Bar>, bar: Option<Bar>) -> Result<(), AllocError>
     ensures { OnOk result (bars.new.items ≡ bars.old.items ++ option_to_list bar) }
 {
     if let Some(bar) = bar {
@@ -85,7 +85,7 @@ pub fn bars_of(alloc: Global, entries: &[Entry]) -> Result<Vec<Bar>, AllocError>
     let finishes = finishes(alloc, entries)?;
     let mut bars = Vec::new(alloc);
     for k in 0..entries.len() {
-        keep(
+        push_if_some(
             &mut bars,
             bar_from(&entries[..k], &finishes, entries, entry_at(entries, k)),
         )?;

@@ -86,7 +86,7 @@ fn sign_of(entry: Entry, place: u32) -> Option<Sign>
 }
 
 /// Adds a sign after the others, where there is one.
-fn keep(signs: &mut Vec<Sign>, sign: Option<Sign>) -> Result<(), AllocError>
+fn push_if_some(signs: &mut Vec<Sign>, sign: Option<Sign>) -> Result<(), AllocError>
     ensures { OnOk result (signs.new.items ≡ signs.old.items ++ option_to_list sign) }
 {
     if let Some(sign) = sign {
@@ -103,7 +103,7 @@ pub fn signs_of(alloc: Global, entries: &[Entry]) -> Result<Vec<Sign>, AllocErro
 {
     let mut signs = Vec::new(alloc);
     for k in 0..entries.len() {
-        keep(&mut signs, sign_of(entry_at(entries, k), k as u32))?;
+        push_if_some(&mut signs, sign_of(entry_at(entries, k), k as u32))?;
     }
     Ok(signs)
 }

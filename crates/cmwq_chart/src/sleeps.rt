@@ -86,7 +86,7 @@ fn sleep_left(worker: WorkerId, since: Option<u32>) -> Option<Sleep>
 }
 
 /// Adds a sleep after the others, where there is one.
-fn keep(sleeps: &mut Vec<Sleep>, sleep: Option<Sleep>) -> Result<(), AllocError>
+fn push_if_some(sleeps: &mut Vec<Sleep>, sleep: Option<Sleep>) -> Result<(), AllocError>
     ensures { OnOk result (sleeps.new.items ≡ sleeps.old.items ++ option_to_list sleep) }
 {
     if let Some(sleep) = sleep {
@@ -139,7 +139,7 @@ fn follow_worker(
     requires known { spec.AreSleepsKnown (past_of entries.now) worker own.old }
     ensures { OnOk result (spec.AreSleepsKnown (entry ∷ past_of entries.now) worker own.new) }
 {
-    keep(
+    push_if_some(
         &mut own.ended,
         sleep_ended(entries, entry, worker, own.since),
     )?;
@@ -184,7 +184,7 @@ fn push_sleeps(
 {
     let since = own.since;
     sleeps.extend_from_slice(&own.ended)?;
-    keep(sleeps, sleep_left(worker, since))?;
+    push_if_some(sleeps, sleep_left(worker, since))?;
     Ok(())
 }
 

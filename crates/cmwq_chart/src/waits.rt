@@ -129,7 +129,7 @@ fn number_done(entry: Entry) -> Option<Number>
 }
 
 /// Takes the rows of a caller beyond an entry of its own.
-fn turn_rows(rows: &mut Vec<Option<u32>>, entry: Entry, place: u32) -> Result<(), AllocError>
+fn update_rows(rows: &mut Vec<Option<u32>>, entry: Entry, place: u32) -> Result<(), AllocError>
     ensures rows { OnOk result (rows.new.items ≡ spec.rows_after entry place rows.old.items) }
     ensures few { OnOk result (length rows.new.items ≤ length rows.old.items + 1) }
 {
@@ -275,7 +275,7 @@ fn follow_rows(
     ensures few { OnOk result (length rows.new.items ≤ length rows.old.items + 1) }
 {
     if is_call_of(caller, entry) {
-        turn_rows(rows, entry, entries.len() as u32)?;
+        update_rows(rows, entry, entries.len() as u32)?;
     }
     Ok(())
 }

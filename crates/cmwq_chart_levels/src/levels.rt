@@ -15,7 +15,7 @@ use cmwq_chart::{Height, Level};
 use cmwq_history::Step;
 use cmwq_model::NoMemory;
 
-/// The level that an entry behind so many ends, of that which went on before it.
+/// The level that an entry after so many ends, of that which went on before it.
 fn level_ended(before: &Level, is_changed: bool, entries: usize) -> Option<Level>
     requires { entries ≤ 1073741824 }
     ensures { result ≡ ended_if before.now is_changed entries }
@@ -46,7 +46,7 @@ fn level_after(before: &Level, is_changed: bool, height: Height, entries: usize)
     }
 }
 
-/// Puts a level behind the others.
+/// Puts a level after the others.
 pub(crate) fn push(levels: &mut Vec<Level>, level: Level) -> Result<(), NoMemory>
     ensures { OnOk result (levels.new.items ≡ levels.old.items ++ level ∷ []) }
 {
@@ -57,7 +57,7 @@ pub(crate) fn push(levels: &mut Vec<Level>, level: Level) -> Result<(), NoMemory
 }
 
 /// The same, where there is one.
-fn keep(levels: &mut Vec<Level>, level: Option<Level>) -> Result<(), NoMemory>
+fn push_if_some(levels: &mut Vec<Level>, level: Option<Level>) -> Result<(), NoMemory>
     ensures { OnOk result (levels.new.items ≡ levels.old.items ++ option_to_list level) }
 {
     if let Some(level) = level {
@@ -74,9 +74,9 @@ fn level_at(levels: &[Level], number: usize) -> Level
     levels[number]
 }
 
-/// Takes the levels that go on beyond an entry, and puts those that it ends behind the others. It looks at each of
+/// Takes the levels that go on beyond an entry, and puts those that it ends after the others. It looks at each of
 /// them.
-fn turn(levels: &mut Vec<Level>, running: &mut [Level], step: &Step<'_>) -> Result<(), NoMemory>
+fn update(levels: &mut Vec<Level>, running: &mut [Level], step: &Step<'_>) -> Result<(), NoMemory>
     requires short { length step.now.past ≤ 1073741824 }
     requires running { All (IsLevelAfter step.now.layout step.now.past) running.old }
     ensures running { OnOk result (running.new ≡ map (level_then step.now.layout (after step.now)) running.old) }
@@ -92,7 +92,7 @@ fn turn(levels: &mut Vec<Level>, running: &mut [Level], step: &Step<'_>) -> Resu
         if may_change(&effect, place) {
             let height = height_after(step, before.height, place);
             let is_changed = is_changed(entries, &before.height, &height);
-            keep(levels, level_ended(&before, is_changed, entries))?;
+            push_if_some(levels, level_ended(&before, is_changed, entries))?;
             running[k] = level_after(&before, is_changed, height, entries);
         }
     }
@@ -109,8 +109,8 @@ fn count_below(levels: &[Level], number: usize) -> usize
     levels.partition_point(|level| place_number(level.place) < number)
 }
 
-/// The same as `turn`, where the entry affects no place outside a range. It looks at the levels inside alone.
-fn turn_range(
+/// The same as `update`, where the entry affects no place outside a range. It looks at the levels inside alone.
+fn update_in_range(
     levels: &mut Vec<Level>,
     running: &mut [Level],
     step: &Step<'_>,
@@ -130,12 +130,12 @@ fn turn_range(
     let (_, rest) = running.split_at_mut(from);
     let end = count_below(rest, range.end);
     let (part, _) = rest.split_at_mut(end);
-    turn(levels, part, step)?;
+    update(levels, part, step)?;
     Ok(())
 }
 
 /// The same, where the entry affects no place outside two ranges.
-fn turn_ranges(
+fn update_in_ranges(
     levels: &mut Vec<Level>,
     running: &mut [Level],
     step: &Step<'_>,
@@ -154,13 +154,13 @@ fn turn_ranges(
 {
     let middle = count_below(running, second.from);
     let (low, high) = running.split_at_mut(middle);
-    turn_range(levels, low, step, first)?;
-    turn_range(levels, high, step, second)?;
+    update_in_range(levels, low, step, first)?;
+    update_in_range(levels, high, step, second)?;
     Ok(())
 }
 
 /// The same of any entry. It looks at the levels of those places alone that the entry may affect.
-pub(crate) fn turn_affected(
+pub(crate) fn update_affected(
     levels: &mut Vec<Level>,
     running: &mut [Level],
     step: &Step<'_>,
@@ -177,7 +177,9 @@ pub(crate) fn turn_affected(
     let effect = step.effect();
     match places_affected(&effect) {
         AffectedPlaces::Nowhere => Ok(()),
-        AffectedPlaces::Within(first, second) => turn_ranges(levels, running, step, first, second),
-        AffectedPlaces::Everywhere => turn(levels, running, step),
+        AffectedPlaces::Within(first, second) => update_in_ranges(
+            levels, running, step, first, second,
+        ),
+        AffectedPlaces::Everywhere => update(levels, running, step),
     }
 }

@@ -9,7 +9,7 @@ ghost use Rattle.cmwq_chart.specs.Marks.{AreMarks};
 ghost use Rattle.cmwq_chart_levels.specs.Seen.{AreLevels};
 
 use crate::affected::place_number;
-use crate::levels::{push, turn_affected};
+use crate::levels::{push, update_affected};
 use cmwq_chart::{Height, Level, mark};
 use cmwq_history::{Fold, Step};
 use cmwq_model::{CpuId, Entry, MOST_CPUS, NoMemory, Place, QueueId, Queueing, Shape};
@@ -96,7 +96,7 @@ fn mark_opened(used: &mut Vec<bool>, opened: Option<Queueing>)
 }
 
 /// Takes the levels beyond an entry.
-fn turn_all(
+fn update_all(
     ended: &mut Vec<Level>,
     running: &mut Vec<Level>,
     step: &Step<'_>,
@@ -107,7 +107,7 @@ fn turn_all(
 {
     // it shows that the places are in order
     let _effect = step.effect();
-    turn_affected(ended, running, step)?;
+    update_affected(ended, running, step)?;
     Ok(())
 }
 
@@ -141,7 +141,7 @@ impl Fold for Seen {
         }
         let effect = step.effect();
         push_entry(&mut self.entries, effect.entry)?;
-        turn_all(&mut self.ended, &mut self.running, step)?;
+        update_all(&mut self.ended, &mut self.running, step)?;
         mark_opened(&mut self.used, effect.opened);
         Ok(())
     }

@@ -36,7 +36,7 @@ fn used_places(alloc: Global, used: &[bool], levels: &[Level]) -> Result<Vec<Pla
 }
 
 /// Adds a level after the others, if it is to be there.
-fn keep(levels: &mut Vec<Level>, level: Level, is_there: bool) -> Result<(), AllocError>
+fn push_if(levels: &mut Vec<Level>, level: Level, is_there: bool) -> Result<(), AllocError>
     ensures { OnOk result (levels.new.items ≡ levels.old.items ++ (if is_there then level ∷ [] else [])) }
 {
     if is_there {
@@ -51,7 +51,7 @@ fn push_used(levels: &mut Vec<Level>, used: &[bool], those: &[Level]) -> Result<
 {
     for level in those {
         let is_there = is_used(used, level.place);
-        keep(levels, *level, is_there)?;
+        push_if(levels, *level, is_there)?;
     }
     Ok(())
 }

@@ -218,7 +218,7 @@ impl Drawn {
     }
 
     /// Adds the rows with the numbers from one up to an end. The shapes of one of them are found first, and then those
-    /// of the rows before it and behind it, so that each is looked at for few rows in which it doesn't stand.
+    /// of the rows before it and after it, so that each is looked at for few rows in which it doesn't stand.
     fn draw_rows(
         &mut self,
         alloc: Global,
@@ -273,7 +273,7 @@ impl Drawn {
         Ok(())
     }
 
-    /// Adds the bands from one up to an end. One of them is drawn between those before it and those behind it, so that
+    /// Adds the bands from one up to an end. One of them is drawn between those before it and those after it, so that
     /// each shape is looked at for few bands in which it doesn't stand.
     fn draw_bands(
         &mut self,

@@ -5,7 +5,7 @@ use Rattle.cmwq_chart.proofs.sleeps.follow_worker.Goals as goal
 
 pub returns : goal.returns
 returns c = record {
-  ended = c.in_ok-keep.ensures ∙ ap₂ (λ a o. a ++ option_to_list o) c.requires.known.ended c.sleep_ended.ensures
+  ended = c.in_ok-push_if_some.ensures ∙ ap₂ (λ a o. a ++ option_to_list o) c.requires.known.ended c.sleep_ended.ensures
       ∙ sym (ended_step c.args.entry (past_of c.args.entries.now) c.args.worker);
   since = c.asleep_since-own.ensures;
 }

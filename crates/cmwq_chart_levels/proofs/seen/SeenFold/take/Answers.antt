@@ -21,5 +21,5 @@ returns c =
       used = subst
           (λ o. AreMarks level_number_of (queueings s.past ++ option_to_list o) most_places c.mark_opened.new.used.items)
           opened (c.mark_opened.ensures (queueings s.past) is.used);
-      levels = c.in_ok-turn_all.ensures;
+      levels = c.in_ok-update_all.ensures;
     }

@@ -1,6 +1,6 @@
 use Rattle.std.proofs.Common.{sym, ap, ◌∙◌, ◌++◌, append-nil}
 use Rattle.cmwq_chart_levels.proofs.Outside.{all_stay, none_end, none_affected}
-use Rattle.cmwq_chart_levels.proofs.levels.turn_affected.Goals as goal
+use Rattle.cmwq_chart_levels.proofs.levels.update_affected.Goals as goal
 
 pub returns-in-Nowhere-clause-running : goal.returns-in-Nowhere-clause-running
 returns-in-Nowhere-clause-running c =

@@ -4,8 +4,8 @@ use Rattle.std.proofs.lemmas.List.Edits.{map_over_more}
 use Rattle.cmwq_chart_levels.specs.Turns.{level_after, may_change}
 use Rattle.cmwq_chart_levels.proofs.Turned.{turned, left_behind, untouched, one_more_ended, they_go_on}
 use Rattle.cmwq_chart_levels.proofs.Unmoved.{unmoved, as_it_is, none_ended}
-use Rattle.cmwq_chart_levels.proofs.levels.turn.Goals as goal
-use Rattle.cmwq_chart_levels.proofs.levels.turn.Goals.{then-may_change+in_ok-keep, else-may_change}
+use Rattle.cmwq_chart_levels.proofs.levels.update.Goals as goal
+use Rattle.cmwq_chart_levels.proofs.levels.update.Goals.{then-may_change+in_ok-push_if_some, else-may_change}
 
 pub height_after-height-requires-clause-before : goal.height_after-height-requires-clause-before
 height_after-height-requires-clause-before c =
@@ -40,7 +40,7 @@ loop-k-preserved c =
     let goes = they_go_on s past xs c.loop-k.k x c.requires.running less is in
     let many = c.at-entries.ensures in
     elim c.if-may_change.branch [
-      | then-may_change+in_ok-keep w ↦
+      | then-may_change+in_ok-push_if_some w ↦
           let now =
           w.level_after.ensures
           ∙ turned s past e x _ _ _ goes many w.height_after-height.ensures w.is_changed-is_changed.ensures in
@@ -51,7 +51,7 @@ loop-k-preserved c =
             running = w.running-is ∙ ap (slice_set c.loop-k.running c.loop-k.k) now
                 ∙ map_over_more (level_after s (e ∷ past)) xs c.loop-k.running c.loop-k.k x less
                 c.loop-k.invariant.running c.level_at-before.ensures;
-            levels = ap (λ v. v.items) w.levels-is ∙ w.in_ok-keep.ensures
+            levels = ap (λ v. v.items) w.levels-is ∙ w.in_ok-push_if_some.ensures
                 ∙ ap (λ l. l ++ option_to_list w.level_ended.result) c.loop-k.invariant.levels
                 ∙ one_more_ended s past e xs c.args.levels.now.items c.loop-k.k x w.level_ended.result less is ended;
             long = ap length w.running-is ∙ length-set c.loop-k.running c.loop-k.k w.level_after.result

@@ -2,7 +2,7 @@ use Rattle.std.proofs.Common.{◌≡◌, ◌++◌, length, map, take, drop}
 use Rattle.std.specs.Prelude.{flat_map}
 use Rattle.cmwq_history.specs.Steps.{after}
 use Rattle.cmwq_chart_levels.specs.Turns.{ended_levels, level_after}
-use Rattle.cmwq_chart_levels.proofs.levels.turn.Given as goal
+use Rattle.cmwq_chart_levels.proofs.levels.update.Given as goal
 
 abbrev pub invariant-loop-k : goal.invariant-loop-k
 invariant-loop-k l = record {

@@ -8,10 +8,10 @@ use Rattle.cmwq_chart_levels.proofs.InOrder.{all_in_order, at_each, levels_in_or
 use Rattle.cmwq_chart_levels.proofs.Outside.{all_written}
 use Rattle.cmwq_chart_levels.proofs.Places.{all_inside}
 use Rattle.cmwq_chart_levels.proofs.Turned.{all_go_on, levels_next, running_next}
-use Rattle.cmwq_chart_levels.proofs.seen.turn_all.Goals as goal
+use Rattle.cmwq_chart_levels.proofs.seen.update_all.Goals as goal
 
-pub turn_affected-requires : goal.turn_affected-requires
-turn_affected-requires c =
+pub update_affected-requires : goal.update_affected-requires
+update_affected-requires c =
     let s = c.args.step.now.layout in
     let past = c.args.step.now.past in
     let next = c.effect-effect.ensures.next in
@@ -33,11 +33,11 @@ returns c =
     let e = c.args.step.now.effect.entry in
     let i = c.requires.levels in
     let now = c.deref_mut.ensures.value ∙ i.running_are in
-    let long = ap length c.in_ok-turn_affected.ensures.running ∙ length-map c.deref_mut.result.now _
+    let long = ap length c.in_ok-update_affected.ensures.running ∙ length-map c.deref_mut.result.now _
     ∙ ap length c.deref_mut.ensures.value in
     record {
       ended_are =
-          levels_next s past e (all_places s) _ _ _ now i.ended_are c.in_ok-turn_affected.ensures.levels;
-      running_are = all_written c.turn_affected.new.running c.args.running.now.items c.args.running.now.len c.args.running.now.ok.0 long
-          ∙ running_next s past e (all_places s) _ _ now c.in_ok-turn_affected.ensures.running;
+          levels_next s past e (all_places s) _ _ _ now i.ended_are c.in_ok-update_affected.ensures.levels;
+      running_are = all_written c.update_affected.new.running c.args.running.now.items c.args.running.now.len c.args.running.now.ok.0 long
+          ∙ running_next s past e (all_places s) _ _ now c.in_ok-update_affected.ensures.running;
     }

@@ -1,6 +1,6 @@
 use Rattle.std.proofs.Common.{◌++◌, ap, ◌∙◌}
 use Rattle.cmwq_chart_levels.proofs.Outside.{range_turned, range_ended, low_stays, high_stays}
-use Rattle.cmwq_chart_levels.proofs.levels.turn_range.Goals as goal
+use Rattle.cmwq_chart_levels.proofs.levels.update_in_range.Goals as goal
 
 pub returns-clause-running : goal.returns-clause-running
 returns-clause-running c =
@@ -19,7 +19,7 @@ returns-clause-running c =
     i j c.requires.only (rw rest at c.count_below-end.ensures.from) in
     rw (front, back, rest)
     (range_turned c.args.step.now.layout c.args.step.now.past c.args.step.now.effect c.requires.effect xs
-    c.turn.new.running i j c.requires.running low high (rw (part, rest) at c.in_ok-turn.ensures.running))
+    c.update.new.running i j c.requires.running low high (rw (part, rest) at c.in_ok-update.ensures.running))
 
 pub returns-clause-levels : goal.returns-clause-levels
 returns-clause-levels c =
@@ -35,7 +35,7 @@ returns-clause-levels c =
     let high =
     high_stays c.args.step.now.layout c.args.step.now.past c.args.step.now.effect c.requires.effect xs c.args.range
     i j c.requires.only (rw rest at c.count_below-end.ensures.from) in
-    (rw (part, rest) at c.in_ok-turn.ensures.levels)
+    (rw (part, rest) at c.in_ok-update.ensures.levels)
     ∙ ap (λ l. c.args.levels.now.items ++ l)
     (range_ended c.args.step.now.layout c.args.step.now.past c.args.step.now.effect c.requires.effect xs i j low
     high)
