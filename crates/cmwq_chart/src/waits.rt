@@ -376,11 +376,14 @@ impl CallerShapes {
         callers: &[CallerId],
     ) -> Result<CallerShapes, AllocError>
         requires { length entries.now ≤ 1073741824 }
-        ensures lanes { IfOk result (λ shapes. shapes.lanes.items ≡ spec.caller_lanes_of (past_of entries.now) callers.now) }
+        ensures lanes { IfOk result
+            (λ shapes. shapes.lanes.items ≡ spec.caller_lanes_of (past_of entries.now) callers.now) }
         ensures few { IfOk result (λ shapes. length shapes.lanes.items ≡ length callers.now) }
         ensures rows { IfOk result (λ shapes. All (λ lane. lane.rows ≤ most_tickets) shapes.lanes.items) }
-        ensures waits { IfOk result (λ shapes. shapes.waits.items ≡ spec.caller_waits_of (past_of entries.now) callers.now) }
-        ensures signs { IfOk result (λ shapes. shapes.signs.items ≡ spec.wait_signs_of (past_of entries.now) callers.now) }
+        ensures waits { IfOk result
+            (λ shapes. shapes.waits.items ≡ spec.caller_waits_of (past_of entries.now) callers.now) }
+        ensures signs { IfOk result
+            (λ shapes. shapes.signs.items ≡ spec.wait_signs_of (past_of entries.now) callers.now) }
     {
         let mut lanes = Vec::new(alloc);
         let mut waits = Vec::new(alloc);
