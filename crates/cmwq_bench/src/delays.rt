@@ -57,7 +57,7 @@ impl Delays {
     /// How many nanoseconds have passed.
     fn passed<R: Clock>(&self, rt: &R) -> u64 {
         match Instant::now(rt) {
-            Ok(now) => now.duration_since(self.begin).as_nanos() as u64,
+            Ok(now) => u64::try_from(now.duration_since(self.begin).as_nanos()).unwrap_or(u64::MAX),
             Err(_) => 0,
         }
     }
