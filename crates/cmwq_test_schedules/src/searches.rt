@@ -53,21 +53,11 @@ fn a_search_is_cut_off_by_its_limit(rt: HostRuntime) {
     assert!(rt; cut > 0);
 }
 
-/// The schedule in which the thaw comes first.
+/// Of the schedule in which the thaw comes first the step of this party.
 fn thaw_first(party: usize) -> Step {
     Step {
         party,
         is_refused: false,
-    }
-}
-
-/// Plays the thaw, and then all calls of the first caller.
-fn play_thaw_first(rt: &(impl Abort + AllocGlobal), play: &mut Play<'_>) {
-    for party in [1usize, 0, 0, 0] {
-        assert!(rt; play.may_move(party));
-        let step = play.step_of(party);
-        assert!(rt; step == thaw_first(party));
-        play.make_move(step).expect(rt, "memory");
     }
 }
 
@@ -76,7 +66,12 @@ fn a_flush_under_a_freeze_is_stuck(rt: HostRuntime) {
     let script = script_of(&rt, THAW);
     let setup = Setup::new(rt.alloc(), &script).expect(&rt, "memory");
     let mut play = Play::new(rt.alloc(), &setup).expect(&rt, "memory");
-    play_thaw_first(&rt, &mut play);
+    for party in [1usize, 0, 0, 0] {
+        assert!(rt; play.may_move(party));
+        let step = play.step_of(party);
+        assert!(rt; step == thaw_first(party));
+        play.make_move(step).expect(&rt, "memory");
+    }
     assert!(rt; play.standing() == Standing::Stuck);
     assert!(rt; play.history().len() == 4);
     let party = Party::caller(&play, 0).expect(&rt, "a caller that waits");
