@@ -1,7 +1,7 @@
 //! All schedules of a script.
 
 use crate::scripts::{FLUSH, GATE, THAW, script_of};
-use cmwq_explore::{Found, Limits, Party, Play, Setup, Standing, Step, Watch, search_all};
+use cmwq_explore::{Found, Limits, Play, Setup, Standing, Watch, search_all};
 use std::process::Abort;
 
 /// How often it was told that a schedule ended, and that one got stuck.
@@ -51,28 +51,4 @@ fn every_schedule_is_counted(rt: HostRuntime) {
 fn a_search_is_cut_off_by_its_limit(rt: HostRuntime) {
     let (_, _, cut, _) = counts_of(&rt, THAW, 10);
     assert!(rt; cut > 0);
-}
-
-/// Of the schedule in which the thaw comes first the step of this party.
-fn thaw_first(party: usize) -> Step {
-    Step {
-        party,
-        is_refused: false,
-    }
-}
-
-#[test]
-fn a_flush_under_a_freeze_is_stuck(rt: HostRuntime) {
-    let script = script_of(&rt, THAW);
-    let setup = Setup::new(rt.alloc(), &script).expect(&rt, "memory");
-    let mut play = Play::new(rt.alloc(), &setup).expect(&rt, "memory");
-    for party in [1usize, 0, 0, 0] {
-        assert!(rt; play.may_move(party));
-        let step = play.step_of(party);
-        assert!(rt; step == thaw_first(party));
-        play.make_move(step).expect(&rt, "memory");
-    }
-    assert!(rt; play.standing() == Standing::Stuck);
-    assert!(rt; play.history().len() == 4);
-    assert!(rt; Party::caller(&play, 0).is_some());
 }
