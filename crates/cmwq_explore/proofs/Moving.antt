@@ -1,0 +1,75 @@
+-- Who may move takes part.
+use Rattle.std.proofs.Common.{ℕ, ◌≡◌, ◌<◌, ◌≤◌, ◌+◌, ◌-◌, Bool, true, false, length, nat_lt, slice_get, None, refl, ap}
+use Rattle.std.proofs.Common.{sym, ◌∙◌, arith, if◌then◌else◌, suc, subst, List, [], ◌∷◌, ◌++◌}
+use Rattle.std.specs.Prelude.{Contains}
+use Rattle.std.proofs.lemmas.List.Elements.{Contains-append_left, Contains-push}
+use Rattle.std.specs.Option.{option_map_or}
+use Rattle.std.proofs.lemmas.Bool.{lt-ltb, ltb-true, ltb-false, le-ltb}
+use Rattle.std.proofs.lemmas.Option.{slice_get_past}
+use Rattle.cmwq_explore.specs.Searches.{Rests}
+use Rattle.cmwq_explore.specs.Stands.{Stand, may, may_call, may_work}
+
+none_past : (p : Stand) (k : ℕ) → length p.callers + length p.workers ≤ k → may p k ≡ false
+unfolding may
+none_past p k past =
+    let beyond : length p.callers ≤ k = omega arith in
+    let over : length p.workers ≤ k - length p.callers = omega arith in
+    rw (le-ltb k (length p.callers) beyond, slice_get_past p.workers (k - length p.callers) over) refl
+
+-- after them nobody may move
+pub may_within : (p : Stand) (k : ℕ) → may p k ≡ true → k < length p.callers + length p.workers
+may_within p k is = here (nat_lt k (length p.callers + length p.workers)) refl
+  where
+    here : (b : Bool) → nat_lt k (length p.callers + length p.workers) ≡ b → k < length p.callers + length p.workers
+    here true lt = ltb-true k (length p.callers + length p.workers) lt
+    here false not = let none = none_past p k (ltb-false k (length p.callers + length p.workers) not) in cc
+
+-- of those before this one nobody may move, nor may this one
+pub none_more : (p : Stand) (k : ℕ) → ((j : ℕ) → j < k → may p j ≡ false) → may p k ≡ false → (j : ℕ) → j < suc k
+    → may p j ≡ false
+none_more p k before not_it j less = at (nat_lt j k) refl
+  where
+    at : (b : Bool) → nat_lt j k ≡ b → may p j ≡ false
+    at true lt = before j (ltb-true j k lt)
+    at false not =
+        let past = ltb-false j k not in
+        let same : k ≡ j = omega arith in
+        subst (λ i. may p i ≡ false) same not_it
+
+-- of all who take part nobody may move
+pub rests_past : (p : Stand) (n : ℕ) → length p.callers + length p.workers ≤ n → ((j : ℕ) → j < n → may p j ≡ false)
+    → Rests p
+rests_past p n past before k = at (nat_lt k n) refl
+  where
+    at : (b : Bool) → nat_lt k n ≡ b → may p k ≡ false
+    at true lt = before k (ltb-true k n lt)
+    at false not =
+        let beyond = ltb-false k n not in
+        let over : length p.callers + length p.workers ≤ k = omega arith in
+        none_past p k over
+
+-- the list of those before this one who may move, where it may not
+pub all_before : (p : Stand) (k : ℕ) (xs : List ℕ) → ((j : ℕ) → j < k → may p j ≡ true → Contains xs j)
+    → may p k ≡ false
+    → (j : ℕ) → j < suc k → may p j ≡ true → Contains xs j
+all_before p k xs before not_it j less is = at (nat_lt j k) refl
+  where
+    at : (b : Bool) → nat_lt j k ≡ b → Contains xs j
+    at true lt = before j (ltb-true j k lt) is
+    at false not =
+        let past = ltb-false j k not in
+        let same : j ≡ k = omega arith in
+        let no = rw same at is in
+        absurd cc
+
+-- the same where it may
+pub all_with : (p : Stand) (k : ℕ) (xs : List ℕ) → ((j : ℕ) → j < k → may p j ≡ true → Contains xs j)
+    → (j : ℕ) → j < suc k → may p j ≡ true → Contains (xs ++ k ∷ []) j
+all_with p k xs before j less is = at (nat_lt j k) refl
+  where
+    at : (b : Bool) → nat_lt j k ≡ b → Contains (xs ++ k ∷ []) j
+    at true lt = Contains-append_left xs (k ∷ []) j (before j (ltb-true j k lt) is)
+    at false not =
+        let past = ltb-false j k not in
+        let same : k ≡ j = omega arith in
+        subst (Contains (xs ++ k ∷ [])) same (Contains-push xs k)

@@ -1,0 +1,38 @@
+use Rattle.std.proofs.Common.{ℕ, suc, ◌≡◌, ◌<◌, ◌∙◌, length, slice_index, sym, ap, arith}
+use Rattle.cmwq_explore.specs.Stands.{Stand}
+use Rattle.cmwq_explore.specs.Chances.{IsPlayed, chosen, drawn_below}
+use Rattle.cmwq_explore.proofs.Chosen.{played_all, played_end, played_more}
+use Rattle.cmwq_explore.proofs.Searching.{is_none, is_some}
+use Rattle.cmwq_explore.proofs.chance.play_uniform.Goals as goal
+
+pub returns-then-is_empty : goal.returns-then-is_empty
+returns-then-is_empty c =
+    let movers = c.in_ok-movers.movers in
+    let none =
+    is_none movers.len (length movers.items) c.is_empty.result (omega (arith, movers.ok.0)) c.is_empty.ensures
+    c.if-is_empty.true in
+    let turn = c.loop-number-test.true in
+    played_end 2000 c.loop-number.number c.loop-number.generator c.loop-number.play movers.items
+    (IsPlayed 2000 c.args.generator.now c.args.play.now) (omega arith) c.loop-number.invariant
+    c.in_ok-movers.ensures.list none
+
+pub returns : goal.returns
+returns c =
+    let end = c.loop-number-test.false in
+    let most = c.loop-number.auto.number-end in
+    played_all 2000 c.loop-number.number c.loop-number.generator c.loop-number.play
+    (IsPlayed 2000 c.args.generator.now c.args.play.now) (omega arith) c.loop-number.invariant
+
+pub loop-number-preserved : goal.loop-number-preserved
+loop-number-preserved c = λ n e q goes.
+    let movers = c.in_ok-movers.movers in
+    let len : movers.len ≡ length movers.items = omega (arith, movers.ok.0) in
+    let some = is_some movers.len (length movers.items) c.is_empty.result len c.is_empty.ensures c.if-is_empty.false in
+    let party : c.step_of-step.result.party ≡ chosen c.loop-number.generator movers.items =
+    c.step_of-step.ensures.party
+    ∙ ap (slice_index movers.items)
+    (c.below-place.ensures.drawn ∙ ap (λ m. drawn_below m c.loop-number.generator) len) in
+    let went = rw (c.below-place.ensures.after, c.in_ok-make_move.ensures, c.step_of-step.ensures.same) at goes in
+    c.loop-number.invariant (suc n) (omega arith) q
+    (played_more n c.loop-number.generator c.loop-number.play q movers.items c.step_of-step.result
+    c.in_ok-movers.ensures.list some party went)

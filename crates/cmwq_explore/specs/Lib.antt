@@ -1,0 +1,7 @@
+pub mod Chances
+pub mod Counts
+pub mod Firsts
+pub mod Machines
+pub mod Searches
+pub mod Stands
+pub mod Starts
