@@ -1,4 +1,13 @@
-//! The word `explore`.
+//! The subcommand `explore`.
+
+ghost use Rattle.std.specs.Prelude.{◌≡◌, ◌⊎◌, ℕ, true, false, max, None, IfOk, IfSome};
+ghost use Rattle.cmwq_json_script.specs.Scripts.{run_of};
+ghost use Rattle.cmwq_explore.specs.Starts.{start_of};
+ghost use Rattle.cmwq_cmd_explore.specs.Verdicts.{EverySchedule, Holds, IsFound, OfRun, SomeStuck, Writes};
+ghost use Rattle.cmwq_cmd_explore.specs.Verdicts.{WritesLegal, WritesPlayed};
+ghost use Rattle.cmwq_cmd_explore.specs.declared.explore.Task.TheVariants as tasks;
+ghost use Rattle.cmwq_explore.specs.declared.chance.Chooser.TheVariants as choosers;
+ghost use Rattle.cmwq_cmd_explore.specs.Verdicts.{plays_all, plays_one, status_of, verdict_found};
 
 use crate::report::{write_found, write_parties, write_seeds, write_shortest, write_stuck_seed};
 use crate::watching::Watching;
@@ -10,7 +19,7 @@ use cmwq_history::{tell_full, write_history};
 use cmwq_io::{Sink, Source, tell};
 use cmwq_json::{Fault, fault_status, read_value};
 use cmwq_json_script::{Script, read_script};
-use std::alloc::Global;
+use std::alloc::{AllocError, Global};
 
 /// How many moves are made at most where no other number is given.
 const MOVES: u64 = 100_000_000;
@@ -50,7 +59,9 @@ enum Verdict {
 }
 
 /// The verdict of what was found.
-fn verdict_of(found: &Found) -> Verdict {
+fn verdict_of(found: &Found) -> Verdict
+    ensures { result ≡ verdict_found found.now }
+{
     match (found.stuck, found.cut) {
         (0, 0) => Verdict::AllEnd,
         (0, _) => Verdict::Bounded,
@@ -58,12 +69,15 @@ fn verdict_of(found: &Found) -> Verdict {
     }
 }
 
+/// How the next to move is chosen.
 fn chooser_of<'a>(
     alloc: Global,
     setup: &'a Setup<'a>,
     play: &mut Play<'a>,
     pct: Option<u64>,
-) -> Result<Chooser, Fault> {
+) -> Result<Chooser, Fault>
+    ensures { pct ≡ None → IfOk result (λ chooser. chooser ≡ choosers.Uniform) }
+{
     match pct {
         None => Ok(Chooser::Uniform),
         Some(depth) => {
@@ -86,9 +100,16 @@ fn verdict_of_play(play: &Play<'_>, standing: Standing) -> Verdict {
     }
 }
 
-fn write_play<O: Sink>(output: &mut O, play: &Play<'_>) -> Result<(), Fault> {
-    let script = play.script();
-    match write_history(output, script.version.max(2), &script.shape, play.history()) {
+/// Writes the history of a play.
+fn write_play<O: Sink>(output: &mut O, version: u8, play: &Play<'_>) -> Result<(), Fault>
+    ensures { IfOk result (λ _. Writes (max version 2) play.now.history (O.written output.old) (O.written output.new)) }
+{
+    match write_history(
+        output,
+        version.max(2),
+        play.machine().shape(),
+        play.history(),
+    ) {
         Ok(()) => Ok(()),
         Err(_) => Err(Fault::WriteFault),
     }
@@ -102,7 +123,11 @@ fn explore_seed<O: Sink, E: Sink>(
     pct: Option<u64>,
     output: &mut O,
     errors: &mut E,
-) -> Result<Verdict, Fault> {
+) -> Result<Verdict, Fault>
+    ensures legal { IfOk result (λ _. WritesLegal (O.written output.old) (O.written output.new) (run_of script.now)) }
+    ensures played { pct ≡ None
+        → IfOk result (λ _. WritesPlayed seed (O.written output.old) (O.written output.new) (run_of script.now)) }
+{
     let setup = Setup::new(alloc, script)?;
     let mut play = Play::new(alloc, &setup)?;
     let chooser = chooser_of(alloc, &setup, &mut play, pct)?;
@@ -111,7 +136,7 @@ fn explore_seed<O: Sink, E: Sink>(
     if standing != Standing::Ended {
         write_parties(alloc, errors, "cmwq: ", &play)?;
     }
-    write_play(output, &play)?;
+    write_play(output, script.version, &play)?;
     Ok(verdict_of_play(&play, standing))
 }
 
@@ -177,7 +202,7 @@ fn explore_seeds<O: Sink, E: Sink>(
         play_by(alloc, &setup, &mut play, seed, chooser)?;
         write_stuck_seed(alloc, watching.output(), seed, moves)?;
         write_parties(alloc, watching.output(), "", &play)?;
-        write_play(watching.output(), &play)?;
+        write_play(watching.output(), script.version, &play)?;
     }
     Ok(verdict_of(&found))
 }
@@ -194,7 +219,47 @@ fn tell_shortest<O: Sink>(
     play.replay(&setup, steps)?;
     write_shortest(alloc, output, &play, steps)?;
     write_parties(alloc, output, "", &play)?;
-    write_play(output, &play)
+    write_play(output, script.version, &play)
+}
+
+/// Searches all schedules, or all states.
+fn search<'a, O: Sink, E: Sink>(
+    alloc: Global,
+    setup: &'a Setup<'a>,
+    moves: u64,
+    merge: bool,
+    watching: &mut Watching<'_, O, E>,
+) -> Result<(Found, Option<Vec<Step>>), AllocError>
+    ensures { merge ≡ false → IfOk result (λ r. IsFound (start_of setup.now) r.0 r.1) }
+{
+    let limits = Limits { moves };
+    if merge {
+        return search_merged(alloc, setup, limits, watching);
+    }
+    search_all(alloc, setup, limits, watching)
+}
+
+/// Writes what a search found, unless it wrote histories.
+fn tell_found<O: Sink, E: Sink>(
+    alloc: Global,
+    script: &Script,
+    merge: bool,
+    found: &Found,
+    shortest: &Option<Vec<Step>>,
+    watching: &mut Watching<'_, O, E>,
+) -> Result<(), Fault> {
+    watching.end_progress();
+    if watching.has_failed() {
+        return Err(Fault::WriteFault);
+    }
+    if watching.writes_histories() {
+        return Ok(());
+    }
+    write_found(alloc, watching.output(), merge, found)?;
+    match shortest {
+        Some(steps) => tell_shortest(alloc, script, steps, watching.output()),
+        None => Ok(()),
+    }
 }
 
 /// All schedules.
@@ -204,25 +269,12 @@ fn explore_all<O: Sink, E: Sink>(
     moves: u64,
     merge: bool,
     watching: &mut Watching<'_, O, E>,
-) -> Result<Verdict, Fault> {
+) -> Result<Verdict, Fault>
+    ensures { IfOk result (λ verdict. merge ≡ false → Holds (run_of script.now) verdict) }
+{
     let setup = Setup::new(alloc, script)?;
-    let limits = Limits { moves };
-    let (found, shortest) = if merge {
-        search_merged(alloc, &setup, limits, watching)?
-    } else {
-        search_all(alloc, &setup, limits, watching)?
-    };
-    watching.end_progress();
-    if watching.has_failed() {
-        return Err(Fault::WriteFault);
-    }
-    if watching.writes_histories() {
-        return Ok(verdict_of(&found));
-    }
-    write_found(alloc, watching.output(), merge, &found)?;
-    if let Some(steps) = &shortest {
-        tell_shortest(alloc, script, steps, watching.output())?;
-    }
+    let (found, shortest) = search(alloc, &setup, moves, merge, watching)?;
+    tell_found(alloc, script, merge, &found, &shortest, watching)?;
     Ok(verdict_of(&found))
 }
 
@@ -234,7 +286,13 @@ fn explore_script<O: Sink, E: Sink>(
     output: &mut O,
     errors: &mut E,
     shows_progress: bool,
-) -> Result<Verdict, Fault> {
+) -> Result<Verdict, Fault>
+    ensures all { IfOk result (λ verdict. plays_all task ≡ true → Holds (run_of script.now) verdict) }
+    ensures one { IfOk result (λ _. plays_one task ≡ true
+        → WritesLegal (O.written output.old) (O.written output.new) (run_of script.now)) }
+    ensures played { IfOk result (λ _. (seed : ℕ) → task ≡ tasks.OfSeed seed None
+        → WritesPlayed seed (O.written output.old) (O.written output.new) (run_of script.now)) }
+{
     match task {
         Task::OfSeed { seed, pct } => explore_seed(alloc, script, seed, pct, output, errors),
         Task::OfSeeds { times, pct } => {
@@ -261,7 +319,14 @@ fn explore<S: Source, O: Sink, E: Sink>(
     errors: &mut E,
     task: Task,
     shows_progress: bool,
-) -> Result<Verdict, Fault> {
+) -> Result<Verdict, Fault>
+    ensures all { IfOk result (λ verdict. plays_all task ≡ true
+        → IfSome (S.left input.old) (OfRun (λ r. Holds r verdict))) }
+    ensures one { IfOk result (λ _. plays_one task ≡ true
+        → IfSome (S.left input.old) (OfRun (WritesLegal (O.written output.old) (O.written output.new)))) }
+    ensures played { IfOk result (λ _. (seed : ℕ) → task ≡ tasks.OfSeed seed None
+        → IfSome (S.left input.old) (OfRun (WritesPlayed seed (O.written output.old) (O.written output.new)))) }
+{
     let value = read_value(alloc, input)?;
     match read_script(alloc, &value)? {
         Ok(script) => explore_script(alloc, &script, task, output, errors, shows_progress),
@@ -281,7 +346,14 @@ pub fn run_explore<S: Source, O: Sink, E: Sink>(
     errors: &mut E,
     task: Task,
     shows_progress: bool,
-) -> u8 {
+) -> u8
+    ensures all { result ≡ 0 → plays_all task ≡ true → IfSome (S.left input.old) (OfRun EverySchedule) }
+    ensures stuck { result ≡ 7 → plays_all task ≡ true → IfSome (S.left input.old) (OfRun SomeStuck) }
+    ensures one { (result ≡ 0) ⊎ (result ≡ 7) → plays_one task ≡ true
+        → IfSome (S.left input.old) (OfRun (WritesLegal (O.written output.old) (O.written output.new))) }
+    ensures played { (result ≡ 0) ⊎ (result ≡ 7) → (seed : ℕ) → task ≡ tasks.OfSeed seed None
+        → IfSome (S.left input.old) (OfRun (WritesPlayed seed (O.written output.old) (O.written output.new))) }
+{
     match explore(alloc, input, output, errors, task, shows_progress) {
         Ok(verdict) => tell_verdict(verdict, errors),
         Err(fault) => {
@@ -291,7 +363,10 @@ pub fn run_explore<S: Source, O: Sink, E: Sink>(
     }
 }
 
-fn tell_verdict<E: Sink>(verdict: Verdict, errors: &mut E) -> u8 {
+/// Tells how schedules ended, and returns the exit status.
+fn tell_verdict<E: Sink>(verdict: Verdict, errors: &mut E) -> u8
+    ensures { result ≡ status_of verdict }
+{
     match verdict {
         Verdict::AllEnd => 0,
         Verdict::LeftOut(left_out) => {

@@ -1,4 +1,4 @@
-//! The word `explore`, over any source of bytes and any sinks.
+//! The subcommand `explore`, over any source of bytes and any sinks.
 #![tactic(auto)]
 
 mod explore;
