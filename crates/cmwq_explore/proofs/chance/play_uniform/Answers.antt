@@ -1,4 +1,5 @@
 use Rattle.std.proofs.Common.{ℕ, suc, ◌≡◌, ◌<◌, ◌∙◌, length, slice_index, sym, ap, arith}
+use Rattle.std.proofs.lemmas.List.{get_or_read}
 use Rattle.cmwq_explore.specs.Stands.{Stand}
 use Rattle.cmwq_explore.specs.Chances.{IsPlayed, chosen, drawn_below}
 use Rattle.cmwq_explore.proofs.Chosen.{played_all, played_end, played_more}
@@ -28,10 +29,14 @@ loop-number-preserved c = λ n e q goes.
     let movers = c.in_ok-movers.movers in
     let len : movers.len ≡ length movers.items = omega (arith, movers.ok.0) in
     let some = is_some movers.len (length movers.items) c.is_empty.result len c.is_empty.ensures c.if-is_empty.false in
+    let counted : c.len.result ≡ length movers.items = omega (arith, movers.ok.0) in
+    let small = c.below-place.ensures.small in
+    let there : c.below-place.result < length movers.items = omega arith in
     let party : c.step_of-step.result.party ≡ chosen c.loop-number.generator movers.items =
     c.step_of-step.ensures.party
+    ∙ get_or_read movers.items c.below-place.result c.index.result.now there c.index.ensures 0
     ∙ ap (slice_index movers.items)
-    (c.below-place.ensures.drawn ∙ ap (λ m. drawn_below m c.loop-number.generator) len) in
+    (c.below-place.ensures.drawn ∙ ap (λ m. drawn_below m c.loop-number.generator) counted) in
     let went = rw (c.below-place.ensures.after, c.in_ok-make_move.ensures, c.step_of-step.ensures.same) at goes in
     c.loop-number.invariant (suc n) (omega arith) q
     (played_more n c.loop-number.generator c.loop-number.play q movers.items c.step_of-step.result
