@@ -66,8 +66,10 @@ played_more n s p q movers step all some is goes =
     let party : step.party ≡ chosen s (movers_of p) = is ∙ ap (chosen s) all in
     inr (
       (λ empty. some_length movers some (all ∙ empty)),
-      (step.is_refused,
-      subst
-          (λ (k : ℕ). IsPlayed n (after_draw s) (moved p (record { party = k; is_refused = step.is_refused })) q) party
-          goes),
+      (
+        step.is_refused,
+        subst
+            (λ (k : ℕ). IsPlayed n (after_draw s) (moved p (record { party = k; is_refused = step.is_refused })) q) party
+            goes,
+      ),
     )
