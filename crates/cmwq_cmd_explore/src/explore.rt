@@ -1,6 +1,8 @@
 //! The subcommand `explore`.
 
 ghost use Rattle.std.specs.Prelude.{◌≡◌, ◌⊎◌, ℕ, true, false, max, None, IfOk, IfSome};
+ghost use Rattle.cmwq_model.specs.Prelude.{IsLegal};
+ghost use Rattle.cmwq_core.specs.History.{past_in};
 ghost use Rattle.cmwq_json_script.specs.Scripts.{run_of};
 ghost use Rattle.cmwq_explore.specs.Starts.{start_of};
 ghost use Rattle.cmwq_cmd_explore.specs.Verdicts.{EverySchedule, Holds, IsFound, OfRun, SomeStuck, Writes};
@@ -102,7 +104,9 @@ fn verdict_of_play(play: &Play<'_>, standing: Standing) -> Verdict {
 
 /// Writes the history of a play.
 fn write_play<O: Sink>(output: &mut O, version: u8, play: &Play<'_>) -> Result<(), Fault>
-    ensures { IfOk result (λ _. Writes (max version 2) play.now.history (O.written output.old) (O.written output.new)) }
+    ensures text { IfOk result
+        (λ _. Writes (max version 2) play.now.history (O.written output.old) (O.written output.new)) }
+    ensures legal { IsLegal play.now.history.layout (past_in play.now.history) }
 {
     match write_history(
         output,
