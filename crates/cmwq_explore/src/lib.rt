@@ -2,18 +2,14 @@
 #![tactic(auto)]
 
 mod chance;
-mod key;
 mod machine;
-mod merge;
 mod parties;
 mod place;
 mod play;
-mod room;
 mod search;
 mod setup;
 
 pub use chance::{Chooser, length_of_first, play_by};
-pub use merge::search_merged;
 pub use parties::{Party, PartyName};
 pub use place::{CallerAt, Doing, RunAt, Step, Ticketed, WorkerAt};
 pub use play::{Play, Standing};

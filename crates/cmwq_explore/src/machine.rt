@@ -125,21 +125,6 @@ impl<'a> Machine<'a> {
         &self.entries
     }
 
-    /// The entries, the oldest first.
-    pub fn into_entries(self) -> Vec<Entry>
-        ensures entries { result.items ≡ self.entry.entries }
-        ensures legal { IsLegal self.entry.layout (past_in self.entry) }
-    {
-        let Machine {
-            shape: _,
-            execution,
-            entries,
-        } = self;
-        let _legal = execution.len();
-        execution.end();
-        entries
-    }
-
     /// Makes a call of one entry, if there is room for it.
     #[tactic(auto, unfolding(crate::specs::Machines::stepped, crate::specs::Machines::replied))]
     pub fn step(&mut self, who: Who, call: Call) -> Result<Option<Reply>, AllocError>

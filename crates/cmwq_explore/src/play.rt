@@ -26,7 +26,7 @@ use crate::place::{
 };
 use crate::setup::Setup;
 use cmwq_json_script::{Action, Script};
-use cmwq_model::{Call, CallerId, Entry, NoMemory, Queueing, Who, WorkerId};
+use cmwq_model::{Call, CallerId, Entry, NoMemory, Queueing, Shape, Who, WorkerId};
 use cmwq_waits::RunWaits;
 use std::alloc::{AllocError, Global};
 use std::marker::Model;
@@ -144,26 +144,7 @@ impl<'a> Play<'a> {
         self.machine.entries()
     }
 
-    /// The entries, the oldest first.
-    pub fn into_history(self) -> Vec<Entry>
-        ensures entries { result.items ≡ self.entry.history.entries }
-        ensures legal { IsLegal self.entry.history.layout (past_in self.entry.history) }
-    {
-        let Play {
-            alloc: _,
-            setup: _,
-            machine,
-            callers: _callers,
-            workers: _workers,
-            gates: _gates,
-            free: _free,
-            waits: _waits,
-            left_out: _,
-            refused: _,
-        } = self;
-        machine.into_entries()
-    }
-
+    /// The script that is played.
     pub fn script(&self) -> &'a Script {
         self.setup.script
     }
@@ -178,35 +159,31 @@ impl<'a> Play<'a> {
         self.refused
     }
 
+    /// Where the callers of the script stand.
     pub fn callers(&self) -> &[CallerAt]
         ensures { result.now ≡ self.now.callers }
     {
         &self.callers
     }
 
+    /// Where the workers stand.
     pub fn workers(&self) -> &[WorkerAt]
         ensures { result.now ≡ self.now.workers }
     {
         &self.workers
     }
 
-    pub fn gates(&self) -> &[bool]
-        ensures { result.now ≡ self.now.gates }
-    {
-        &self.gates
-    }
-
-    /// The callers that may be lent.
-    pub fn free(&self) -> &[u8]
-        ensures { result.now ≡ self.now.free }
-    {
-        &self.free
-    }
-
-    pub fn machine(&self) -> &Machine<'a>
+    pub(crate) fn machine(&self) -> &Machine<'a>
         ensures { result.now ≡ self.now.history }
     {
         &self.machine
+    }
+
+    /// The shape of the runtime.
+    pub fn shape(&self) -> &'a Shape
+        ensures { result.now ≡ self.now.history.layout }
+    {
+        self.machine.shape()
     }
 
     fn script_of(&self, k: usize) -> &'a [Call]

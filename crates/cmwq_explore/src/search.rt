@@ -41,10 +41,6 @@ pub struct Found {
     pub short_of_room: u64,
     /// In how many of them waits of runs were refused.
     pub with_refusals: u64,
-    /// How often a state was met again.
-    pub met_again: u64,
-    /// How often others might move there than when it was met first: never, or the search is wrong.
-    pub differing: u64,
     /// How many moves were made.
     pub moves: u64,
 }
@@ -61,8 +57,6 @@ impl Found {
             cut: 0,
             short_of_room: 0,
             with_refusals: 0,
-            met_again: 0,
-            differing: 0,
             moves: 0,
         }
     }
@@ -101,11 +95,11 @@ pub trait Watch {
 
 /// A search under way.
 #[derive(Drop)]
-pub(crate) struct Search {
-    pub(crate) alloc: Global,
-    pub(crate) limits: Limits,
-    pub(crate) found: Found,
-    pub(crate) shortest: Option<Vec<Step>>,
+struct Search {
+    alloc: Global,
+    limits: Limits,
+    found: Found,
+    shortest: Option<Vec<Step>>,
     next_look: u64,
 }
 
@@ -117,7 +111,7 @@ fn copy_of(alloc: Global, steps: &[Step]) -> Result<Vec<Step>, AllocError>
 }
 
 impl Search {
-    pub(crate) fn new(alloc: Global, limits: Limits) -> Search
+    fn new(alloc: Global, limits: Limits) -> Search
         ensures shortest { result.shortest ≡ None }
         ensures stuck { result.found.stuck ≡ 0 }
     {
@@ -131,7 +125,7 @@ impl Search {
     }
 
     /// One state more was visited.
-    pub(crate) fn count_state(&mut self)
+    fn count_state(&mut self)
         ensures counts { (self.new.found.cut ≡ self.old.found.cut) × (self.new.found.stuck ≡ self.old.found.stuck) }
         ensures shortest { self.new.shortest ≡ self.old.shortest }
     {
@@ -139,7 +133,7 @@ impl Search {
     }
 
     /// So many moves more were made.
-    pub(crate) fn count_moves<W: Watch>(&mut self, moves: usize, watch: &mut W)
+    fn count_moves<W: Watch>(&mut self, moves: usize, watch: &mut W)
         ensures counts { (self.new.found.cut ≡ self.old.found.cut) × (self.new.found.stuck ≡ self.old.found.stuck) }
         ensures shortest { self.new.shortest ≡ self.old.shortest }
     {
@@ -151,7 +145,7 @@ impl Search {
     }
 
     /// Whether no move more is to be made.
-    pub(crate) fn is_at_limit(&self) -> bool {
+    fn is_at_limit(&self) -> bool {
         self.found.moves >= self.limits.moves
     }
 
@@ -175,7 +169,7 @@ impl Search {
     }
 
     /// A schedule may not go on.
-    pub(crate) fn note_end<W: Watch>(
+    fn note_end<W: Watch>(
         &mut self,
         play: &Play<'_>,
         path: &[Step],
@@ -202,7 +196,7 @@ impl Search {
     }
 
     /// A schedule was cut off.
-    pub(crate) fn cut(&mut self)
+    fn cut(&mut self)
         ensures cut { 1 ≤ self.new.found.cut }
         ensures more { self.old.found.cut ≤ self.new.found.cut }
         ensures stuck { self.new.found.stuck ≡ self.old.found.stuck }
