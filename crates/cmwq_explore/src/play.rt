@@ -93,14 +93,19 @@ impl<'a> Play<'a> {
             Ok(waits) => waits,
             Err(NoMemory) => return Err(AllocError),
         };
+        let callers = setup.callers.to_vec(alloc)?;
+        let workers = setup.workers.to_vec(alloc)?;
+        let gates = vec![in alloc; false; MOST_GATES]?;
+        let free = setup.lent.to_vec(alloc)?;
+        let machine = Machine::new(alloc, shape)?;
         Ok(Play {
             alloc,
             setup,
-            machine: Machine::new(alloc, shape)?,
-            callers: setup.callers.to_vec(alloc)?,
-            workers: setup.workers.to_vec(alloc)?,
-            gates: vec![in alloc; false; MOST_GATES]?,
-            free: setup.lent.to_vec(alloc)?,
+            machine,
+            callers,
+            workers,
+            gates,
+            free,
             waits,
             left_out: 0,
             refused: 0,

@@ -355,6 +355,26 @@ impl Search {
         path.pop();
         Ok(())
     }
+
+    /// Visits all states.
+    fn visit_all<'a, W: Watch>(
+        &mut self,
+        setup: &'a Setup<'a>,
+        watch: &mut W,
+    ) -> Result<(), AllocError>
+        ensures all { IfOk result (λ _. self.new.found.cut ≡ 0 → self.new.found.stuck ≡ 0
+            → AllEnd MOST_MOVES (start_of setup.now)) }
+        ensures none { IfOk result (λ _. self.new.found.cut ≡ 0 → (n : ℕ) → HasAtLeast n self.new.shortest
+            → NoneStuck n (start_of setup.now)) }
+        ensures sound { IfOk result (λ _. TellsStuck (start_of setup.now) self.old.shortest
+            → TellsStuck (start_of setup.now) self.new.shortest) }
+        ensures known { IfOk result (λ _. KnowsStuck self.old.found.stuck self.old.shortest
+            → KnowsStuck self.new.found.stuck self.new.shortest) }
+    {
+        let mut play = Play::new(self.alloc, setup)?;
+        let mut path = Vec::new(self.alloc);
+        self.visit(setup, &mut play, &mut path, MOST_MOVES, watch)
+    }
 }
 
 /// Plays all schedules of a script, depth first, within the limits. Returns what it found, and the shortest schedule
@@ -375,8 +395,6 @@ pub fn search_all<'a, W: Watch>(
         → IfSome r.1 (λ steps. NoneStuck (length steps.items) (start_of setup.now))) }
 {
     let mut search = Search::new(alloc, limits);
-    let mut play = Play::new(alloc, setup)?;
-    let mut path = Vec::new(alloc);
-    search.visit(setup, &mut play, &mut path, MOST_MOVES, watch)?;
+    search.visit_all(setup, watch)?;
     Ok((search.found, search.shortest))
 }

@@ -1,4 +1,4 @@
-use Rattle.std.proofs.Common.{ℕ, ◌≡◌, ◌-◌, List, length, Option, Some, None, subst, ap, arith}
+use Rattle.std.proofs.Common.{ℕ, List, length, Option, Some, None, arith}
 use Rattle.std.specs.Prelude.{IfSome}
 use Rattle.std.specs.declared.alloc.Global.{Global}
 use Rattle.std.specs.declared.vec.Vec.{Vec}
@@ -9,17 +9,12 @@ use Rattle.cmwq_explore.specs.Starts.{start_of}
 use Rattle.cmwq_explore.proofs.search.search_all.Goals as goal
 
 -- none of fewer moves than the shortest that is known
-none_shorter : (start p : Stand) (made : ℕ) (shortest : Option (Vec Step Global)) → p ≡ start → made ≡ 0
-    → ((n : ℕ) → HasAtLeast n shortest → NoneStuck (n - made) p)
+none_shorter : (start : Stand) (shortest : Option (Vec Step Global))
+    → ((n : ℕ) → HasAtLeast n shortest → NoneStuck n start)
     → IfSome shortest (λ steps. NoneStuck (length steps.items) start)
-none_shorter start p made (Some s) same none all =
-    let all_moves : length s.items - made ≡ length s.items = omega arith in
-    subst (NoneStuck (length s.items)) same
-    (subst (λ m. NoneStuck m p) all_moves (all (length s.items) (omega arith)))
-none_shorter start p made None same none all = tt
+none_shorter start (Some s) all = all (length s.items) (omega arith)
+none_shorter start None all = tt
 
 pub returns-clause-shortest : goal.returns-clause-shortest
 returns-clause-shortest g c = λ cut.
-    none_shorter (start_of c.args.setup.now) c.in_ok-play.play (length c.new-path.result.items)
-    c.visit.new.self.shortest c.in_ok-play.ensures (ap length c.new-path.ensures.items)
-    (c.in_ok-visit.ensures.none cut)
+    none_shorter (start_of c.args.setup.now) c.visit_all.new.self.shortest (c.in_ok-visit_all.ensures.none cut)
