@@ -15,10 +15,10 @@ use Rattle.cmwq_explore.specs.declared.place.Step.{Step}
 use Rattle.cmwq_explore.specs.declared.search.Found.{Found}
 use Rattle.cmwq_explore.specs.Stands.{Stand}
 use Rattle.cmwq_explore.specs.Searches.{AllEnd, GetsStuck, TellsStuck}
-use Rattle.cmwq_explore.specs.Starts.{first_stand}
 use Rattle.cmwq_cmd_explore.specs.declared.explore.Verdict.{Verdict}
 use Rattle.cmwq_cmd_explore.specs.declared.explore.Verdict.TheVariants as verdicts
-use Rattle.cmwq_cmd_explore.specs.Verdicts.{EverySchedule, Holds, IsFound, OfRun, SomeStuck, status_of, verdict_found}
+use Rattle.cmwq_cmd_explore.specs.Verdicts.{EverySchedule, Holds, HoldsFrom, IsFound, OfRun, SomeStuck}
+use Rattle.cmwq_cmd_explore.specs.Verdicts.{status_of, verdict_found}
 
 -- a number that isn't 0 was counted, so one is known
 some_known : (start : Stand) (stuck : ℕ) (shortest : Option (Vec Step Global)) → TellsStuck start shortest
@@ -26,20 +26,17 @@ some_known : (start : Stand) (stuck : ℕ) (shortest : Option (Vec Step Global))
 some_known start stuck (Some s) tells known is = (s.items, tells)
 some_known start stuck None tells known is = let none = known refl in let no_stuck = rw none at is in absurd cc
 
-pub holds_found : (r : Run) (start : Stand) (f : Found) (shortest : Option (Vec Step Global)) → start ≡ first_stand r
-    → IsFound start f shortest → Holds r (verdict_found f)
-holds_found r start f shortest same found = of_stuck (f.stuck == 0) refl
+pub holds_found : (start : Stand) (f : Found) (shortest : Option (Vec Step Global)) → IsFound start f shortest
+    → HoldsFrom start (verdict_found f)
+holds_found start f shortest found = of_stuck (f.stuck == 0) refl
   where
-    of_cut : (b : Bool) → (f.cut == 0) ≡ b → (f.stuck == 0) ≡ true → Holds r (verdict_found f)
-    of_cut true cut stuck =
-        rw (stuck, cut) (subst (AllEnd 2000) same (found.all (eqb-true f.cut 0 cut) (eqb-true f.stuck 0 stuck)))
+    of_cut : (b : Bool) → (f.cut == 0) ≡ b → (f.stuck == 0) ≡ true → HoldsFrom start (verdict_found f)
+    of_cut true cut stuck = rw (stuck, cut) (found.all (eqb-true f.cut 0 cut) (eqb-true f.stuck 0 stuck))
     of_cut false cut stuck = rw (stuck, cut) tt
 
-    of_stuck : (b : Bool) → (f.stuck == 0) ≡ b → Holds r (verdict_found f)
+    of_stuck : (b : Bool) → (f.stuck == 0) ≡ b → HoldsFrom start (verdict_found f)
     of_stuck true is = of_cut (f.cut == 0) refl is
-    of_stuck false is =
-        rw is (subst (λ s. (steps : List Step) × GetsStuck s steps) same
-        (some_known start f.stuck shortest found.stuck found.known is))
+    of_stuck false is = rw is (some_known start f.stuck shortest found.stuck found.known is)
 
 -- the run of the script that was read
 pub of_run : (d : Data) (r : Run) (left : Option (List ℕ)) (P : Run → Type 0) → run_said d ≡ Ok r

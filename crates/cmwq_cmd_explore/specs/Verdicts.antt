@@ -19,29 +19,37 @@ use Rattle.cmwq_cmd_explore.specs.declared.explore.Task.TheVariants as tasks
 use Rattle.cmwq_cmd_explore.specs.declared.explore.Verdict.{Verdict}
 use Rattle.cmwq_cmd_explore.specs.declared.explore.Verdict.TheVariants as verdicts
 
--- all schedules are to be played, and no two states taken as one
+-- all schedules are to be played
 abbrev pub plays_all : Task → Bool
-plays_all (tasks.All moves false histories) = true
+plays_all (tasks.All moves histories) = true
 plays_all task = false
 
 -- every schedule of a run ends, within 2,000 moves
 abbrev pub EverySchedule : Run → Type 0
 EverySchedule r = AllEnd 2000 (first_stand r)
 
--- a schedule of it gets stuck
+-- a schedule from here on gets stuck
+abbrev pub StuckFrom : Stand → Type 0
+StuckFrom start = (steps : List Step) × GetsStuck start steps
+
+-- a schedule of a run gets stuck
 abbrev pub SomeStuck : Run → Type 0
-SomeStuck r = (steps : List Step) × GetsStuck (first_stand r) steps
+SomeStuck r = StuckFrom (first_stand r)
 
 -- one schedule is to be played
 abbrev pub plays_one : Task → Bool
 plays_one (tasks.OfSeed seed pct) = true
 plays_one task = false
 
--- what a verdict on all its schedules says
+-- what a verdict on all schedules from here on says
+abbrev pub HoldsFrom : Stand → Verdict → Type 0
+HoldsFrom start verdicts.AllEnd = AllEnd 2000 start
+HoldsFrom start verdicts.Stuck = StuckFrom start
+HoldsFrom start verdict = Unit {0}
+
+-- and on all those of a run
 abbrev pub Holds : Run → Verdict → Type 0
-Holds r verdicts.AllEnd = EverySchedule r
-Holds r verdicts.Stuck = SomeStuck r
-Holds r verdict = Unit {0}
+Holds r verdict = HoldsFrom (first_stand r) verdict
 
 abbrev pub verdict_found : Found → Verdict
 verdict_found f = if f.stuck == 0 then (if f.cut == 0 then verdicts.AllEnd else verdicts.Bounded) else verdicts.Stuck
@@ -68,12 +76,17 @@ OfRun P text = (r : Run) × Says run_said text (Ok r) × P r
 abbrev pub Writes : ℕ → History → Option (List ℕ) → Option (List ℕ) → Type 0
 Writes version h old new = Appends old new (text_of_format version h.layout h.entries)
 
--- a legal one was
-abbrev pub WritesLegal : Option (List ℕ) → Option (List ℕ) → Run → Type 0
-WritesLegal old new r = (h : History) × IsLegal h.layout (past_in h) × Writes (max r.version 2) h old new
+-- a legal one was, in this format
+abbrev pub WritesLegalIn : ℕ → Option (List ℕ) → Option (List ℕ) → Type 0
+WritesLegalIn version old new = (h : History) × IsLegal h.layout (past_in h) × Writes version h old new
 
--- the history of the schedule that a seed chooses was written, and is legal
+abbrev pub WritesLegal : Option (List ℕ) → Option (List ℕ) → Run → Type 0
+WritesLegal old new r = WritesLegalIn (max r.version 2) old new
+
+-- the history of the schedule that a seed chooses from here on was written, and is legal
+abbrev pub WritesFrom : Stand → ℕ → ℕ → Option (List ℕ) → Option (List ℕ) → Type 0
+WritesFrom start version seed old new = (p : Stand) × IsPlayed 2000 seed start p
+    × IsLegal p.history.layout (past_in p.history) × Writes version p.history old new
+
 abbrev pub WritesPlayed : ℕ → Option (List ℕ) → Option (List ℕ) → Run → Type 0
-WritesPlayed seed old new r = (p : Stand) × IsPlayed 2000 seed (first_stand r) p
-    × IsLegal p.history.layout (past_in p.history)
-    × Writes (max r.version 2) p.history old new
+WritesPlayed seed old new r = WritesFrom (first_stand r) (max r.version 2) seed old new

@@ -5,8 +5,8 @@ ghost use Rattle.cmwq_model.specs.Prelude.{IsLegal};
 ghost use Rattle.cmwq_core.specs.History.{past_in};
 ghost use Rattle.cmwq_json_script.specs.Scripts.{run_of};
 ghost use Rattle.cmwq_explore.specs.Starts.{start_of};
-ghost use Rattle.cmwq_cmd_explore.specs.Verdicts.{EverySchedule, Holds, IsFound, OfRun, SomeStuck, Writes};
-ghost use Rattle.cmwq_cmd_explore.specs.Verdicts.{WritesLegal, WritesPlayed};
+ghost use Rattle.cmwq_cmd_explore.specs.Verdicts.{EverySchedule, Holds, HoldsFrom, OfRun, SomeStuck, Writes};
+ghost use Rattle.cmwq_cmd_explore.specs.Verdicts.{WritesFrom, WritesLegal, WritesLegalIn, WritesPlayed};
 ghost use Rattle.cmwq_cmd_explore.specs.declared.explore.Task.TheVariants as tasks;
 ghost use Rattle.cmwq_explore.specs.declared.chance.Chooser.TheVariants as choosers;
 ghost use Rattle.cmwq_cmd_explore.specs.Verdicts.{plays_all, plays_one, status_of, verdict_found};
@@ -15,13 +15,12 @@ use crate::report::{write_found, write_parties, write_seeds, write_shortest, wri
 use crate::watching::Watching;
 use cmwq_explore::{
     Chooser, Found, Limits, Play, Setup, Standing, Step, length_of_first, play_by, search_all,
-    search_merged,
 };
 use cmwq_history::{tell_full, write_history};
 use cmwq_io::{Sink, Source, tell};
 use cmwq_json::{Fault, fault_status, read_value};
 use cmwq_json_script::{Script, read_script};
-use std::alloc::{AllocError, Global};
+use std::alloc::Global;
 
 /// How many moves are made at most where no other number is given.
 const MOVES: u64 = 100_000_000;
@@ -30,21 +29,11 @@ const MOVES: u64 = 100_000_000;
 #[derive(Clone, Copy, Debug)]
 pub enum Task {
     /// The one of a seed: its history. The number is that of priority changes and one more, or None: uniformly.
-    OfSeed {
-        seed: u64,
-        pct: Option<u64>,
-    },
+    OfSeed { seed: u64, pct: Option<u64> },
     /// Those of so many seeds, from 0 on: how many ended, and the shortest that got stuck.
-    OfSeeds {
-        times: u64,
-        pct: Option<u64>,
-    },
+    OfSeeds { times: u64, pct: Option<u64> },
     /// All: the same, or the history of each that ended.
-    All {
-        moves: Option<u64>,
-        merge: bool,
-        histories: bool,
-    },
+    All { moves: Option<u64>, histories: bool },
 }
 
 /// How schedules ended.
@@ -108,15 +97,64 @@ fn write_play<O: Sink>(output: &mut O, version: u8, play: &Play<'_>) -> Result<(
         (λ _. Writes (max version 2) play.now.history (O.written output.old) (O.written output.new)) }
     ensures legal { IsLegal play.now.history.layout (past_in play.now.history) }
 {
-    match write_history(
-        output,
-        version.max(2),
-        play.machine().shape(),
-        play.history(),
-    ) {
+    match write_history(output, version.max(2), play.shape(), play.history()) {
         Ok(()) => Ok(()),
         Err(_) => Err(Fault::WriteFault),
     }
+}
+
+/// Tells what everybody waits for, unless the play ended.
+fn tell_parties<E: Sink>(
+    alloc: Global,
+    errors: &mut E,
+    play: &Play<'_>,
+    standing: Standing,
+) -> Result<(), Fault> {
+    if standing == Standing::Ended {
+        return Ok(());
+    }
+    write_parties(alloc, errors, "cmwq: ", play)
+}
+
+/// Plays the schedule of a seed, and writes its history.
+fn play_one<'a, O: Sink, E: Sink>(
+    alloc: Global,
+    setup: &'a Setup<'a>,
+    version: u8,
+    play: &mut Play<'a>,
+    seed: u64,
+    pct: Option<u64>,
+    output: &mut O,
+    errors: &mut E,
+) -> Result<Verdict, Fault>
+    ensures legal { IfOk result (λ _. WritesLegalIn (max version 2) (O.written output.old) (O.written output.new)) }
+    ensures played { pct ≡ None → IfOk result
+        (λ _. WritesFrom (start_of setup.now) (max version 2) seed (O.written output.old) (O.written output.new)) }
+{
+    let chooser = chooser_of(alloc, setup, play, pct)?;
+    play_by(alloc, setup, play, seed, chooser)?;
+    let standing = play.standing();
+    tell_parties(alloc, errors, play, standing)?;
+    write_play(output, version, play)?;
+    Ok(verdict_of_play(play, standing))
+}
+
+/// The same, in a play of its own.
+fn play_alone<'a, O: Sink, E: Sink>(
+    alloc: Global,
+    setup: &'a Setup<'a>,
+    version: u8,
+    seed: u64,
+    pct: Option<u64>,
+    output: &mut O,
+    errors: &mut E,
+) -> Result<Verdict, Fault>
+    ensures legal { IfOk result (λ _. WritesLegalIn (max version 2) (O.written output.old) (O.written output.new)) }
+    ensures played { pct ≡ None → IfOk result
+        (λ _. WritesFrom (start_of setup.now) (max version 2) seed (O.written output.old) (O.written output.new)) }
+{
+    let mut play = Play::new(alloc, setup)?;
+    play_one(alloc, setup, version, &mut play, seed, pct, output, errors)
 }
 
 /// The schedule of one seed: its history, and what everybody waits for if it didn't end.
@@ -133,15 +171,7 @@ fn explore_seed<O: Sink, E: Sink>(
         → IfOk result (λ _. WritesPlayed seed (O.written output.old) (O.written output.new) (run_of script.now)) }
 {
     let setup = Setup::new(alloc, script)?;
-    let mut play = Play::new(alloc, &setup)?;
-    let chooser = chooser_of(alloc, &setup, &mut play, pct)?;
-    play_by(alloc, &setup, &mut play, seed, chooser)?;
-    let standing = play.standing();
-    if standing != Standing::Ended {
-        write_parties(alloc, errors, "cmwq: ", &play)?;
-    }
-    write_play(output, script.version, &play)?;
-    Ok(verdict_of_play(&play, standing))
+    play_alone(alloc, &setup, script.version, seed, pct, output, errors)
 }
 
 /// The shortest of the schedules that got stuck: its seed, and its number of moves.
@@ -181,6 +211,57 @@ fn shorter(one: Option<StuckSeed>, other: Option<StuckSeed>) -> Option<StuckSeed
     }
 }
 
+/// Plays the schedules of so many seeds, and writes what came of them.
+fn play_seeds<'a, O: Sink, E: Sink>(
+    alloc: Global,
+    setup: &'a Setup<'a>,
+    play: &mut Play<'a>,
+    times: u64,
+    pct: Option<u64>,
+    watching: &mut Watching<'_, O, E>,
+) -> Result<Verdict, Fault> {
+    let chooser = chooser_of(alloc, setup, play, pct)?;
+    let mut found = Found::nothing();
+    let mut shortest: Option<StuckSeed> = None;
+    for seed in 0..times {
+        let stuck = play_seed(alloc, setup, play, seed, chooser, &mut found, watching)?;
+        shortest = shorter(shortest, stuck);
+    }
+    watching.end_progress();
+    write_seeds(alloc, watching.output(), times, &found)?;
+    if let Some(stuck) = shortest {
+        tell_stuck_seed(alloc, setup, play, stuck, chooser, watching.output())?;
+    }
+    Ok(verdict_of(&found))
+}
+
+/// The shortest schedule that got stuck: its seed, what everybody waits for, and its history.
+fn tell_stuck_seed<'a, O: Sink>(
+    alloc: Global,
+    setup: &'a Setup<'a>,
+    play: &mut Play<'a>,
+    stuck: StuckSeed,
+    chooser: Chooser,
+    output: &mut O,
+) -> Result<(), Fault> {
+    play_by(alloc, setup, play, stuck.seed, chooser)?;
+    write_stuck_seed(alloc, output, stuck.seed, stuck.moves)?;
+    write_parties(alloc, output, "", play)?;
+    write_play(output, setup.script().version, play)
+}
+
+/// The schedules of so many seeds, in a play of their own.
+fn play_seeds_alone<'a, O: Sink, E: Sink>(
+    alloc: Global,
+    setup: &'a Setup<'a>,
+    times: u64,
+    pct: Option<u64>,
+    watching: &mut Watching<'_, O, E>,
+) -> Result<Verdict, Fault> {
+    let mut play = Play::new(alloc, setup)?;
+    play_seeds(alloc, setup, &mut play, times, pct, watching)
+}
+
 /// The schedules of so many seeds.
 fn explore_seeds<O: Sink, E: Sink>(
     alloc: Global,
@@ -190,64 +271,38 @@ fn explore_seeds<O: Sink, E: Sink>(
     watching: &mut Watching<'_, O, E>,
 ) -> Result<Verdict, Fault> {
     let setup = Setup::new(alloc, script)?;
-    let mut play = Play::new(alloc, &setup)?;
-    let chooser = chooser_of(alloc, &setup, &mut play, pct)?;
-    let mut found = Found::nothing();
-    let mut shortest: Option<StuckSeed> = None;
-    for seed in 0..times {
-        let stuck = play_seed(
-            alloc, &setup, &mut play, seed, chooser, &mut found, watching,
-        )?;
-        shortest = shorter(shortest, stuck);
-    }
-    watching.end_progress();
-    write_seeds(alloc, watching.output(), times, &found)?;
-    if let Some(StuckSeed { seed, moves }) = shortest {
-        play_by(alloc, &setup, &mut play, seed, chooser)?;
-        write_stuck_seed(alloc, watching.output(), seed, moves)?;
-        write_parties(alloc, watching.output(), "", &play)?;
-        write_play(watching.output(), script.version, &play)?;
-    }
-    Ok(verdict_of(&found))
+    play_seeds_alone(alloc, &setup, times, pct, watching)
 }
 
 /// The shortest schedule that got stuck: its steps, what everybody waits for, and its history.
-fn tell_shortest<O: Sink>(
+fn tell_steps<'a, O: Sink>(
     alloc: Global,
-    script: &Script,
+    setup: &'a Setup<'a>,
+    play: &mut Play<'a>,
     steps: &[Step],
     output: &mut O,
 ) -> Result<(), Fault> {
-    let setup = Setup::new(alloc, script)?;
-    let mut play = Play::new(alloc, &setup)?;
-    play.replay(&setup, steps)?;
-    write_shortest(alloc, output, &play, steps)?;
-    write_parties(alloc, output, "", &play)?;
-    write_play(output, script.version, &play)
+    play.replay(setup, steps)?;
+    write_shortest(alloc, output, play, steps)?;
+    write_parties(alloc, output, "", play)?;
+    write_play(output, setup.script().version, play)
 }
 
-/// Searches all schedules, or all states.
-fn search<'a, O: Sink, E: Sink>(
+/// The same, in a play of its own.
+fn tell_shortest<'a, O: Sink>(
     alloc: Global,
     setup: &'a Setup<'a>,
-    moves: u64,
-    merge: bool,
-    watching: &mut Watching<'_, O, E>,
-) -> Result<(Found, Option<Vec<Step>>), AllocError>
-    ensures { merge ≡ false → IfOk result (λ r. IsFound (start_of setup.now) r.0 r.1) }
-{
-    let limits = Limits { moves };
-    if merge {
-        return search_merged(alloc, setup, limits, watching);
-    }
-    search_all(alloc, setup, limits, watching)
+    steps: &[Step],
+    output: &mut O,
+) -> Result<(), Fault> {
+    let mut play = Play::new(alloc, setup)?;
+    tell_steps(alloc, setup, &mut play, steps, output)
 }
 
 /// Writes what a search found, unless it wrote histories.
-fn tell_found<O: Sink, E: Sink>(
+fn tell_found<'a, O: Sink, E: Sink>(
     alloc: Global,
-    script: &Script,
-    merge: bool,
+    setup: &'a Setup<'a>,
     found: &Found,
     shortest: &Option<Vec<Step>>,
     watching: &mut Watching<'_, O, E>,
@@ -259,11 +314,25 @@ fn tell_found<O: Sink, E: Sink>(
     if watching.writes_histories() {
         return Ok(());
     }
-    write_found(alloc, watching.output(), merge, found)?;
+    write_found(alloc, watching.output(), found)?;
     match shortest {
-        Some(steps) => tell_shortest(alloc, script, steps, watching.output()),
+        Some(steps) => tell_shortest(alloc, setup, steps, watching.output()),
         None => Ok(()),
     }
+}
+
+/// Plays all schedules, and writes what came of them.
+fn search<'a, O: Sink, E: Sink>(
+    alloc: Global,
+    setup: &'a Setup<'a>,
+    moves: u64,
+    watching: &mut Watching<'_, O, E>,
+) -> Result<Verdict, Fault>
+    ensures { IfOk result (λ verdict. HoldsFrom (start_of setup.now) verdict) }
+{
+    let (found, shortest) = search_all(alloc, setup, Limits { moves }, watching)?;
+    tell_found(alloc, setup, &found, &shortest, watching)?;
+    Ok(verdict_of(&found))
 }
 
 /// All schedules.
@@ -271,15 +340,12 @@ fn explore_all<O: Sink, E: Sink>(
     alloc: Global,
     script: &Script,
     moves: u64,
-    merge: bool,
     watching: &mut Watching<'_, O, E>,
 ) -> Result<Verdict, Fault>
-    ensures { IfOk result (λ verdict. merge ≡ false → Holds (run_of script.now) verdict) }
+    ensures { IfOk result (λ verdict. Holds (run_of script.now) verdict) }
 {
     let setup = Setup::new(alloc, script)?;
-    let (found, shortest) = search(alloc, &setup, moves, merge, watching)?;
-    tell_found(alloc, script, merge, &found, &shortest, watching)?;
-    Ok(verdict_of(&found))
+    search(alloc, &setup, moves, watching)
 }
 
 /// Does a task.
@@ -303,14 +369,10 @@ fn explore_script<O: Sink, E: Sink>(
             let mut watching = Watching::new(output, errors, shows_progress, false);
             explore_seeds(alloc, script, times, pct, &mut watching)
         }
-        Task::All {
-            moves,
-            merge,
-            histories,
-        } => {
+        Task::All { moves, histories } => {
             let mut watching = Watching::new(output, errors, shows_progress, histories);
             let moves = moves.unwrap_or(MOVES);
-            explore_all(alloc, script, moves, merge, &mut watching)
+            explore_all(alloc, script, moves, &mut watching)
         }
     }
 }

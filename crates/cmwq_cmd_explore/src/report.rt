@@ -35,29 +35,17 @@ pub(crate) fn write_seeds<O: Sink>(
     write_ends(alloc, output, found)
 }
 
-/// What came of all schedules, or of all states.
+/// What came of all schedules.
 pub(crate) fn write_found<O: Sink>(
     alloc: Global,
     output: &mut O,
-    merge: bool,
     found: &Found,
 ) -> Result<(), Fault> {
+    let schedules = found.ended.saturating_add(found.stuck);
+    let schedules = schedules.saturating_add(found.cut);
     let (states, moves) = (found.states, found.moves);
-    let line = if merge {
-        format!(in alloc;
-            "states {states}, met again {}, moves {moves}\n",
-            found.met_again
-        )?
-    } else {
-        let schedules = found.ended.saturating_add(found.stuck);
-        let schedules = schedules.saturating_add(found.cut);
-        format!(in alloc; "schedules {schedules}, states {states}, moves {moves}\n")?
-    };
+    let line = format!(in alloc; "schedules {schedules}, states {states}, moves {moves}\n")?;
     write_line(output, &line)?;
-    if found.differing > 0 {
-        let line = format!(in alloc; "differing {}\n", found.differing)?;
-        write_line(output, &line)?;
-    }
     write_ends(alloc, output, found)
 }
 
