@@ -43,7 +43,7 @@ fn counts_of(rt: &(impl Abort + AllocGlobal), text: &str, moves: u64) -> Counts 
 
 #[test]
 fn every_schedule_is_counted(rt: HostRuntime) {
-    assert!(rt; counts_of(&rt, FLUSH, 10_000) == (2, 0, 0, None));
+    assert!(rt; counts_of(&rt, FLUSH, 10_000) == (3, 0, 0, None));
     assert!(rt; counts_of(&rt, GATE, 10_000) == (0, 1, 0, Some(3)));
     assert!(rt; counts_of(&rt, THAW, 10_000) == (7, 1, 0, Some(4)));
 }
