@@ -60,15 +60,7 @@ fn task_of(schedules: Schedules) -> Task {
     match schedules {
         Schedules::OfSeed { seed, pct } => Task::OfSeed { seed, pct },
         Schedules::OfSeeds { times, pct } => Task::OfSeeds { times, pct },
-        Schedules::All {
-            moves,
-            merge,
-            histories,
-        } => Task::All {
-            moves,
-            merge,
-            histories,
-        },
+        Schedules::All { moves, histories } => Task::All { moves, histories },
     }
 }
 

@@ -29,9 +29,9 @@ abbrev pub number_found : List ℕ → List Row → Option ℕ
 number_found name rows = option_and_then number_of_text (one_of name rows)
 
 -- all schedules, where no number is given but that of moves
-abbrev pub all_schedules : Option ℕ → Option ℕ → Bool → Bool → Option Schedules
-all_schedules (Some other) moves merge histories = None
-all_schedules None moves merge histories = Some (schedules.All moves merge histories)
+abbrev pub all_schedules : Option ℕ → Option ℕ → Bool → Option Schedules
+all_schedules (Some other) moves histories = None
+all_schedules None moves histories = Some (schedules.All moves histories)
 
 -- the schedules of one seed or of so many, where nothing is given that is of all schedules
 abbrev pub of_seeds : Option ℕ → Option ℕ → Option ℕ → Option Schedules
@@ -48,11 +48,10 @@ schedules_found rows =
     if has_flag (codes "all") rows
     then all_schedules
     (option_or (option_or (number_found (codes "seed") rows) (number_found (codes "times") rows))
-    (number_found (codes "pct") rows)) (number_found (codes "moves") rows) (has_flag (codes "merge") rows)
-    (has_flag (codes "histories") rows)
+    (number_found (codes "pct") rows)) (number_found (codes "moves") rows) (has_flag (codes "histories") rows)
     else seeded_schedules (number_found (codes "seed") rows) (number_found (codes "times") rows)
     (number_found (codes "pct") rows)
-    (is_some (number_found (codes "moves") rows) || has_flag (codes "merge") rows || has_flag (codes "histories") rows)
+    (is_some (number_found (codes "moves") rows) || has_flag (codes "histories") rows)
 
 -- the word with this name and these matches
 abbrev pub word_found : Text × List Row → Option Word
@@ -149,9 +148,8 @@ seeded_word =
 
 abbrev pub explore_word : App
 explore_word =
-    with_rule
-    (with_rule (with_rule (with_rule seeded_word (flag_rule (codes "all"))) (number_rule (codes "moves")))
-    (flag_rule (codes "merge"))) (flag_rule (codes "histories"))
+    with_rule (with_rule (with_rule seeded_word (flag_rule (codes "all"))) (number_rule (codes "moves")))
+    (flag_rule (codes "histories"))
 
 abbrev pub app : App
 app = with_command (with_word (with_word with_lines (codes "replay")) (codes "run")) explore_word

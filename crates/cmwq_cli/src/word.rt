@@ -67,10 +67,9 @@ pub enum Schedules {
         times: u64,
         pct: Option<u64>,
     },
-    /// All, up to so many moves; states that stand alike once, or the histories of all that end.
+    /// All, up to so many moves, and the histories of those that end if they are asked for.
     All {
         moves: Option<u64>,
-        merge: bool,
         histories: bool,
     },
 }
@@ -328,12 +327,11 @@ fn schedules_found(matches: &ArgMatches) -> Option<Schedules>
     let pct = number_found(matches, "pct");
     let moves = number_found(matches, "moves");
     let all = has_flag(matches, "all");
-    let merge = has_flag(matches, "merge");
     let histories = has_flag(matches, "histories");
     if all {
-        all_schedules(seed.or(times).or(pct), moves, merge, histories)
+        all_schedules(seed.or(times).or(pct), moves, histories)
     } else {
-        seeded_schedules(seed, times, pct, moves.is_some() || merge || histories)
+        seeded_schedules(seed, times, pct, moves.is_some() || histories)
     }
 }
 
@@ -341,18 +339,13 @@ fn schedules_found(matches: &ArgMatches) -> Option<Schedules>
 fn all_schedules(
     other: Option<u64>,
     moves: Option<u64>,
-    merge: bool,
     histories: bool,
 ) -> Option<Schedules>
-    ensures { result ≡ all_schedules other moves merge histories }
+    ensures { result ≡ all_schedules other moves histories }
 {
     match other {
         Some(_) => None,
-        None => Some(Schedules::All {
-            moves,
-            merge,
-            histories,
-        }),
+        None => Some(Schedules::All { moves, histories }),
     }
 }
 
@@ -585,8 +578,6 @@ fn explore_word<'a>(alloc: Global) -> Result<Command<'a>, AllocError>
     let word = with_flag(alloc, seeded_word(alloc)?, "all", "Plays all schedules")?;
     let help = "Makes at most so many moves, in place of 100,000,000";
     let word = with_number(alloc, word, "moves", help)?;
-    let help = "Visits states that stand alike once";
-    let word = with_flag(alloc, word, "merge", help)?;
     let help = "Writes the history of each schedule that ends, in place of how many there are";
     with_flag(alloc, word, "histories", help)
 }
@@ -674,6 +665,7 @@ fn unclear(alloc: Global) -> Result<Error, AllocError> {
     let mut command = command(alloc)?;
     command.error(
         ErrorKind::MissingRequiredArgument,
-        "explore takes one of --seed N, --times N and --all: the first two with --pct D, the last with --moves N, --merge and --histories",
+        "explore takes one of --seed N, --times N and --all: the first two with --pct D, the last with --moves N and \
+        --histories",
     )
 }

@@ -55,8 +55,7 @@ fn subcommands_and_flags_are_read(rt: HostRuntime) {
     };
     let all = Schedules::All {
         moves: Some(5),
-        merge: true,
-        histories: false,
+        histories: true,
     };
     for (words, schedules) in [
         (
@@ -65,7 +64,7 @@ fn subcommands_and_flags_are_read(rt: HostRuntime) {
         ),
         (&["cmwq", "explore", "--times", "9"], of_seeds),
         (
-            &["cmwq", "explore", "--all", "--moves", "5", "--merge"],
+            &["cmwq", "explore", "--all", "--moves", "5", "--histories"],
             all,
         ),
     ] {
@@ -130,13 +129,13 @@ const WRONG_USES: [(&[&str], &str); 10] = [
     ),
     (
         &["cmwq", "explore"],
-        "error: explore takes one of --seed N, --times N and --all: the first two with --pct D, the last with --moves N, \
-        --merge and --histories\n\nUsage: cmwq <COMMAND>\n",
+        "error: explore takes one of --seed N, --times N and --all: the first two with --pct D, the last with --moves N \
+        and --histories\n\nUsage: cmwq <COMMAND>\n",
     ),
     (
         &["cmwq", "explore", "--seed", "1", "--all"],
-        "error: explore takes one of --seed N, --times N and --all: the first two with --pct D, the last with --moves N, \
-        --merge and --histories\n\nUsage: cmwq <COMMAND>\n",
+        "error: explore takes one of --seed N, --times N and --all: the first two with --pct D, the last with --moves N \
+        and --histories\n\nUsage: cmwq <COMMAND>\n",
     ),
     (
         &["cmwq", "chart", "--to"],
