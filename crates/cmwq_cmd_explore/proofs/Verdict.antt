@@ -77,3 +77,18 @@ fault_not_7 fault.WriteFault is = cc
 fault_not_7 fault.TooLong is = cc
 fault_not_7 fault.NotJson is = cc
 fault_not_7 (fault.Member r) is = cc
+
+-- what holds of the run of a script that was read, whichever verdict there is
+pub explored : (d : Data) (r : Run) (left : Option (List ℕ)) (told : Result Verdict Fault) (A : Type 0)
+    (P : Verdict → Run → Type 0) → run_said d ≡ Ok r → IfSome left (λ text. IsJson text d)
+    → IfOk told (λ v. A → P v r) → IfOk told (λ v. A → IfSome left (OfRun (P v)))
+explored d r left (Ok v) A P said read holds = λ a. of_run d r left (P v) said read (holds a)
+explored d r left (Err f) A P said read holds = tt
+
+-- the same of each seed
+pub explored_seed : (d : Data) (r : Run) (left : Option (List ℕ)) (told : Result Verdict Fault) (A : ℕ → Type 0)
+    (P : ℕ → Run → Type 0) → run_said d ≡ Ok r → IfSome left (λ text. IsJson text d)
+    → IfOk told (λ v. (seed : ℕ) → A seed → P seed r)
+    → IfOk told (λ v. (seed : ℕ) → A seed → IfSome left (OfRun (P seed)))
+explored_seed d r left (Ok v) A P said read holds = λ seed a. of_run d r left (P seed) said read (holds seed a)
+explored_seed d r left (Err f) A P said read holds = tt

@@ -1,13 +1,20 @@
 //! What is written of schedules.
 
 use cmwq_explore::{Found, Party, Play, Step};
-use cmwq_io::{Sink, write_all};
+use cmwq_io::{Sink, flush_all, write_all};
 use cmwq_json::Fault;
 use cmwq_model::ItemId;
 use std::alloc::Global;
 
 fn write_line<O: Sink>(output: &mut O, line: &str) -> Result<(), Fault> {
     match write_all(output, line.as_bytes()) {
+        Ok(()) => Ok(()),
+        Err(_) => Err(Fault::WriteFault),
+    }
+}
+
+fn flush<O: Sink>(output: &mut O) -> Result<(), Fault> {
+    match flush_all(output) {
         Ok(()) => Ok(()),
         Err(_) => Err(Fault::WriteFault),
     }
@@ -20,7 +27,8 @@ fn write_ends<O: Sink>(alloc: Global, output: &mut O, found: &Found) -> Result<(
     write_line(output, &line)?;
     let (short, refused) = (found.short_of_room, found.with_refusals);
     let line = format!(in alloc; "calls left out in {short}, waits refused in {refused}\n")?;
-    write_line(output, &line)
+    write_line(output, &line)?;
+    flush(output)
 }
 
 /// What came of the schedules of so many seeds.
