@@ -58,20 +58,11 @@ pub enum Word {
 #[derive(Clone, Copy, Debug, PartialEq, Eq)]
 pub enum Schedules {
     /// The one of a seed, chosen by so many priority changes less one, or else uniformly.
-    OfSeed {
-        seed: u64,
-        pct: Option<u64>,
-    },
+    OfSeed { seed: u64, pct: Option<u64> },
     /// Those of so many seeds.
-    OfSeeds {
-        times: u64,
-        pct: Option<u64>,
-    },
+    OfSeeds { times: u64, pct: Option<u64> },
     /// All, up to so many moves, and the histories of those that end if they are asked for.
-    All {
-        moves: Option<u64>,
-        histories: bool,
-    },
+    All { moves: Option<u64>, histories: bool },
 }
 
 /// A subcommand, what it reads, and whether what it refuses is explained.
@@ -262,16 +253,16 @@ as it is made too, and so many entries are kept at a time."#;
 
 /// What the help of `explore` shows below its usage.
 const EXPLORE_HELP: &str =
-    r#"The input is a script, as `run` reads one. In one thread, it plays schedules of the script: who moves next is chosen by a seed, or all
-choices are tried. A move is a call of a caller, the end of a wait, or what a worker does next.
+    r#"The input is a script, as `run` reads one. Its schedules are played in one thread: who moves next is chosen by a
+seed, or all choices are tried. A move is a call of a caller, the end of a wait, or what a worker does next.
 
   cmwq explore --seed 7 SCRIPT       the history of one schedule, always the same
   cmwq explore --times 1000 SCRIPT   how many of the schedules of the seeds 0 to 999 ended, and how many got stuck
   cmwq explore --all SCRIPT          whether all schedules end
 
-A schedule is stuck if nobody may move, and yet a call, a wait, a run or an active queueing is left. Of the shortest that got stuck,
-its seed, what everybody waits for and its history are written. The status is 7 if a schedule got stuck, and 8 if none did but not
-all was tried."#;
+A schedule is stuck if nobody may move, and yet a call, a wait, a run or an active queueing is left. Of the shortest
+that got stuck, its seed or its moves, what everybody waits for and its history are written. The status is 7 if a
+schedule got stuck, and 8 if none did but not all was tried."#;
 
 /// Whether the matches of a word have the flag of this name.
 fn has_flag(matches: &ArgMatches, name: &str) -> bool
@@ -336,11 +327,7 @@ fn schedules_found(matches: &ArgMatches) -> Option<Schedules>
 }
 
 /// All schedules, if no number beside that of moves is given.
-fn all_schedules(
-    other: Option<u64>,
-    moves: Option<u64>,
-    histories: bool,
-) -> Option<Schedules>
+fn all_schedules(other: Option<u64>, moves: Option<u64>, histories: bool) -> Option<Schedules>
     ensures { result ≡ all_schedules other moves histories }
 {
     match other {
@@ -566,7 +553,8 @@ fn seeded_word<'a>(alloc: Global) -> Result<Command<'a>, AllocError>
     let help = "Plays the schedules of so many seeds, from 0 on";
     let word = with_number(alloc, word, "times", help)?;
     let help =
-        "Chooses by a random order of all, in which so many less one go to the end at random moves; else each who may move is as likely";
+        "Chooses by a random order of all, in which so many less one go to the end at random moves; else each who may \
+        move is as likely";
     with_number(alloc, word, "pct", help)
 }
 

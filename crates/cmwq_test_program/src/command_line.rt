@@ -129,13 +129,13 @@ const WRONG_USES: [(&[&str], &str); 10] = [
     ),
     (
         &["cmwq", "explore"],
-        "error: explore takes one of --seed N, --times N and --all: the first two with --pct D, the last with --moves N \
-        and --histories\n\nUsage: cmwq <COMMAND>\n",
+        "error: explore takes one of --seed N, --times N and --all: the first two with --pct D, the last with \
+        --moves N and --histories\n\nUsage: cmwq <COMMAND>\n",
     ),
     (
         &["cmwq", "explore", "--seed", "1", "--all"],
-        "error: explore takes one of --seed N, --times N and --all: the first two with --pct D, the last with --moves N \
-        and --histories\n\nUsage: cmwq <COMMAND>\n",
+        "error: explore takes one of --seed N, --times N and --all: the first two with --pct D, the last with \
+        --moves N and --histories\n\nUsage: cmwq <COMMAND>\n",
     ),
     (
         &["cmwq", "chart", "--to"],

@@ -31,8 +31,7 @@ fn counts_of(rt: &(impl Abort + AllocGlobal), text: &str, moves: u64) -> Counts 
     let setup = Setup::new(rt.alloc(), &script).expect(rt, "memory");
     let mut told = Told { ended: 0, stuck: 0 };
     let limits = Limits { moves };
-    let (found, shortest) =
-        search_all(rt.alloc(), &setup, limits, &mut told).expect(rt, "memory");
+    let (found, shortest) = search_all(rt.alloc(), &setup, limits, &mut told).expect(rt, "memory");
     assert!(rt; told.ended == found.ended && told.stuck == found.stuck);
     let moves = match &shortest {
         Some(steps) => Some(steps.len()),
@@ -82,5 +81,8 @@ fn a_flush_under_a_freeze_is_stuck(rt: HostRuntime) {
     assert!(rt; play.history().len() == 4);
     let party = Party::caller(&play, 0).expect(&rt, "a caller that waits");
     let told = format!(in rt.alloc(); "{}: {party}", play.name_of(0)).expect(&rt, "memory");
-    assert!(rt; told.as_str() == "c0: caller c0 waits for the flush of queue 0, which waits for queueing 2 of item A");
+    assert!(rt;
+        told.as_str()
+            == "c0: caller c0 waits for the flush of queue 0, which waits for queueing 2 of item A"
+    );
 }
