@@ -1,4 +1,4 @@
-use Rattle.std.proofs.Common.{rules, ◌≡◌, true, None, sym}
+use Rattle.std.proofs.Common.{◌≡◌, true, None, sym}
 use Rattle.cmwq_cmd_explore.specs.Verdicts.{Holds, WritesLegal, WritesPlayed, plays_all, plays_one}
 use Rattle.cmwq_cmd_explore.specs.declared.explore.Task.TheVariants as tasks
 use Rattle.cmwq_cmd_explore.proofs.Verdict.{explored, explored_seed}
