@@ -1,0 +1,4 @@
+pub mod Counts
+pub mod Searches
+pub mod Stands
+pub mod Starts

@@ -1,0 +1,387 @@
+//! All schedules of a script, depth first.
+
+ghost use Rattle.std.specs.Prelude.{◌≡◌, ◌≤◌, ◌<◌, ◌+◌, ◌-◌, ◌++◌, ◌∷◌, ℕ, [], true, length, None, IfOk, IfSome};
+ghost use Rattle.mini.specs.Stands as spec;
+ghost use Rattle.mini.specs.Searches.{AllEnd, AllEndAfter, GetsStuck, HasAtLeast, KnowsStuck};
+ghost use Rattle.mini.specs.Searches.{NoneStuck, NoneStuckAfter, Rests, TellsStuck, after};
+ghost use Rattle.mini.specs.Counts.{CountsEnd, CountsStuck};
+ghost use Rattle.mini.specs.declared.play.Standing.TheVariants as standing;
+ghost use Rattle.mini.specs.Starts.{start_of};
+
+use crate::place::Step;
+use crate::play::{Play, Setup, Standing};
+use std::alloc::{AllocError, Global};
+
+/// How many moves a schedule has at most; a longer one is cut off.
+pub const MOST_MOVES: usize = 2_000;
+
+/// After how many moves a search is looked at.
+const MOVES_A_LOOK: u64 = 1_000_000;
+
+/// What limits a search.
+#[derive(Clone, Copy, Debug)]
+pub struct Limits {
+    /// How many moves are made at most, in all. Those that are made again count too.
+    pub moves: u64,
+}
+
+/// What a search found.
+#[derive(Clone, Copy, Debug, PartialEq, Eq)]
+pub struct Found {
+    /// How many states were visited.
+    pub states: u64,
+    /// How many schedules ended, with nothing left to do.
+    pub ended: u64,
+    /// How many got stuck.
+    pub stuck: u64,
+    /// How many were cut off by a limit.
+    pub cut: u64,
+    /// In how many of those that ended or got stuck calls were left out for want of room.
+    pub short_of_room: u64,
+    /// In how many of them waits of runs were refused.
+    pub with_refusals: u64,
+    /// How often a state was met again.
+    pub met_again: u64,
+    /// How often others might move there than when it was met first: never, or the search is wrong.
+    pub differing: u64,
+    /// How many moves were made.
+    pub moves: u64,
+}
+
+impl Found {
+    /// Nothing yet.
+    pub fn nothing() -> Found
+        ensures { (result.stuck ≡ 0) × (result.ended ≡ 0) × (result.cut ≡ 0) }
+    {
+        Found {
+            states: 0,
+            ended: 0,
+            stuck: 0,
+            cut: 0,
+            short_of_room: 0,
+            with_refusals: 0,
+            met_again: 0,
+            differing: 0,
+            moves: 0,
+        }
+    }
+
+    /// How a play ended that may not go on.
+    pub fn count_end(&mut self, play: &Play<'_>) -> Standing
+        ensures ended { result ≡ standing.Ended → CountsEnd self.old self.new × spec.IsDone play.now }
+        ensures stuck { result ≡ standing.Stuck → CountsStuck self.old self.new × (spec.IsDone play.now → ⊥) }
+        ensures goes { result ≡ standing.Goes → ⊥ }
+        ensures cut { self.new.cut ≡ self.old.cut }
+        ensures more { self.old.stuck ≤ self.new.stuck }
+    {
+        let standing = play.standing_still();
+        match standing {
+            Standing::Stuck => self.stuck = self.stuck.saturating_add(1),
+            _ => self.ended = self.ended.saturating_add(1),
+        }
+        if play.left_out() > 0 {
+            self.short_of_room = self.short_of_room.saturating_add(1);
+        }
+        if play.refused() > 0 {
+            self.with_refusals = self.with_refusals.saturating_add(1);
+        }
+        standing
+    }
+}
+
+/// Who looks on at a search.
+pub trait Watch {
+    /// So much was found so far.
+    fn looks(&mut self, found: &Found);
+
+    /// A play may not go on.
+    fn ends(&mut self, play: &Play<'_>, standing: Standing);
+}
+
+/// A search under way.
+#[derive(Drop)]
+pub(crate) struct Search {
+    pub(crate) alloc: Global,
+    pub(crate) limits: Limits,
+    pub(crate) found: Found,
+    pub(crate) shortest: Option<Vec<Step>>,
+    next_look: u64,
+}
+
+/// The steps, copied.
+fn copy_of(alloc: Global, steps: &[Step]) -> Result<Vec<Step>, AllocError>
+    ensures { IfOk result (λ copy. copy.items ≡ steps.now) }
+{
+    Ok(steps.to_vec(alloc)?)
+}
+
+impl Search {
+    pub(crate) fn new(alloc: Global, limits: Limits) -> Search
+        ensures shortest { result.shortest ≡ None }
+        ensures stuck { result.found.stuck ≡ 0 }
+    {
+        Search {
+            alloc,
+            limits,
+            found: Found::nothing(),
+            shortest: None,
+            next_look: MOVES_A_LOOK,
+        }
+    }
+
+    /// One state more was visited.
+    pub(crate) fn count_state(&mut self)
+        ensures counts { (self.new.found.cut ≡ self.old.found.cut) × (self.new.found.stuck ≡ self.old.found.stuck) }
+        ensures shortest { self.new.shortest ≡ self.old.shortest }
+    {
+        self.found.states = self.found.states.saturating_add(1);
+    }
+
+    /// So many moves more were made.
+    pub(crate) fn count_moves<W: Watch>(&mut self, moves: usize, watch: &mut W)
+        ensures counts { (self.new.found.cut ≡ self.old.found.cut) × (self.new.found.stuck ≡ self.old.found.stuck) }
+        ensures shortest { self.new.shortest ≡ self.old.shortest }
+    {
+        self.found.moves = self.found.moves.saturating_add(moves as u64);
+        if self.found.moves >= self.next_look {
+            self.next_look = self.found.moves.saturating_add(MOVES_A_LOOK);
+            watch.looks(&self.found);
+        }
+    }
+
+    /// Whether no move more is to be made.
+    pub(crate) fn is_at_limit(&self) -> bool {
+        self.found.moves >= self.limits.moves
+    }
+
+    /// Keeps a schedule that got stuck, if none that is shorter is known.
+    fn keep_shortest(&mut self, path: &[Step]) -> Result<(), AllocError>
+        ensures sound { IfOk result (λ _. (start : spec.Stand) → GetsStuck start path.now
+            → TellsStuck start self.old.shortest → TellsStuck start self.new.shortest) }
+        ensures within { IfOk result (λ _. IfSome self.new.shortest (λ s. length s.items ≤ length path.now)) }
+        ensures shorter { IfOk result (λ _. (n : ℕ) → HasAtLeast n self.new.shortest
+            → HasAtLeast n self.old.shortest) }
+        ensures some { IfOk result (λ _. self.new.shortest ≡ None → ⊥) }
+        ensures found { self.new.found ≡ self.old.found }
+    {
+        match &self.shortest {
+            Some(steps) if steps.len() <= path.len() => Ok(()),
+            _ => {
+                self.shortest = Some(copy_of(self.alloc, path)?);
+                Ok(())
+            }
+        }
+    }
+
+    /// A schedule may not go on.
+    pub(crate) fn note_end<W: Watch>(
+        &mut self,
+        play: &Play<'_>,
+        path: &[Step],
+        watch: &mut W,
+    ) -> Result<(), AllocError>
+        ensures done { self.new.found.stuck ≡ 0 → spec.IsDone play.now }
+        ensures cut { self.new.found.cut ≡ self.old.found.cut }
+        ensures stuck { self.old.found.stuck ≤ self.new.found.stuck }
+        ensures sound { IfOk result (λ _. (start : spec.Stand) → play.now ≡ after start path.now → Rests play.now
+            → TellsStuck start self.old.shortest → TellsStuck start self.new.shortest) }
+        ensures none { IfOk result (λ _. (n : ℕ) → HasAtLeast n self.new.shortest → length path.now < n
+            → spec.IsDone play.now) }
+        ensures shorter { IfOk result (λ _. (n : ℕ) → HasAtLeast n self.new.shortest
+            → HasAtLeast n self.old.shortest) }
+        ensures known { IfOk result (λ _. KnowsStuck self.old.found.stuck self.old.shortest
+            → KnowsStuck self.new.found.stuck self.new.shortest) }
+    {
+        let standing = self.found.count_end(play);
+        watch.ends(play, standing);
+        match standing {
+            Standing::Stuck => self.keep_shortest(path),
+            Standing::Goes | Standing::Ended => Ok(()),
+        }
+    }
+
+    /// A schedule was cut off.
+    pub(crate) fn cut(&mut self)
+        ensures cut { 1 ≤ self.new.found.cut }
+        ensures more { self.old.found.cut ≤ self.new.found.cut }
+        ensures stuck { self.new.found.stuck ≡ self.old.found.stuck }
+        ensures shortest { self.new.shortest ≡ self.old.shortest }
+    {
+        self.found.cut = self.found.cut.saturating_add(1);
+    }
+
+    /// The play stands at the end of the path: it stands there before the first of those who may move there has moved,
+    /// and for each other one it is played again.
+    fn stand_at<'a, W: Watch>(
+        &mut self,
+        setup: &'a Setup<'a>,
+        play: &mut Play<'a>,
+        path: &[Step],
+        is_first: bool,
+        watch: &mut W,
+    ) -> Result<(), AllocError>
+        requires { is_first ≡ true → play.old ≡ after (start_of setup.now) path.now }
+        ensures play { IfOk result (λ _. play.new ≡ after (start_of setup.now) path.now) }
+        ensures counts { (self.new.found.cut ≡ self.old.found.cut) × (self.new.found.stuck ≡ self.old.found.stuck) }
+        ensures shortest { self.new.shortest ≡ self.old.shortest }
+    {
+        if is_first {
+            return Ok(());
+        }
+        play.replay(setup, path)?;
+        self.count_moves(path.len(), watch);
+        Ok(())
+    }
+
+    /// Makes a step, which is the last one of the path from then on.
+    fn step_on<W: Watch>(
+        &mut self,
+        play: &mut Play<'_>,
+        path: &mut Vec<Step>,
+        step: Step,
+        watch: &mut W,
+    ) -> Result<(), AllocError>
+        ensures play { IfOk result (λ _. play.new ≡ spec.moved play.old step) }
+        ensures path { IfOk result (λ _. path.new.items ≡ path.old.items ++ step ∷ []) }
+        ensures at { IfOk result (λ _. (start : spec.Stand) → play.old ≡ after start path.old.items
+            → play.new ≡ after start path.new.items) }
+        ensures counts { (self.new.found.cut ≡ self.old.found.cut) × (self.new.found.stuck ≡ self.old.found.stuck) }
+        ensures shortest { self.new.shortest ≡ self.old.shortest }
+    {
+        play.make_move(step)?;
+        self.count_moves(1, watch);
+        path.push(step)?;
+        Ok(())
+    }
+
+    /// Visits all states to which the path leads, at the end of which the play stands.
+    #[cycle(visiting)]
+    fn visit<'a, W: Watch>(
+        &mut self,
+        setup: &'a Setup<'a>,
+        play: &mut Play<'a>,
+        path: &mut Vec<Step>,
+        depth: usize,
+        watch: &mut W,
+    ) -> Result<(), AllocError>
+        requires { play.old ≡ after (start_of setup.now) path.old.items }
+        ensures all { IfOk result
+            (λ _. self.new.found.cut ≡ 0 → self.new.found.stuck ≡ 0 → AllEnd depth play.old) }
+        ensures path { IfOk result (λ _. path.new.items ≡ path.old.items) }
+        ensures cut { self.old.found.cut ≤ self.new.found.cut }
+        ensures stuck { self.old.found.stuck ≤ self.new.found.stuck }
+        ensures none { IfOk result (λ _. self.new.found.cut ≡ 0 → (n : ℕ) → HasAtLeast n self.new.shortest
+            → NoneStuck (n - length path.old.items) play.old) }
+        ensures sound { IfOk result (λ _. TellsStuck (start_of setup.now) self.old.shortest
+            → TellsStuck (start_of setup.now) self.new.shortest) }
+        ensures shorter { IfOk result (λ _. (n : ℕ) → HasAtLeast n self.new.shortest
+            → HasAtLeast n self.old.shortest) }
+        ensures known { IfOk result (λ _. KnowsStuck self.old.found.stuck self.old.shortest
+            → KnowsStuck self.new.found.stuck self.new.shortest) }
+    {
+        self.count_state();
+        let movers = play.movers()?;
+        if movers.is_empty() {
+            return self.note_end(play, path, watch);
+        }
+        if depth == 0 {
+            self.cut();
+            return Ok(());
+        }
+        self.visit_after(setup, play, path, depth - 1, &movers, watch)
+    }
+
+    /// Visits all states after a move of each of these.
+    #[cycle(visiting)]
+    fn visit_after<'a, W: Watch>(
+        &mut self,
+        setup: &'a Setup<'a>,
+        play: &mut Play<'a>,
+        path: &mut Vec<Step>,
+        depth: usize,
+        movers: &[usize],
+        watch: &mut W,
+    ) -> Result<(), AllocError>
+        requires { play.old ≡ after (start_of setup.now) path.old.items }
+        ensures all { IfOk result (λ _. self.new.found.cut ≡ 0 → self.new.found.stuck ≡ 0
+            → AllEndAfter depth play.old movers.now (length movers.now)) }
+        ensures path { IfOk result (λ _. path.new.items ≡ path.old.items) }
+        ensures cut { self.old.found.cut ≤ self.new.found.cut }
+        ensures stuck { self.old.found.stuck ≤ self.new.found.stuck }
+        ensures none { IfOk result (λ _. self.new.found.cut ≡ 0 → (n : ℕ) → HasAtLeast n self.new.shortest
+            → NoneStuckAfter (n - (length path.old.items + 1)) play.old movers.now (length movers.now)) }
+        ensures sound { IfOk result (λ _. TellsStuck (start_of setup.now) self.old.shortest
+            → TellsStuck (start_of setup.now) self.new.shortest) }
+        ensures shorter { IfOk result (λ _. (n : ℕ) → HasAtLeast n self.new.shortest
+            → HasAtLeast n self.old.shortest) }
+        ensures known { IfOk result (λ _. KnowsStuck self.old.found.stuck self.old.shortest
+            → KnowsStuck self.new.found.stuck self.new.shortest) }
+    {
+        for k in 0..movers.len() {
+            if self.is_at_limit() {
+                self.cut();
+                return Ok(());
+            }
+            self.stand_at(setup, play, path, k == 0, watch)?;
+            let step = play.step_of(movers[k]);
+            self.visit_step(setup, play, path, depth, step, watch)?;
+        }
+        Ok(())
+    }
+
+    /// Makes a step, and visits all states after it.
+    #[cycle(visiting)]
+    fn visit_step<'a, W: Watch>(
+        &mut self,
+        setup: &'a Setup<'a>,
+        play: &mut Play<'a>,
+        path: &mut Vec<Step>,
+        depth: usize,
+        step: Step,
+        watch: &mut W,
+    ) -> Result<(), AllocError>
+        requires { play.old ≡ after (start_of setup.now) path.old.items }
+        ensures all { IfOk result (λ _. self.new.found.cut ≡ 0 → self.new.found.stuck ≡ 0
+            → AllEnd depth (spec.moved play.old step)) }
+        ensures path { IfOk result (λ _. path.new.items ≡ path.old.items) }
+        ensures cut { self.old.found.cut ≤ self.new.found.cut }
+        ensures stuck { self.old.found.stuck ≤ self.new.found.stuck }
+        ensures none { IfOk result (λ _. self.new.found.cut ≡ 0 → (n : ℕ) → HasAtLeast n self.new.shortest
+            → NoneStuck (n - (length path.old.items + 1)) (spec.moved play.old step)) }
+        ensures sound { IfOk result (λ _. TellsStuck (start_of setup.now) self.old.shortest
+            → TellsStuck (start_of setup.now) self.new.shortest) }
+        ensures shorter { IfOk result (λ _. (n : ℕ) → HasAtLeast n self.new.shortest
+            → HasAtLeast n self.old.shortest) }
+        ensures known { IfOk result (λ _. KnowsStuck self.old.found.stuck self.old.shortest
+            → KnowsStuck self.new.found.stuck self.new.shortest) }
+    {
+        self.step_on(play, path, step, watch)?;
+        self.visit(setup, play, path, depth, watch)?;
+        path.pop();
+        Ok(())
+    }
+}
+
+/// Plays all schedules of a script, depth first, within the limits. Returns what it found, and the shortest schedule
+/// that got stuck, of those the first.
+///
+/// # Errors
+/// Want of memory.
+pub fn search_all<'a, W: Watch>(
+    alloc: Global,
+    setup: &'a Setup<'a>,
+    limits: Limits,
+    watch: &mut W,
+) -> Result<(Found, Option<Vec<Step>>), AllocError>
+    ensures all { IfOk result (λ r. r.0.cut ≡ 0 → r.0.stuck ≡ 0 → AllEnd MOST_MOVES (start_of setup.now)) }
+    ensures stuck { IfOk result (λ r. TellsStuck (start_of setup.now) r.1) }
+    ensures known { IfOk result (λ r. KnowsStuck r.0.stuck r.1) }
+    ensures shortest { IfOk result (λ r. r.0.cut ≡ 0
+        → IfSome r.1 (λ steps. NoneStuck (length steps.items) (start_of setup.now))) }
+{
+    let mut search = Search::new(alloc, limits);
+    let mut play = Play::new(alloc, setup)?;
+    let mut path = Vec::new(alloc);
+    search.visit(setup, &mut play, &mut path, MOST_MOVES, watch)?;
+    Ok((search.found, search.shortest))
+}

@@ -1,0 +1,9 @@
+//! Tests of schedules: how many a small script has, which of them gets stuck, and that a seed gives the same one again.
+#![tactic(auto)]
+
+#[cfg(test)]
+mod scripts;
+#[cfg(test)]
+mod searches;
+#[cfg(test)]
+mod seeds;

@@ -1,0 +1,8 @@
+pub mod Chances
+pub mod Counts
+pub mod Firsts
+pub mod Machines
+pub mod Searches
+pub mod Stands
+pub mod Starts
+pub mod Verdicts
