@@ -26,6 +26,4 @@ mod subcommand;
 #[cfg(test)]
 mod table;
 #[cfg(test)]
-mod together;
-#[cfg(test)]
 mod waits;
