@@ -170,7 +170,12 @@ fn a_run_makes_calls_together(rt: HostRuntime) {
         assert!(rt; !is_callers(entry));
     }
     let queued = history.iter().skip(from).take(2);
-    assert_eq!(rt; queued.filter(|entry| matches!(entry.call, Call::Queue { .. })).count(), 2);
+    assert_eq!(rt;
+        queued
+            .filter(|entry| matches!(entry.call, Call::Queue { .. }))
+            .count(),
+        2
+    );
 }
 
 #[test]
