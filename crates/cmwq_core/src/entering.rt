@@ -28,6 +28,7 @@ pub(crate) trait Told: Sized {
 }
 
 /// Nothing is told.
+#[derive(Drop)]
 pub(crate) struct Untold;
 
 impl Told for Untold {

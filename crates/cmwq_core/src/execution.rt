@@ -134,7 +134,7 @@ impl Execution {
         ensures entry { self.new ≡ with_entry self.old plan.now.mark.entry }
     {
         match enter::<Untold>(&mut self.state, &plan.mark.entry) {
-            Ok(_) => plan.mark.entry.reply,
+            Ok(Untold) => plan.mark.entry.reply,
             Err(Full) => unreachable!(),
         }
     }

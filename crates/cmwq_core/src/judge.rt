@@ -126,7 +126,7 @@ impl Judge {
             return Ok(Err(wanted));
         }
         match enter::<Untold>(&mut self.state, entry) {
-            Ok(_) => Ok(Ok(())),
+            Ok(Untold) => Ok(Ok(())),
             Err(Full) => Err(Full),
         }
     }
