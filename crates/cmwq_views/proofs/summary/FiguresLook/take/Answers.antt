@@ -1,5 +1,5 @@
 use Rattle.cmwq_views.proofs.Figured.{effect_is, has_its_time, are_few, counts_are, is_after}
-use Rattle.cmwq_views.proofs.summary.FiguresFold.take.Goals as goal
+use Rattle.cmwq_views.proofs.summary.FiguresLook.take.Goals as goal
 
 pub add-requires : goal.add-requires
 add-requires c =

@@ -3,7 +3,7 @@ use Rattle.std.proofs.lemmas.List.{reverse-append}
 use Rattle.cmwq_model.specs.Prelude.{past_of, queueings}
 use Rattle.cmwq_chart.specs.Levels.{level_number_of, most_places}
 use Rattle.cmwq_chart.specs.Marks.{AreMarks}
-use Rattle.cmwq_chart_levels.proofs.seen.SeenFold.take.Goals as goal
+use Rattle.cmwq_chart_levels.proofs.seen.SeenLook.take.Goals as goal
 
 pub returns : goal.returns
 unfolding queueings
