@@ -1,4 +1,4 @@
--- What a table of marks says, and what it says of workers.
+-- What a table of marks says, and what it says of workers and callers.
 use Rattle.std.proofs.Common.{◌≡◌, ℕ, ◌+◌, ◌<◌, Bool, false, ◌||◌, List, [], ◌∷◌, length, get_or, take, Option, Some}
 use Rattle.std.proofs.Common.{refl, sym, ap, ap₂, ◌∙◌, arith, slice_get, replicate}
 use Rattle.std.proofs.lemmas.Bool.Decides.{nat_tests}
@@ -7,9 +7,11 @@ use Rattle.std.proofs.lemmas.List.Folds.{list_any_more}
 use Rattle.std.proofs.lemmas.Option.{slice_get-get_or}
 use Rattle.std.specs.List.{list_any}
 use Rattle.cmwq_model.specs.declared.entry.Entry.{Entry}
-use Rattle.cmwq_model.specs.declared.id.Who.TheVariants.{Worker}
+use Rattle.cmwq_model.specs.declared.id.CallerId.{CallerId}
+use Rattle.cmwq_model.specs.declared.id.Who.TheVariants.{Caller, Worker}
 use Rattle.cmwq_model.specs.declared.id.WorkerId.{WorkerId}
 use Rattle.cmwq_model.specs.Prelude.{is_at, is_by, most_cpus, most_workers}
+use Rattle.cmwq_chart.specs.CallerWaits.{caller_number_by, has_calls}
 use Rattle.cmwq_chart.specs.Lanes.{has_entries, most_lanes, lane_number_by, lane_number}
 use Rattle.cmwq_chart.specs.Marks.{AreMarks, IsMarked}
 
@@ -58,3 +60,13 @@ pub worker_marked : (entries : List Entry) (table : List Bool) (w : WorkerId) (b
 worker_marked entries table w b are here small is =
     marked lane_number_by (is_by (Worker w)) entries most_lanes (lane_number w) table b are (number_within w here small)
     (λ e. by_is w e here small) is
+
+-- ---- callers
+
+call_is : (c : CallerId) (e : Entry) → is_at (caller_number_by e) c.0 ≡ is_by (Caller c) e
+call_is c e = grind (arith, nat_tests)
+
+pub caller_marked : (entries : List Entry) (table : List Bool) (c : CallerId) (b : Bool)
+    → AreMarks caller_number_by entries 256 table → c.0 < 256 → slice_get table c.0 ≡ Some b → b ≡ has_calls entries c
+caller_marked entries table c b are here is =
+    marked caller_number_by (is_by (Caller c)) entries 256 c.0 table b are here (λ e. call_is c e) is

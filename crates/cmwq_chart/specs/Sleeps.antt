@@ -1,6 +1,6 @@
 -- Sleeps: from the entry by which a worker's run sleeps to the one by which it goes on.
 use Rattle.std.specs.Prelude.{◌≡◌, ◌<◌, ◌+◌, ◌*◌, ℕ, ◌&&◌, Bool, true, false, if◌then◌else◌, List, [], ◌∷◌, ◌++◌}
-use Rattle.std.specs.Prelude.{length, flat_map, Option, Some, None, option_map, option_to_list, slice_index_or}
+use Rattle.std.specs.Prelude.{length, flat_map, Option, Some, None, option_map, option_to_list}
 use Rattle.cmwq_model.specs.declared.entry.Entry.{Entry}
 use Rattle.cmwq_model.specs.declared.id.WorkerId.{WorkerId}
 use Rattle.cmwq_model.specs.declared.id.Who.TheVariants.{Worker}
@@ -9,6 +9,7 @@ use Rattle.cmwq_model.specs.declared.reply.Reply.TheVariants as reply
 use Rattle.cmwq_model.specs.Prelude.{is_by}
 use Rattle.cmwq_chart.specs.declared.sleeps.Sleep.{Sleep}
 use Rattle.cmwq_chart.specs.declared.sleeps.WorkerSleeps.{WorkerSleeps}
+use Rattle.cmwq_chart.specs.Known.{AreAllKnown}
 
 -- the place of the entry by which a worker sleeps, after an entry of its own
 abbrev pub since_after : Reply → ℕ → Option ℕ → Option ℕ
@@ -59,7 +60,4 @@ pub record AreSleepsKnown (past : List Entry) (w : WorkerId) (known : WorkerSlee
   pub since : known.since ≡ asleep_since past w
 
 abbrev pub AreAllSleepsKnown : List Entry → List WorkerSleeps → Type 0
-AreAllSleepsKnown past table =
-    (length table ≡ 131072)
-    × ((w : WorkerId) (d : WorkerSleeps) → HasTableNumber w
-    → AreSleepsKnown past w (slice_index_or table (table_number w) d))
+AreAllSleepsKnown past table = AreAllKnown table_number 131072 HasTableNumber (AreSleepsKnown past) table

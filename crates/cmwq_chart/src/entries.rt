@@ -1,6 +1,7 @@
 //! What single entries say.
 ghost use Rattle.std.specs.Prelude.{◌≡◌, ◌+◌, ◌<◌, ◌∷◌, length, take};
 ghost use Rattle.cmwq_model.specs.Prelude.{is_by, item_at, item_of, past_of, same_worker, start_in};
+ghost use Rattle.cmwq_chart.specs.CallerWaits.{caller_number, HasCallerNumber};
 
 use cmwq_model::{Call, CallerId, Entry, Number, Reply, Start, Who, WorkerId};
 
@@ -73,6 +74,14 @@ pub(crate) fn is_call_of(caller: CallerId, entry: Entry) -> bool
         Who::Caller(other) => other.0 == caller.0,
         Who::Worker(_) => false,
     }
+}
+
+/// The number of a caller in a table of all callers that an entry can name.
+pub(crate) fn caller_number(caller: CallerId) -> usize
+    ensures number { result ≡ caller_number caller }
+    ensures within { HasCallerNumber caller }
+{
+    usize::from(caller.0)
 }
 
 /// Whether these are the same worker.

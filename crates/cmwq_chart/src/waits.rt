@@ -1,10 +1,10 @@
 //! Waits of callers, in rows.
-ghost use Rattle.std.specs.Prelude.{◌≡◌, ◌+◌, ◌≤◌, ◌∷◌, ◌++◌, All, length, option_to_list, IfOk, OnOk};
+ghost use Rattle.std.specs.Prelude.{◌≡◌, ◌+◌, ◌≤◌, List, [], ◌∷◌, ◌++◌, All, length, option_to_list, IfOk, OnOk};
 ghost use Rattle.cmwq_model.specs.Prelude.{past_of, is_at, is_done, most_tickets};
 ghost use Rattle.cmwq_chart.specs.CallerWaits as spec;
 
-use crate::entries::{entry_at, is_call_of};
-use cmwq_model::{Call, CallerId, Entry, Number, Reply};
+use crate::entries::{caller_number, entry_at, is_call_of};
+use cmwq_model::{Call, CallerId, Entry, Number, Reply, Who};
 use std::alloc::{AllocError, Global};
 
 /// A wait of a caller, in a row of its own where several overlap: the places of the entries that gave its ticket and
@@ -330,33 +330,105 @@ fn push_left(
     Ok(())
 }
 
-/// Adds the waits and signs of a caller after the others, and answers its lane.
+/// How many callers an entry can name.
+const CALLERS: usize = 256;
+
+/// What is known of a caller after some entries: which tickets wait in its rows, its waits that ended, and where their
+/// ends were asked for.
+#[derive(Drop)]
+struct KnownWaits {
+    rows: Vec<Option<u32>>,
+    ended: Vec<CallerWait>,
+    signs: Vec<WaitSign>,
+}
+
+/// What is known before the first entry.
+fn none_known(alloc: Global) -> Result<Vec<KnownWaits>, AllocError>
+    ensures { IfOk result (λ known. spec.AreAllWaitsKnown [] known.items) }
+{
+    let mut known = Vec::new(alloc);
+    for _ in 0..CALLERS {
+        known.push(KnownWaits {
+            rows: Vec::new(alloc),
+            ended: Vec::new(alloc),
+            signs: Vec::new(alloc),
+        })?;
+    }
+    Ok(known)
+}
+
+/// Takes what is known of a caller beyond an entry after these.
+fn follow_caller(
+    own: &mut KnownWaits,
+    entries: &[Entry],
+    entry: Entry,
+    caller: CallerId,
+) -> Result<(), AllocError>
+    requires short { length entries.now ≤ 1073741824 }
+    requires known { spec.AreWaitsKnown (past_of entries.now) caller own.old }
+    ensures { OnOk result (spec.AreWaitsKnown (entry ∷ past_of entries.now) caller own.new) }
+{
+    keep_wait(
+        &mut own.ended,
+        wait_ended(&own.rows, entries, entry, caller),
+    )?;
+    keep_sign(
+        &mut own.signs,
+        wait_sign_of(&own.rows, entries, entry, caller),
+    )?;
+    follow_rows(&mut own.rows, entries, entry, caller)?;
+    Ok(())
+}
+
+/// Takes what is known beyond an entry after these, which tells of its own caller alone.
+fn follow(known: &mut Vec<KnownWaits>, entries: &[Entry], entry: Entry) -> Result<(), AllocError>
+    requires short { length entries.now ≤ 1073741824 }
+    requires known { spec.AreAllWaitsKnown (past_of entries.now) known.old.items }
+    ensures { OnOk result (spec.AreAllWaitsKnown (entry ∷ past_of entries.now) known.new.items) }
+{
+    if let Who::Caller(caller) = entry.who {
+        let number = caller_number(caller);
+        follow_caller(&mut known[number], entries, entry, caller)?;
+    }
+    Ok(())
+}
+
+/// What is known after all entries.
+fn all_known(alloc: Global, entries: &[Entry]) -> Result<Vec<KnownWaits>, AllocError>
+    requires { length entries.now ≤ 1073741824 }
+    ensures { IfOk result (λ known. spec.AreAllWaitsKnown (past_of entries.now) known.items) }
+{
+    let mut known = none_known(alloc)?;
+    for k in 0..entries.len() {
+        follow(&mut known, &entries[..k], entry_at(entries, k))?;
+    }
+    Ok(known)
+}
+
+/// Adds the waits of a caller after the others.
 #[tactic(auto, unfolding(crate::specs::CallerWaits::waits_by))]
 fn push_waits(
-    alloc: Global,
     waits: &mut Vec<CallerWait>,
-    signs: &mut Vec<WaitSign>,
-    entries: &[Entry],
+    own: &KnownWaits,
     caller: CallerId,
-) -> Result<CallerLane, AllocError>
-    requires { length entries.now ≤ 1073741824 }
-    ensures waits { OnOk result (waits.new.items ≡ waits.old.items ++ spec.waits_by (past_of entries.now) caller) }
-    ensures signs { OnOk result (signs.new.items ≡ signs.old.items ++ spec.wait_signs_by (past_of entries.now) caller) }
-    ensures lane { IfOk result (λ lane. lane ≡ spec.caller_lane (past_of entries.now) caller) }
+) -> Result<(), AllocError>
+    requires { length own.now.rows.items ≤ 4294967295 }
+    ensures { (past : List Entry) → spec.AreWaitsKnown past caller own.now
+        → OnOk result (waits.new.items ≡ waits.old.items ++ spec.waits_by past caller) }
 {
-    let mut rows = Vec::new(alloc);
-    for k in 0..entries.len() {
-        let before = &entries[..k];
-        let entry = entry_at(entries, k);
-        keep_wait(waits, wait_ended(&rows, before, entry, caller))?;
-        keep_sign(signs, wait_sign_of(&rows, before, entry, caller))?;
-        follow_rows(&mut rows, before, entry, caller)?;
-    }
-    push_left(waits, &rows, caller)?;
-    Ok(CallerLane {
+    waits.extend_from_slice(&own.ended)?;
+    push_left(waits, &own.rows, caller)?;
+    Ok(())
+}
+
+/// The lane of a caller.
+fn lane_of(own: &KnownWaits, caller: CallerId) -> CallerLane
+    ensures { (past : List Entry) → spec.AreWaitsKnown past caller own.now → result ≡ spec.caller_lane past caller }
+{
+    CallerLane {
         caller,
-        rows: rows.len().min(64) as u8,
-    })
+        rows: own.rows.len().min(64) as u8,
+    }
 }
 
 /// What a history shows of its callers: a lane for each, their waits, one caller after the other, and where the ends of
@@ -385,12 +457,15 @@ impl CallerShapes {
         ensures signs { IfOk result
             (λ shapes. shapes.signs.items ≡ spec.wait_signs_of (past_of entries.now) callers.now) }
     {
+        let known = all_known(alloc, entries)?;
         let mut lanes = Vec::new(alloc);
         let mut waits = Vec::new(alloc);
         let mut signs = Vec::new(alloc);
         for caller in callers {
-            let lane = push_waits(alloc, &mut waits, &mut signs, entries, *caller)?;
-            lanes.push(lane)?;
+            let own = &known[caller_number(*caller)];
+            lanes.push(lane_of(own, *caller))?;
+            push_waits(&mut waits, own, *caller)?;
+            signs.extend_from_slice(&own.signs)?;
         }
         Ok(CallerShapes {
             lanes,

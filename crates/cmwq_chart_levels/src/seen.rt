@@ -122,9 +122,16 @@ fn push_entry(entries: &mut Vec<Entry>, entry: Entry) -> Result<(), NoMemory>
 }
 
 impl Fold for Seen {
+    ghost use Rattle.std.specs.Prelude.{true};
     ghost use Rattle.cmwq_chart_levels.specs.Seen.{IsSeen};
 
     ghost is_of = { λ s past seen. IsSeen s past seen };
+
+    ghost looks = { true };
+
+    fn looks() -> bool {
+        true
+    }
 
     fn begin(alloc: Global, shape: &Shape) -> Result<Self, NoMemory> {
         Ok(Seen {
@@ -144,5 +151,9 @@ impl Fold for Seen {
         update_all(&mut self.ended, &mut self.running, step)?;
         mark_opened(&mut self.used, effect.opened);
         Ok(())
+    }
+
+    fn pass(&mut self, _: &Entry) -> Result<(), NoMemory> {
+        unreachable!()
     }
 }

@@ -4,7 +4,6 @@ ghost use Rattle.std.specs.Prelude.{◌≡◌, ◌∷◌, is_ok, IfOk, OnErr, On
 ghost use Rattle.cmwq_model.specs.Prelude.{IsLegal};
 ghost use Rattle.cmwq_core.specs.History.{next_entry, past_in, takes, with_entry};
 ghost use Rattle.cmwq_core.specs.Plans.{IsPlan};
-ghost use Rattle.cmwq_state.specs.Effects.{IsEffect};
 
 use crate::effects::effect_of;
 use crate::execution::Full;
@@ -13,21 +12,60 @@ use crate::plan::Plan;
 use cmwq_model::{Entry, Reply};
 use cmwq_state::{Effect, State};
 
-/// Makes the entry that its call gets next, if there is room, and returns what it does.
+/// What is returned of the effect of an entry that is made. An effect is large, so that copies of it cost more than
+/// making it, where nobody reads it.
+pub(crate) trait Told: Sized {
+    ghost use Rattle.std.specs.Prelude.{List};
+    ghost use Rattle.cmwq_model.specs.Prelude.{Layout};
+    ghost use Rattle.cmwq_model.specs.declared.entry.Entry.{Entry};
+    ghost use Rattle.cmwq_state.specs.Effects.{IsEffect};
+
+    /// It tells of this entry after this past.
+    ghost tells: { Layout → List Entry → Entry → Self → Type 0 };
+
+    fn of(effect: Effect) -> Self
+        ensures { (s : Layout) (past : List Entry) → IsEffect s past effect → tells s past effect.entry result };
+}
+
+/// Nothing is told.
+#[derive(Drop)]
+pub(crate) struct Untold;
+
+impl Told for Untold {
+    ghost tells = { λ s past e told. Unit {0} };
+
+    #[inline(always)]
+    fn of(_: Effect) -> Self {
+        Untold
+    }
+}
+
+impl Told for Effect {
+    ghost use Rattle.std.specs.Prelude.{◌≡◌};
+    ghost use Rattle.cmwq_state.specs.Effects.{IsEffect};
+
+    ghost tells = { λ s past e effect. (effect.entry ≡ e) × IsEffect s past effect };
+
+    #[inline(always)]
+    fn of(effect: Effect) -> Self {
+        effect
+    }
+}
+
+/// Makes the entry that its call gets next, if there is room, and returns what is told of its effect.
 #[inline(always)]
-fn make(state: &mut State, entry: &Entry) -> Result<Effect, Full>
+fn make<T: Told>(state: &mut State, entry: &Entry) -> Result<T, Full>
     requires next { entry.now ≡ next_entry state.old entry.now.who entry.now.call }
     requires legal { IsLegal state.old.layout (entry.now ∷ past_in state.old) }
     ensures room { is_ok result ≡ takes state.old entry.now.who entry.now.call }
-    ensures entry { IfOk result (λ effect. effect.entry ≡ entry.now) }
-    ensures effect { IfOk result (IsEffect state.old.layout (past_in state.old)) }
+    ensures told { IfOk result (T.tells state.old.layout (past_in state.old) entry.now) }
     ensures made { OnOk result (state.new ≡ with_entry state.old entry.now) }
     ensures full { OnErr result (state.new ≡ state.old) }
 {
     let effect = effect_of(state, *entry);
     if state.has_room(entry.call, effect.owing) {
         state.append(effect);
-        Ok(effect)
+        Ok(T::of(effect))
     } else {
         Err(Full)
     }
@@ -36,12 +74,11 @@ fn make(state: &mut State, entry: &Entry) -> Result<Effect, Full>
 /// The same. What an entry does follows from its reply, so each of the replies that come most has code of its own,
 /// where the compiler knows what isn't done.
 #[inline(always)]
-pub(crate) fn enter(state: &mut State, entry: &Entry) -> Result<Effect, Full>
+pub(crate) fn enter<T: Told>(state: &mut State, entry: &Entry) -> Result<T, Full>
     requires next { entry.now ≡ next_entry state.old entry.now.who entry.now.call }
     requires legal { IsLegal state.old.layout (entry.now ∷ past_in state.old) }
     ensures room { is_ok result ≡ takes state.old entry.now.who entry.now.call }
-    ensures entry { IfOk result (λ effect. effect.entry ≡ entry.now) }
-    ensures effect { IfOk result (IsEffect state.old.layout (past_in state.old)) }
+    ensures told { IfOk result (T.tells state.old.layout (past_in state.old) entry.now) }
     ensures made { OnOk result (state.new ≡ with_entry state.old entry.now) }
     ensures full { OnErr result (state.new ≡ state.old) }
 {

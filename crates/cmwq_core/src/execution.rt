@@ -12,7 +12,7 @@ ghost use Rattle.cmwq_core.specs.Plans.{IsPlan};
 ghost use Rattle.cmwq_core.specs.Relied.{IsReliable};
 
 use crate::effects::{done_by, ended_by, next_entry as predicted, opened_by};
-use crate::entering::{enter, plan};
+use crate::entering::{Untold, enter, plan};
 use crate::marks::bits_of;
 use crate::plan::Plan;
 use cmwq_model::{
@@ -133,8 +133,8 @@ impl Execution {
         ensures reply { result ≡ plan.now.mark.entry.reply }
         ensures entry { self.new ≡ with_entry self.old plan.now.mark.entry }
     {
-        match enter(&mut self.state, &plan.mark.entry) {
-            Ok(_) => plan.mark.entry.reply,
+        match enter::<Untold>(&mut self.state, &plan.mark.entry) {
+            Ok(Untold) => plan.mark.entry.reply,
             Err(Full) => unreachable!(),
         }
     }
@@ -167,7 +167,7 @@ impl Execution {
         ensures full { OnErr result (self.new ≡ self.old) }
     {
         let entry = predicted(&self.state, who, call);
-        enter(&mut self.state, &entry)?;
+        enter::<Untold>(&mut self.state, &entry)?;
         Ok(entry)
     }
 

@@ -26,4 +26,6 @@ mod subcommand;
 #[cfg(test)]
 mod table;
 #[cfg(test)]
+mod together;
+#[cfg(test)]
 mod waits;

@@ -9,7 +9,7 @@ ghost use Rattle.cmwq_views.specs.Summary.{SummaryEnds, summary_text};
 
 use crate::page::write_page;
 use crate::progress::Progress;
-use cmwq_base::{NoMemory, Refusal, Shape, Sink, Source};
+use cmwq_base::{Entry, NoMemory, Refusal, Shape, Sink, Source};
 use cmwq_core::Judge;
 use cmwq_history::{Fold, Step, View, run_view};
 use cmwq_summary::Summary;
@@ -22,9 +22,16 @@ struct Figures {
 }
 
 impl Fold for Figures {
+    ghost use Rattle.std.specs.Prelude.{true};
     ghost use Rattle.cmwq_views.specs.Summary.{IsSummaryOf};
 
     ghost is_of = { λ s past figures. IsSummaryOf s past figures.summary };
+
+    ghost looks = { true };
+
+    fn looks() -> bool {
+        true
+    }
 
     fn begin(alloc: Global, shape: &Shape) -> Result<Self, NoMemory> {
         Ok(Figures {
@@ -36,6 +43,10 @@ impl Fold for Figures {
         let effect = step.effect();
         self.summary.add(&effect, step.active_counts());
         Ok(())
+    }
+
+    fn pass(&mut self, _: &Entry) -> Result<(), NoMemory> {
+        unreachable!()
     }
 }
 
