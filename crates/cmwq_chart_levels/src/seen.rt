@@ -11,8 +11,9 @@ ghost use Rattle.cmwq_chart_levels.specs.Seen.{AreLevels};
 use crate::affected::place_number;
 use crate::levels::{push, update_affected};
 use cmwq_chart::{Height, Level, mark};
-use cmwq_history::{Fold, Step};
-use cmwq_model::{CpuId, Entry, MOST_CPUS, NoMemory, Place, QueueId, Queueing, Shape};
+use cmwq_core::Judge;
+use cmwq_history::{Fold, Look, Step, look_at};
+use cmwq_model::{CpuId, Entry, MOST_CPUS, NoMemory, Place, QueueId, Queueing, Shape, Wanted};
 use std::alloc::Global;
 
 /// No more entries than these are kept, so that a place among them has 32 bits.
@@ -122,16 +123,9 @@ fn push_entry(entries: &mut Vec<Entry>, entry: Entry) -> Result<(), NoMemory>
 }
 
 impl Fold for Seen {
-    ghost use Rattle.std.specs.Prelude.{true};
     ghost use Rattle.cmwq_chart_levels.specs.Seen.{IsSeen};
 
     ghost is_of = { λ s past seen. IsSeen s past seen };
-
-    ghost looks = { true };
-
-    fn looks() -> bool {
-        true
-    }
 
     fn begin(alloc: Global, shape: &Shape) -> Result<Self, NoMemory> {
         Ok(Seen {
@@ -142,6 +136,12 @@ impl Fold for Seen {
         })
     }
 
+    fn follow(&mut self, judge: &mut Judge, entry: &Entry) -> Result<Result<(), Wanted>, NoMemory> {
+        look_at(self, judge, entry)
+    }
+}
+
+impl Look for Seen {
     fn take(&mut self, step: &Step<'_>) -> Result<(), NoMemory> {
         if step.at() >= MOST_KEPT {
             return Err(NoMemory);
@@ -151,9 +151,5 @@ impl Fold for Seen {
         update_all(&mut self.ended, &mut self.running, step)?;
         mark_opened(&mut self.used, effect.opened);
         Ok(())
-    }
-
-    fn pass(&mut self, _: &Entry) -> Result<(), NoMemory> {
-        unreachable!()
     }
 }

@@ -1,42 +1,73 @@
 //! What is made of a history while it is read.
 
+ghost use Rattle.std.specs.Prelude.{◌≡◌, true, IfOk, OnOk, IfErr};
+ghost use Rattle.cmwq_model.specs.Prelude.{fits, past_of, Wants};
+ghost use Rattle.cmwq_history.specs.Following.{IsFollowed};
+
 use crate::step::Step;
-use cmwq_base::{Entry, NoMemory, Shape};
+use cmwq_base::{Entry, NoMemory, Shape, Wanted};
+use cmwq_core::{Full, Judge};
 use std::alloc::Global;
 
 /// What is made of a legal history, one entry after the other. It looks back at none of them.
 pub trait Fold: Sized {
-    ghost use Rattle.std.specs.Prelude.{◌≡◌, Bool, true, false, [], ◌∷◌, List, IfOk, OnOk};
-    ghost use Rattle.cmwq_model.specs.Prelude.{Layout, is_layout};
+    ghost use Rattle.std.specs.Prelude.{◌≡◌, true, [], List, IfOk, OnOk, IfErr};
+    ghost use Rattle.cmwq_model.specs.Prelude.{Layout, fits, past_of, Wants};
     ghost use Rattle.cmwq_model.specs.declared.entry.Entry.{Entry};
-    ghost use Rattle.cmwq_history.specs.Steps.{after};
+    ghost use Rattle.cmwq_history.specs.Following.{IsFollowed};
 
     /// It is what is made of a history of this shape, whose entries are sorted with the newest first.
     ghost is_of: { Layout → List Entry → Self → Type 0 };
-
-    /// It looks at what entries do.
-    ghost looks: { Bool };
-
-    /// Whether it looks at what entries do, and so gets steps. Otherwise it gets the entries alone, and judging them
-    /// costs less.
-    fn looks() -> bool
-        ensures { result ≡ looks };
 
     /// Makes it of no entries. The error says that memory ran out.
     fn begin(alloc: Global, shape: &Shape) -> Result<Self, NoMemory>
         ensures { IfOk result (is_of shape.now []) };
 
-    /// Takes one more entry, with what it does. The error says that memory ran out.
-    fn take(&mut self, step: &Step<'_>) -> Result<(), NoMemory>
-        requires looks { looks ≡ true }
-        requires made { is_of step.now.layout step.now.past self.old }
-        ensures { OnOk result (is_of step.now.layout (after step.now) self.new) };
+    /// Has one more entry judged, and takes it if it is right. If it is wrong, returns what should stand there. The
+    /// error says that memory ran out.
+    fn follow(&mut self, judge: &mut Judge, entry: &Entry) -> Result<Result<(), Wanted>, NoMemory>
+        requires fit { fits judge.old.layout entry.now.who entry.now.call ≡ true }
+        requires made { is_of judge.old.layout (past_of judge.old.entries) self.old }
+        ensures right { IfOk result (λ verdict. OnOk verdict (IsFollowed is_of judge.old entry.now judge.new self.new)) }
+        ensures wrong { IfOk result
+            (λ verdict. IfErr verdict (Wants judge.old.layout (past_of judge.old.entries) entry.now)) };
+}
 
-    /// Takes one more entry alone. The error says that memory ran out.
-    fn pass(&mut self, entry: &Entry) -> Result<(), NoMemory>
-        requires { looks ≡ false }
-        ensures { (s : Layout) (past : List Entry) → is_of s past self.old
-            → OnOk result (is_of s (entry.now ∷ past) self.new) };
+/// A fold that looks at what entries do. It follows a history by `look_at`.
+pub trait Look: Fold {
+    ghost use Rattle.std.specs.Prelude.{OnOk};
+    ghost use Rattle.cmwq_history.specs.Steps.{after};
+
+    /// Takes one more entry. The error says that memory ran out.
+    fn take(&mut self, step: &Step<'_>) -> Result<(), NoMemory>
+        requires { Self.is_of step.now.layout step.now.past self.old }
+        ensures { OnOk result (Self.is_of step.now.layout (after step.now) self.new) };
+}
+
+/// Has one more entry judged, and taken with what it does if it is right. If it is wrong, returns what should stand
+/// there. The error says that memory ran out.
+#[tactic(auto, using(crate::proofs::Followed::step_made, crate::proofs::Followed::past_more))]
+pub fn look_at<F: Look>(
+    made: &mut F,
+    judge: &mut Judge,
+    entry: &Entry,
+) -> Result<Result<(), Wanted>, NoMemory>
+    requires fit { fits judge.old.layout entry.now.who entry.now.call ≡ true }
+    requires made { F.is_of judge.old.layout (past_of judge.old.entries) made.old }
+    ensures right { IfOk result (λ verdict. OnOk verdict (IsFollowed F.is_of judge.old entry.now judge.new made.new)) }
+    ensures wrong { IfOk result
+        (λ verdict. IfErr verdict (Wants judge.old.layout (past_of judge.old.entries) entry.now)) }
+{
+    // it shows that the shape is inside the limits
+    let _len = judge.len();
+    match judge.next(*entry) {
+        Ok(Ok(effect)) => {
+            made.take(&Step::new(effect, judge))?;
+            Ok(Ok(()))
+        }
+        Ok(Err(wanted)) => Ok(Err(wanted)),
+        Err(Full) => Err(NoMemory),
+    }
 }
 
 /// Nothing is made: the history is judged alone.
@@ -44,26 +75,17 @@ pub trait Fold: Sized {
 pub struct Nothing;
 
 impl Fold for Nothing {
-    ghost use Rattle.std.specs.Prelude.{false};
-
     ghost is_of = { λ s past made. Unit {0} };
-
-    ghost looks = { false };
-
-    fn looks() -> bool {
-        false
-    }
 
     fn begin(_: Global, _: &Shape) -> Result<Self, NoMemory> {
         Ok(Nothing)
     }
 
-    fn take(&mut self, _: &Step<'_>) -> Result<(), NoMemory> {
-        unreachable!()
-    }
-
-    fn pass(&mut self, _: &Entry) -> Result<(), NoMemory> {
-        Ok(())
+    fn follow(&mut self, judge: &mut Judge, entry: &Entry) -> Result<Result<(), Wanted>, NoMemory> {
+        match judge.pass(entry) {
+            Ok(verdict) => Ok(verdict),
+            Err(Full) => Err(NoMemory),
+        }
     }
 }
 
@@ -74,16 +96,10 @@ pub struct Kept {
 }
 
 impl Fold for Kept {
-    ghost use Rattle.std.specs.Prelude.{◌≡◌, false};
+    ghost use Rattle.std.specs.Prelude.{◌≡◌};
     ghost use Rattle.cmwq_model.specs.Prelude.{past_of};
 
     ghost is_of = { λ s past kept. past_of kept.entries.items ≡ past };
-
-    ghost looks = { false };
-
-    fn looks() -> bool {
-        false
-    }
 
     fn begin(alloc: Global, _: &Shape) -> Result<Self, NoMemory> {
         Ok(Kept {
@@ -91,15 +107,15 @@ impl Fold for Kept {
         })
     }
 
-    fn take(&mut self, _: &Step<'_>) -> Result<(), NoMemory> {
-        unreachable!()
-    }
-
     #[tactic(auto, using(crate::proofs::Followed::past_more))]
-    fn pass(&mut self, entry: &Entry) -> Result<(), NoMemory> {
-        match self.entries.push(*entry) {
-            Ok(()) => Ok(()),
-            Err(_) => Err(NoMemory),
+    fn follow(&mut self, judge: &mut Judge, entry: &Entry) -> Result<Result<(), Wanted>, NoMemory> {
+        match judge.pass(entry) {
+            Ok(Ok(())) => match self.entries.push(*entry) {
+                Ok(()) => Ok(Ok(())),
+                Err(_) => Err(NoMemory),
+            },
+            Ok(Err(wanted)) => Ok(Err(wanted)),
+            Err(Full) => Err(NoMemory),
         }
     }
 }

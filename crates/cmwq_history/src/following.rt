@@ -1,14 +1,13 @@
 //! A history that is judged while it is read, and of which something is made.
 
-ghost use Rattle.std.specs.Prelude.{◌≡◌, true, false, length, IfOk, OnOk, IfErr};
-ghost use Rattle.cmwq_model.specs.Prelude.{fits, IsLegal, IsFirstWrong, Wants, past_of};
-ghost use Rattle.cmwq_history.specs.Following.{judged_of, IsFollowed};
+ghost use Rattle.std.specs.Prelude.{◌≡◌, length, IfOk, OnOk, IfErr};
+ghost use Rattle.cmwq_model.specs.Prelude.{IsLegal, IsFirstWrong, past_of};
+ghost use Rattle.cmwq_history.specs.Following.{judged_of};
 ghost use Rattle.cmwq_history.specs.Verdicts.{IsVerdictOf};
 
 use crate::fold::Fold;
-use crate::step::Step;
-use cmwq_base::{Entry, Gather, Illegal, NoMemory, Shape, Wanted};
-use cmwq_core::{Full, Judge};
+use cmwq_base::{Entry, Gather, Illegal, NoMemory, Shape};
+use cmwq_core::Judge;
 use cmwq_state::Trail;
 use std::alloc::Global;
 use std::marker::Model;
@@ -142,7 +141,7 @@ impl<F: Fold + Drop> Gather for Following<F> {
             Course::Failed => return Err(NoMemory),
             Course::Legal => {
                 let at = self.judge.len();
-                match follow(&mut *self.judge, &mut *self.made, &item) {
+                match self.made.follow(&mut self.judge, &item) {
                     Ok(Ok(())) => self.all.push(&item),
                     Ok(Err(wanted)) => {
                         self.course = Course::Wrong(Illegal { at, wanted });
@@ -156,74 +155,5 @@ impl<F: Fold + Drop> Gather for Following<F> {
             }
         }
         Ok(())
-    }
-}
-
-/// Judges one more entry, and if it is right, has it taken with what it does.
-#[tactic(auto, using(crate::proofs::Followed::step_made, crate::proofs::Followed::past_more))]
-fn look<F: Fold>(
-    judge: &mut Judge,
-    made: &mut F,
-    item: &Entry,
-) -> Result<Result<(), Wanted>, NoMemory>
-    requires fit { fits judge.old.layout item.now.who item.now.call ≡ true }
-    requires looks { F.looks ≡ true }
-    requires made { F.is_of judge.old.layout (past_of judge.old.entries) made.old }
-    ensures right { IfOk result (λ verdict. OnOk verdict (IsFollowed F.is_of judge.old item.now judge.new made.new)) }
-    ensures wrong { IfOk result
-        (λ verdict. IfErr verdict (Wants judge.old.layout (past_of judge.old.entries) item.now)) }
-{
-    // it shows that the shape is inside the limits
-    let _len = judge.len();
-    match judge.next(*item) {
-        Ok(Ok(effect)) => {
-            made.take(&Step::new(effect, judge))?;
-            Ok(Ok(()))
-        }
-        Ok(Err(wanted)) => Ok(Err(wanted)),
-        Err(Full) => Err(NoMemory),
-    }
-}
-
-/// Judges one more entry, and if it is right, has it taken alone.
-#[tactic(auto, using(crate::proofs::Followed::past_more))]
-fn pass<F: Fold>(
-    judge: &mut Judge,
-    made: &mut F,
-    item: &Entry,
-) -> Result<Result<(), Wanted>, NoMemory>
-    requires fit { fits judge.old.layout item.now.who item.now.call ≡ true }
-    requires looks { F.looks ≡ false }
-    requires made { F.is_of judge.old.layout (past_of judge.old.entries) made.old }
-    ensures right { IfOk result (λ verdict. OnOk verdict (IsFollowed F.is_of judge.old item.now judge.new made.new)) }
-    ensures wrong { IfOk result
-        (λ verdict. IfErr verdict (Wants judge.old.layout (past_of judge.old.entries) item.now)) }
-{
-    match judge.pass(item) {
-        Ok(Ok(())) => {
-            made.pass(item)?;
-            Ok(Ok(()))
-        }
-        Ok(Err(wanted)) => Ok(Err(wanted)),
-        Err(Full) => Err(NoMemory),
-    }
-}
-
-/// Judges one more entry, and if it is right, has it taken.
-fn follow<F: Fold>(
-    judge: &mut Judge,
-    made: &mut F,
-    item: &Entry,
-) -> Result<Result<(), Wanted>, NoMemory>
-    requires fit { fits judge.old.layout item.now.who item.now.call ≡ true }
-    requires made { F.is_of judge.old.layout (past_of judge.old.entries) made.old }
-    ensures right { IfOk result (λ verdict. OnOk verdict (IsFollowed F.is_of judge.old item.now judge.new made.new)) }
-    ensures wrong { IfOk result
-        (λ verdict. IfErr verdict (Wants judge.old.layout (past_of judge.old.entries) item.now)) }
-{
-    if F::looks() {
-        look(judge, made, item)
-    } else {
-        pass(judge, made, item)
     }
 }

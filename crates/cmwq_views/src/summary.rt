@@ -9,9 +9,9 @@ ghost use Rattle.cmwq_views.specs.Summary.{SummaryEnds, summary_text};
 
 use crate::page::write_page;
 use crate::progress::Progress;
-use cmwq_base::{Entry, NoMemory, Refusal, Shape, Sink, Source};
+use cmwq_base::{Entry, NoMemory, Refusal, Shape, Sink, Source, Wanted};
 use cmwq_core::Judge;
-use cmwq_history::{Fold, Step, View, run_view};
+use cmwq_history::{Fold, Look, Step, View, look_at, run_view};
 use cmwq_summary::Summary;
 use std::alloc::Global;
 
@@ -22,16 +22,9 @@ struct Figures {
 }
 
 impl Fold for Figures {
-    ghost use Rattle.std.specs.Prelude.{true};
     ghost use Rattle.cmwq_views.specs.Summary.{IsSummaryOf};
 
     ghost is_of = { λ s past figures. IsSummaryOf s past figures.summary };
-
-    ghost looks = { true };
-
-    fn looks() -> bool {
-        true
-    }
 
     fn begin(alloc: Global, shape: &Shape) -> Result<Self, NoMemory> {
         Ok(Figures {
@@ -39,14 +32,16 @@ impl Fold for Figures {
         })
     }
 
+    fn follow(&mut self, judge: &mut Judge, entry: &Entry) -> Result<Result<(), Wanted>, NoMemory> {
+        look_at(self, judge, entry)
+    }
+}
+
+impl Look for Figures {
     fn take(&mut self, step: &Step<'_>) -> Result<(), NoMemory> {
         let effect = step.effect();
         self.summary.add(&effect, step.active_counts());
         Ok(())
-    }
-
-    fn pass(&mut self, _: &Entry) -> Result<(), NoMemory> {
-        unreachable!()
     }
 }
 

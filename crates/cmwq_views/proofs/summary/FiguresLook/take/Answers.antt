@@ -1,0 +1,17 @@
+use Rattle.cmwq_views.proofs.Figured.{effect_is, has_its_time, are_few, counts_are, is_after}
+use Rattle.cmwq_views.proofs.summary.FiguresLook.take.Goals as goal
+
+pub add-requires : goal.add-requires
+add-requires c =
+    let s = c.args.step.now in let h = c.args.self.now.summary in let next = c.effect-effect.ensures.next in
+    rw c.effect-effect.ensures.effect (record {
+      effect = effect_is s h c.requires next;
+      time = has_its_time s h c.requires next;
+      few = are_few s h c.requires next;
+      active = counts_are s h c.requires next _ c.active_counts.ensures;
+    })
+
+pub returns : goal.returns
+returns c =
+    rw (c.add.ensures, c.effect-effect.ensures.effect)
+    (is_after c.args.step.now c.args.self.now.summary c.requires c.effect-effect.ensures.next)
