@@ -142,6 +142,10 @@ impl Fold for Seen {
 }
 
 impl Look for Seen {
+    ghost use Rattle.cmwq_chart_levels.specs.Seen.{IsSeen};
+
+    ghost is_of = { λ s past seen. IsSeen s past seen };
+
     fn take(&mut self, step: &Step<'_>) -> Result<(), NoMemory> {
         if step.at() >= MOST_KEPT {
             return Err(NoMemory);

@@ -33,15 +33,20 @@ pub trait Fold: Sized {
             (λ verdict. IfErr verdict (Wants judge.old.layout (past_of judge.old.entries) entry.now)) };
 }
 
-/// A fold that looks at what entries do. It follows a history by `look_at`.
-pub trait Look: Fold {
-    ghost use Rattle.std.specs.Prelude.{OnOk};
+/// What looks at what entries do. A fold of it follows a history by `look_at`.
+pub trait Look: Sized {
+    ghost use Rattle.std.specs.Prelude.{List, OnOk};
+    ghost use Rattle.cmwq_model.specs.Prelude.{Layout};
+    ghost use Rattle.cmwq_model.specs.declared.entry.Entry.{Entry};
     ghost use Rattle.cmwq_history.specs.Steps.{after};
+
+    /// As `is_of` of the fold.
+    ghost is_of: { Layout → List Entry → Self → Type 0 };
 
     /// Takes one more entry. The error says that memory ran out.
     fn take(&mut self, step: &Step<'_>) -> Result<(), NoMemory>
-        requires { Self.is_of step.now.layout step.now.past self.old }
-        ensures { OnOk result (Self.is_of step.now.layout (after step.now) self.new) };
+        requires { is_of step.now.layout step.now.past self.old }
+        ensures { OnOk result (is_of step.now.layout (after step.now) self.new) };
 }
 
 /// Has one more entry judged, and taken with what it does if it is right. If it is wrong, returns what should stand

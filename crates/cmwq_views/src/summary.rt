@@ -38,6 +38,10 @@ impl Fold for Figures {
 }
 
 impl Look for Figures {
+    ghost use Rattle.cmwq_views.specs.Summary.{IsSummaryOf};
+
+    ghost is_of = { λ s past figures. IsSummaryOf s past figures.summary };
+
     fn take(&mut self, step: &Step<'_>) -> Result<(), NoMemory> {
         let effect = step.effect();
         self.summary.add(&effect, step.active_counts());
