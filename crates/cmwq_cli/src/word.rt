@@ -253,16 +253,16 @@ as it is made too, and so many entries are kept at a time."#;
 
 /// What the help of `explore` shows below its usage.
 const EXPLORE_HELP: &str =
-    r#"The input is a script, as `run` reads one. Its schedules are played in one thread: who moves next is chosen by a
-seed, or all choices are tried. A move is a call of a caller, the end of a wait, or what a worker does next.
+    r#"The input is a script, as `run` reads one. Its schedules are played in one thread: a seed chooses who moves next, or
+all choices are tried. A move is a call of a caller, the end of a wait, or what a worker does next.
 
   cmwq explore --seed 7 SCRIPT       the history of one schedule, always the same
   cmwq explore --times 1000 SCRIPT   how many of the schedules of the seeds 0 to 999 ended, and how many got stuck
   cmwq explore --all SCRIPT          whether all schedules end
 
 A schedule is stuck if nobody may move, and yet a call, a wait, a run or an active queueing is left. Of the shortest
-that got stuck, its seed or its moves, what everybody waits for and its history are written. The status is 7 if a
-schedule got stuck, and 8 if none did but not all was tried."#;
+schedule that got stuck, it writes the seed or the moves, what everybody waits for, and the history. The status is 7
+if a schedule got stuck, and 8 if none did but not all was tried."#;
 
 /// Whether the matches of a word have the flag of this name.
 fn has_flag(matches: &ArgMatches, name: &str) -> bool
@@ -553,8 +553,8 @@ fn seeded_word<'a>(alloc: Global) -> Result<Command<'a>, AllocError>
     let help = "Plays the schedules of so many seeds, from 0 on";
     let word = with_number(alloc, word, "times", help)?;
     let help =
-        "Chooses by a random order of all, in which so many less one go to the end at random moves; else each who may \
-        move is as likely";
+        "Lets the first in a random order move, in which so many less one go to the end at random moves; without it, \
+        each that may move is equally likely";
     with_number(alloc, word, "pct", help)
 }
 
@@ -648,7 +648,7 @@ pub fn word_of<'a>(alloc: Global, words: &'a [&'a str]) -> Result<Asked<'a>, Err
     }
 }
 
-/// What is told where a parse gives no word, which clap's own checks leave no room for but of `explore`.
+/// What is told of matches that ask for no word. Clap's own checks leave none but of `explore`.
 fn unclear(alloc: Global) -> Result<Error, AllocError> {
     let mut command = command(alloc)?;
     command.error(
