@@ -1,10 +1,11 @@
 //! `cmwq`: answers calls of a workqueue runtime, judges and shows its histories, replays scenarios, and runs scripts on
-//! threads. It reads a file or standard input, and writes standard output.
+//! threads or plays their schedules in one. It reads a file or standard input, and writes standard output.
 #![tactic(auto)]
 
 use clap::error::ErrorKind;
 use cmwq_base::{BufferedSink, FromStd, Sink, Source};
-use cmwq_cli::{Asked, Word, word_of};
+use cmwq_cli::{Asked, Schedules, Word, word_of};
+use cmwq_cmd_explore::{Task, run_explore};
 use cmwq_cmd_history::{run_step, run_step_live};
 use cmwq_cmd_run::run_run;
 use cmwq_explain::{Kept, explain_calls, explain_history, explain_unkept};
@@ -15,7 +16,7 @@ use cmwq_views::{Window, run_chart, run_open, run_summary, run_trace};
 use either::Either::{self, Left, Right};
 use std::alloc::{AllocError, Global};
 use std::fs::File;
-use std::io::{self, Stdin};
+use std::io::{self, IsTerminal, Stdin};
 use std::process::ExitCode;
 use std::sync::Wait;
 use std::thread::Threads;
@@ -54,13 +55,24 @@ fn texts(alloc: Global, args: &[String]) -> Result<Vec<&str>, AllocError> {
     Ok(words)
 }
 
-/// Does what a word says. A run's threads are made by the last handle, which `main` alone can give.
+/// What is asked of schedules.
+fn task_of(schedules: Schedules) -> Task {
+    match schedules {
+        Schedules::OfSeed { seed, pct } => Task::OfSeed { seed, pct },
+        Schedules::OfSeeds { times, pct } => Task::OfSeeds { times, pct },
+        Schedules::All { moves, histories } => Task::All { moves, histories },
+    }
+}
+
+/// Does what a word says, and shows how far it is if that goes to a terminal. A run's threads are made by the last
+/// handle, which `main` alone can give.
 fn run<S: Source, O: Sink, E: Sink, T: Threads + Wait + Clock + Sync>(
     alloc: Global,
     asked: Asked,
     input: &mut S,
     output: &mut O,
     errors: &mut E,
+    is_terminal: bool,
     threads: &T,
 ) -> u8 {
     match asked.word {
@@ -81,6 +93,10 @@ fn run<S: Source, O: Sink, E: Sink, T: Threads + Wait + Clock + Sync>(
         Word::Trace => run_trace(alloc, input, output, errors),
         Word::Replay => run_replay(alloc, input, output, errors),
         Word::Run => run_run(threads, alloc, input, output, errors, asked.explain),
+        Word::Explore { schedules } => {
+            let task = task_of(schedules);
+            run_explore(alloc, input, output, errors, task, is_terminal)
+        }
     }
 }
 
@@ -95,7 +111,7 @@ fn explain<E: Sink>(alloc: Global, word: Word, status: u8, bytes: &[u8], errors:
         Word::Chart { .. } => explain_history(alloc, "chart", status, bytes, false, errors),
         Word::Trace => explain_history(alloc, "trace", status, bytes, false, errors),
         Word::Replay => explain_scenario(alloc, status, bytes, errors),
-        Word::Run => explain_script(alloc, status, bytes, errors),
+        Word::Run | Word::Explore { .. } => explain_script(alloc, status, bytes, errors),
     }
 }
 
@@ -140,7 +156,16 @@ fn run_asked<T: Threads + Wait + Clock + Sync>(rt: &HostRuntime, asked: Asked, t
     } else {
         Kept::passing(alloc, input)
     };
-    let status = run(alloc, asked, &mut input, &mut output, &mut errors, threads);
+    let is_terminal = rt.stderr().is_terminal();
+    let status = run(
+        alloc,
+        asked,
+        &mut input,
+        &mut output,
+        &mut errors,
+        is_terminal,
+        threads,
+    );
     match input.bytes() {
         _ if status == 0 || !asked.explain => {}
         Some(bytes) => explain(alloc, asked.word, status, bytes, &mut errors),

@@ -1,7 +1,7 @@
 -- The command line: which words there are, and which one clap's matches hold.
-use Rattle.std.specs.Prelude.{ℕ, ◌-◌, ◌^◌, Bool, true, false, List, [], map, Option, Some, None, option_map}
-use Rattle.std.specs.Prelude.{option_and_then, codes, if◌then◌else◌}
-use Rattle.std.specs.Option.{option_map_or}
+use Rattle.std.specs.Prelude.{ℕ, ◌-◌, ◌^◌, ◌||◌, Bool, true, false, List, [], map, Option, Some, None, is_some}
+use Rattle.std.specs.Prelude.{option_map, option_and_then, codes, if◌then◌else◌}
+use Rattle.std.specs.Option.{option_map_or, option_or}
 use Rattle.std.specs.Str.{bytes_eq}
 use Rattle.std.specs.Str.Parse.{digits_value, without_leading_plus}
 use Rattle.std.specs.Borrow.{Bor}
@@ -11,6 +11,8 @@ use Rattle.clap.specs.ValueTests.{is_unsigned_in}
 use Rattle.clap.specs.declared.builder.action.ArgAction.TheVariants.{Set, SetTrue}
 use Rattle.clap.specs.declared.builder.value_parser.ValueParser.TheVariants.{Unsigned}
 use Rattle.cmwq_cli.specs.declared.word.Asked.{Asked}
+use Rattle.cmwq_cli.specs.declared.word.Schedules.{Schedules}
+use Rattle.cmwq_cli.specs.declared.word.Schedules.TheVariants as schedules
 use Rattle.cmwq_cli.specs.declared.word.Word.{Word}
 use Rattle.cmwq_cli.specs.declared.word.Word.TheVariants as word
 
@@ -26,6 +28,31 @@ number_of_text text = if is_unsigned_in 0 (2 ^ 64 - 1) text then Some (digits_va
 abbrev pub number_found : List ℕ → List Row → Option ℕ
 number_found name rows = option_and_then number_of_text (one_of name rows)
 
+-- all schedules, where no number is given but that of moves
+abbrev pub all_schedules : Option ℕ → Option ℕ → Bool → Option Schedules
+all_schedules (Some other) moves histories = None
+all_schedules None moves histories = Some (schedules.All moves histories)
+
+-- the schedules of one seed or of so many, where nothing is given that is of all schedules
+abbrev pub of_seeds : Option ℕ → Option ℕ → Option ℕ → Option Schedules
+of_seeds (Some seed) None pct = Some (schedules.OfSeed seed pct)
+of_seeds None (Some times) pct = Some (schedules.OfSeeds times pct)
+of_seeds seed times pct = None
+
+abbrev pub seeded_schedules : Option ℕ → Option ℕ → Option ℕ → Bool → Option Schedules
+seeded_schedules seed times pct others = if others then None else of_seeds seed times pct
+
+-- the schedules that matches ask for, where they are of one kind
+abbrev pub schedules_found : List Row → Option Schedules
+schedules_found rows =
+    if has_flag (codes "all") rows
+    then all_schedules
+    (option_or (option_or (number_found (codes "seed") rows) (number_found (codes "times") rows))
+    (number_found (codes "pct") rows)) (number_found (codes "moves") rows) (has_flag (codes "histories") rows)
+    else seeded_schedules (number_found (codes "seed") rows) (number_found (codes "times") rows)
+    (number_found (codes "pct") rows)
+    (is_some (number_found (codes "moves") rows) || has_flag (codes "histories") rows)
+
 -- the word with this name and these matches
 abbrev pub word_found : Text × List Row → Option Word
 word_found found =
@@ -39,6 +66,7 @@ word_found found =
     else if bytes_eq found.0 (codes "trace") then Some word.Trace
     else if bytes_eq found.0 (codes "replay") then Some word.Replay
     else if bytes_eq found.0 (codes "run") then Some word.Run
+    else if bytes_eq found.0 (codes "explore") then option_map word.Explore (schedules_found found.1)
     else None
 
 -- what is asked: the word, whether it explains, and the name of the file that it reads, if one is given
@@ -111,8 +139,20 @@ with_lines =
     (codes "open") (codes "front"))
     (codes "chart") (codes "from") (codes "to")) (codes "trace")
 
+-- the word `explore`, with its options of one schedule or of so many, and with all its options
+abbrev pub seeded_word : App
+seeded_word =
+    with_rule
+    (with_rule (with_rule (new_app (codes "explore")) (number_rule (codes "seed"))) (number_rule (codes "times")))
+    (number_rule (codes "pct"))
+
+abbrev pub explore_word : App
+explore_word =
+    with_rule (with_rule (with_rule seeded_word (flag_rule (codes "all"))) (number_rule (codes "moves")))
+    (flag_rule (codes "histories"))
+
 abbrev pub app : App
-app = with_word (with_word with_lines (codes "replay")) (codes "run")
+app = with_command (with_word (with_word with_lines (codes "replay")) (codes "run")) explore_word
 
 -- the words as texts
 abbrev pub texts : List (Bor Text) → List Text

@@ -3,4 +3,4 @@
 
 mod word;
 
-pub use word::{Asked, Word, word_of};
+pub use word::{Asked, Schedules, Word, word_of};

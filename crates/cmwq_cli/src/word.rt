@@ -4,7 +4,8 @@ ghost use Rattle.clap.specs.declared.builder.command.Command.TheViews.{out-Comma
 ghost use Rattle.cmwq_cli.specs.Word.{Request, file_rule, request, with_command, without_words, with_word};
 ghost use Rattle.cmwq_cli.specs.Word.{with_flagged, with_lines, with_numbers, app, flag_rule, number_rule};
 ghost use Rattle.cmwq_cli.specs.Word.{number_found, has_flag, word_found, asked_found, texts, is_word_taken};
-ghost use Rattle.cmwq_cli.specs.Word.{word_matched};
+ghost use Rattle.cmwq_cli.specs.Word.{word_matched, schedules_found, all_schedules, seeded_schedules};
+ghost use Rattle.cmwq_cli.specs.Word.{seeded_word, explore_word};
 
 use clap::builder::ValueParser;
 use clap::error::ErrorKind;
@@ -46,6 +47,22 @@ pub enum Word {
     Replay,
     /// Runs a script on threads and writes its history.
     Run,
+    /// Plays schedules of a script in one thread.
+    Explore {
+        /// Which ones.
+        schedules: Schedules,
+    },
+}
+
+/// Which schedules of a script are played.
+#[derive(Clone, Copy, Debug, PartialEq, Eq)]
+pub enum Schedules {
+    /// The one of a seed, chosen by so many priority changes less one, or else uniformly.
+    OfSeed { seed: u64, pct: Option<u64> },
+    /// Those of so many seeds.
+    OfSeeds { times: u64, pct: Option<u64> },
+    /// All, up to so many moves, and the histories of those that end if they are asked for.
+    All { moves: Option<u64>, histories: bool },
 }
 
 /// A subcommand, what it reads, and whether what it refuses is explained.
@@ -234,6 +251,19 @@ With "format":3 beside "room" it is of format 3, and there may be 1 to 64 CPUs a
 and callers, 1 to 65,535 items, and room for up to 4,611,686,018,427,387,904 entries. With "journal":64 it is written
 as it is made too, and so many entries are kept at a time."#;
 
+/// What the help of `explore` shows below its usage.
+const EXPLORE_HELP: &str =
+    r#"The input is a script, as `run` reads one. Its schedules are played in one thread: a seed chooses who moves next, or
+all choices are tried. A move is a call of a caller, the end of a wait, or what a worker does next.
+
+  cmwq explore --seed 7 SCRIPT       the history of one schedule, always the same
+  cmwq explore --times 1000 SCRIPT   how many of the schedules of the seeds 0 to 999 ended, and how many got stuck
+  cmwq explore --all SCRIPT          whether all schedules end
+
+A schedule is stuck if nobody may move, and yet a call, a wait, a run or an active queueing is left. Of the shortest
+schedule that got stuck, it writes the seed or the moves, what everybody waits for, and the history. The status is 7
+if a schedule got stuck, and 8 if none did but not all was tried."#;
+
 /// Whether the matches of a word have the flag of this name.
 fn has_flag(matches: &ArgMatches, name: &str) -> bool
     ensures { result ≡ has_flag name.now (rows_of (found_of matches.now)) }
@@ -271,6 +301,56 @@ fn word_found(name: &str, matches: &ArgMatches) -> Option<Word>
         "trace" => Some(Word::Trace),
         "replay" => Some(Word::Replay),
         "run" => Some(Word::Run),
+        "explore" => match schedules_found(matches) {
+            Some(schedules) => Some(Word::Explore { schedules }),
+            None => None,
+        },
+        _ => None,
+    }
+}
+
+/// Which schedules the matches ask for, if they ask for those of one kind.
+fn schedules_found(matches: &ArgMatches) -> Option<Schedules>
+    ensures { result ≡ schedules_found (rows_of (found_of matches.now)) }
+{
+    let seed = number_found(matches, "seed");
+    let times = number_found(matches, "times");
+    let pct = number_found(matches, "pct");
+    let moves = number_found(matches, "moves");
+    let all = has_flag(matches, "all");
+    let histories = has_flag(matches, "histories");
+    if all {
+        all_schedules(seed.or(times).or(pct), moves, histories)
+    } else {
+        seeded_schedules(seed, times, pct, moves.is_some() || histories)
+    }
+}
+
+/// All schedules, if no number beside that of moves is given.
+fn all_schedules(other: Option<u64>, moves: Option<u64>, histories: bool) -> Option<Schedules>
+    ensures { result ≡ all_schedules other moves histories }
+{
+    match other {
+        Some(_) => None,
+        None => Some(Schedules::All { moves, histories }),
+    }
+}
+
+/// The schedules of one seed or of so many, if nothing is given that is of all schedules.
+fn seeded_schedules(
+    seed: Option<u64>,
+    times: Option<u64>,
+    pct: Option<u64>,
+    has_others: bool,
+) -> Option<Schedules>
+    ensures { result ≡ seeded_schedules seed times pct has_others }
+{
+    if has_others {
+        return None;
+    }
+    match (seed, times) {
+        (Some(seed), None) => Some(Schedules::OfSeed { seed, pct }),
+        (None, Some(times)) => Some(Schedules::OfSeeds { times, pct }),
         _ => None,
     }
 }
@@ -433,6 +513,63 @@ fn with_argument<'a>(word: Command<'a>, argument: Arg<'a>) -> Result<Command<'a>
     Ok(word)
 }
 
+/// The word with an option more that has a number.
+fn with_number<'a>(
+    alloc: Global,
+    word: Command<'a>,
+    name: &'a str,
+    help: &'a str,
+) -> Result<Command<'a>, AllocError>
+    requires { (fields_of word).has_globals ≡ false }
+    ensures shape { IfOk result (λ c. app_of c ≡ with_rule (app_of word.entry) (number_rule name.entry.now)) }
+    ensures local { IfOk result (λ c. (fields_of c).has_globals ≡ false) }
+{
+    with_argument(word, number_rule(alloc, Flag { name, help }))
+}
+
+/// The word with a flag more.
+fn with_flag<'a>(
+    alloc: Global,
+    word: Command<'a>,
+    name: &'a str,
+    help: &'a str,
+) -> Result<Command<'a>, AllocError>
+    requires { (fields_of word).has_globals ≡ false }
+    ensures shape { IfOk result (λ c. app_of c ≡ with_rule (app_of word.entry) (flag_rule name.entry.now)) }
+    ensures local { IfOk result (λ c. (fields_of c).has_globals ≡ false) }
+{
+    with_argument(word, rule(alloc, Flag { name, help }))
+}
+
+/// The word `explore`, with its options of one schedule or of so many.
+fn seeded_word<'a>(alloc: Global) -> Result<Command<'a>, AllocError>
+    ensures shape { IfOk result (λ c. app_of c ≡ seeded_word) }
+    ensures local { IfOk result (λ c. (fields_of c).has_globals ≡ false) }
+{
+    let about = "Reads a script in JSON and plays schedules of it in one thread";
+    let word = bare_word(alloc, "explore", about, EXPLORE_HELP);
+    let help = "Plays the schedule of this seed, and writes its history";
+    let word = with_number(alloc, word, "seed", help)?;
+    let help = "Plays the schedules of so many seeds, from 0 on";
+    let word = with_number(alloc, word, "times", help)?;
+    let help =
+        "Lets the first in a random order move, in which so many less one go to the end at random moves; without it, \
+        each that may move is equally likely";
+    with_number(alloc, word, "pct", help)
+}
+
+/// The word `explore`, with all its options.
+fn explore_word<'a>(alloc: Global) -> Result<Command<'a>, AllocError>
+    ensures shape { IfOk result (λ c. app_of c ≡ explore_word) }
+    ensures local { IfOk result (λ c. (fields_of c).has_globals ≡ false) }
+{
+    let word = with_flag(alloc, seeded_word(alloc)?, "all", "Plays all schedules")?;
+    let help = "Makes at most so many moves, in place of 100,000,000";
+    let word = with_number(alloc, word, "moves", help)?;
+    let help = "Writes the history of each schedule that ends, in place of how many there are";
+    with_flag(alloc, word, "histories", help)
+}
+
 /// The program with the words whose inputs are lines.
 fn with_lines<'a>(alloc: Global) -> Result<Command<'a>, AllocError>
     ensures { IfOk result (λ c. app_of c ≡ with_lines) }
@@ -481,7 +618,8 @@ fn command<'a>(alloc: Global) -> Result<Command<'a>, AllocError>
     let about = "Reads a scenario in JSON and writes its table of times and events";
     let command = with_word(alloc, with_lines(alloc)?, "replay", about, SCENARIO_HELP)?;
     let about = "Reads a script in JSON, runs it on threads and writes the history of that run";
-    with_word(alloc, command, "run", about, SCRIPT_HELP)
+    let command = with_word(alloc, command, "run", about, SCRIPT_HELP)?;
+    with_command(alloc, command, explore_word(alloc)?)
 }
 
 /// The word that clap's matches of the command line hold.
@@ -506,12 +644,16 @@ pub fn word_of<'a>(alloc: Global, words: &'a [&'a str]) -> Result<Asked<'a>, Err
 {
     match word_in(alloc, words)? {
         Some(asked) => Ok(asked),
-        None => Err(unknown(alloc)?),
+        None => Err(unclear(alloc)?),
     }
 }
 
-/// What is told where a parse gives no word, which clap's own checks leave no room for.
-fn unknown(alloc: Global) -> Result<Error, AllocError> {
+/// What is told of matches that ask for no word. Clap's own checks leave none but of `explore`.
+fn unclear(alloc: Global) -> Result<Error, AllocError> {
     let mut command = command(alloc)?;
-    command.error(ErrorKind::InvalidSubcommand, "no such word")
+    command.error(
+        ErrorKind::MissingRequiredArgument,
+        "explore takes one of --seed N, --times N and --all: the first two with --pct D, the last with --moves N and \
+        --histories",
+    )
 }

@@ -3,7 +3,6 @@ use Rattle.std.proofs.Common.{◌≡◌, None, refl}
 use Rattle.cmwq_model.specs.declared.call.Call.{Call}
 use Rattle.cmwq_model.specs.declared.id.Who.{Who}
 use Rattle.cmwq_core.specs.History.{History}
-use Rattle.cmwq_explore.specs.declared.machine.Called.{Called}
 use Rattle.cmwq_explore.specs.declared.machine.Called.TheVariants.{NoRoom}
 use Rattle.cmwq_explore.specs.Machines.{AfterCall, called, replied, stepped}
 use Rattle.cmwq_explore.proofs.Firing.{stepped_none}

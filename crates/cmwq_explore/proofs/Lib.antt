@@ -1,5 +1,6 @@
 pub mod Calling
 pub mod Chosen
+pub mod Ending
 pub mod Firing
 pub mod First
 pub mod Moving

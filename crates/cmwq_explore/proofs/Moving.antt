@@ -1,13 +1,12 @@
 -- Who may move takes part.
-use Rattle.std.proofs.Common.{ℕ, ◌≡◌, ◌<◌, ◌≤◌, ◌+◌, ◌-◌, Bool, true, false, length, nat_lt, slice_get, None, refl, ap}
-use Rattle.std.proofs.Common.{sym, ◌∙◌, arith, if◌then◌else◌, suc, subst, List, [], ◌∷◌, ◌++◌}
+use Rattle.std.proofs.Common.{ℕ, ◌≡◌, ◌<◌, ◌≤◌, ◌+◌, ◌-◌, Bool, true, false, length, nat_lt, refl}
+use Rattle.std.proofs.Common.{arith, suc, subst, List, [], ◌∷◌, ◌++◌}
 use Rattle.std.specs.Prelude.{Contains}
 use Rattle.std.proofs.lemmas.List.Elements.{Contains-append_left, Contains-push}
-use Rattle.std.specs.Option.{option_map_or}
-use Rattle.std.proofs.lemmas.Bool.{lt-ltb, ltb-true, ltb-false, le-ltb}
+use Rattle.std.proofs.lemmas.Bool.{ltb-true, ltb-false, le-ltb}
 use Rattle.std.proofs.lemmas.Option.{slice_get_past}
 use Rattle.cmwq_explore.specs.Searches.{Rests}
-use Rattle.cmwq_explore.specs.Stands.{Stand, may, may_call, may_work}
+use Rattle.cmwq_explore.specs.Stands.{Stand, may}
 
 none_past : (p : Stand) (k : ℕ) → length p.callers + length p.workers ≤ k → may p k ≡ false
 unfolding may

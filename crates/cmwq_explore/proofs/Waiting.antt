@@ -1,5 +1,5 @@
 -- A run that finds no room for its sleep gives its caller back.
-use Rattle.std.proofs.Common.{ℕ, ◌≡◌, Bool, false, is_some, Option, Some, None, refl}
+use Rattle.std.proofs.Common.{ℕ, ◌≡◌, false, is_some, Option, Some, None, refl}
 use Rattle.cmwq_model.specs.declared.call.Call.{Call}
 use Rattle.cmwq_model.specs.declared.call.Call.TheVariants as call
 use Rattle.cmwq_model.specs.declared.id.WorkerId.{WorkerId}

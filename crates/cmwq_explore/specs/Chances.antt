@@ -2,7 +2,6 @@
 use Rattle.std.specs.Prelude.{◌≡◌, ◌⊎◌, ◌+◌, ◌%◌, ℕ, zero, suc, Bool, List, [], length, max, slice_index}
 use Rattle.std.specs.List.{filter, range_with_len}
 use Rattle.rand_xoshiro.specs.SplitMix64.{mix_u64}
-use Rattle.cmwq_explore.specs.declared.place.Step.{Step}
 use Rattle.cmwq_explore.specs.Stands.{Stand, may, moved}
 
 -- the number that a state of the generator draws, and the state after it

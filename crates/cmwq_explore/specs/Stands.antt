@@ -8,13 +8,12 @@ use Rattle.cmwq_model.specs.declared.call.Call.{Call}
 use Rattle.cmwq_model.specs.declared.call.Call.TheVariants as call
 use Rattle.cmwq_model.specs.declared.id.ItemId.{ItemId}
 use Rattle.cmwq_model.specs.declared.id.WorkerId.{WorkerId}
-use Rattle.cmwq_model.specs.declared.id.Who.{Who}
 use Rattle.cmwq_model.specs.declared.id.Who.TheVariants.{Caller, Worker}
 use Rattle.cmwq_json_script.specs.declared.action.Action.{Action}
 use Rattle.cmwq_json_script.specs.declared.action.Action.TheVariants as action
 use Rattle.cmwq_core.specs.History.{History, past_in}
 use Rattle.cmwq_explore.specs.declared.machine.Called.{Called}
-use Rattle.cmwq_explore.specs.declared.machine.Called.TheVariants.{NoRoom, Whole, Waits as Began}
+use Rattle.cmwq_explore.specs.declared.machine.Called.TheVariants.{Waits as Began}
 use Rattle.cmwq_explore.specs.declared.place.Ticketed.{Ticketed}
 use Rattle.cmwq_explore.specs.declared.place.CallerAt.{CallerAt}
 use Rattle.cmwq_explore.specs.declared.place.Doing.{Doing}

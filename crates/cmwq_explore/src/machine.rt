@@ -159,9 +159,24 @@ impl<'a> Machine<'a> {
         }
     }
 
-    /// The item that an idle worker would start.
-    #[tactic(auto, unfolding(crate::specs::Machines::starts, crate::specs::Machines::replied))]
+    /// The item that an idle worker would start. Of most there is none, and then no room is looked for.
+    #[tactic(auto, using(crate::proofs::Starting::starts_nothing))]
     pub fn would_start(&self, worker: WorkerId) -> Option<ItemId>
+        ensures { result ≡ spec.starts self.now worker }
+    {
+        let (who, call) = (Who::Worker(worker), Call::Take);
+        if !self.shape.fits(who, call) {
+            return None;
+        }
+        match self.execution.reply(who, call).number_started() {
+            Some(_) => self.planned_start(worker),
+            None => None,
+        }
+    }
+
+    /// The same, for a worker that is thought to start one.
+    #[tactic(auto, unfolding(crate::specs::Machines::starts, crate::specs::Machines::replied))]
+    fn planned_start(&self, worker: WorkerId) -> Option<ItemId>
         ensures { result ≡ spec.starts self.now worker }
     {
         let (who, call) = (Who::Worker(worker), Call::Take);
@@ -201,12 +216,19 @@ impl<'a> Machine<'a> {
         }
     }
 
-    /// Whether a wait would end now.
-    #[tactic(auto, unfolding(crate::specs::Machines::ends))]
+    /// Whether a wait would end now. If it would not, no room is looked for.
+    #[tactic(auto, using(crate::proofs::Ending::never_ends), unfolding(crate::specs::Machines::ends))]
     pub fn would_end(&self, who: Who, ticket: Number) -> bool
         ensures { result ≡ spec.ends self.now who ticket }
     {
-        match self.would(who, Call::End { ticket }) {
+        let call = Call::End { ticket };
+        if !self.shape.fits(who, call) {
+            return false;
+        }
+        if !is_done(self.execution.reply(who, call)) {
+            return false;
+        }
+        match self.would(who, call) {
             Some(reply) => is_done(reply),
             None => false,
         }

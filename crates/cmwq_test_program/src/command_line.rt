@@ -2,7 +2,7 @@
 //! say.
 
 use crate::same::same;
-use cmwq_cli::{Word, word_of};
+use cmwq_cli::{Schedules, Word, word_of};
 use std::process::Abort;
 
 /// Each subcommand without its flags.
@@ -45,6 +45,32 @@ fn subcommands_and_flags_are_read(rt: HostRuntime) {
         from: Some(10),
         to: Some(40),
     };
+    let of_seed = Schedules::OfSeed {
+        seed: 7,
+        pct: Some(3),
+    };
+    let of_seeds = Schedules::OfSeeds {
+        times: 9,
+        pct: None,
+    };
+    let all = Schedules::All {
+        moves: Some(5),
+        histories: true,
+    };
+    for (words, schedules) in [
+        (
+            ["cmwq", "explore", "--seed", "7", "--pct=3"].as_slice(),
+            of_seed,
+        ),
+        (&["cmwq", "explore", "--times", "9"], of_seeds),
+        (
+            &["cmwq", "explore", "--all", "--moves", "5", "--histories"],
+            all,
+        ),
+    ] {
+        let asked = word_of(rt.alloc(), words).expect(&rt, "a subcommand");
+        same(&rt, asked.word, Word::Explore { schedules });
+    }
     for (words, word) in [
         (
             ["cmwq", "check", "--front"].as_slice(),
@@ -67,11 +93,11 @@ fn said(rt: &(impl Abort + AllocGlobal), words: &[&str]) -> (String, bool) {
 }
 
 /// Wrong uses, and what is told of each before the line that names `--help`.
-const WRONG_USES: [(&[&str], &str); 8] = [
+const WRONG_USES: [(&[&str], &str); 10] = [
     (
         &["cmwq"],
         "error: 'cmwq' requires a subcommand but one was not provided\n  \
-        [subcommands: step, check, upgrade, summary, open, chart, trace, replay, run, help]\n\n\
+        [subcommands: step, check, upgrade, summary, open, chart, trace, replay, run, explore, help]\n\n\
         Usage: cmwq <COMMAND>\n",
     ),
     (
@@ -102,6 +128,16 @@ const WRONG_USES: [(&[&str], &str); 8] = [
         "error: invalid value 'x' for '--from <NUMBER>': invalid digit found in string\n",
     ),
     (
+        &["cmwq", "explore"],
+        "error: explore takes one of --seed N, --times N and --all: the first two with --pct D, the last with \
+        --moves N and --histories\n\nUsage: cmwq <COMMAND>\n",
+    ),
+    (
+        &["cmwq", "explore", "--seed", "1", "--all"],
+        "error: explore takes one of --seed N, --times N and --all: the first two with --pct D, the last with \
+        --moves N and --histories\n\nUsage: cmwq <COMMAND>\n",
+    ),
+    (
         &["cmwq", "chart", "--to"],
         "error: a value is required for '--to <NUMBER>' but none was supplied\n",
     ),
@@ -119,7 +155,7 @@ fn wrong_uses_are_told(rt: HostRuntime) {
 }
 
 /// Subcommands, what each does, and a line of its input that its help shows.
-const HELP: [(&str, &str, &str); 9] = [
+const HELP: [(&str, &str, &str); 10] = [
     (
         "step",
         "Reads call lines and writes the history of their answers",
@@ -165,6 +201,11 @@ const HELP: [(&str, &str, &str); 9] = [
         "run",
         "Reads a script in JSON, runs it on threads and writes the history of that run",
         "\n  {\"cpus\":1,\"workers\":2,\"room\":100,\n",
+    ),
+    (
+        "explore",
+        "Reads a script in JSON and plays schedules of it in one thread",
+        "\n      --seed <NUMBER>   Plays the schedule of this seed, and writes its history\n",
     ),
 ];
 

@@ -25,8 +25,15 @@ pub(crate) const SCENARIO: &[u8] = br#"{"queues":[{"name":"q0","max_active":1,"i
 {"name":"w1","queue":"q0","ms":[5,10]},{"name":"w2","queue":"q1","ms":[3]}]}
 "#;
 
+/// An item that is queued and flushed: three schedules, all of which end.
+pub(crate) const SCRIPT: &[u8] = br#"{"cpus":1,"workers":1,"room":100,
+"queues":[{"name":"q","max_active":2,"high":false,"intensive":false}],
+"items":[{"name":"A","does":[]}],
+"callers":[[["queue","A","q",0],["flush","q"]]]}
+"#;
+
 /// An input for each subcommand that reads it to its end.
-pub(crate) const INPUTS: [(Subcommand, &[u8]); 10] = [
+pub(crate) const INPUTS: [(Subcommand, &[u8]); 13] = [
     (Subcommand::Step, CALLS),
     (Subcommand::Live, CALLS),
     (Subcommand::Check, HISTORY),
@@ -37,4 +44,7 @@ pub(crate) const INPUTS: [(Subcommand, &[u8]); 10] = [
     (Subcommand::Chart, HISTORY),
     (Subcommand::Trace, HISTORY),
     (Subcommand::Replay, SCENARIO),
+    (Subcommand::ExploreSeed, SCRIPT),
+    (Subcommand::ExploreSeeds, SCRIPT),
+    (Subcommand::ExploreAll, SCRIPT),
 ];

@@ -1,6 +1,7 @@
 //! The subcommands that need no threads, over any source and sinks.
 
 use crate::same::same;
+use cmwq_cmd_explore::{Task, run_explore};
 use cmwq_cmd_history::{run_step, run_step_live};
 use cmwq_history::{run_check, run_front_check, run_upgrade};
 use cmwq_io::{Memory, Sink, Source};
@@ -9,7 +10,7 @@ use cmwq_views::{Window, run_chart, run_open, run_summary, run_trace};
 use std::alloc::Global;
 use std::process::Abort;
 
-/// A subcommand, `step` and `check` with their flags too.
+/// A subcommand, `step`, `check` and `explore` with their flags too.
 #[derive(Clone, Copy, Debug, PartialEq, Eq)]
 pub(crate) enum Subcommand {
     Step,
@@ -22,10 +23,26 @@ pub(crate) enum Subcommand {
     Chart,
     Trace,
     Replay,
+    ExploreSeed,
+    ExploreSeeds,
+    ExploreAll,
 }
 
 /// The whole of a history.
 const WHOLE: Window = Window { from: 0, to: 100 };
+
+/// The schedule of a seed, those of four seeds, and all.
+const SEED: Task = Task::OfSeed { seed: 3, pct: None };
+
+const SEEDS: Task = Task::OfSeeds {
+    times: 4,
+    pct: None,
+};
+
+const ALL: Task = Task::All {
+    moves: None,
+    histories: false,
+};
 
 impl Subcommand {
     /// Runs it. Returns the status, and promises nothing of it, so that what calls it is short to prove.
@@ -47,6 +64,9 @@ impl Subcommand {
             Subcommand::Chart => run_chart(alloc, input, output, errors, WHOLE),
             Subcommand::Trace => run_trace(alloc, input, output, errors),
             Subcommand::Replay => run_replay(alloc, input, output, errors),
+            Subcommand::ExploreSeed => run_explore(alloc, input, output, errors, SEED, false),
+            Subcommand::ExploreSeeds => run_explore(alloc, input, output, errors, SEEDS, false),
+            Subcommand::ExploreAll => run_explore(alloc, input, output, errors, ALL, false),
         }
     }
 }
@@ -82,9 +102,29 @@ const ILLEGAL: &str = "shape 1 2 1 3 100\nwq 1 -\nc0 0 queue 0 0 0 = no\n";
 
 const VERDICT: &str = "illegal at 0: reply yes 0\n";
 
+/// A script whose item sleeps at a gate that nobody opens, and what `explore --all` writes of it.
+const GATE: &str = r#"{"cpus":1,"workers":2,"room":100,
+"queues":[{"name":"q","max_active":2,"high":false,"intensive":false}],
+"items":[{"name":"A","does":[["sleep_at","g"]]}],
+"callers":[[["queue","A","q",0]]]}"#;
+
+const AT_GATE: &str = "schedules 1, states 4, moves 3
+ended 0, stuck 1, cut off 0
+calls left out in 0, waits refused in 0
+shortest stuck: 3 moves
+c0 w0n0 w0n0
+worker w0n0 runs item A and waits at gate g
+history 2
+shape 1 2 1 1 100
+wq 2 -
+c0 0 queue 0 0 0 = yes 0
+w0n0 0 take = started 0 enlist 1
+w0n0 1 sleep = slept
+";
+
 /// Inputs that have no room, or are illegal or refused: the status, what is written, and what is told. `step --live`
 /// ends at the first call without room, and reads no line after it.
-const ENDINGS: [(Subcommand, &str, u8, &str, &str); 9] = [
+const ENDINGS: [(Subcommand, &str, u8, &str, &str); 11] = [
     (
         Subcommand::Live,
         "shape 1 1 1 1 0\nwq 1 -\nc0 fire\n",
@@ -112,6 +152,14 @@ const ENDINGS: [(Subcommand, &str, u8, &str, &str); 9] = [
     (Subcommand::Chart, ILLEGAL, 3, "", VERDICT),
     (Subcommand::Trace, ILLEGAL, 3, "", VERDICT),
     (Subcommand::Replay, "{", 1, "", "cmwq: not JSON\n"),
+    (Subcommand::ExploreAll, "{", 1, "", "cmwq: not JSON\n"),
+    (
+        Subcommand::ExploreAll,
+        GATE,
+        7,
+        AT_GATE,
+        "cmwq: a schedule is stuck\n",
+    ),
 ];
 
 #[test]

@@ -1,6 +1,5 @@
-use Rattle.std.proofs.Common.{ℕ, suc, ◌≡◌, ◌<◌, ◌∙◌, length, slice_index, sym, ap, arith}
+use Rattle.std.proofs.Common.{suc, ◌≡◌, ◌<◌, ◌∙◌, length, slice_index, ap, arith}
 use Rattle.std.proofs.lemmas.List.{get_or_read}
-use Rattle.cmwq_explore.specs.Stands.{Stand}
 use Rattle.cmwq_explore.specs.Chances.{IsPlayed, chosen, drawn_below}
 use Rattle.cmwq_explore.proofs.Chosen.{played_all, played_end, played_more}
 use Rattle.cmwq_explore.proofs.Searching.{is_none, is_some}

@@ -1,4 +1,4 @@
-use Rattle.std.proofs.Common.{◌≡◌, ◌<◌, ◌∙◌, sym, ap, arith}
+use Rattle.std.proofs.Common.{◌≡◌, ◌∙◌, sym, ap, arith}
 use Rattle.cmwq_model.specs.Prelude.{Layout}
 use Rattle.cmwq_core.specs.History.{History}
 use Rattle.cmwq_explore.specs.Machines.{fired}

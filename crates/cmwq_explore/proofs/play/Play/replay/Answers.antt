@@ -1,6 +1,5 @@
-use Rattle.std.proofs.Common.{◌∙◌, sym, ap, arith}
+use Rattle.std.proofs.Common.{arith}
 use Rattle.cmwq_explore.specs.Starts.{start_of}
-use Rattle.cmwq_explore.specs.Stands.{moved}
 use Rattle.cmwq_explore.proofs.Searching.{after_turn}
 use Rattle.cmwq_explore.proofs.play.Play.replay.Goals as goal
 

@@ -1,5 +1,4 @@
-use Rattle.std.proofs.Common.{◌≡◌, ◌∙◌, sym, arith}
-use Rattle.cmwq_explore.specs.Searches.{Rests}
+use Rattle.std.proofs.Common.{◌∙◌, sym, arith}
 use Rattle.cmwq_explore.proofs.Moving.{none_more, rests_past}
 use Rattle.cmwq_explore.proofs.play.Play.standing.Goals as goal
 

@@ -1,4 +1,4 @@
-use Rattle.std.proofs.Common.{ℕ, ◌≡◌, ◌-◌, length, subst, ap, arith}
+use Rattle.std.proofs.Common.{◌≡◌, ◌-◌, length, subst, ap, arith}
 use Rattle.cmwq_explore.specs.Searches.{AllEnd, NoneStuck}
 use Rattle.cmwq_explore.proofs.Searching.{then_so}
 use Rattle.cmwq_explore.proofs.search.Search.visit_all.Goals as goal
