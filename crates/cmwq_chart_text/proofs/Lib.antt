@@ -1,3 +1,3 @@
 pub mod Filling
 pub mod Ranges
-pub mod Halves
+pub mod Rows

@@ -1,7 +1,7 @@
 -- What is drawn of a page: its bands, one below the other, and in each the rows that show something there, each with
 -- the shapes that stand in it.
-use Rattle.std.specs.Prelude.{ℕ, ◌+◌, ◌-◌, Bool, not, ◌&&◌, ◌||◌, if◌then◌else◌, List, [], ◌∷◌, ◌++◌, filter, flat_map}
-use Rattle.std.specs.Prelude.{map, max, min, nat_lt, nat_le, Option, Some, None, option_map, option_to_list, slice_get}
+use Rattle.std.specs.Prelude.{ℕ, ◌+◌, ◌-◌, ◌==◌, Bool, not, if◌then◌else◌, List, [], ◌∷◌, ◌++◌, filter, flat_map}
+use Rattle.std.specs.Prelude.{map, max, min, Option, Some, None, option_map, option_to_list, slice_get}
 use Rattle.std.specs.List.{fold, list_any, range_with_len}
 use Rattle.cmwq_chart_text.specs.declared.figures.Figure.{Figure}
 use Rattle.cmwq_chart_text.specs.declared.figures.Row.{Row}
@@ -9,12 +9,10 @@ use Rattle.cmwq_chart_text.specs.declared.page.Page.{Page}
 use Rattle.cmwq_chart_text.specs.declared.part.Part.{Part}
 use Rattle.cmwq_chart_text.specs.declared.part.What.{What}
 use Rattle.cmwq_chart_text.specs.declared.part.What.TheVariants as what
-use Rattle.cmwq_chart_text.specs.Figures.{figure_from, figure_row, figure_to, is_flat, most_rows, row_height}
-use Rattle.cmwq_chart_text.specs.Figures.{row_number}
-use Rattle.cmwq_chart_text.specs.Figures.{wait_rows}
+use Rattle.cmwq_chart_text.specs.Bands.{stands_in}
+use Rattle.cmwq_chart_text.specs.Figures.{figure_number, figure_row, is_flat, most_rows, row_height, wait_rows}
 use Rattle.cmwq_chart_text.specs.Notes.{has_number, note_of}
 use Rattle.cmwq_chart_text.specs.Pages.{band_start, bands, end_in}
-use Rattle.cmwq_chart_text.specs.Spans.{span_band, span_bands_end}
 
 -- what is drawn, and the upper edge of what will stand below it, which is at this height at most
 pub record Drawing : Type 0 where
@@ -27,24 +25,9 @@ below top n = min (top + n) 4294967295
 abbrev pub part_at : ℕ → ℕ → What → Part
 part_at band top w = record { what = w; band = band; top = top }
 
--- ---- which shapes stand in one of the bands from one up to an end. A level at which nothing is open stands in its
--- first and its last alone, since between them its row shows nothing.
-abbrev pub first_band : Page → Figure → ℕ
-first_band p f = span_band p (figure_from f)
-
-abbrev pub bands_behind : Page → Figure → ℕ
-bands_behind p f = span_bands_end p (figure_from f) (figure_to f)
-
-abbrev pub stands_between : Page → ℕ → ℕ → Figure → Bool
-stands_between p from end f =
-    nat_lt (first_band p f) (bands_behind p f)
-    && (if is_flat f then (nat_le from (first_band p f) && nat_lt (first_band p f) end)
-    || (nat_lt from (bands_behind p f) && nat_le (bands_behind p f) end)
-    else nat_lt from (bands_behind p f) && nat_lt (first_band p f) end)
-
--- and which in the rows with the numbers from one up to an end
-abbrev pub is_in_rows : ℕ → ℕ → Figure → Bool
-is_in_rows from end f = nat_le from (row_number (figure_row f)) && nat_lt (row_number (figure_row f)) end
+-- ---- which shapes stand in the row with a number
+abbrev pub is_in_row : ℕ → Figure → Bool
+is_in_row n f = figure_number f == n
 
 -- ---- a row of its own shapes, if one of them shows something: its name, the shapes, and over these their items
 abbrev pub shows : List Figure → Bool
@@ -73,12 +56,12 @@ row_drawn p band own d (Some r) = record {
 abbrev pub with_row : Page → ℕ → List Figure → Drawing → Drawing
 with_row p band own d = row_drawn p band own d (row_shown own)
 
--- ---- rows below the others
+-- ---- all rows of shapes, below the others
 abbrev pub with_row_of : Page → ℕ → List Figure → Drawing → ℕ → Drawing
-with_row_of p band figures d n = with_row p band (filter (is_in_rows n (n + 1)) figures) d
+with_row_of p band figures d n = with_row p band (filter (is_in_row n) figures) d
 
-unfoldable pub with_rows : Page → ℕ → List Figure → ℕ → ℕ → Drawing → Drawing
-with_rows p band figures from end d = fold (with_row_of p band figures) d (range_with_len from (end - from))
+unfoldable pub with_rows : Page → ℕ → List Figure → Drawing → Drawing
+with_rows p band figures d = fold (with_row_of p band figures) d (range_with_len 0 most_rows)
 
 -- ---- a band of its own shapes, below the others: the numbers of its entries, and its rows
 abbrev pub number_of : Page → ℕ → ℕ → Option What
@@ -99,15 +82,11 @@ band_drawn p band d rows = record {
 
 abbrev pub with_band : Page → List Figure → Drawing → ℕ → Drawing
 with_band p own d band =
-    band_drawn p band d (with_rows p band own 0 most_rows (record { parts = []; top = below d.top 22 }))
+    band_drawn p band d (with_rows p band own (record { parts = []; top = below d.top 22 }))
 
--- ---- bands below the others
+-- ---- all bands of a page, below the head
 abbrev pub with_band_of : Page → List Figure → Drawing → ℕ → Drawing
-with_band_of p figures d band = with_band p (filter (stands_between p band (band + 1)) figures) d band
+with_band_of p figures d band = with_band p (filter (stands_in p band) figures) d band
 
-unfoldable pub with_bands : Page → List Figure → ℕ → ℕ → Drawing → Drawing
-with_bands p figures from end d = fold (with_band_of p figures) d (range_with_len from (end - from))
-
--- ---- all of a page, below the head
 unfoldable pub page_drawn : Page → List Figure → Drawing
-page_drawn p figures = with_bands p figures 0 (bands p) (record { parts = []; top = 74 })
+page_drawn p figures = fold (with_band_of p figures) (record { parts = []; top = 74 }) (range_with_len 0 (bands p))

@@ -1,3 +1,4 @@
+pub mod Bands
 pub mod Drawings
 pub mod Figures
 pub mod Filled

@@ -1,19 +1,19 @@
 //! What is drawn of each band: its rows, one below the other.
-ghost use Rattle.std.specs.Prelude.{◌≡◌, ◌-◌, ◌≤◌, ◌∷◌, ◌++◌, [], filter, flat_map, map, option_map, option_to_list};
-ghost use Rattle.std.specs.Prelude.{IfOk, OnOk};
+ghost use Rattle.std.specs.Prelude.{◌≡◌, ◌≢◌, ℕ, ◌-◌, ◌<◌, ◌≤◌, ◌∷◌, ◌++◌, [], filter, flat_map, length, map};
+ghost use Rattle.std.specs.Prelude.{IfOk, OnOk, option_map, option_to_list, slice_index_or};
 ghost use Rattle.std.specs.List.{range_with_len};
+ghost use Rattle.std.specs.List.Sorted.{IsNonDecreasingBy};
+ghost use Rattle.cmwq_chart_text.specs.declared.figures.Figure.{Figure as TheFigure};
+ghost use Rattle.cmwq_chart_text.specs.Figures.{figure_number, most_rows};
 ghost use Rattle.cmwq_chart_text.specs.Drawings as spec;
 
+use crate::bands::by_band;
 use crate::figures::{Figure, Row};
 use crate::notes::{has_number, note_of};
 use crate::page::Page;
 use crate::part::{Part, What};
-use crate::spans::{span_band, span_bands_end};
 use std::alloc::{AllocError, Global};
 use std::marker::Model;
-
-/// The end of the numbers of rows.
-const ROWS: usize = 196_864;
 
 /// What is drawn, and where the upper edge of what is drawn next will be.
 #[derive(Drop)]
@@ -30,60 +30,32 @@ impl Model for Drawn {
     ghost view = { λ d. record { parts = d.parts.items; top = d.top } };
 }
 
-/// Whether a shape stands in one of the bands from one up to an end.
-fn stands_between(page: &Page, from: u64, end: u64, figure: &Figure) -> bool
-    ensures { result ≡ spec.stands_between page.now from end figure.now }
+/// Orders shapes by their rows. Those of one row stay in their order.
+fn sort_by_row(own: &mut Vec<Figure>) -> Result<(), AllocError>
+    ensures sorted { OnOk result (IsNonDecreasingBy figure_number own.new.items) }
+    ensures rows { (n : ℕ) → filter (spec.is_in_row n) own.new.items ≡ filter (spec.is_in_row n) own.old.items }
 {
-    let first = span_band(page, figure.from());
-    let behind = span_bands_end(page, figure.from(), figure.to());
-    if first >= behind {
-        return false;
+    own.sort_by_key(|figure| figure.row().number())?;
+    Ok(())
+}
+
+/// How many of these shapes, from the first on, stand in its row.
+fn run_of(own: &[Figure]) -> usize
+    requires { 0 < length own.now }
+    ensures some { 0 < result }
+    ensures within { result ≤ length own.now }
+    ensures same { (k : ℕ) (d : TheFigure) → k < result
+        → figure_number (slice_index_or own.now k d) ≡ figure_number (slice_index_or own.now 0 d) }
+    ensures numbered { (d : TheFigure) → figure_number (slice_index_or own.now 0 d) < most_rows }
+    ensures other { (d : TheFigure) → result < length own.now
+        → figure_number (slice_index_or own.now result d) ≢ figure_number (slice_index_or own.now 0 d) }
+{
+    let row = own[0].row().number();
+    let mut many = 1;
+    while many < own.len() && own[many].row().number() == row {
+        many += 1;
     }
-    if figure.is_flat() {
-        return (from <= first && first < end) || (from < behind && behind <= end);
-    }
-    from < behind && first < end
-}
-
-/// The shapes that stand in one of the bands from one up to an end.
-fn in_bands(
-    alloc: Global,
-    page: &Page,
-    figures: &[Figure],
-    from: u64,
-    end: u64,
-) -> Result<Vec<Figure>, AllocError>
-    ensures { IfOk result (λ those. those.items ≡ filter (spec.stands_between page.now from end) figures.now) }
-{
-    figures
-        .iter()
-        .copied()
-        .filter(|figure| stands_between(page, from, end, figure))
-        .collect(alloc)
-}
-
-/// Whether the number of a shape's row is one of those from one up to an end.
-fn is_in_rows(from: usize, end: usize, figure: &Figure) -> bool
-    ensures { result ≡ spec.is_in_rows from end figure.now }
-{
-    let number = figure.row().number();
-    from <= number && number < end
-}
-
-/// The shapes whose rows have the numbers from one up to an end.
-fn in_rows(
-    alloc: Global,
-    figures: &[Figure],
-    from: usize,
-    end: usize,
-) -> Result<Vec<Figure>, AllocError>
-    ensures { IfOk result (λ those. those.items ≡ filter (spec.is_in_rows from end) figures.now) }
-{
-    figures
-        .iter()
-        .copied()
-        .filter(|figure| is_in_rows(from, end, figure))
-        .collect(alloc)
+    many
 }
 
 /// Whether one of these shapes shows something.
@@ -217,32 +189,31 @@ impl Drawn {
         Ok(())
     }
 
-    /// Adds the rows with the numbers from one up to an end. The shapes of one of them are found first, and then those
-    /// of the rows before it and after it, so that each is looked at for few rows in which it doesn't stand.
-    fn draw_rows(
+    /// Adds the rows of shapes, which are ordered by their rows.
+    fn draw_rows(&mut self, page: &Page, band: u32, own: &[Figure]) -> Result<(), AllocError>
+        requires { IsNonDecreasingBy figure_number own.now }
+        ensures { OnOk result (self.new ≡ spec.with_rows page.now band own.now self.old) }
+    {
+        let mut rest = own;
+        while !rest.is_empty() {
+            let (row, others) = rest.split_at(run_of(rest));
+            self.draw_row(page, band, row)?;
+            rest = others;
+        }
+        Ok(())
+    }
+
+    /// Adds the rows of shapes, which it orders by their rows.
+    fn sort_and_draw_rows(
         &mut self,
-        alloc: Global,
         page: &Page,
         band: u32,
-        figures: &[Figure],
-        from: usize,
-        end: usize,
+        own: &mut Vec<Figure>,
     ) -> Result<(), AllocError>
-        requires { end ≤ 196864 }
-        ensures { OnOk result (self.new ≡ spec.with_rows page.now band figures.now from end self.old) }
+        ensures { OnOk result (self.new ≡ spec.with_rows page.now band own.old.items self.old) }
     {
-        if from >= end {
-            return Ok(());
-        }
-        let those = in_rows(alloc, figures, from, end)?;
-        if those.is_empty() {
-            return Ok(());
-        }
-        let row = those[those.len() / 2].row().number().clamp(from, end - 1);
-        self.draw_rows(alloc, page, band, &those, from, row)?;
-        let own = in_rows(alloc, &those, row, row + 1)?;
-        self.draw_row(page, band, &own)?;
-        self.draw_rows(alloc, page, band, &those, row + 1, end)?;
+        sort_by_row(own)?;
+        self.draw_rows(page, band, own)?;
         Ok(())
     }
 
@@ -252,16 +223,16 @@ impl Drawn {
         alloc: Global,
         page: &Page,
         band: u32,
-        own: &[Figure],
+        own: &mut Vec<Figure>,
     ) -> Result<(), AllocError>
-        ensures { OnOk result (self.new ≡ spec.with_band page.now own.now self.old band) }
+        ensures { OnOk result (self.new ≡ spec.with_band page.now own.old.items self.old band) }
     {
         let top = self.top.saturating_add(22);
         let mut rows = Drawn {
             parts: Vec::new(alloc),
             top,
         };
-        rows.draw_rows(alloc, page, band, own, 0, ROWS)?;
+        rows.sort_and_draw_rows(page, band, own)?;
         let (from, end) = (
             page.band_start(band.into()),
             page.end_in(band.into(), page.end.into()),
@@ -273,41 +244,20 @@ impl Drawn {
         Ok(())
     }
 
-    /// Adds the bands from one up to an end. One of them is drawn between those before it and those after it, so that
-    /// each shape is looked at for few bands in which it doesn't stand.
-    fn draw_bands(
-        &mut self,
-        alloc: Global,
-        page: &Page,
-        figures: &[Figure],
-        from: u32,
-        end: u32,
-    ) -> Result<(), AllocError>
-        ensures { OnOk result (self.new ≡ spec.with_bands page.now figures.now from end self.old) }
-    {
-        if from >= end {
-            return Ok(());
-        }
-        let those = in_bands(alloc, page, figures, from.into(), end.into())?;
-        let band = from + (end - from) / 2;
-        self.draw_bands(alloc, page, &those, from, band)?;
-        let own = in_bands(alloc, page, &those, band.into(), u64::from(band) + 1)?;
-        self.draw_band(alloc, page, band, &own)?;
-        self.draw_bands(alloc, page, &those, band + 1, end)?;
-        Ok(())
-    }
-
     /// All bands of a page on which these shapes stand.
     #[tactic(auto, unfolding(crate::specs::Drawings::page_drawn))]
     pub(crate) fn new(alloc: Global, page: &Page, figures: &[Figure]) -> Result<Drawn, AllocError>
         requires { page.now.end ≤ 1073741824 }
         ensures { IfOk result (λ drawn. drawn ≡ spec.page_drawn page.now figures.now) }
     {
+        let mut bands = by_band(alloc, page, figures)?;
         let mut drawn = Drawn {
             parts: Vec::new(alloc),
             top: 74,
         };
-        drawn.draw_bands(alloc, page, figures, 0, page.bands() as u32)?;
+        for band in 0..page.bands() as u32 {
+            drawn.draw_band(alloc, page, band, &mut bands[band as usize])?;
+        }
         Ok(drawn)
     }
 

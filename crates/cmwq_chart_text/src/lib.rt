@@ -1,6 +1,7 @@
 //! The text of a picture: what a browser shows of the shapes of a history, as SVG.
 #![tactic(auto)]
 
+mod bands;
 mod drawn;
 mod figures;
 mod filled;

@@ -55,7 +55,8 @@ fn end_shown(page: &Page, to: Option<u32>) -> u64
 /// The first band in which it stands.
 #[tactic(auto, unfolding(crate::specs::Spans::span_band))]
 pub(crate) fn span_band(page: &Page, from: u32) -> u64
-    ensures { result ≡ spec.span_band page.now from }
+    ensures band { result ≡ spec.span_band page.now from }
+    ensures within { result ≤ 4294967296 }
 {
     page.band_of(first_shown(page, from))
 }

@@ -21,13 +21,14 @@ pub(crate) const HEAD: &str =
     @media(prefers-color-scheme:dark){svg{color:rgb(230,230,230)}.page{fill:rgb(27,29,33)}\
     .item{fill:white;stroke:black}.k0{fill:rgb(62,100,137)}.k1{fill:rgb(150,95,35)}.k2{fill:rgb(62,112,55)}\
     .k3{fill:rgb(150,65,62)}.k4{fill:rgb(50,115,110)}.k5{fill:rgb(115,80,115)}.k6{fill:rgb(112,84,66)}\
-    .k7{fill:rgb(130,112,25)}.k8{fill:rgb(155,90,102)}.k9{fill:rgb(100,100,100)}.delayed,.changed{fill:none}}\
+    .k7{fill:rgb(130,112,25)}.k8{fill:rgb(155,90,102)}.k9{fill:rgb(100,100,100)}.delayed,.changed{fill:none}\
+    .waits{fill:currentColor}.open{fill:rgb(72,84,100)}.active{fill:rgb(86,118,156)}.width{stroke:rgb(235,110,110)}}\
     </style><defs><pattern id=\"hatch\" width=\"6\" height=\"6\" patternUnits=\"userSpaceOnUse\" \
     patternTransform=\"rotate(45)\"><path d=\"M0 0v6\" stroke=\"currentColor\" stroke-width=\"2\" \
     stroke-opacity=\".5\"/></pattern></defs>\n\
     <rect class=\"page\" width=\"1200\" height=\"$\"/>\n\
-    <text class=\"title\" x=\"12\" y=\"26\">Entries from $ up to $: what each caller did, and below it its waits; \
-    a bar for each run, with its item, hatched where it sleeps, and below what its worker did</text>\n\
+    <text class=\"title\" x=\"12\" y=\"26\">Entries from $ up to $: what each caller did, and its waits below; \
+    a bar for each run, hatched where it sleeps, and what its worker did below</text>\n\
     <text x=\"12\" y=\"44\">Below, for each queue on each CPU: how many are open (pale), how many of them are active \
     (dark), and the width (dashed)</text>\n\
     <path class=\"queued mark k1\" d=\"M18 58m-3 -4h6l-3 8z\"/><text x=\"27\" y=\"62\">queued</text>\
