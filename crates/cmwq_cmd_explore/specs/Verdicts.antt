@@ -1,7 +1,5 @@
 -- What `explore` says of a script.
-use Rattle.std.specs.Prelude.{◌≡◌, ◌==◌, ℕ, Bool, true, false, if◌then◌else◌, List, Option, Ok, max}
-use Rattle.std.specs.declared.alloc.Global.{Global}
-use Rattle.std.specs.declared.vec.Vec.{Vec}
+use Rattle.std.specs.Prelude.{◌==◌, ℕ, Bool, true, false, if◌then◌else◌, List, Option, Ok, max}
 use Rattle.std.specs.Io.KnownBytes.{Appends}
 use Rattle.cmwq_model.specs.Prelude.{IsLegal}
 use Rattle.cmwq_core.specs.History.{History, past_in}
@@ -11,7 +9,7 @@ use Rattle.cmwq_json_script.specs.Runs.{Run, run_said}
 use Rattle.cmwq_explore.specs.declared.place.Step.{Step}
 use Rattle.cmwq_explore.specs.declared.search.Found.{Found}
 use Rattle.cmwq_explore.specs.Stands.{Stand}
-use Rattle.cmwq_explore.specs.Searches.{AllEnd, GetsStuck, KnowsStuck, TellsStuck}
+use Rattle.cmwq_explore.specs.Searches.{AllEnd, GetsStuck}
 use Rattle.cmwq_explore.specs.Chances.{IsPlayed}
 use Rattle.cmwq_explore.specs.Starts.{first_stand}
 use Rattle.cmwq_cmd_explore.specs.declared.explore.Task.{Task}
@@ -53,12 +51,6 @@ Holds r verdict = HoldsFrom (first_stand r) verdict
 
 abbrev pub verdict_found : Found → Verdict
 verdict_found f = if f.stuck == 0 then (if f.cut == 0 then verdicts.AllEnd else verdicts.Bounded) else verdicts.Stuck
-
--- what a search of all schedules from here on has found
-pub record IsFound (start : Stand) (f : Found) (shortest : Option (Vec Step Global)) : Type 0 where
-  pub all : f.cut ≡ 0 → f.stuck ≡ 0 → AllEnd 2000 start
-  pub stuck : TellsStuck start shortest
-  pub known : KnowsStuck f.stuck shortest
 
 -- the exit status
 abbrev pub status_of : Verdict → ℕ

@@ -11,7 +11,9 @@ ghost use Rattle.cmwq_cmd_explore.specs.declared.explore.Task.TheVariants as tas
 ghost use Rattle.cmwq_explore.specs.declared.chance.Chooser.TheVariants as choosers;
 ghost use Rattle.cmwq_cmd_explore.specs.Verdicts.{plays_all, plays_one, status_of, verdict_found};
 
-use crate::report::{write_found, write_parties, write_seeds, write_shortest, write_stuck_seed};
+use crate::report::{
+    end_report, write_found, write_parties, write_seeds, write_shortest, write_stuck_seed,
+};
 use crate::watching::Watching;
 use cmwq_explore::{
     Chooser, Found, Limits, Play, Setup, Standing, Step, length_of_first, play_by, search_all,
@@ -103,17 +105,11 @@ fn write_play<O: Sink>(output: &mut O, version: u8, play: &Play<'_>) -> Result<(
     }
 }
 
-/// Tells what everybody waits for, unless the play ended.
-fn tell_parties<E: Sink>(
-    alloc: Global,
-    errors: &mut E,
-    play: &Play<'_>,
-    standing: Standing,
-) -> Result<(), Fault> {
-    if standing == Standing::Ended {
-        return Ok(());
+/// Tells what everybody waits for, unless the play ended. What can't be told changes nothing.
+fn tell_parties<E: Sink>(errors: &mut E, play: &Play<'_>, standing: Standing) {
+    if standing != Standing::Ended {
+        let _ = write_parties(errors, "cmwq: ", play);
     }
-    write_parties(alloc, errors, "cmwq: ", play)
 }
 
 /// Plays the schedule of a seed, and writes its history.
@@ -134,7 +130,7 @@ fn play_one<'a, O: Sink, E: Sink>(
     let chooser = chooser_of(alloc, setup, play, pct)?;
     play_by(alloc, setup, play, seed, chooser)?;
     let standing = play.standing();
-    tell_parties(alloc, errors, play, standing)?;
+    tell_parties(errors, play, standing);
     write_play(output, version, play)?;
     Ok(verdict_of_play(play, standing))
 }
@@ -228,26 +224,54 @@ fn play_seeds<'a, O: Sink, E: Sink>(
         shortest = shorter(shortest, stuck);
     }
     watching.end_progress();
-    write_seeds(alloc, watching.output(), times, &found)?;
-    if let Some(stuck) = shortest {
-        tell_stuck_seed(alloc, setup, play, stuck, chooser, watching.output())?;
-    }
+    tell_seeds(
+        alloc,
+        setup,
+        play,
+        times,
+        chooser,
+        &found,
+        shortest,
+        watching.output(),
+    )?;
     Ok(verdict_of(&found))
 }
 
-/// The shortest schedule that got stuck: its seed, what everybody waits for, and its history.
-fn tell_stuck_seed<'a, O: Sink>(
+/// What came of so many seeds, and of the shortest schedule that got stuck. That is played again before anything is
+/// written, since a play takes memory.
+fn tell_seeds<'a, O: Sink>(
     alloc: Global,
     setup: &'a Setup<'a>,
     play: &mut Play<'a>,
-    stuck: StuckSeed,
+    times: u64,
     chooser: Chooser,
+    found: &Found,
+    shortest: Option<StuckSeed>,
     output: &mut O,
 ) -> Result<(), Fault> {
-    play_by(alloc, setup, play, stuck.seed, chooser)?;
-    write_stuck_seed(alloc, output, stuck.seed, stuck.moves)?;
-    write_parties(alloc, output, "", play)?;
-    write_play(output, setup.script().version, play)
+    match shortest {
+        Some(stuck) => {
+            play_by(alloc, setup, play, stuck.seed, chooser)?;
+            write_seeds(output, times, found)?;
+            tell_stuck_seed(output, setup.script().version, play, stuck)
+        }
+        None => {
+            write_seeds(output, times, found)?;
+            end_report(output)
+        }
+    }
+}
+
+/// The shortest schedule that got stuck: its seed, what everybody waits for, and its history.
+fn tell_stuck_seed<O: Sink>(
+    output: &mut O,
+    version: u8,
+    play: &Play<'_>,
+    stuck: StuckSeed,
+) -> Result<(), Fault> {
+    write_stuck_seed(output, stuck.seed, stuck.moves)?;
+    write_parties(output, "", play)?;
+    write_play(output, version, play)
 }
 
 /// The schedules of so many seeds, in a play of their own.
@@ -274,29 +298,38 @@ fn explore_seeds<O: Sink, E: Sink>(
     play_seeds_alone(alloc, &setup, times, pct, watching)
 }
 
-/// The shortest schedule that got stuck: its steps, what everybody waits for, and its history.
-fn tell_steps<'a, O: Sink>(
-    alloc: Global,
-    setup: &'a Setup<'a>,
-    play: &mut Play<'a>,
-    steps: &[Step],
+/// The shortest schedule that got stuck, which was played: its steps, what everybody waits for, and its history.
+fn tell_steps<O: Sink>(
     output: &mut O,
+    version: u8,
+    play: &Play<'_>,
+    found: &Found,
+    steps: &[Step],
 ) -> Result<(), Fault> {
-    play.replay(setup, steps)?;
-    write_shortest(alloc, output, play, steps)?;
-    write_parties(alloc, output, "", play)?;
-    write_play(output, setup.script().version, play)
+    write_found(output, found)?;
+    write_shortest(output, play, steps)?;
+    write_parties(output, "", play)?;
+    write_play(output, version, play)
 }
 
-/// The same, in a play of its own.
+/// What a search found, with the shortest schedule that got stuck, in a play of its own. It is played before anything
+/// is written, since a play takes memory.
 fn tell_shortest<'a, O: Sink>(
     alloc: Global,
     setup: &'a Setup<'a>,
+    found: &Found,
     steps: &[Step],
     output: &mut O,
 ) -> Result<(), Fault> {
     let mut play = Play::new(alloc, setup)?;
-    tell_steps(alloc, setup, &mut play, steps, output)
+    play.replay(setup, steps)?;
+    tell_steps(output, setup.script().version, &play, found, steps)
+}
+
+/// What a search found that knows no schedule that got stuck.
+fn tell_none<O: Sink>(output: &mut O, found: &Found) -> Result<(), Fault> {
+    write_found(output, found)?;
+    end_report(output)
 }
 
 /// Writes what a search found, unless it wrote histories.
@@ -314,10 +347,9 @@ fn tell_found<'a, O: Sink, E: Sink>(
     if watching.writes_histories() {
         return Ok(());
     }
-    write_found(alloc, watching.output(), found)?;
     match shortest {
-        Some(steps) => tell_shortest(alloc, setup, steps, watching.output()),
-        None => Ok(()),
+        Some(steps) => tell_shortest(alloc, setup, found, steps, watching.output()),
+        None => tell_none(watching.output(), found),
     }
 }
 
