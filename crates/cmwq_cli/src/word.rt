@@ -253,8 +253,8 @@ as it is made too, and so many entries are kept at a time."#;
 
 /// What the help of `explore` shows below its usage.
 const EXPLORE_HELP: &str =
-    r#"The input is a script, as `run` reads one. Its schedules are played in one thread: a seed chooses who moves next, or
-all choices are tried. A move is a call of a caller, the end of a wait, or what a worker does next.
+    r#"The input is a script, as `run` reads one. Its schedules are played in one thread: a seed chooses who moves next,
+or all choices are tried. A move is a call of a caller, the end of a wait, or what a worker does next.
 
   cmwq explore --seed 7 SCRIPT       the history of one schedule, always the same
   cmwq explore --times 1000 SCRIPT   how many of the schedules of the seeds 0 to 999 ended, and how many got stuck
