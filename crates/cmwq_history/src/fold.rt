@@ -28,7 +28,8 @@ pub trait Fold: Sized {
     fn follow(&mut self, judge: &mut Judge, entry: &Entry) -> Result<Result<(), Wanted>, NoMemory>
         requires fit { fits judge.old.layout entry.now.who entry.now.call ≡ true }
         requires made { is_of judge.old.layout (past_of judge.old.entries) self.old }
-        ensures right { IfOk result (λ verdict. OnOk verdict (IsFollowed is_of judge.old entry.now judge.new self.new)) }
+        ensures right { IfOk result
+            (λ verdict. OnOk verdict (IsFollowed is_of judge.old entry.now judge.new self.new)) }
         ensures wrong { IfOk result
             (λ verdict. IfErr verdict (Wants judge.old.layout (past_of judge.old.entries) entry.now)) };
 }
