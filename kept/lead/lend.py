@@ -10,6 +10,7 @@ rt.Crate.cuts_libraries = True
 rt.Crate.allowed = rt.handles_of(clone)
 crates = rt.crates_of(clone)
 kept = rt.Kept(crates, False)
+kept.drop = lambda path: None  # another command may be at work in the clone: an entry that does not fit there is kept
 had, given, missing = set(), [], []
 for crate in crates:
     if crate.is_program or crate.is_static:
