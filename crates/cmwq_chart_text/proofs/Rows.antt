@@ -14,7 +14,7 @@ use Rattle.cmwq_chart_text.specs.declared.figures.Figure.{Figure}
 use Rattle.cmwq_chart_text.specs.declared.figures.Figure.TheVariants as figure
 use Rattle.cmwq_chart_text.specs.declared.page.Page.{Page}
 use Rattle.cmwq_chart_text.specs.Drawings.{Drawing, is_in_row, with_row, with_row_of, with_rows}
-use Rattle.cmwq_chart_text.specs.Figures.{figure_row, most_rows, row_number}
+use Rattle.cmwq_chart_text.specs.Figures.{figure_number, most_rows}
 use Rattle.cmwq_chart_text.proofs.Ranges.{range_parts}
 
 module _ {X : Type 0} (p : X → Bool) where
@@ -129,26 +129,26 @@ module _ (p : Page) (band : ℕ) where
   pub no_rows : (d : Drawing) → d ≡ with_rows p band [] d
   unfolding with_rows
   no_rows d =
-      sym (none_drawn (with_row p band) nothing_drawn (λ f. row_number (figure_row f)) [] 0 most_rows (λ k a b. refl) d)
+      sym (none_drawn (with_row p band) nothing_drawn figure_number [] 0 most_rows (λ k a b. refl) d)
 
   pub same_rows : (xs ys : List Figure) → ((n : ℕ) → filter (is_in_row n) xs ≡ filter (is_in_row n) ys)
       → (d : Drawing) → with_rows p band xs d ≡ with_rows p band ys d
   unfolding with_rows
   same_rows xs ys same d =
-      same_drawn (with_row p band) nothing_drawn (λ f. row_number (figure_row f)) xs ys 0 most_rows (λ k a b. same k) d
+      same_drawn (with_row p band) nothing_drawn figure_number xs ys 0 most_rows (λ k a b. same k) d
 
-  pub row_by_row : (xs : List Figure) (n : ℕ) → IsNonDecreasingBy (λ f. row_number (figure_row f)) xs → 0 < n
+  pub row_by_row : (xs : List Figure) (n : ℕ) → IsNonDecreasingBy figure_number xs → 0 < n
       → n ≤ length xs
       → ((k : ℕ) (d : Figure) → k < n
-      → row_number (figure_row (get_or xs k d)) ≡ row_number (figure_row (get_or xs 0 d)))
+      → figure_number (get_or xs k d) ≡ figure_number (get_or xs 0 d))
       → ((d : Figure) → n < length xs
-      → row_number (figure_row (get_or xs n d)) ≢ row_number (figure_row (get_or xs 0 d)))
-      → ((d : Figure) → row_number (figure_row (get_or xs 0 d)) < most_rows) → (d e : Drawing)
+      → figure_number (get_or xs n d) ≢ figure_number (get_or xs 0 d))
+      → ((d : Figure) → figure_number (get_or xs 0 d) < most_rows) → (d e : Drawing)
       → e ≡ with_row p band (take n xs) d → with_rows p band (drop n xs) e ≡ with_rows p band xs d
   unfolding with_rows
   row_by_row xs n order some within same other less d e is =
       ap (λ e. fold (with_row_of p band (drop n xs)) e (range_with_len 0 most_rows)) is
-      ∙ sym (next_row (with_row p band) nothing_drawn (λ f. row_number (figure_row f)) xs n most_rows order some within
+      ∙ sym (next_row (with_row p band) nothing_drawn figure_number xs n most_rows order some within
       same other less d)
 
 -- a stable sort by rows leaves the shapes of each row, since there is a shape in each
@@ -169,12 +169,12 @@ compares n m = at (nat_lt n m) (nat_lt m n) (m == n) (n == m) refl refl refl ref
 
 pub rows_stay : (xs ys : List Figure)
     → ((f : Figure)
-    → filter (ties (λ a b. is_lt (nat_cmp (row_number (figure_row a)) (row_number (figure_row b)))) f) ys
-    ≡ filter (ties (λ a b. is_lt (nat_cmp (row_number (figure_row a)) (row_number (figure_row b)))) f) xs)
+    → filter (ties (λ a b. is_lt (nat_cmp (figure_number a) (figure_number b))) f) ys
+    ≡ filter (ties (λ a b. is_lt (nat_cmp (figure_number a) (figure_number b))) f) xs)
     → (n : ℕ) → filter (is_in_row n) ys ≡ filter (is_in_row n) xs
 rows_stay xs ys stable n =
     let f : Figure = figure.Wait (record { caller = record { 0 = n }; row = 0; from = 0; to = None }) in
     let same : (g : Figure) → is_in_row n g
-    ≡ ties (λ a b. is_lt (nat_cmp (row_number (figure_row a)) (row_number (figure_row b)))) f g =
-    λ g. compares n (row_number (figure_row g)) in
+    ≡ ties (λ a b. is_lt (nat_cmp (figure_number a) (figure_number b))) f g =
+    λ g. compares n (figure_number g) in
     filter_agree _ _ same ys ∙ stable f ∙ sym (filter_agree _ _ same xs)

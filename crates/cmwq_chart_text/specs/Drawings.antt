@@ -10,7 +10,7 @@ use Rattle.cmwq_chart_text.specs.declared.part.Part.{Part}
 use Rattle.cmwq_chart_text.specs.declared.part.What.{What}
 use Rattle.cmwq_chart_text.specs.declared.part.What.TheVariants as what
 use Rattle.cmwq_chart_text.specs.Bands.{stands_in}
-use Rattle.cmwq_chart_text.specs.Figures.{figure_row, is_flat, most_rows, row_height, row_number, wait_rows}
+use Rattle.cmwq_chart_text.specs.Figures.{figure_number, figure_row, is_flat, most_rows, row_height, wait_rows}
 use Rattle.cmwq_chart_text.specs.Notes.{has_number, note_of}
 use Rattle.cmwq_chart_text.specs.Pages.{band_start, bands, end_in}
 
@@ -27,7 +27,7 @@ part_at band top w = record { what = w; band = band; top = top }
 
 -- ---- which shapes stand in the row with a number
 abbrev pub is_in_row : ℕ → Figure → Bool
-is_in_row n f = row_number (figure_row f) == n
+is_in_row n f = figure_number f == n
 
 -- ---- a row of its own shapes, if one of them shows something: its name, the shapes, and over these their items
 abbrev pub shows : List Figure → Bool

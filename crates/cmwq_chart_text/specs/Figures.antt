@@ -42,6 +42,9 @@ figure_row (figure.Sleep sleep) = row.Worker sleep.worker
 figure_row (figure.Sign sign) = who_row sign.who
 figure_row (figure.Level level) = row.Place level.place
 
+abbrev pub figure_number : Figure → ℕ
+figure_number f = row_number (figure_row f)
+
 abbrev pub figure_from : Figure → ℕ
 figure_from (figure.Wait wait) = wait.from
 figure_from (figure.WaitSign sign) = sign.at

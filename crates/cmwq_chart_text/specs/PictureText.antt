@@ -36,7 +36,9 @@ abbrev pub picture_of : Window → ℕ → List Figure → Pictured
 picture_of w n figures = picture_on (page_of w n) figures
 
 abbrev pub head_text : Page → ℕ → List ℕ
-head_text p height = filled_template template.HEAD.now (height ∷ height ∷ height ∷ p.first ∷ p.end ∷ [])
+head_text p height = filled_template template.SIZE.now (height ∷ height ∷ [])
+    ++ (template.STYLE.now
+    ++ (filled_template template.TITLE.now (height ∷ p.first ∷ p.end ∷ []) ++ template.LEGEND.now))
 
 abbrev pub parts_text : Frame → List Entry → List Part → List ℕ
 parts_text g entries parts = flat_map (part_text g entries) parts

@@ -4,7 +4,7 @@ ghost use Rattle.std.specs.Prelude.{IfOk, OnOk, option_map, option_to_list, slic
 ghost use Rattle.std.specs.List.{range_with_len};
 ghost use Rattle.std.specs.List.Sorted.{IsNonDecreasingBy};
 ghost use Rattle.cmwq_chart_text.specs.declared.figures.Figure.{Figure as TheFigure};
-ghost use Rattle.cmwq_chart_text.specs.Figures.{figure_row, most_rows, row_number};
+ghost use Rattle.cmwq_chart_text.specs.Figures.{figure_number, most_rows};
 ghost use Rattle.cmwq_chart_text.specs.Drawings as spec;
 
 use crate::bands::by_band;
@@ -32,7 +32,7 @@ impl Model for Drawn {
 
 /// Orders shapes by their rows. Those of one row stay in their order.
 fn sort_by_row(own: &mut Vec<Figure>) -> Result<(), AllocError>
-    ensures sorted { OnOk result (IsNonDecreasingBy (λ f. row_number (figure_row f)) own.new.items) }
+    ensures sorted { OnOk result (IsNonDecreasingBy figure_number own.new.items) }
     ensures rows { (n : ℕ) → filter (spec.is_in_row n) own.new.items ≡ filter (spec.is_in_row n) own.old.items }
 {
     own.sort_by_key(|figure| figure.row().number())?;
@@ -45,11 +45,10 @@ fn run_of(own: &[Figure]) -> usize
     ensures some { 0 < result }
     ensures within { result ≤ length own.now }
     ensures same { (k : ℕ) (d : TheFigure) → k < result
-        → row_number (figure_row (slice_index_or own.now k d)) ≡ row_number (figure_row (slice_index_or own.now 0 d)) }
-    ensures numbered { (d : TheFigure) → row_number (figure_row (slice_index_or own.now 0 d)) < most_rows }
+        → figure_number (slice_index_or own.now k d) ≡ figure_number (slice_index_or own.now 0 d) }
+    ensures numbered { (d : TheFigure) → figure_number (slice_index_or own.now 0 d) < most_rows }
     ensures other { (d : TheFigure) → result < length own.now
-        → row_number (figure_row (slice_index_or own.now result d))
-        ≢ row_number (figure_row (slice_index_or own.now 0 d)) }
+        → figure_number (slice_index_or own.now result d) ≢ figure_number (slice_index_or own.now 0 d) }
 {
     let row = own[0].row().number();
     let mut many = 1;
@@ -192,7 +191,7 @@ impl Drawn {
 
     /// Adds the rows of shapes, which are ordered by their rows.
     fn draw_rows(&mut self, page: &Page, band: u32, own: &[Figure]) -> Result<(), AllocError>
-        requires { IsNonDecreasingBy (λ f. row_number (figure_row f)) own.now }
+        requires { IsNonDecreasingBy figure_number own.now }
         ensures { OnOk result (self.new ≡ spec.with_rows page.now band own.now self.old) }
     {
         let mut rest = own;

@@ -1,12 +1,16 @@
 //! Texts with numbers in them.
-ghost use Rattle.std.specs.Prelude.{◌≡◌, ◌+◌, ◌≤◌, OnOk, OnErr, IsTrue, length, slice_index_or};
+ghost use Rattle.std.specs.Prelude.{◌≡◌, ◌+◌, ◌*◌, ◌≤◌, ◌++◌, OnOk, OnErr, IsTrue, length};
 ghost use Rattle.std.specs.Io.KnownBytes.{Appends};
 ghost use Rattle.cmwq_io.specs.Counts.{Rises};
 ghost use Rattle.cmwq_io.specs.Moves.{AppendsFront};
-ghost use Rattle.cmwq_chart_text.specs.Filled.{is_hole, piece, filled_template, filled_from, plain_length};
+ghost use Rattle.cmwq_chart_text.specs.Filled.{is_hole, piece, filled_template};
 
+use arrayvec::ArrayVec;
 use cmwq_base::{Sink, WriteFault, write_all};
 use itoa::Buffer;
+
+/// How many bytes a filled template has at most.
+const MOST: usize = 640;
 
 fn is_hole(character: u8) -> bool
     ensures { result ≡ is_hole character }
@@ -14,67 +18,46 @@ fn is_hole(character: u8) -> bool
     character == b'$' || character == b'~'
 }
 
-/// How many characters of a template stand before its first hole.
-fn plain_length(template: &[u8]) -> usize
-    ensures length { result ≡ plain_length template.now }
-    ensures within { result ≤ length template.now }
+/// Adds digits, of which there are 20 at most.
+fn push_digits(line: &mut ArrayVec<u8, MOST>, digits: &[u8])
+    requires short { length digits.now ≤ 20 }
+    requires room { length line.old.items + 20 ≤ 640 }
+    ensures { line.new.items ≡ line.old.items ++ digits.now }
 {
-    for k in 0..template.len() {
-        if is_hole(template[k]) {
-            return k;
-        }
-    }
-    template.len()
+    let _ = line.try_extend_from_slice(digits);
 }
 
-/// The number that is the next, or 0 after the last.
-fn number_at(numbers: &[u64], next: usize) -> u64
-    ensures { result ≡ slice_index_or numbers.now next 0 }
-{
-    match numbers.get(next) {
-        Some(number) => *number,
-        None => 0,
-    }
-}
-
-/// Writes the number that stands for a hole.
-fn write_number<W: Sink>(sink: &mut W, hole: u8, number: u64) -> Result<(), WriteFault>
-    requires { IsTrue (is_hole hole) }
-    ensures ok { OnOk result (Appends (W.written sink.old) (W.written sink.new) (piece hole number)) }
-    ensures err { OnErr result (AppendsFront (W.written sink.old) (W.written sink.new) (piece hole number)) }
-    ensures grown { W.troubles sink.old ≤ W.troubles sink.new }
-    ensures fault { OnErr result (Rises (W.troubles sink.old) (W.troubles sink.new)) }
+/// Adds the number that stands for a hole.
+fn push_number(line: &mut ArrayVec<u8, MOST>, hole: u8, number: u64)
+    requires { length line.old.items + 20 ≤ 640 }
+    ensures text { line.new.items ≡ line.old.items ++ piece hole number }
+    ensures short { length line.new.items ≤ length line.old.items + 20 }
 {
     if hole == b'$' {
-        write_all(sink, Buffer::new().format(number).as_bytes())
+        push_digits(line, Buffer::new().format(number).as_bytes());
     } else {
-        write_all(sink, &[(number % 256) as u8])
+        line.push((number % 256) as u8);
     }
 }
 
-/// Writes a template whose first hole stands for the number at a place, and the others for those after it.
-fn write_from<W: Sink>(
-    sink: &mut W,
-    template: &[u8],
-    numbers: &[u64],
-    next: usize,
-) -> Result<(), WriteFault>
-    requires { next + length template.now ≤ 9223372036854775807 }
-    ensures ok { OnOk result
-        (Appends (W.written sink.old) (W.written sink.new) (filled_from template.now numbers.now next)) }
-    ensures err { OnErr result
-        (AppendsFront (W.written sink.old) (W.written sink.new) (filled_from template.now numbers.now next)) }
-    ensures grown { W.troubles sink.old ≤ W.troubles sink.new }
-    ensures fault { OnErr result (Rises (W.troubles sink.old) (W.troubles sink.new)) }
+/// A template, filled with numbers.
+fn filled(template: &[u8], numbers: &[u64]) -> ArrayVec<u8, MOST>
+    requires { length template.now + 20 * length numbers.now ≤ 640 }
+    ensures { result.items ≡ filled_template template.now numbers.now }
 {
-    let plain = plain_length(template);
-    write_all(sink, &template[..plain])?;
-    if plain == template.len() {
-        return Ok(());
+    let mut line = ArrayVec::new();
+    let mut next = 0;
+    for character in template {
+        if is_hole(*character) {
+            if let Some(number) = numbers.get(next) {
+                push_number(&mut line, *character, *number);
+            }
+            next += 1;
+        } else {
+            line.push(*character);
+        }
     }
-    write_number(sink, template[plain], number_at(numbers, next))?;
-    write_from(sink, &template[plain + 1..], numbers, next + 1)?;
-    Ok(())
+    line
 }
 
 /// Writes a template, in which each `$` stands for the next number, and each `~` for the character that the next number
@@ -84,6 +67,7 @@ pub fn write_filled<W: Sink>(
     template: &str,
     numbers: &[u64],
 ) -> Result<(), WriteFault>
+    requires { length template.now + 20 * length numbers.now ≤ 640 }
     ensures ok { OnOk result
         (Appends (W.written sink.old) (W.written sink.new) (filled_template template.now numbers.now)) }
     ensures err { OnErr result
@@ -91,5 +75,5 @@ pub fn write_filled<W: Sink>(
     ensures grown { W.troubles sink.old ≤ W.troubles sink.new }
     ensures fault { OnErr result (Rises (W.troubles sink.old) (W.troubles sink.new)) }
 {
-    write_from(sink, template.as_bytes(), numbers, 0)
+    write_all(sink, filled(template.as_bytes(), numbers).as_slice())
 }

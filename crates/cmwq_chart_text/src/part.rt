@@ -1,5 +1,5 @@
 //! Parts of a picture, and their texts.
-ghost use Rattle.std.specs.Prelude.{◌≡◌, ◌<◌, ◌≤◌, OnOk, OnErr};
+ghost use Rattle.std.specs.Prelude.{◌≡◌, ◌+◌, ◌*◌, ◌<◌, ◌≤◌, OnOk, OnErr, length};
 ghost use Rattle.std.specs.Io.KnownBytes.{Appends};
 ghost use Rattle.cmwq_io.specs.Counts.{Rises};
 ghost use Rattle.cmwq_io.specs.Moves.{AppendsFront};
@@ -184,7 +184,8 @@ fn level_numbers(frame: &Frame, band: u64, top: u64, level: &Level) -> [u64; 18]
 
 /// The template of a sign.
 fn sign_template(kind: SignKind) -> &'static str
-    ensures { result.now ≡ spec.sign_template kind }
+    ensures text { result.now ≡ spec.sign_template kind }
+    ensures short { length result.now ≤ 200 }
 {
     match kind {
         SignKind::Queued => template::QUEUED,
@@ -250,6 +251,7 @@ fn write_mark<W: Sink>(
     numbers: &[u64],
     at: u32,
 ) -> Result<(), WriteFault>
+    requires { length template.now + 20 * length numbers.now ≤ 640 }
     ensures ok { OnOk result
         (Appends (W.written sink.old) (W.written sink.new) (spec.mark_text entries.now template.now numbers.now at)) }
     ensures err { OnErr result
@@ -275,7 +277,8 @@ fn sign_numbers(page: &Page, top: u64, sign: &Sign) -> [u64; 3]
 
 /// The template of a sign on a wait.
 fn wait_sign_template(is_done: bool) -> &'static str
-    ensures { result.now ≡ spec.wait_sign_template is_done }
+    ensures text { result.now ≡ spec.wait_sign_template is_done }
+    ensures short { length result.now ≤ 200 }
 {
     if is_done {
         template::DONE

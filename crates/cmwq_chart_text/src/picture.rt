@@ -11,7 +11,7 @@ use crate::figures::{Figure, figures_of};
 use crate::filled::write_filled;
 use crate::page::{Page, Window};
 use crate::part::{Frame, Part, write_part};
-use crate::templates::{END, HEAD};
+use crate::templates::{END, LEGEND, SIZE, STYLE, TITLE};
 use cmwq_base::{Sink, WriteFault, flush_all, write_all};
 use cmwq_chart::Shapes;
 use cmwq_model::Entry;
@@ -57,8 +57,12 @@ fn write_head<W: Sink>(sink: &mut W, page: &Page, height: u32) -> Result<(), Wri
     ensures fault { OnErr result (Rises (W.troubles sink.old) (W.troubles sink.new)) }
 {
     let height = u64::from(height);
-    let numbers = [height, height, height, page.first.into(), page.end.into()];
-    write_filled(sink, HEAD, &numbers)
+    let numbers = [height, page.first.into(), page.end.into()];
+    write_filled(sink, SIZE, &[height, height])?;
+    write_all(sink, STYLE.as_bytes())?;
+    write_filled(sink, TITLE, &numbers)?;
+    write_all(sink, LEGEND.as_bytes())?;
+    Ok(())
 }
 
 /// Writes parts, one after the other.

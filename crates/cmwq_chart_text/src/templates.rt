@@ -2,9 +2,12 @@
 
 use cmwq_chart::SignKind;
 
-/// The head: the height twice, the style, the page and its height, from which entry up to which, and the legend.
-pub(crate) const HEAD: &str =
-    "<svg xmlns=\"http://www.w3.org/2000/svg\" width=\"1200\" height=\"$\" viewBox=\"0 0 1200 $\" role=\"img\"><style>\
+/// The head: the height twice; the style; the page and its height, from which entry up to which; and the legend.
+pub(crate) const SIZE: &str =
+    "<svg xmlns=\"http://www.w3.org/2000/svg\" width=\"1200\" height=\"$\" \
+    viewBox=\"0 0 1200 $\" role=\"img\">";
+
+pub(crate) const STYLE: &str = "<style>\
     svg{color:black;font:11px sans-serif}.page{fill:white}text{fill:currentColor}.title{font-size:14px}\
     .name,.entry{opacity:.8}.name{text-anchor:end}.entry{text-anchor:middle}\
     .guide,.grid{stroke:currentColor;stroke-opacity:.15}.run,.sleep,.wait{stroke:currentColor;stroke-width:.7}\
@@ -24,13 +27,16 @@ pub(crate) const HEAD: &str =
     .k7{fill:rgb(130,112,25)}.k8{fill:rgb(155,90,102)}.k9{fill:rgb(100,100,100)}.delayed,.changed{fill:none}}\
     </style><defs><pattern id=\"hatch\" width=\"6\" height=\"6\" patternUnits=\"userSpaceOnUse\" \
     patternTransform=\"rotate(45)\"><path d=\"M0 0v6\" stroke=\"currentColor\" stroke-width=\"2\" \
-    stroke-opacity=\".5\"/></pattern></defs>\n\
-    <rect class=\"page\" width=\"1200\" height=\"$\"/>\n\
+    stroke-opacity=\".5\"/></pattern></defs>\n";
+
+pub(crate) const TITLE: &str = "<rect class=\"page\" width=\"1200\" height=\"$\"/>\n\
     <text class=\"title\" x=\"12\" y=\"26\">Entries from $ up to $: what each caller did, and below it its waits; \
     a bar for each run, with its item, hatched where it sleeps, and below what its worker did</text>\n\
     <text x=\"12\" y=\"44\">Below, for each queue on each CPU: how many are open (pale), how many of them are active \
-    (dark), and the width (dashed)</text>\n\
-    <path class=\"queued mark k1\" d=\"M18 58m-3 -4h6l-3 8z\"/><text x=\"27\" y=\"62\">queued</text>\
+    (dark), and the width (dashed)</text>\n";
+
+pub(crate) const LEGEND: &str =
+    "<path class=\"queued mark k1\" d=\"M18 58m-3 -4h6l-3 8z\"/><text x=\"27\" y=\"62\">queued</text>\
     <path class=\"delayed mark\" d=\"M81 58m0 -4l3 4l-3 4l-3 -4z\"/><text x=\"90\" y=\"62\">delayed</text>\
     <path class=\"fired mark k1\" d=\"M150 58m0 -4l3 4l-3 4l-3 -4z\"/><text x=\"159\" y=\"62\">fired</text>\
     <path class=\"cancelled mark\" d=\"M208 58m-3 -3l6 6m0 -6l-6 6\"/><text x=\"217\" y=\"62\">cancelled</text>\

@@ -1,5 +1,5 @@
 //! Trace events, and their texts.
-ghost use Rattle.std.specs.Prelude.{◌≡◌, ◌≤◌, OnOk, OnErr};
+ghost use Rattle.std.specs.Prelude.{◌≡◌, ◌≤◌, OnOk, OnErr, length};
 ghost use Rattle.std.specs.Io.KnownBytes.{Appends};
 ghost use Rattle.cmwq_io.specs.Counts.{Rises};
 ghost use Rattle.cmwq_io.specs.Moves.{AppendsFront};
@@ -107,7 +107,8 @@ fn entries_between(from: u32, to: Option<u32>, end: u64) -> u64
 
 /// What the template of an event is, in which `$` stands for a number, and `~` for a character.
 fn template(event: &Event) -> &'static str
-    ensures { result.now ≡ spec.event_template event.now }
+    ensures text { result.now ≡ spec.event_template event.now }
+    ensures short { length result.now ≤ 400 }
 {
     match event {
         Event::Head => HEAD,

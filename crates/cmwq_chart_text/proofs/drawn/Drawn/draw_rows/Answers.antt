@@ -2,7 +2,7 @@ use Rattle.std.proofs.Common.{sym, ap, ◌∙◌, arith}
 use Rattle.std.proofs.lemmas.List.{nil_from_length}
 use Rattle.std.proofs.lemmas.List.Sorted.{IsNonDecreasingBy-drop}
 use Rattle.cmwq_chart_text.specs.Drawings.{with_rows}
-use Rattle.cmwq_chart_text.specs.Figures.{figure_row, row_number}
+use Rattle.cmwq_chart_text.specs.Figures.{figure_number}
 use Rattle.cmwq_chart_text.proofs.Rows.{no_rows, row_by_row}
 use Rattle.cmwq_chart_text.proofs.drawn.Drawn.draw_rows.Goals as goal
 
@@ -11,7 +11,7 @@ loop-rest-preserved c =
     let row = c.run_of.ensures in
     record {
       order = rw (c.split_at.ensures.back)
-          (IsNonDecreasingBy-drop (λ f. row_number (figure_row f)) c.run_of.result c.loop-rest.rest.now
+          (IsNonDecreasingBy-drop figure_number c.run_of.result c.loop-rest.rest.now
           c.loop-rest.invariant.order);
       drawn = rw (c.split_at.ensures.back)
           (row_by_row c.args.page.now c.args.band c.loop-rest.rest.now c.run_of.result c.loop-rest.invariant.order
