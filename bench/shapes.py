@@ -13,6 +13,9 @@ SHAPES = ((1, 1, 1), (64, 64, 255))
 
 QUEUE_OF_FLUSHES = 1
 
+# at most
+CALLS_OF_A_TURN = 6
+
 
 class Loads:
     """What is pending, as far as the next calls need it: which items wait on each CPU, in their order, and which are booked for when."""

@@ -53,6 +53,14 @@ is_built() (
   [ -e "$1" ] && [ -z "$(find $(folders_of "$2") crates.txt -type f -newer "$1" -print -quit)" ]
 )
 
+# altered: the files in dist/ that are not those that MANIFEST names, one a line
+altered() {
+  local file sum
+  while read -r _ file sum; do
+    [ "$(sha256sum < "$root/dist/$file" | cut -d ' ' -f 1)" = "$sum" ] || echo "dist/$file"
+  done < <(grep '^file ' "$root/dist/MANIFEST")
+}
+
 # is_shipped: whether dist/ was made from the sources as they are
 is_shipped() {
   [ -e "$root/dist/MANIFEST" ] && [ "$(sed -n 's/^sources //p' "$root/dist/MANIFEST")" = "$(digest)" ]
