@@ -5,6 +5,7 @@ import importlib.util
 import multiprocessing
 import os
 import shutil
+import signal
 import subprocess
 import sys
 
@@ -54,9 +55,13 @@ def processes():
     return int(given) if given.isdigit() and int(given) else len(os.sched_getaffinity(0))
 
 
+def end_at_interrupts():
+    signal.signal(signal.SIGINT, lambda *_: sys.exit(128 + signal.SIGINT))
+
+
 def pool():
     """Processes that share what this one has loaded."""
-    return multiprocessing.get_context("fork").Pool(processes())
+    return multiprocessing.get_context("fork").Pool(processes(), end_at_interrupts)
 
 
 def load(path):

@@ -57,7 +57,7 @@ is_built() (
 altered() {
   local file sum
   while read -r _ file sum; do
-    [ "$(sha256sum < "$root/dist/$file" | cut -d ' ' -f 1)" = "$sum" ] || echo "dist/$file"
+    [ "$(sha256sum "$root/dist/$file" 2> /dev/null | cut -d ' ' -f 1)" = "$sum" ] || echo "dist/$file"
   done < <(grep '^file ' "$root/dist/MANIFEST")
 }
 
