@@ -1,4 +1,5 @@
-# What was made of the sources, and whether it still is what they give. Sourced by cmwq, tools/dist and tools/c, with `root` set to the repository.
+# What was made of the sources, and whether it still is what they give. Sourced by cmwq, tools/dist and tools/library,
+# with `root` set to the repository.
 
 shipped="$root/dist/x86_64-linux-gnu"
 
@@ -34,8 +35,8 @@ folders_of() {
   done
 }
 
-# digest: the SHA-256 of all that dist/ is built from: the lines of crates.txt and the sources of the program, of the library for C, and of
-# all crates below them
+# digest: the SHA-256 of all that dist/ is built from: the lines of crates.txt and the sources of the program, of the
+# library for C, and of all crates below them
 digest() (
   cd "$root" || exit 1
   export LC_ALL=C
@@ -46,7 +47,7 @@ digest() (
   } | sha256sum | cut -d ' ' -f 1
 )
 
-# is_built FILE CRATE: whether the file, a path in the repository, is there and is newer than all that the crate is built from
+# is_built FILE CRATE: whether the file, a path in the repository, is newer than all that the crate is built from
 is_built() (
   cd "$root" || exit 1
   # shellcheck disable=SC2046
