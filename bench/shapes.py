@@ -1,4 +1,5 @@
-"""Loads of wide shapes: so many items are pending at a time, and then items are queued, started, finished, cancelled, booked, fired and flushed at random.
+"""Loads of wide shapes: so many items are pending at a time, and then items are queued, started, finished, cancelled,
+booked, fired and flushed at random.
 
 Each load is a head, calls that make the items pending, and turns that leave as many pending as they found.
 """
@@ -18,14 +19,16 @@ CALLS_OF_A_TURN = 6
 
 
 class Loads:
-    """What is pending, as far as the next calls need it: which items wait on each CPU, in their order, and which are booked for when."""
+    """What is pending, as far as the next calls need it: which items wait on each CPU, in their order, and which are
+    booked for when."""
 
     def __init__(self, items, shape, room):
         self.cpus, self.workers, self.callers = shape
         self.items = items
         self.random = random.Random(items)
         self.entries = 0
-        self.lines = ['calls 3', f'shape {self.cpus} {self.workers} {self.callers} {items} {room}', 'wq 512 -', 'wq 1 -']
+        shape = f'shape {self.cpus} {self.workers} {self.callers} {items} {room}'
+        self.lines = ['calls 3', shape, 'wq 512 -', 'wq 1 -']
         self.waiting = [collections.OrderedDict() for _ in range(self.cpus)]
         self.cpu_of = {}
         self.due, self.now, self.booked = [], 0, {}
@@ -117,7 +120,8 @@ KINDS = {make.__name__: make for make in (pending, cancel, booked, flush)}
 
 
 def files(kind, items, shape, turns, room):
-    """The calls before so many turns, and with as many of these once more after them, and how many calls the latter have more."""
+    """The calls before so many turns, and with as many of these once more after them, and how many calls the latter
+    have more."""
     loads = Loads(items, shape, room)
     turn = KINDS[kind](loads)
     for _ in range(turns):

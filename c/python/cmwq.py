@@ -1,4 +1,6 @@
-"""The Book of cmwq from Python by ctypes, over the shared form of the library: `CMWQ=build/libcmwq.so python3 cmwq.py HISTORY..`.
+"""The Book of cmwq from Python by ctypes, over the shared form of the library.
+
+`CMWQ=build/libcmwq.so python3 cmwq.py HISTORY..`
 
 Makes the calls of each history again, and holds the entries against it. A Book is for one thread at a time.
 """
@@ -17,7 +19,8 @@ class Shape(ctypes.Structure):
 
 
 class Queue(ctypes.Structure):
-    _fields_ = [('max_active', ctypes.c_uint16), ('high', ctypes.c_uint8), ('intensive', ctypes.c_uint8), ('freezable', ctypes.c_uint8)]
+    _fields_ = [('max_active', ctypes.c_uint16), ('high', ctypes.c_uint8), ('intensive', ctypes.c_uint8),
+                ('freezable', ctypes.c_uint8)]
 
 
 STATUSES = ['done', 'refused', 'closed', 'full', 'no memory', 'short', 'crowded', 'illegal']
@@ -47,7 +50,8 @@ class Book:
 
     def __init__(self, shape, queues):
         self._handle = Handle()
-        done(LIBRARY.cmwq_open(ctypes.byref(self._handle), ctypes.byref(shape), (Queue * len(queues))(*queues), ctypes.c_size_t(len(queues))))
+        done(LIBRARY.cmwq_open(ctypes.byref(self._handle), ctypes.byref(shape), (Queue * len(queues))(*queues),
+                               ctypes.c_size_t(len(queues))))
 
     def __enter__(self):
         return self
@@ -61,7 +65,8 @@ class Book:
     def step(self, call):
         """Makes the call of a line, and answers the line of its entry."""
         out, written, text = ctypes.create_string_buffer(LINE), ctypes.c_size_t(), call.encode()
-        done(LIBRARY.cmwq_step_line(ctypes.byref(self._handle), text, ctypes.c_size_t(len(text)), out, ctypes.c_size_t(LINE), ctypes.byref(written)))
+        done(LIBRARY.cmwq_step_line(ctypes.byref(self._handle), text, ctypes.c_size_t(len(text)), out,
+                                    ctypes.c_size_t(LINE), ctypes.byref(written)))
         return out.raw[:written.value].decode()
 
     def ready(self, ticket):
