@@ -1,0 +1,5 @@
+pub mod Readiness
+pub mod Starting
+pub mod Rest
+pub mod Reach
+pub mod Steps
