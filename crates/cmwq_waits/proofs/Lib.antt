@@ -1,0 +1,9 @@
+pub mod Opened
+pub mod Places
+pub mod Held
+pub mod Loops
+pub mod Filling
+pub mod Awaiting
+pub mod Narrowing
+pub mod Queued
+pub mod Refusing

@@ -1,0 +1,5 @@
+pub mod Common
+pub mod HeldUp
+pub mod Refused
+pub mod Looks
+pub mod Narrowing

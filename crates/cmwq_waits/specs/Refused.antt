@@ -1,0 +1,65 @@
+-- Which waits are refused when a run is about to wait.
+use Rattle.cmwq_waits.specs.Common.{ℕ, Bool, true, false, List, [], ◌∷◌, ◌++◌, ◌≡◌, ◌==◌, ◌⊎◌, not, filter, length, Option}
+use Rattle.cmwq_waits.specs.Common.{Some, None, option_map_or, option_to_list, Layout, Entry, Call, CallerId, Queueing}
+use Rattle.cmwq_waits.specs.Common.{Ticket, RunWait, is_held_back, queued_of_booked, still_open}
+use Rattle.cmwq_model.specs.Prelude.{is_unstarted}
+use Rattle.cmwq_model.specs.declared.id.ItemId.{ItemId}
+use Rattle.cmwq_model.specs.declared.call.Call.TheVariants as call
+use Rattle.cmwq_waits.specs.HeldUp.{Scene, awaits, NeverEnds}
+use Rattle.cmwq_waits.specs.declared.waits.Stuck.{Stuck}
+use Rattle.cmwq_waits.specs.declared.waits.Stuck.TheVariants.{Itself, Circle}
+
+-- ---- the scene once the call is made
+
+-- the item of which the call takes back what has not started, and what the call queues of a booked item
+abbrev pub item_taken_back : Call → Option ItemId
+item_taken_back (call.CancelSync i) = Some i
+item_taken_back c = None
+
+abbrev pub queued : List Entry → Call → Option Queueing
+queued past (call.FlushDelayed i) = queued_of_booked past i.0
+queued past c = None
+
+abbrev pub stays_open : List Entry → Option ItemId → Queueing → Bool
+stays_open past o x = not (option_map_or (λ (i : ItemId). is_unstarted past i.0 x) o false)
+
+abbrev pub scene_with : Layout → List Entry → Option ItemId → Option Queueing → Scene
+scene_with s past taken more = record {
+  layout = s;
+  past = past;
+  opened =
+      filter (stays_open past taken) (still_open past) ++ option_to_list more;
+}
+
+abbrev pub scene_after : Layout → List Entry → Call → Scene
+scene_after s past c = scene_with s past (item_taken_back c) (queued past c)
+
+-- ---- the wait that begins then
+
+-- the call waits for nothing, since its item is booked on a queue that is drained
+abbrev pub is_turned_away : List Entry → Call → Bool
+is_turned_away past (call.FlushDelayed i) = is_held_back past i.0
+is_turned_away past c = false
+
+-- the ticket that the call gives has the number of the next entry; whose it is doesn't matter
+abbrev pub next_ticket : List Entry → Call → Ticket
+next_ticket past c = record { caller = record { 0 = 0 }; call = c; number = length past }
+
+abbrev pub next_wait : List Entry → Queueing → Call → RunWait
+next_wait past run c = record { run = run; ticket = next_ticket past c }
+
+-- A wait of this run by this call is refused, where these wait already: it would wait for its own run, or it could
+-- never end since it would be in a deadlock. It is not refused where neither is so, or it would wait for nothing.
+abbrev pub CouldNeverEnd : Layout → List Entry → List RunWait → Queueing → Call → Type 0
+CouldNeverEnd s past waits run c =
+    NeverEnds (scene_after s past c) (waits ++ next_wait past run c ∷ []) run.number
+
+abbrev pub Refuses : Layout → List Entry → List RunWait → Queueing → Call → Option Stuck → Type 0
+Refuses s past waits run c (Some Itself) =
+    (is_turned_away past c ≡ false) × (awaits past (next_ticket past c) run ≡ true)
+Refuses s past waits run c (Some Circle) =
+    (is_turned_away past c ≡ false) × (awaits past (next_ticket past c) run ≡ false)
+    × CouldNeverEnd s past waits run c
+Refuses s past waits run c None =
+    (is_turned_away past c ≡ true)
+    ⊎ ((awaits past (next_ticket past c) run ≡ false) × (CouldNeverEnd s past waits run c → ⊥))
