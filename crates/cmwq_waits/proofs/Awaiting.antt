@@ -1,5 +1,5 @@
 -- What a ticket waits for, by its call.
-use Rattle.std.proofs.Common.{◌≡◌, ◌∙◌, ◌<◌, ℕ, true, false, List, length, Option, Some, None, ap, sym, eqb-true, refl}
+use Rattle.std.proofs.Common.{◌≡◌, ◌∙◌, ◌<◌, ℕ, true, false, List, length, Some, None, sym, eqb-true, refl}
 use Rattle.std.specs.Prelude.{◌==◌, nat_le}
 use Rattle.std.proofs.Common.{arith}
 use Rattle.std.proofs.lemmas.Bool.{ltb-true}
@@ -14,7 +14,6 @@ use Rattle.cmwq_model.specs.declared.record.Queueing.{Queueing}
 use Rattle.cmwq_model.specs.declared.record.Ticket.{Ticket}
 use Rattle.cmwq_waits.specs.HeldUp.{Scene, awaits}
 use Rattle.cmwq_waits.specs.Looks.{WaitsForQueue, awaited_by}
-use Rattle.cmwq_waits.specs.declared.look.Awaited.{Awaited}
 use Rattle.cmwq_waits.specs.declared.look.Awaited.TheVariants.{Item, Queue}
 use Rattle.cmwq_waits.proofs.Held.{awaits_unstarted, both}
 

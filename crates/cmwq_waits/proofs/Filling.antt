@@ -4,11 +4,11 @@ use Rattle.std.proofs.lemmas.List.Sums.{sum_by-cons}
 use Rattle.cmwq_lemmas.proofs.Truth.{and_false, same_bools}
 unfoldable use Rattle.cmwq_model.specs.Prelude.{is_active}
 use Rattle.std.proofs.Common.{◌≡◌, ◌∙◌, ◌<◌, ◌≤◌, ℕ, Bool, true, false, List, length, refl, subst, sym, ap, arith, ⊎_elim, not}
-use Rattle.std.specs.Prelude.{◌&&◌, ◌||◌, ◌==◌, Contains, count_by, nat_le}
-use Rattle.std.specs.List.{AllByRecursion, list_any, sum_by}
+use Rattle.std.specs.Prelude.{◌==◌}
+use Rattle.std.specs.List.{list_any, sum_by}
 use Rattle.std.proofs.lemmas.Bool.{le-leb, leb-true}
 use Rattle.std.proofs.lemmas.Bool.Decides.{nat_tests}
-use Rattle.cmwq_model.specs.Prelude.{is_live, is_started, is_unstarted, max_active, queueings, still_open}
+use Rattle.cmwq_model.specs.Prelude.{is_live, is_started, is_unstarted, max_active, queueings}
 use Rattle.cmwq_model.specs.declared.entry.Entry.{Entry}
 use Rattle.cmwq_model.specs.declared.id.QueueId.{QueueId}
 use Rattle.cmwq_model.specs.declared.record.Queueing.{Queueing}
@@ -17,7 +17,7 @@ use Rattle.cmwq_lemmas.proofs.Filters.{count_by-wider}
 use Rattle.cmwq_lemmas.proofs.Members.{In, all_in, any_in, contained_in, in_any, in_contained, in_filter}
 use Rattle.cmwq_refinement.proofs.PlacesFit.{open_there}
 use Rattle.cmwq_waits.specs.HeldUp.{Scene, awaits, has_run_of, have_all_places, have_all_workers, is_ahead_of_item}
-use Rattle.cmwq_waits.specs.HeldUp.{is_held_up_by, is_kept, is_kept_unstarted, is_of_item, places_ahead}
+use Rattle.cmwq_waits.specs.HeldUp.{is_held_up_by, is_kept, is_of_item, places_ahead}
 use Rattle.cmwq_waits.specs.Looks.{IsScene, KeepNone, LeavesSome, WaitsForQueue, holds_of_item, holds_unstarted}
 use Rattle.cmwq_waits.specs.Looks.{is_item_held, last_at}
 use Rattle.cmwq_waits.specs.declared.run_wait.RunWait.{RunWait}
@@ -94,10 +94,10 @@ module _ (c : Scene) (is : IsScene c) where
       })
       → told ≡ false → have_all_places c set (last_at c q cpu) ≡ false
   next_leaves set q cpu n told many is none = subst (λ m. have_all_places c set (record {
-        item = record { 0 = 0 };
-        place = record { queue = q; cpu = record { 0 = cpu } };
-        number = m;
-      }) ≡ false) many (sym is ∙ none)
+    item = record { 0 = 0 };
+    place = record { queue = q; cpu = record { 0 = cpu } };
+    number = m;
+  }) ≡ false) many (sym is ∙ none)
 
   -- ---- what has not started, by its items
 

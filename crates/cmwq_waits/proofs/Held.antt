@@ -1,17 +1,16 @@
 -- What is held up, of the runs and of what has not started.
-use Rattle.std.proofs.Common.{◌≡◌, ◌∙◌, ◌<◌, ◌≤◌, ◌+◌, ℕ, Bool, true, false, List, [], ◌∷◌, ◌++◌, Option, Some, None, refl}
-use Rattle.std.proofs.Common.{subst, sym, ap, ap₂, arith, filter, option_to_list, ◌⊎◌, inl, inr, ⊎_elim, not, length, eq-eqb, eqb-true}
-use Rattle.std.specs.Prelude.{◌&&◌, ◌||◌, ◌==◌, Contains}
+use Rattle.std.proofs.Common.{◌≡◌, ◌∙◌, ◌<◌, ◌≤◌, ℕ, Bool, true, false, List, [], ◌∷◌, Option, Some, refl}
+use Rattle.std.proofs.Common.{subst, sym, ap, ap₂, arith, filter, option_to_list, inl, inr, ⊎_elim, not, length, eq-eqb, eqb-true}
+use Rattle.std.specs.Prelude.{◌&&◌, ◌||◌, Contains}
 use Rattle.std.specs.List.{list_any}
 use Rattle.std.proofs.lemmas.Bool.Decides.{nat_tests}
-use Rattle.cmwq_model.specs.Prelude.{IsLegal, Layout, cancels_sync, holds_up, is_started, is_unstarted, still_open}
+use Rattle.cmwq_model.specs.Prelude.{Layout, holds_up, is_started, is_unstarted, still_open}
 unfoldable use Rattle.cmwq_model.specs.Prelude.{is_active}
 use Rattle.cmwq_model.specs.declared.entry.Entry.{Entry}
-use Rattle.cmwq_model.specs.declared.id.ItemId.{ItemId}
 use Rattle.cmwq_model.specs.declared.record.Queueing.{Queueing}
 use Rattle.cmwq_model.specs.declared.record.Ticket.{Ticket}
 use Rattle.cmwq_lemmas.proofs.Truth.{and_false, or_false, same_bools}
-use Rattle.cmwq_lemmas.proofs.Members.{In, any_in, contained_in, in_any, in_append, in_contained, in_filter, in_option}
+use Rattle.cmwq_lemmas.proofs.Members.{In, any_in, in_any, in_contained, in_filter}
 use Rattle.cmwq_refinement.proofs.PlacesFit.{open_there}
 use Rattle.cmwq_state.specs.Waits.{IsOpenOrNext}
 use Rattle.cmwq_waits.specs.HeldUp.{Scene, awaits, has_run_of, is_held_up_by, is_kept, is_kept_unstarted, is_of_item}

@@ -7,3 +7,6 @@ pub mod Awaiting
 pub mod Narrowing
 pub mod Queued
 pub mod Refusing
+pub mod Greatest
+pub mod Exact
+pub mod GoOn

@@ -1,12 +1,14 @@
 -- Loops over runs that look for one that passes.
-use Rattle.std.proofs.Common.{◌≡◌, ◌∙◌, ◌<◌, ◌≤◌, ◌+◌, ℕ, Bool, true, false, List, get_or, length, ap, sym, arith, ◌⊎◌, ⊎_elim, inl, inr}
+use Rattle.std.proofs.Common.{◌≡◌, ◌∙◌, ◌<◌, ◌≤◌, ◌+◌, ℕ, Bool, true, false, List, get_or, length, ap, arith, ◌⊎◌, ⊎_elim, inl, inr}
 use Rattle.std.specs.Prelude.{Contains}
-use Rattle.std.proofs.Common.{min, take, zero, suc}
+use Rattle.std.proofs.Common.{min, take}
 use Rattle.std.specs.Prelude.{◌-◌, ◌^◌, nat_le}
 use Rattle.std.specs.List.{list_any, sum_by}
 use Rattle.std.proofs.lemmas.Bool.{cases_lt, le-leb, leb-true}
-use Rattle.std.proofs.lemmas.List.{get_or_default, take_all}
+use Rattle.std.proofs.lemmas.List.{get_or_default, length-take-le, take_all}
 use Rattle.std.proofs.lemmas.List.Sums.{sum_by_more}
+use Rattle.std.proofs.Common.{filter}
+use Rattle.cmwq_lemmas.proofs.Lists.{filter_shorter}
 use Rattle.cmwq_lemmas.proofs.Truth.{same_bools}
 use Rattle.std.proofs.lemmas.List.Folds.{list_any_none}
 use Rattle.cmwq_lemmas.proofs.Members.{any_in, in_at}
@@ -44,6 +46,14 @@ some_at p xs n d less passes =
 pub none_in_all : {X : Type 0} (p : X → Bool) (xs : List X) (n : ℕ) → length xs ≤ n → NoneBelow p xs n
     → list_any p xs ≡ false
 none_in_all p xs n all none = list_any_none p xs (λ k d less. none k d (omega arith))
+
+-- what is kept so far of a list leaves room for one more
+pub kept_room : {X : Type 0} (p : X → Bool) (xs : List X) (n : ℕ) → n < length xs
+    → length (filter p (take n xs)) < length xs
+kept_room p xs n less =
+    let shorter = filter_shorter p (take n xs) in
+    let taken = length-take-le n xs (omega (arith, less)) in
+    omega (arith, less, shorter, taken)
 
 -- ---- sums up to the greatest number
 

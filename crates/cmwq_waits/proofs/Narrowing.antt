@@ -1,24 +1,26 @@
 -- A larger set holds up more, and the search for the greatest set that holds itself up.
 use Rattle.std.proofs.Common.{◌≡◌, ◌∙◌, ◌<◌, ◌≤◌, ◌+◌, ℕ, Bool, true, false, List, [], ◌∷◌, length, refl, subst, sym, ap}
-use Rattle.std.proofs.Common.{arith, filter, ⊎_elim, inl, inr, not, eq-eqb, eqb-true, cond, get_or}
-use Rattle.std.proofs.lemmas.List.{get_or_default}
-use Rattle.std.specs.Prelude.{◌&&◌, ◌||◌, ◌==◌, Contains, count_by, nat_le}
-use Rattle.std.specs.List.{AllByRecursion, list_any, sum_by}
+use Rattle.std.proofs.Common.{arith, filter, inl, inr, not, cond}
+use Rattle.std.specs.Prelude.{◌&&◌, ◌||◌, count_by}
+use Rattle.std.specs.List.{list_any, sum_by}
 use Rattle.std.proofs.lemmas.Bool.{le-leb, leb-true}
 use Rattle.std.proofs.lemmas.List.Sums.{sum_by-cons}
 use Rattle.cmwq_model.specs.Prelude.{is_active, is_started, max_active}
 use Rattle.cmwq_model.specs.declared.record.Place.{Place}
 use Rattle.cmwq_model.specs.declared.record.Queueing.{Queueing}
 use Rattle.cmwq_model.specs.declared.record.Ticket.{Ticket}
-use Rattle.cmwq_lemmas.proofs.Lists.{count_by-cons, filter_all, filter_shorter}
-use Rattle.cmwq_lemmas.proofs.Filters.{filter_twice}
-use Rattle.cmwq_lemmas.proofs.Members.{In, all_in, any_in, contained_in, filter_in, in_any, in_at, in_contained}
+use Rattle.cmwq_lemmas.proofs.Lists.{count_by-cons, filter_shorter}
+use Rattle.cmwq_lemmas.proofs.Members.{In, any_in, contained_in, filter_in, in_any, in_contained}
 use Rattle.cmwq_lemmas.proofs.Members.{in_filter}
-use Rattle.cmwq_waits.specs.HeldUp.{IsDeadlock, NeverEnds, Scene, awaits, has_run_of, have_all_places}
-use Rattle.cmwq_waits.specs.HeldUp.{have_all_workers, is_held_up, is_held_up_by, is_in, is_in_pool, is_kept}
-use Rattle.cmwq_waits.specs.HeldUp.{is_kept_unstarted, is_of_item, members, places_ahead}
+use Rattle.cmwq_waits.specs.HeldUp.{Scene, awaits, has_run_of, have_all_places}
+use Rattle.cmwq_waits.specs.HeldUp.{have_all_workers, is_held_up, is_held_up_by, is_in_pool, is_kept}
+use Rattle.cmwq_waits.specs.HeldUp.{is_of_item, places_ahead}
 use Rattle.cmwq_waits.specs.Looks.{AreSeen}
-use Rattle.cmwq_waits.specs.Narrowing.{AllHeld, AreKnown, HasRun, IsFree, IsNarrowed}
+use Rattle.cmwq_waits.specs.Narrowing.{AreKnown, IsNarrowed}
+use Rattle.cmwq_waits.specs.Refused.{is_of_run, never_ends, stays}
+unfoldable use Rattle.cmwq_waits.specs.Refused.{left_of}
+use Rattle.std.proofs.Common.{zero, suc}
+use Rattle.std.specs.Prelude.{◌-◌}
 use Rattle.cmwq_waits.specs.declared.run_wait.RunWait.{RunWait}
 use Rattle.cmwq_waits.proofs.Held.{and_true, both}
 
@@ -39,7 +41,7 @@ module _ (p q : RunWait → Bool) where
         more_counted f ws (λ v here. within v (inr here)),
         within w (inl refl),
         count_by-cons f w (filter p ws),
-        count_by-cons f w (filter q ws)
+        count_by-cons f w (filter q ws),
       )
 
   more_summed : (f : RunWait → ℕ) (ws : List RunWait) → IsWithin ws → sum_by f (filter p ws) ≤ sum_by f (filter q ws)
@@ -50,7 +52,7 @@ module _ (p q : RunWait → Bool) where
         more_summed f ws (λ v here. within v (inr here)),
         within w (inl refl),
         sum_by-cons f w (filter p ws),
-        sum_by-cons f w (filter q ws)
+        sum_by-cons f w (filter q ws),
       )
 
   more_some : (f : RunWait → Bool) (ws : List RunWait) → IsWithin ws → list_any f (filter p ws) ≡ true
@@ -91,7 +93,7 @@ module _ (p q : RunWait → Bool) where
             → (s || (not started && (w || (not active && z)))) ≡ true
         parts r s v w y z started active a b d kept = grind (arith, a, b, d, kept)
 
-    more_held : (t : Ticket) → is_held_up c (filter p ws) t ≡ true → is_held_up c (filter q ws) t ≡ true
+    pub more_held : (t : Ticket) → is_held_up c (filter p ws) t ≡ true → is_held_up c (filter q ws) t ≡ true
     more_held t held =
         let x = in_any (is_held_up_by c (filter p ws) t) c.opened held in
         let parts = both (awaits c.past t x.0) (is_kept c (filter p ws) x.0) x.2 in
@@ -99,117 +101,67 @@ module _ (p q : RunWait → Bool) where
 
 -- ---- the search
 
-module _ (c : Scene) (all : List RunWait) (run : ℕ) where
-  -- what is in a deadlock is held up by all that is left
-  deadlock_held : (left : List RunWait) (n : ℕ) → IsNarrowed c all run left n → (p : ℕ → Bool) → IsDeadlock c all p
-      → (w : RunWait) → In w all → p w.run.number ≡ true → is_held_up c left w.ticket ≡ true
-  deadlock_held left n is p dead w here own =
-      subst (λ s. is_held_up c s w.ticket ≡ true) (sym is.is)
-      (more_held (is_in p) (is_in is.set) c all (λ v there mine. is.deadlocks p dead v (in_contained all v there) mine)
-      w.ticket (dead w (in_contained all w here) own))
+pub stable : {X : Type 0} (p : X → Bool) (xs : List X) → length (filter p xs) ≡ length xs → filter p xs ≡ xs
+stable p [] same = refl
+stable p (x ∷ xs) same = by (p x) (stable p xs) same
+  where
+    by : (b : Bool) → (length (filter p xs) ≡ length xs → filter p xs ≡ xs)
+        → length (cond b (x ∷ filter p xs) (filter p xs)) ≡ length (x ∷ xs)
+        → cond b (x ∷ filter p xs) (filter p xs) ≡ x ∷ xs
+    by true rest many = ap (λ ys. x ∷ ys) (rest (omega (arith, many)))
+    by false rest many = absurd (let less = filter_shorter p xs in omega (arith, many, less))
 
-  left_there : (left : List RunWait) (n : ℕ) → IsNarrowed c all run left n → (w : RunWait) → Contains left w
-      → Contains all w
-  left_there left n is w here =
-      in_contained all w
-      (in_filter (is_in is.set) all w (subst (In w) is.is (contained_in left w here))).0
+pub left_stable : (n : ℕ) (c : Scene) (set : List RunWait) → filter (stays c set) set ≡ set → left_of n c set ≡ set
+unfolding left_of
+left_stable zero c set same = refl
+left_stable (suc n) c set same = ap (left_of n c) same ∙ left_stable n c set same
 
-  pub left_seen : (left : List RunWait) (n : ℕ) → IsNarrowed c all run left n → AreSeen c.past all → AreSeen c.past left
-  left_seen left n is seen w here = seen w (left_there left n is w here)
+pub one_more : (n : ℕ) (c : Scene) (set : List RunWait) → left_of (suc n) c set ≡ left_of n c (filter (stays c set) set)
+unfolding left_of
+one_more n c set = refl
 
-  pub left_known : (left : List RunWait) (n : ℕ) → IsNarrowed c all run left n → AreKnown c all → AreKnown c left
-  left_known left n is known w here = known w (left_there left n is w here)
+pub none_yet : (c : Scene) (set : List RunWait) → left_of zero c set ≡ set
+unfolding left_of
+none_yet c set = refl
 
-  pub narrowed_first : HasRun all run → IsNarrowed c all run all 0
-  narrowed_first has = record {
-    set = λ n. true;
-    is = sym (filter_all (is_in (λ n. true)) all (all_in (λ w. true ≡ true) all (λ w here. refl)));
-    has = refl;
-    deadlocks = λ p dead w here own. refl;
+module _ (c : Scene) (all : List RunWait) where
+  pub narrowed_first : IsNarrowed c all all 0
+  narrowed_first = record {
+    few = omega arith;
+    more = λ n same. ap (λ m. left_of m c all) (omega arith);
+    some = λ w here. here;
     fewer = omega arith;
   }
 
-  -- where all that is left is held up, it is a deadlock
-  pub all_held_dead : (left : List RunWait) (n : ℕ) → IsNarrowed c all run left n → AllHeld c left
-      → NeverEnds c all run
-  all_held_dead left n is held = record {
-    set = is.set;
-    has = is.has;
-    deadlock = λ w here own.
-        let there =
-        subst (In w) (sym is.is) (filter_in (is_in is.set) all w (contained_in all w here) own) in
-        subst (λ s. is_held_up c s w.ticket ≡ true) is.is (held w (in_contained left w there));
+  pub left_seen : (left : List RunWait) (n : ℕ) → IsNarrowed c all left n → AreSeen c.past all → AreSeen c.past left
+  left_seen left n is seen w here = seen w (is.some w here)
+
+  pub left_known : (left : List RunWait) (n : ℕ) → IsNarrowed c all left n → AreKnown c all → AreKnown c left
+  left_known left n is known w here = known w (is.some w here)
+
+  pub narrowed_more : (left rest : List RunWait) (n : ℕ) → IsNarrowed c all left n → n < length all
+      → rest ≡ filter (stays c left) left → IsNarrowed c all rest (n + 1)
+  narrowed_more left rest n is less kept = record {
+    few = omega arith;
+    more = λ m same.
+        ap (left_of m c) kept
+        ∙ (sym (one_more m c left) ∙ is.more (suc m) (omega (arith, same)));
+    some = λ w here. is.some w
+        (in_contained left w (in_filter (stays c left) left w (subst (In w) kept (contained_in rest w here))).0);
+    fewer =
+        (let shorter = filter_shorter (stays c left) left in
+        omega (arith, is.fewer, shorter, ap length kept));
   }
 
-  -- what is not held up is in none
-  free_lives : (left : List RunWait) (n place : ℕ) (d : RunWait) → IsNarrowed c all run left n → IsFree c left place
-      → (p : ℕ → Bool) → IsDeadlock c all p → p (get_or left place d).run.number ≡ true → ⊥
-  free_lives left n place d is free p dead own =
-      let w = get_or left place d in
-      let here : In w left = in_at left place w free.within (get_or_default left place w d free.within) in
-      let there = in_filter (is_in is.set) all w (subst (In w) is.is here) in
-      cc (sym (free.free d) ∙ deadlock_held left n is p dead w there.0 own)
+  -- all stay
+  pub found_stable : (left rest : List RunWait) (n run : ℕ) → IsNarrowed c all left n → rest ≡ filter (stays c left) left
+      → length rest ≡ length left → list_any (is_of_run run) left ≡ never_ends c all run
+  found_stable left rest n run is kept same =
+      let still = stable (stays c left) left (ap length (sym kept) ∙ same) in
+      ap (list_any (is_of_run run))
+      (sym (left_stable (length all - n) c left still) ∙ is.more (length all - n) (let few = is.few in omega arith))
 
-  pub free_run_lives : (left : List RunWait) (n place : ℕ) (d : RunWait) → IsNarrowed c all run left n
-      → IsFree c left place → (get_or left place d).run.number ≡ run → NeverEnds c all run → ⊥
-  free_run_lives left n place d is free same never =
-      free_lives left n place d is free never.set never.deadlock (ap never.set same ∙ never.has)
-
-  pub narrowed_more : (left rest : List RunWait) (n place : ℕ) (d : RunWait) → IsNarrowed c all run left n
-      → IsFree c left place → ((get_or left place d).run.number ≡ run → ⊥)
-      → rest ≡ filter (λ w. not (w.run.number == (get_or left place d).run.number)) left
-      → IsNarrowed c all run rest (n + 1)
-  narrowed_more left rest n place d is free other kept =
-      let free_one = (get_or left place d).run.number in
-      record {
-        set = λ m. is.set m && not (m == free_one);
-        is =
-            kept
-            ∙ (ap (filter (λ (w : RunWait). not (w.run.number == free_one))) is.is
-            ∙ filter_twice (λ (w : RunWait). not (w.run.number == free_one)) (is_in is.set) all);
-        has = and_true is.has (differs run free_one (λ same. other (sym same)));
-        deadlocks = λ p dead w here own.
-            and_true (is.deadlocks p dead w here own)
-            (differs w.run.number free_one
-            (λ same. free_lives left n place d is free p dead (ap p (sym same) ∙ own)));
-        fewer = omega (arith, is.fewer, ap length kept, one_less left place d free.within);
-      }
-    where
-      differs : (m k : ℕ) → (m ≡ k → ⊥) → not (m == k) ≡ true
-      differs m k other = by (m == k) refl
-        where
-          by : (b : Bool) → (m == k) ≡ b → not b ≡ true
-          by true same = absurd (other (eqb-true m k same))
-          by false same = refl
-
-      one_less : (ws : List RunWait) (k : ℕ) (e : RunWait) → k < length ws
-          → length (filter (λ w. not (w.run.number == (get_or ws k e).run.number)) ws) + 1 ≤ length ws
-      one_less ws k e less =
-          let own = get_or ws k e in
-          let here : In own ws = in_at ws k own less (get_or_default ws k own e less) in
-          shorter ws own here
-        where
-          shorter : (vs : List RunWait) (v : RunWait) → In v vs
-              → length (filter (λ w. not (w.run.number == v.run.number)) vs) + 1 ≤ length vs
-          shorter [] v here = absurd here
-          shorter (u ∷ vs) v here =
-              ⊎_elim
-              (λ same. let own = eq-eqb u.run.number v.run.number (ap (λ (w : RunWait). w.run.number) same) in
-              let less = filter_shorter (λ (w : RunWait). not (w.run.number == v.run.number)) vs in
-              rw own (omega (arith, less)))
-              (λ there. let less = shorter vs v there in
-              let more = at_most_one (not (u.run.number == v.run.number)) u
-              (filter (λ w. not (w.run.number == v.run.number)) vs) in omega (arith, less, more)) here
-
-  -- so many are never taken out
-  pub never_all : (left : List RunWait) (n : ℕ) → HasRun all run → IsNarrowed c all run left n → length all ≤ n → ⊥
-  never_all left n has is many =
-      let w = has.wait in
-      let there =
-      subst (In w) (sym is.is)
-      (filter_in (is_in is.set) all w (contained_in all w has.here) (ap is.set has.own ∙ is.has)) in
-      not_empty left w there (omega (arith, is.fewer))
-    where
-      not_empty : (vs : List RunWait) (v : RunWait) → In v vs → length vs ≤ 0 → ⊥
-      not_empty [] v here less = here
-      not_empty (u ∷ vs) v here less = omega arith
+  pub found_last : (left : List RunWait) (n run : ℕ) → IsNarrowed c all left n → length all ≤ n
+      → list_any (is_of_run run) left ≡ never_ends c all run
+  found_last left n run is many =
+      ap (list_any (is_of_run run)) (sym (none_yet c left) ∙ is.more 0 (let few = is.few in omega arith))

@@ -1,17 +1,16 @@
 -- What is open once a run waits.
-use Rattle.std.proofs.Common.{◌≡◌, ◌∙◌, ◌≤◌, ◌+◌, ℕ, Bool, true, false, cond, List, [], ◌∷◌, ◌++◌, Option, Some, None, refl}
-use Rattle.std.proofs.Common.{append-nil, subst, sym, ap, arith, filter, option_to_list, ◌⊎◌, inl, inr, ⊎_elim, eq-eqb, eqb-true, not}
-use Rattle.std.specs.Prelude.{count_by, ◌&&◌, ◌==◌}
-use Rattle.std.specs.List.{AllByRecursion, list_any}
+use Rattle.std.proofs.Common.{◌≡◌, ◌∙◌, ℕ, Bool, true, false, cond, List, [], ◌∷◌, ◌++◌, Option, Some, None, refl}
+use Rattle.std.proofs.Common.{append-nil, subst, sym, arith, filter, option_to_list}
+use Rattle.std.specs.Prelude.{◌&&◌, ◌==◌}
 use Rattle.std.specs.Option.{option_map_or}
 use Rattle.std.proofs.lemmas.List.Elements.{filter-append}
 use Rattle.std.proofs.lemmas.Bool.Decides.{nat_tests}
-use Rattle.cmwq_model.specs.Prelude.{IsLegal, Layout, is_started, is_unstarted, still_open, unstarted_queueing}
+use Rattle.cmwq_model.specs.Prelude.{IsLegal, Layout, is_unstarted, still_open, unstarted_queueing}
 use Rattle.cmwq_model.specs.declared.entry.Entry.{Entry}
 use Rattle.cmwq_model.specs.declared.id.ItemId.{ItemId}
 use Rattle.cmwq_model.specs.declared.record.Queueing.{Queueing}
 use Rattle.cmwq_lemmas.proofs.Filters.{filter_twice, filter_same, filter_none}
-use Rattle.cmwq_lemmas.proofs.Members.{In, all_in}
+use Rattle.cmwq_lemmas.proofs.Members.{all_in}
 use Rattle.cmwq_theory_steps.proofs.Pending.{one_unstarted}
 use Rattle.cmwq_waits.specs.Refused.{scene_with, stays_open}
 use Rattle.cmwq_waits.specs.Looks.{IsNext, IsQueuedNext, unstarted_left}

@@ -1,13 +1,11 @@
 -- The runs of items, and which places they have.
-use Rattle.std.proofs.Common.{◌≡◌, ◌∙◌, ◌<◌, ◌≤◌, ◌+◌, ℕ, Bool, true, false, cond, List, [], ◌∷◌, ◌++◌, Option, Some, None}
-use Rattle.std.proofs.Common.{refl, subst, sym, ap, ap₂, arith, filter, find, option_to_list, ◌⊎◌, ⊎_elim, not, length, inl, inr}
-use Rattle.std.specs.Prelude.{count_by, ◌&&◌, ◌==◌, Contains}
+use Rattle.std.proofs.Common.{◌≡◌, ◌∙◌, ◌≤◌, ◌+◌, ℕ, Bool, true, false, cond, List, [], ◌∷◌, Option, Some, None}
+use Rattle.std.proofs.Common.{refl, subst, sym, ap, ap₂, arith, filter, find, option_to_list, ◌⊎◌, ⊎_elim, not, inl, inr}
+use Rattle.std.specs.Prelude.{count_by, ◌&&◌, Contains}
 use Rattle.std.specs.Option.{option_map_or}
-use Rattle.std.proofs.lemmas.List.Elements.{filter-append}
 use Rattle.std.proofs.lemmas.Option.{same_Some}
 use Rattle.std.proofs.lemmas.Bool.Decides.{nat_tests}
-use Rattle.cmwq_model.specs.Prelude.{IsLegal, Layout, is_ahead, is_started, is_unstarted, still_open}
-use Rattle.cmwq_model.specs.declared.entry.Entry.{Entry}
+use Rattle.cmwq_model.specs.Prelude.{is_ahead, is_started, is_unstarted, still_open}
 use Rattle.cmwq_model.specs.declared.id.ItemId.{ItemId}
 use Rattle.cmwq_model.specs.declared.record.Queueing.{Queueing}
 use Rattle.cmwq_lemmas.proofs.Lists.{count_append, count_by-cons, count_by-filter}
@@ -16,10 +14,9 @@ use Rattle.cmwq_lemmas.proofs.Passing.{fewer_kept}
 use Rattle.cmwq_lemmas.proofs.Members.{In, in_append, in_filter, filter_in, in_left, in_option, contained_in}
 use Rattle.cmwq_theory_steps.specs.Pending.{is_run_of}
 use Rattle.cmwq_theory_steps.proofs.OneRun.{one_run}
-use Rattle.cmwq_waits.specs.HeldUp.{Scene, is_ahead_of_item, places_ahead}
+use Rattle.cmwq_waits.specs.HeldUp.{Scene, is_ahead_of_item}
 use Rattle.cmwq_waits.specs.Refused.{stays_open}
 use Rattle.cmwq_waits.specs.Looks.{IsQueuedNext, IsScene}
-use Rattle.cmwq_waits.specs.declared.run_wait.RunWait.{RunWait}
 
 -- where at most one passes, one that does is all that do
 pub only_one : {X : Type 0} (p : X → Bool) (xs : List X) (x : X) → count_by p xs ≤ 1 → In x xs → p x ≡ true
@@ -47,7 +44,7 @@ count_split p q (x ∷ xs) =
       count_by-cons p x xs,
       count_by-cons (λ y. q y && p y) x xs,
       count_by-cons (λ y. not (q y) && p y) x xs,
-      count_split p q xs
+      count_split p q xs,
     )
 
 module _ (c : Scene) (is : IsScene c) where
@@ -100,7 +97,7 @@ module _ (c : Scene) (is : IsScene c) where
             (option_to_list is.more),
         fewer_kept (is_run_of c.past i) (stays_open c.past is.taken) (still_open c.past),
         none_run i is.more is.next,
-        one_run c.layout c.past is.legal i
+        one_run c.layout c.past is.legal i,
       ))
 
   -- what is ahead of a queueing of an item that runs: the run, and what hasn't started

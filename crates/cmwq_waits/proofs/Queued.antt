@@ -1,16 +1,15 @@
 -- What is queued of a booked item when a run waits for it.
-use Rattle.std.proofs.Common.{◌≡◌, ◌∙◌, ◌<◌, ◌≤◌, ℕ, false, true, List, length, Option, Some, None, ap, arith, refl, subst, sym}
+use Rattle.std.proofs.Common.{◌≡◌, ◌<◌, ℕ, true, List, length, Option, Some, None, ap, arith, refl, subst}
 use Rattle.std.specs.Prelude.{is_some, option_map}
 use Rattle.std.specs.Option.{option_map_or}
 use Rattle.std.proofs.lemmas.Option.{same_Some}
-use Rattle.cmwq_model.specs.Prelude.{IsLegal, Layout, cpu_for, has_number, has_numbers, is_live, item_run, pool_at}
-use Rattle.cmwq_model.specs.Prelude.{queued_at, queueings, still_open, booking}
+use Rattle.cmwq_model.specs.Prelude.{IsLegal, Layout, cpu_for, has_number, has_numbers, is_live, item_run}
+use Rattle.cmwq_model.specs.Prelude.{queued_at, queueings, booking}
 use Rattle.cmwq_model.specs.declared.call.Call.{Call}
 use Rattle.cmwq_model.specs.declared.call.Call.TheVariants as call
 use Rattle.cmwq_model.specs.declared.entry.Entry.{Entry}
 use Rattle.cmwq_model.specs.declared.id.PoolId.{PoolId}
 use Rattle.cmwq_model.specs.declared.record.Booking.{Booking}
-use Rattle.cmwq_model.specs.declared.record.Queueing.{Queueing}
 use Rattle.cmwq_model.specs.declared.record.Start.{Start}
 use Rattle.std.proofs.lemmas.Bool.{ltb-true}
 use Rattle.cmwq_lemmas.proofs.Members.{filter_in, found}

@@ -3,3 +3,4 @@ pub mod HeldUp
 pub mod Refused
 pub mod Looks
 pub mod Narrowing
+pub mod Registered

@@ -2,9 +2,11 @@
 #![tactic(auto)]
 
 mod deadlock;
+mod laws;
 mod look;
 mod run_wait;
 mod waits;
 
+pub use laws::{refusals_are_exact, waits_go_on};
 pub use run_wait::RunWait;
 pub use waits::{RunWaits, Stuck};

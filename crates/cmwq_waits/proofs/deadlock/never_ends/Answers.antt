@@ -1,48 +1,54 @@
-use Rattle.std.proofs.Common.{◌∙◌, ap, filter, not, refl, sym, true}
-use Rattle.std.specs.Prelude.{◌==◌}
+use Rattle.std.proofs.Common.{◌∙◌, ◌+◌, Global, Vec, ap, arith, length, refl, subst, sym, vec_capacity}
+use Rattle.std.specs.List.{list_any}
+use Rattle.cmwq_waits.specs.Narrowing.{IsNarrowed}
+use Rattle.cmwq_waits.specs.Refused.{is_of_run}
 use Rattle.cmwq_waits.specs.declared.run_wait.RunWait.{RunWait}
-use Rattle.cmwq_waits.proofs.Narrowing.{all_held_dead, free_run_lives, left_known, left_seen, narrowed_first}
-use Rattle.cmwq_waits.proofs.Narrowing.{narrowed_more, never_all}
+use Rattle.cmwq_waits.proofs.Narrowing.{found_last, found_stable, left_known, left_seen, narrowed_first, narrowed_more}
 use Rattle.cmwq_waits.proofs.deadlock.never_ends.Goals as goal
 
 pub loop-init : goal.loop-init
-loop-init c = (narrowed_first c.args.look.now c.args.set.now.items c.args.run c.requires.has, refl)
+loop-init c = (narrowed_first c.args.look.now c.args.set.now.items, refl, refl)
 
-pub free_place-requires-clause-seen : goal.free_place-requires-clause-seen
-free_place-requires-clause-seen c =
+pub narrow-requires-clause-seen : goal.narrow-requires-clause-seen
+narrow-requires-clause-seen c =
     rw c.deref.ensures.value
-    (left_seen c.args.look.now c.args.set.now.items c.args.run c.loop.set.items c.loop.counter c.loop.invariant.0
-    c.requires.seen)
+    (left_seen c.args.look.now c.args.set.now.items c.loop.set.items c.loop.counter c.loop.invariant.0 c.requires.seen)
 
-pub free_place-requires-clause-known : goal.free_place-requires-clause-known
-free_place-requires-clause-known c =
+pub narrow-requires-clause-known : goal.narrow-requires-clause-known
+narrow-requires-clause-known c =
     rw c.deref.ensures.value
-    (left_known c.args.look.now c.args.set.now.items c.args.run c.loop.set.items c.loop.counter c.loop.invariant.0
-    c.requires.known)
+    (left_known c.args.look.now c.args.set.now.items c.loop.set.items c.loop.counter c.loop.invariant.0 c.requires.known)
 
-pub returns-in-None-clause-some : goal.returns-in-None-clause-some
-returns-in-None-clause-some c = λ _.
-    all_held_dead c.args.look.now c.args.set.now.items c.args.run c.loop.set.items c.loop.counter c.loop.invariant.0
-    (rw c.deref.ensures.value at c.in-None.ensures)
+pub narrow-requires-clause-room : goal.narrow-requires-clause-room
+narrow-requires-clause-room c =
+    rw (c.deref.ensures.value, c.loop.invariant.2)
+    (omega (arith, c.loop.invariant.0.fewer, c.requires.room))
 
-pub returns-then-free-run-clause-none : goal.returns-then-free-run-clause-none
-returns-then-free-run-clause-none c = λ _.
-    free_run_lives c.args.look.now c.args.set.now.items c.args.run c.loop.set.items c.loop.counter c.in-Some.place
-    c.index.result.now c.loop.invariant.0 (rw c.deref.ensures.value at c.in-Some.ensures)
-    (sym (ap (λ (w : RunWait). w.run.number) c.index.ensures) ∙ c.if-free-run.true)
+pub returns-then-as_slice-before-clause-never : goal.returns-then-as_slice-before-clause-never
+returns-then-as_slice-before-clause-never c =
+    c.has_run.ensures
+    ∙ (ap (list_any (is_of_run c.args.run)) c.deref-then-as_slice-before.ensures.value
+    ∙ found_stable c.args.look.now c.args.set.now.items c.loop.set.items c.narrow.new.left.items c.loop.counter c.args.run
+    c.loop.invariant.0 (rw c.deref.ensures.value at c.narrow.ensures.left)
+    (sym (ap length c.as_slice.ensures.value)
+    ∙ (c.if-as_slice-before.true ∙ ap length c.as_slice-before.ensures.value)))
 
 pub loop-preserved : goal.loop-preserved
 loop-preserved c =
-    let own = ap (λ (w : RunWait). w.run.number) c.index.ensures in (
-      narrowed_more c.args.look.now c.args.set.now.items c.args.run c.loop.set.items c.take_out.new.set.items
-          c.loop.counter c.in-Some.place c.index.result.now c.loop.invariant.0
-          (rw c.deref.ensures.value at c.in-Some.ensures) (λ same. c.if-free-run.false (own ∙ same))
-          (c.take_out.ensures.items
-          ∙ ap (λ n. filter (λ (w : RunWait). not (w.run.number == n)) c.loop.set.items) own),
-      c.take_out.ensures.capacity ∙ c.loop.invariant.1,
+    let same = c.requires.same in
+    let i = c.loop.invariant in (
+      subst (λ (v : Vec RunWait Global). IsNarrowed c.args.look.now c.args.set.now.items v.items (c.loop.counter + 1))
+          (sym c.swap.ensures.x_after)
+          (narrowed_more c.args.look.now c.args.set.now.items c.loop.set.items c.narrow.new.left.items c.loop.counter i.0
+          (let many = c.as_slice-many.ensures.value in let less = c.loop-test.true in omega (arith, ap length many, less))
+          (rw c.deref.ensures.value at c.narrow.ensures.left)),
+      ap vec_capacity c.swap.ensures.x_after ∙ (c.narrow.ensures.capacity ∙ (i.2 ∙ same)),
+      ap vec_capacity c.swap.ensures.y_after ∙ (i.1 ∙ sym same),
     )
 
-pub unreachable-requires : goal.unreachable-requires
-unreachable-requires c =
-    never_all c.args.look.now c.args.set.now.items c.args.run c.loop.set.items c.loop.counter c.requires.has
-    c.loop.invariant.0 (rw c.as_slice-many.ensures.value at c.loop-test.false)
+pub returns-clause-never : goal.returns-clause-never
+returns-clause-never c =
+    c.has_run-2.ensures
+    ∙ (ap (list_any (is_of_run c.args.run)) c.deref-2.ensures.value
+    ∙ found_last c.args.look.now c.args.set.now.items c.loop.set.items c.loop.counter c.args.run c.loop.invariant.0
+    (omega (arith, ap length c.as_slice-many.ensures.value, c.loop-test.false)))

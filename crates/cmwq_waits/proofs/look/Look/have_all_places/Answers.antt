@@ -1,5 +1,4 @@
-use Rattle.std.proofs.Common.{◌∙◌, ap, arith, sym, take, get_or}
-use Rattle.std.specs.List.{sum_by}
+use Rattle.std.proofs.Common.{ap}
 use Rattle.cmwq_waits.specs.HeldUp.{Scene, places_ahead}
 use Rattle.cmwq_waits.proofs.Loops.{capped_more, capped_all, seen_at}
 use Rattle.cmwq_waits.proofs.look.Look.have_all_places.Goals as goal

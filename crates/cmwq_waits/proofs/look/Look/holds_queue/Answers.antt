@@ -1,4 +1,4 @@
-use Rattle.std.proofs.Common.{◌≡◌, ◌∙◌, ap, arith, sym, true, below_more}
+use Rattle.std.proofs.Common.{◌∙◌, ap, arith, sym}
 use Rattle.cmwq_model.specs.Prelude.{Layout}
 use Rattle.cmwq_waits.specs.HeldUp.{Scene}
 use Rattle.cmwq_waits.specs.Looks.{is_item_held}

@@ -1,6 +1,6 @@
 use Rattle.std.proofs.Common.{◌∙◌, sym}
-use Rattle.cmwq_waits.proofs.Awaiting.{item_there, queue_there, waits_for_item, waits_for_none, waits_for_queue}
-use Rattle.cmwq_waits.proofs.Filling.{held_of_item, held_of_none}
+use Rattle.cmwq_waits.proofs.Awaiting.{waits_for_none}
+use Rattle.cmwq_waits.proofs.Filling.{held_of_none}
 use Rattle.cmwq_waits.proofs.look.Look.holds_unstarted.Goals as goal
 
 pub returns-in-None : goal.returns-in-None

@@ -1,7 +1,6 @@
-use Rattle.std.proofs.Common.{◌∙◌, ap, ap₂, sym, true, false}
+use Rattle.std.proofs.Common.{◌∙◌, ap, sym}
 use Rattle.std.specs.Prelude.{◌||◌}
 use Rattle.std.specs.List.{list_any}
-use Rattle.cmwq_waits.specs.HeldUp.{awaits}
 use Rattle.cmwq_waits.specs.Looks.{holds_unstarted}
 use Rattle.cmwq_waits.proofs.Held.{held_in_parts}
 use Rattle.cmwq_waits.proofs.look.Look.is_held_up.Goals as goal

@@ -19,7 +19,7 @@ returns-clause-is c =
     let there = run_stays scene is run c.requires.is_open c.requires.has_started in
     two_ahead x run u c.one_if.result c.one_if-2.result c.is_ahead.result c.match-unstarted.behind c.is_ahead.ensures
     (elim c.match-unstarted.branch [
-      in-Some w ↦ w.behind-is
+      | in-Some w ↦ w.behind-is
           ∙ (w.is_ahead-behind.ensures ∙ sym (ap (λ o. option_map_or (is_ahead x) o false) w.in-Some.is))
       | in-None w ↦ w.behind-is ∙ sym (ap (λ o. option_map_or (is_ahead x) o false) w.in-None.is)
     ]) c.one_if.ensures c.one_if-2.ensures

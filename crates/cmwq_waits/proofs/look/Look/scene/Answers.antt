@@ -1,5 +1,4 @@
 use Rattle.std.proofs.Common.{refl}
-use Rattle.cmwq_model.specs.Prelude.{past_of}
 use Rattle.cmwq_waits.proofs.look.Look.scene.Goals as goal
 
 pub returns : goal.returns

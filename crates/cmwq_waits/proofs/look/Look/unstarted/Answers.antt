@@ -17,7 +17,7 @@ returns-in_default c = let l = c.self.inside in
     rw (← c.self.view_is)
     (queued_of_none l.shape.now (past_of l.state.now.entries) l.taken_back l.queued c.args.item.0 c.self.invariant.1
     (elim c.in_default.branch [
-      in_default-via-in-Some+else-queueing-item w ↦ λ x is same. w.if-queueing-item.false
+      | in_default-via-in-Some+else-queueing-item w ↦ λ x is same. w.if-queueing-item.false
           (ap (λ (y : Queueing). y.item.0) (same_Some w.in-Some.queueing x (sym w.in-Some.is ∙ is)) ∙ same)
       | in_default-via-in_default w ↦ λ x is same. w.in_default.not-Some x is
     ])
