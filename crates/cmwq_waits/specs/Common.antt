@@ -1,6 +1,6 @@
 -- What the files of this crate name from outside it, in one import.
 pub use Rattle.std.specs.Prelude.{Bool, Contains, List, None, Option, Some, [], count_by, filter, false, length, nat_le}
-pub use Rattle.std.specs.Prelude.{not, option_map, option_to_list, true, ℕ, ◌&&◌, ◌++◌, ◌==◌, ◌||◌, ◌∷◌, ◌≡◌, ◌⊎◌}
+pub use Rattle.std.specs.Prelude.{not, option_map, option_to_list, true, ℕ}
 pub use Rattle.std.specs.List.{list_any, sum_by}
 pub use Rattle.std.specs.Option.{option_map_or}
 pub use Rattle.cmwq_model.specs.Prelude.{Layout, cancels_sync, holds_up, is_ahead, is_held_back, is_started, pool_at}

@@ -1,5 +1,6 @@
 -- What holds a wait up, and which waits of runs could never end.
-use Rattle.cmwq_waits.specs.Common.{ℕ, Bool, true, List, ◌≡◌, ◌==◌, ◌&&◌, ◌||◌, not, nat_le, filter, count_by, list_any}
+use Rattle.std.specs.Prelude.{◌&&◌, ◌==◌, ◌||◌, ◌≡◌}
+use Rattle.cmwq_waits.specs.Common.{ℕ, Bool, true, List, not, nat_le, filter, count_by, list_any}
 use Rattle.cmwq_waits.specs.Common.{sum_by, Contains, Layout, Entry, Place, Queueing, Ticket, RunWait, cancels_sync}
 use Rattle.cmwq_waits.specs.Common.{holds_up, is_ahead, is_started, is_active, max_active, pool_at, same_pool}
 use Rattle.cmwq_waits.specs.Common.{still_open, unended_tickets}

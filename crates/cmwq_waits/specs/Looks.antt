@@ -1,14 +1,15 @@
 -- What a look at a state takes for granted, and what it finds of one item.
+use Rattle.std.specs.Prelude.{◌&&◌, ◌++◌, ◌≡◌}
 use Rattle.std.specs.Prelude.{◌<◌, ◌==◌, if◌then◌else◌, false}
 use Rattle.cmwq_waits.specs.Common.{option_map_or}
 use Rattle.cmwq_model.specs.declared.id.ItemId.{ItemId}
-use Rattle.cmwq_waits.specs.Common.{ℕ, Bool, true, List, ◌≡◌, ◌&&◌, not, length, list_any, Option, Some, None, Contains}
+use Rattle.cmwq_waits.specs.Common.{ℕ, Bool, true, List, not, length, list_any, Option, Some, None, Contains}
 use Rattle.cmwq_waits.specs.Common.{Layout, Entry, Call, Queueing, Ticket, RunWait, is_started, still_open}
 use Rattle.cmwq_waits.specs.Common.{unstarted_queueing}
 use Rattle.cmwq_model.specs.Prelude.{IsLegal, has_numbers, is_unstarted}
 use Rattle.cmwq_model.specs.declared.call.Call.TheVariants as call
 use Rattle.cmwq_state.specs.Waits.{IsUnendedOrNext}
-use Rattle.cmwq_waits.specs.Common.{filter, option_to_list, ◌++◌}
+use Rattle.cmwq_waits.specs.Common.{filter, option_to_list}
 use Rattle.cmwq_model.specs.declared.id.QueueId.{QueueId}
 use Rattle.cmwq_waits.specs.HeldUp.{Scene, awaits, have_all_places, have_all_workers, is_held_up_by}
 use Rattle.cmwq_waits.specs.HeldUp.{is_kept_unstarted}

@@ -1,6 +1,7 @@
 -- How the waits that may be in a deadlock are narrowed down.
+use Rattle.std.specs.Prelude.{◌≡◌}
 use Rattle.std.specs.Prelude.{◌≤◌, ◌+◌}
-use Rattle.cmwq_waits.specs.Common.{ℕ, List, ◌≡◌, length, Contains, RunWait}
+use Rattle.cmwq_waits.specs.Common.{ℕ, List, length, Contains, RunWait}
 use Rattle.cmwq_waits.specs.HeldUp.{Scene}
 use Rattle.cmwq_waits.specs.Looks.{IsKnown}
 use Rattle.cmwq_waits.specs.Refused.{left_of}

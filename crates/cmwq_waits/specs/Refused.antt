@@ -1,5 +1,6 @@
 -- Which waits are refused when a run is about to wait.
-use Rattle.cmwq_waits.specs.Common.{ℕ, Bool, true, false, List, [], ◌∷◌, ◌++◌, ◌≡◌, ◌==◌, ◌⊎◌, not, filter, length, Option}
+use Rattle.std.specs.Prelude.{◌++◌, ◌==◌, ◌∷◌, ◌≡◌, ◌⊎◌}
+use Rattle.cmwq_waits.specs.Common.{ℕ, Bool, true, false, List, [], not, filter, length, Option}
 use Rattle.cmwq_waits.specs.Common.{Some, None, option_map_or, option_to_list, Layout, Entry, Call, Queueing}
 use Rattle.cmwq_waits.specs.Common.{Ticket, RunWait, is_held_back, queued_of_booked, still_open}
 use Rattle.cmwq_model.specs.Prelude.{is_unstarted}
