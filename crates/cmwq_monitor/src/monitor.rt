@@ -169,6 +169,8 @@ impl<N: HubName> Monitor<N> {
         requires fits { IsTrue (fits N.layout participant.old.who call) }
         requires step { InStep self.old.history participant.old }
         ensures made { IfOk result (λ reply. Extends N.layout participant.old call reply participant.new) }
+        ensures seen { IfOk result (λ _. participant.new.seen ≡ self.old.history
+            ++ own_entry N.layout self.old.history participant.old call ∷ []) }
         ensures goes_on { IfOk result (λ _. GoesOn self.old self.new) }
         ensures short { IfErr result (λ what. Gains participant.old [] participant.new
             × Lacks N.layout self.old participant.new call what self.new) }
@@ -256,6 +258,8 @@ impl<N: HubName> Monitor<N> {
         requires { IsTrue (fits N.layout participant.old.who call) }
         ensures made { IfOk result (λ reply. Extends N.layout participant.old call reply participant.new
             × InStep self.new.history participant.new) }
+        ensures seen { IfOk result (λ _. participant.new.seen ≡ self.old.history
+            ++ own_entry N.layout self.old.history participant.old call ∷ []) }
         ensures open { IfOk result (λ _. IsOpenTo self.old participant.old.who × GoesOn self.old self.new) }
         ensures refused { IfErr result (λ f. Refused N.layout participant.old call f participant.new) }
         ensures first { IfErr result (λ f. TellsFirst self.old participant.old f) }
@@ -299,17 +303,25 @@ impl<N: HubName> Monitor<N> {
     }
 
     /// Why a wait of what the worker runs, by this call of a caller that is lent to it, is refused, if it is.
-    pub fn refuses(&mut self, participant: &Participant<N>, call: Call) -> Option<Stuck>
+    pub fn refuses(
+        &mut self,
+        participant: &Participant<N>,
+        call: Call,
+    ) -> Result<Option<Stuck>, RunFault>
         requires { has_numbers N.layout call ≡ true }
-        ensures is { result ≡ refusal_at N.layout self.old participant.now.who call }
+        ensures is { IfOk result (λ stuck. stuck ≡ refusal_at N.layout self.old participant.now.who call) }
+        ensures step { IfOk result (λ _. InStep self.old.history participant.now) }
         ensures waiting { AreWaiting (past_of self.old.history) self.old.waits }
+        ensures stranger { IfErr result (λ f. IsStranger participant.now f) }
         ensures same { self.new ≡ self.old }
     {
+        self.compare(participant)?;
         match participant.who() {
-            Who::Worker(worker) => self
-                .runs
-                .refuses(&self.execution, &self.shape, worker, call),
-            Who::Caller(_) => None,
+            Who::Worker(worker) => Ok(
+                self.runs
+                    .refuses(&self.execution, &self.shape, worker, call),
+            ),
+            Who::Caller(_) => Ok(None),
         }
     }
 

@@ -15,3 +15,7 @@ returns-in-Worker-clause-waiting g c =
 pub returns-in-Caller-clause-waiting : goal.returns-in-Caller-clause-waiting
 returns-in-Caller-clause-waiting g c =
     subst (λ (h : Held). AreWaiting (past_of h.history) h.waits) c.self.view_is c.self.invariant.6
+
+pub returns-in_err-compare-clause-waiting : goal.returns-in_err-compare-clause-waiting
+returns-in_err-compare-clause-waiting g c =
+    subst (λ (h : Held). AreWaiting (past_of h.history) h.waits) c.self.view_is c.self.invariant.6
