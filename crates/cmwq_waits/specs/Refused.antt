@@ -19,6 +19,10 @@ abbrev pub item_taken_back : Call → Option ItemId
 item_taken_back (call.CancelSync i) = Some i
 item_taken_back c = None
 
+abbrev pub item_flushed : Call → Option ItemId
+item_flushed (call.FlushDelayed i) = Some i
+item_flushed c = None
+
 abbrev pub queued : List Entry → Call → Option Queueing
 queued past (call.FlushDelayed i) = queued_of_booked past i.0
 queued past c = None

@@ -1,6 +1,7 @@
 //! Which runs wait, and for what, so that a wait that could never end is found.
 #![tactic(auto)]
 
+mod calls;
 mod deadlock;
 mod laws;
 mod look;

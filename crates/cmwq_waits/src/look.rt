@@ -12,6 +12,7 @@ ghost use Rattle.cmwq_waits.specs.HeldUp.{places_ahead};
 ghost use Rattle.cmwq_waits.specs.Looks.{KeepNone, WaitsForQueue, awaited_by};
 ghost use Rattle.cmwq_waits.specs.Looks.{AreSeen, IsKnown, IsScene, IsSeen, holds_unstarted, is_item_held, unstarted_left};
 
+use crate::calls::item_taken_back;
 use crate::run_wait::RunWait;
 use cmwq_model::{Call, CpuId, ItemId, Place, QueueId, Queueing, Shape, Ticket};
 use cmwq_state::State;
@@ -251,9 +252,9 @@ impl<'a> Look<'a> {
         requires started { is_started self.now.past run.number ≡ true }
         ensures { result ≡ awaits self.now.past ticket run }
     {
-        match ticket.call {
-            Call::CancelSync { item } => item.0 == run.item.0,
-            _ => self.state.holds_up(ticket, run),
+        match item_taken_back(ticket.call) {
+            Some(item) => item.0 == run.item.0,
+            None => self.state.holds_up(ticket, run),
         }
     }
 

@@ -11,6 +11,7 @@ ghost use Rattle.cmwq_state.specs.Tables as tables;
 ghost use Rattle.cmwq_theory_steps.specs.ItemQueueings.{queueing_run};
 ghost use Rattle.cmwq_waits.specs.Registered.{is_for, is_run_of, refusal_of, registered, still_waits, wait_of};
 
+use crate::calls::{item_flushed, item_taken_back};
 use crate::deadlock::never_ends;
 use crate::look::Look;
 use crate::run_wait::RunWait;
@@ -243,22 +244,12 @@ fn is_turned_away(execution: &Execution, call: Call) -> bool
     requires { has_numbers execution.now.layout call ≡ true }
     ensures { result ≡ is_turned_away (past_in execution.now) call }
 {
-    match call {
-        Call::FlushDelayed { item } => match execution.state().timer(item) {
+    match item_flushed(call) {
+        Some(item) => match execution.state().timer(item) {
             Some(timer) => execution.state().is_draining(timer.place.queue),
             None => false,
         },
-        _ => false,
-    }
-}
-
-/// The item of which the call takes back what has not started.
-fn item_taken_back(call: Call) -> Option<ItemId>
-    ensures { result ≡ item_taken_back call }
-{
-    match call {
-        Call::CancelSync { item } => Some(item),
-        _ => None,
+        None => false,
     }
 }
 
@@ -267,8 +258,8 @@ fn queued(execution: &Execution, call: Call) -> Option<Queueing>
     requires { has_numbers execution.now.layout call ≡ true }
     ensures { result ≡ queued (past_in execution.now) call }
 {
-    match call {
-        Call::FlushDelayed { item } => execution.queued_of_booked(item),
-        _ => None,
+    match item_flushed(call) {
+        Some(item) => execution.queued_of_booked(item),
+        None => None,
     }
 }
