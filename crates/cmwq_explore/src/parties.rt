@@ -127,7 +127,7 @@ impl<'a> Party<'a> {
                 caller,
                 wait: awaits(play, Who::Caller(CallerId(caller)), wait),
             },
-            _ => State::Runs { worker, item },
+            Doing::Acts => State::Runs { worker, item },
         };
         Some(Party {
             names: Names::of(play.script()),
