@@ -17,8 +17,8 @@ use crate::report::{
 };
 use crate::watching::Watching;
 use cmwq_explore::{
-    Chooser, Found, Limits, Play, Setup, Standing, all_end_or_one_is_stuck, length_of_first, play_by,
-    search_all,
+    Chooser, Found, Limits, Play, Setup, Standing, all_end_or_one_is_stuck, length_of_first,
+    play_by, search_all,
 };
 use cmwq_history::{tell_full, write_history};
 use cmwq_io::{Sink, Source, tell};

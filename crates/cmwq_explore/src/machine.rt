@@ -56,7 +56,36 @@ fn ticket_in(reply: Reply) -> Option<Number>
         | Reply::TicketCancelled(ticket, _)
         | Reply::TicketUnbooked(ticket)
         | Reply::TicketNo(ticket) => Some(ticket),
-        _ => None,
+        Reply::Yes(_)
+        | Reply::Booked(_)
+        | Reply::Again(_)
+        | Reply::Rebooked(_)
+        | Reply::No
+        | Reply::Foreign
+        | Reply::Draining
+        | Reply::Misuse
+        | Reply::Cancelled(_)
+        | Reply::Unbooked
+        | Reply::Now(_)
+        | Reply::Fired(_, _)
+        | Reply::Nothing
+        | Reply::Idle
+        | Reply::Crowded
+        | Reply::Done
+        | Reply::Waiting(_)
+        | Reply::Started(_)
+        | Reply::StartedEnlist(_, _)
+        | Reply::Held
+        | Reply::Finished(_)
+        | Reply::Slept
+        | Reply::Woke
+        | Reply::Retired
+        | Reply::Kept
+        | Reply::Width(_)
+        | Reply::Frozen
+        | Reply::Thawed
+        | Reply::Gone
+        | Reply::Timers => None,
     }
 }
 

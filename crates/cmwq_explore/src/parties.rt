@@ -178,7 +178,21 @@ impl<'a> Display for CallWords<'a> {
             Call::CancelSync { item } => {
                 write!(f, "the cancelling of item {}", self.names.item(item))
             }
-            _ => f.write_str("a call"),
+            Call::Queue { .. }
+            | Call::Delay { .. }
+            | Call::Modify { .. }
+            | Call::Cancel { .. }
+            | Call::Tick { .. }
+            | Call::Fire
+            | Call::End { .. }
+            | Call::Take
+            | Call::Finish
+            | Call::Sleep
+            | Call::Wake
+            | Call::Retire
+            | Call::SetMax { .. }
+            | Call::Freeze
+            | Call::Thaw => f.write_str("a call"),
         }
     }
 }

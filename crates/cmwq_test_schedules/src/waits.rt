@@ -1,8 +1,6 @@
 //! Waits of runs: which of them are refused, and how many moves they are.
 
-use crate::scripts::{
-    EACH_OTHER, FROZEN, IDLE, LENT, NO_CALLER, OWN, SHORT, WIDTH, script_of,
-};
+use crate::scripts::{EACH_OTHER, FROZEN, IDLE, LENT, NO_CALLER, OWN, SHORT, WIDTH, script_of};
 use cmwq_explore::{Found, Limits, Play, Setup, Standing, Watch, search_all};
 use std::process::Abort;
 
