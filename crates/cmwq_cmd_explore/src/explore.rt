@@ -488,8 +488,8 @@ fn tell_verdict<E: Sink>(verdict: Verdict, errors: &mut E) -> u8
     }
 }
 
-/// No script is one of which every schedule ends, and one gets stuck: so the statuses 0 and 7 of all schedules rule each
-/// other out.
+/// No script is one of which every schedule ends, and one gets stuck: so the statuses 0 and 7 of all schedules rule
+/// each other out.
 pub fn never_both()
     ensures { NeverBoth }
 {

@@ -2,8 +2,9 @@
 
 ghost use Rattle.std.specs.Prelude.{◌≡◌, ◌≤◌, ◌<◌, ◌+◌, ◌-◌, ◌++◌, ◌∷◌, ℕ, [], true, length, All, None, IfOk, IfSome};
 ghost use Rattle.cmwq_explore.specs.Stands as spec;
-ghost use Rattle.cmwq_explore.specs.Searches.{AllEnd, AllEndAfter, AllEndOrOneIsStuck, GetsStuck, HasAtLeast, IsSchedule};
-ghost use Rattle.cmwq_explore.specs.Searches.{KnowsStuck, NoneStuck, NoneStuckAfter, Rests, StuckAreLong, TellsStuck, after};
+ghost use Rattle.cmwq_explore.specs.Searches.{AllEnd, AllEndAfter, AllEndOrOneIsStuck, GetsStuck, HasAtLeast};
+ghost use Rattle.cmwq_explore.specs.Searches.{IsSchedule, KnowsStuck, NoneStuck, NoneStuckAfter, Rests};
+ghost use Rattle.cmwq_explore.specs.Searches.{StuckAreLong, TellsStuck, after};
 ghost use Rattle.cmwq_explore.specs.Counts.{CountsEnd, CountsStuck};
 ghost use Rattle.cmwq_explore.specs.declared.play.Standing.TheVariants as standing;
 ghost use Rattle.cmwq_explore.specs.Starts.{start_of};

@@ -80,9 +80,9 @@ visit_after-loop-k-preserved g t c =
           let before = rw c.stand_at.ensures.shortest at (c.in_ok-visit_move.ensures.shorter n least) in
           let less : n - (length c.loop-k.path.items + 1) ≡ n - (length c.args.path.now.items + 1) =
           ap (λ (xs : List ℕ). n - (length xs + 1)) was.path in
-          below_more
-          (λ j. NoneStuck (n - (length c.args.path.now.items + 1)) (moved c.args.play.now (get_or c.args.movers.now j 0)))
-          c.loop-k.k (was.known (omega arith) n before)
+          let most = n - (length c.args.path.now.items + 1) in
+          below_more (λ j. NoneStuck most (moved c.args.play.now (get_or c.args.movers.now j 0))) c.loop-k.k
+          (was.known (omega arith) n before)
           (rw (← there, ← less) (c.in_ok-visit_move.ensures.none cut n least));
       tried = λ cut stuck.
           below_more (λ j. AllEnd c.args.depth (moved c.args.play.now (get_or c.args.movers.now j 0))) c.loop-k.k
