@@ -6,7 +6,6 @@ use Rattle.cmwq_core.specs.History.{History, past_in}
 use Rattle.cmwq_text.specs.HistoryText.{text_of_format}
 use Rattle.cmwq_json.specs.Inputs.{Says}
 use Rattle.cmwq_json_script.specs.Runs.{Run, run_said}
-use Rattle.cmwq_explore.specs.declared.place.Step.{Step}
 use Rattle.cmwq_explore.specs.declared.search.Found.{Found}
 use Rattle.cmwq_explore.specs.Stands.{Stand}
 use Rattle.cmwq_explore.specs.Searches.{AllEnd, GetsStuck}
@@ -28,11 +27,15 @@ EverySchedule r = AllEnd 2000 (first_stand r)
 
 -- a schedule from here on gets stuck
 abbrev pub StuckFrom : Stand → Type 0
-StuckFrom start = (steps : List Step) × GetsStuck start steps
+StuckFrom start = (schedule : List ℕ) × GetsStuck start schedule
 
 -- a schedule of a run gets stuck
 abbrev pub SomeStuck : Run → Type 0
 SomeStuck r = StuckFrom (first_stand r)
+
+-- never both
+abbrev pub NeverBoth : Type 0
+NeverBoth = (r : Run) → EverySchedule r → SomeStuck r → ⊥
 
 -- one schedule is to be played
 abbrev pub plays_one : Task → Bool

@@ -5,7 +5,8 @@ ghost use Rattle.cmwq_model.specs.Prelude.{IsLegal};
 ghost use Rattle.cmwq_core.specs.History.{past_in};
 ghost use Rattle.cmwq_json_script.specs.Scripts.{run_of};
 ghost use Rattle.cmwq_explore.specs.Starts.{start_of};
-ghost use Rattle.cmwq_cmd_explore.specs.Verdicts.{EverySchedule, Holds, HoldsFrom, OfRun, SomeStuck, Writes};
+ghost use Rattle.cmwq_cmd_explore.specs.Verdicts.{EverySchedule, Holds, HoldsFrom, NeverBoth, OfRun};
+ghost use Rattle.cmwq_cmd_explore.specs.Verdicts.{SomeStuck, Writes};
 ghost use Rattle.cmwq_cmd_explore.specs.Verdicts.{WritesFrom, WritesLegal, WritesLegalIn, WritesPlayed};
 ghost use Rattle.cmwq_cmd_explore.specs.declared.explore.Task.TheVariants as tasks;
 ghost use Rattle.cmwq_explore.specs.declared.chance.Chooser.TheVariants as choosers;
@@ -16,7 +17,8 @@ use crate::report::{
 };
 use crate::watching::Watching;
 use cmwq_explore::{
-    Chooser, Found, Limits, Play, Setup, Standing, Step, length_of_first, play_by, search_all,
+    Chooser, Found, Limits, Play, Setup, Standing, all_end_or_one_is_stuck, length_of_first,
+    play_by, search_all,
 };
 use cmwq_history::{tell_full, write_history};
 use cmwq_io::{Sink, Source, tell};
@@ -42,7 +44,7 @@ pub enum Task {
 #[derive(Clone, Copy, Debug, PartialEq, Eq)]
 enum Verdict {
     AllEnd,
-    /// One schedule ended, and so many calls were left out of it, or waits of runs refused.
+    /// One schedule ended, and so many calls and waits were left out of it for want of room, or waits refused.
     LeftOut(u64),
     Refused(u64),
     /// One at least got stuck.
@@ -298,16 +300,16 @@ fn explore_seeds<O: Sink, E: Sink>(
     play_seeds_alone(alloc, &setup, times, pct, watching)
 }
 
-/// The shortest schedule that got stuck, which was played: its steps, what everybody waits for, and its history.
-fn tell_steps<O: Sink>(
+/// The shortest schedule that got stuck, which was played: its moves, what everybody waits for, and its history.
+fn tell_moves<O: Sink>(
     output: &mut O,
     version: u8,
     play: &Play<'_>,
     found: &Found,
-    steps: &[Step],
+    schedule: &[usize],
 ) -> Result<(), Fault> {
     write_found(output, found)?;
-    write_shortest(output, play, steps)?;
+    write_shortest(output, play, schedule)?;
     write_parties(output, "", play)?;
     write_play(output, version, play)
 }
@@ -318,12 +320,12 @@ fn tell_shortest<'a, O: Sink>(
     alloc: Global,
     setup: &'a Setup<'a>,
     found: &Found,
-    steps: &[Step],
+    schedule: &[usize],
     output: &mut O,
 ) -> Result<(), Fault> {
     let mut play = Play::new(alloc, setup)?;
-    play.replay(setup, steps)?;
-    tell_steps(output, setup.script().version, &play, found, steps)
+    play.replay(setup, schedule)?;
+    tell_moves(output, setup.script().version, &play, found, schedule)
 }
 
 /// What a search found that knows no schedule that got stuck.
@@ -337,7 +339,7 @@ fn tell_found<'a, O: Sink, E: Sink>(
     alloc: Global,
     setup: &'a Setup<'a>,
     found: &Found,
-    shortest: &Option<Vec<Step>>,
+    shortest: &Option<Vec<usize>>,
     watching: &mut Watching<'_, O, E>,
 ) -> Result<(), Fault> {
     watching.end_progress();
@@ -348,7 +350,7 @@ fn tell_found<'a, O: Sink, E: Sink>(
         return Ok(());
     }
     match shortest {
-        Some(steps) => tell_shortest(alloc, setup, found, steps, watching.output()),
+        Some(schedule) => tell_shortest(alloc, setup, found, schedule, watching.output()),
         None => tell_none(watching.output(), found),
     }
 }
@@ -484,4 +486,12 @@ fn tell_verdict<E: Sink>(verdict: Verdict, errors: &mut E) -> u8
             8
         }
     }
+}
+
+/// No script is one of which every schedule ends, and one gets stuck: so the statuses 0 and 7 of all schedules rule
+/// each other out.
+pub fn never_both()
+    ensures { NeverBoth }
+{
+    all_end_or_one_is_stuck();
 }

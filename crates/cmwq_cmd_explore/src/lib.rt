@@ -5,4 +5,4 @@ mod explore;
 mod report;
 mod watching;
 
-pub use explore::{Task, run_explore};
+pub use explore::{Task, never_both, run_explore};

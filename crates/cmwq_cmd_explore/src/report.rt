@@ -1,7 +1,7 @@
 //! What is written of schedules. It takes no memory, so that a report is whole, or has not begun.
 
 use arrayvec::ArrayString;
-use cmwq_explore::{Found, Party, Play, Step};
+use cmwq_explore::{Found, Party, Play};
 use cmwq_io::{Sink, flush_all, write_all};
 use cmwq_json::Fault;
 use cmwq_model::ItemId;
@@ -88,13 +88,13 @@ pub(crate) fn write_stuck_seed<O: Sink>(
 pub(crate) fn write_shortest<O: Sink>(
     output: &mut O,
     play: &Play<'_>,
-    steps: &[Step],
+    schedule: &[usize],
 ) -> Result<(), Fault> {
-    let moves = steps.len();
+    let moves = schedule.len();
     write_words(output, format_args!("shortest stuck: {moves} moves\n"))?;
-    for (k, step) in steps.iter().enumerate() {
+    for (k, party) in schedule.iter().enumerate() {
         let space = if k == 0 { "" } else { " " };
-        let name = play.name_of(step.party);
+        let name = play.name_of(*party);
         write_words(output, format_args!("{space}{name}"))?;
     }
     write_words(output, "\n")

@@ -1,7 +1,7 @@
 -- What `run` reads, writes and answers.
 use Rattle.std.specs.Prelude.{◌≡◌, ◌⊎◌}
-use Rattle.cmwq_cmd_run.specs.Common.{ℕ, zero, suc, Bool, true, false, IfSome, is_some, List, Result, Ok, Err, Option}
-use Rattle.cmwq_cmd_run.specs.Common.{Some, slice_get, MatchOption, Keeps, Appends, IsLegal, past_of, Says, IsNoJson}
+use Rattle.cmwq_cmd_run.specs.Common.{ℕ, zero, suc, IfSome, List, Result, Ok, Err, Option}
+use Rattle.cmwq_cmd_run.specs.Common.{None, Some, slice_get, MatchOption, Keeps, Appends, IsLegal, past_of, Says, IsNoJson}
 use Rattle.cmwq_cmd_run.specs.Common.{IsLong, RunFault, Run, run_said}
 use Rattle.cmwq_io.specs.Moves.{AppendsFront}
 use Rattle.cmwq_model.specs.declared.entry.Entry.{Entry}
@@ -15,6 +15,8 @@ use Rattle.cmwq_cmd_run.specs.declared.failure.Failure.{Failure}
 use Rattle.cmwq_cmd_run.specs.declared.refusals.RefusedWaits.{RefusedWaits}
 use Rattle.cmwq_cmd_run.specs.declared.run.Done.{Done}
 use Rattle.cmwq_cmd_run.specs.declared.failure.Failure.TheVariants as failure
+use Rattle.cmwq_rt.specs.declared.wait_fault.WaitFault.{WaitFault}
+use Rattle.cmwq_rt.specs.declared.wait_fault.WaitFault.TheVariants as wait_fault
 
 -- A history that the run may leave: it is legal, each caller's entries follow its script but for so many calls in all
 -- that had no room, each worker's are runs in which items did their actions, nobody else has any, and nothing active is
@@ -99,18 +101,22 @@ InputEnds text old new (Err (failure.Input fault.NoMemory)) =
     Keeps old new ⊎ Runs text old new (Err (failure.Input fault.NoMemory))
 InputEnds text old new ended = Runs text old new ended
 
--- the exit status: 0 done, 1 refused input or a gate that was not opened, 4 no memory or calls that had no room, 5 a
--- fault of reading, writing or running, 6 waits that were refused
+-- the exit status: 0 done, 1 refused input or a gate that was not opened, 4 no memory, or calls or waits that had no
+-- room, 5 a fault of reading, writing or running, 6 waits that were refused
 abbrev pub failure_status : Failure → ℕ
 failure_status (failure.Input f) = fault_status f
 failure_status (failure.Run n) = 5
 failure_status (failure.Gate name full) = 1
 
-abbrev pub done_status : ℕ → Bool → ℕ
-done_status zero false = 0
-done_status zero true = 6
-done_status (suc n) refused = 4
+abbrev pub wait_status : WaitFault → ℕ
+wait_status (wait_fault.Run f) = 4
+wait_status f = 6
+
+abbrev pub done_status : ℕ → Option RefusedWaits → ℕ
+done_status zero None = 0
+done_status zero (Some waits) = wait_status waits.fault
+done_status (suc n) left_out = 4
 
 abbrev pub run_status : Result Done Failure → ℕ
-run_status (Ok done) = done_status done.full (is_some done.refused)
+run_status (Ok done) = done_status done.full done.refused
 run_status (Err f) = failure_status f

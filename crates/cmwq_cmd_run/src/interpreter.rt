@@ -77,7 +77,7 @@ impl<'a> Interpreter<'a> {
         self.refusals.told(rt, names)
     }
 
-    /// A wait that is refused, or for which there is no room, is left out.
+    /// A wait that is refused, or for which there is no room, is left out, and counted.
     fn unless_refused<R: Wait>(
         &self,
         rt: &R,
@@ -87,18 +87,21 @@ impl<'a> Interpreter<'a> {
         ensures passes { IfOk result (λ _. IfErr answer (λ f. (is_refusal f ≡ true) ⊎ (f ≡ waits.Run Full))) }
         ensures broke { IfErr result (λ f. (answer ≡ Err (waits.Run f)) × (is_full f ≡ false)) }
     {
-        match answer {
-            Ok(_)
-            | Err(
-                WaitFault::Run {
-                    fault: RunFault::Full,
-                },
-            ) => Ok(()),
-            Err(WaitFault::Run { fault }) => Err(fault),
-            Err(refusal) => {
-                self.refusals.add(rt, place, refusal);
+        let fault = match answer {
+            Ok(_) => return Ok(()),
+            Err(fault) => fault,
+        };
+        match fault {
+            WaitFault::Run {
+                fault: RunFault::Full,
+            }
+            | WaitFault::Itself
+            | WaitFault::Deadlock
+            | WaitFault::NoCaller => {
+                self.refusals.add(rt, place, fault);
                 Ok(())
             }
+            WaitFault::Run { fault } => Err(fault),
         }
     }
 

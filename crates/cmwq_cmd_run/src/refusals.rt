@@ -1,6 +1,6 @@
 //! Waits of runs that were refused, and what is told of them.
-ghost use Rattle.std.specs.Prelude.{map, string_bytes, IfSome};
-ghost use Rattle.cmwq_cmd_run.specs.Run.{IsNamed};
+ghost use Rattle.std.specs.Prelude.{◌≡◌, map, string_bytes, IfSome};
+ghost use Rattle.cmwq_cmd_run.specs.Run.{IsNamed, wait_status};
 
 use arrayvec::ArrayString;
 use cmwq_model::ItemId;
@@ -19,41 +19,54 @@ pub struct ActionId {
     pub action: usize,
 }
 
-/// The first wait that was refused, if any was, and how many were.
+/// The first of some waits, if there is any, and how many there are.
 #[derive(Clone, Copy, Drop)]
 struct Tally {
     first: Option<(ActionId, WaitFault)>,
     count: u64,
 }
 
-/// The waits that were refused so far, under a lock.
+const NONE: Tally = Tally {
+    first: None,
+    count: 0,
+};
+
+/// The waits that were left out so far, under locks: those that had no room, and those that were refused.
 #[derive(Drop)]
 pub struct Refusals {
-    tally: Mutex<Tally>,
+    without_room: Mutex<Tally>,
+    refused: Mutex<Tally>,
 }
 
 impl Refusals {
     /// No wait.
     pub fn new() -> Refusals {
         Refusals {
-            tally: Mutex::new(Tally {
-                first: None,
-                count: 0,
-            }),
+            without_room: Mutex::new(NONE),
+            refused: Mutex::new(NONE),
         }
     }
 
     /// One more, by the action at this place.
     pub fn add<R: Wait>(&self, rt: &R, place: ActionId, fault: WaitFault) {
-        let mut tally = self.tally.lock(rt);
+        let tally = match fault {
+            WaitFault::Run { .. } => &self.without_room,
+            WaitFault::Itself | WaitFault::Deadlock | WaitFault::NoCaller => &self.refused,
+        };
+        let mut tally = tally.lock(rt);
         if tally.first.is_none() {
             tally.first = Some((place, fault));
         }
         tally.count = tally.count.saturating_add(1);
     }
 
+    /// Those that had no room if there are any, and else those that were refused.
     fn tally<R: Wait>(&self, rt: &R) -> Tally {
-        *self.tally.lock(rt)
+        let without_room = *self.without_room.lock(rt);
+        if without_room.first.is_some() {
+            return without_room;
+        }
+        *self.refused.lock(rt)
     }
 
     /// What is told of them, if there are any, by these names of the items.
@@ -72,7 +85,7 @@ impl Refusals {
     }
 }
 
-/// The first wait that was refused: by which action of which item, and why; and how many more were.
+/// The first wait that was left out: by which action of which item, and why; and how many more were for such a reason.
 #[derive(Clone, Copy, Debug)]
 pub struct RefusedWaits {
     pub item: ItemName,
@@ -81,11 +94,24 @@ pub struct RefusedWaits {
     pub more: u64,
 }
 
+impl RefusedWaits {
+    /// The exit status that tells of them: 4 no room, 6 refused.
+    pub fn status(&self) -> u8
+        ensures { result ≡ wait_status self.now.fault }
+    {
+        match self.fault {
+            WaitFault::Run { .. } => 4,
+            WaitFault::Itself | WaitFault::Deadlock | WaitFault::NoCaller => 6,
+        }
+    }
+}
+
 impl Display for RefusedWaits {
     fn fmt<W: Write>(&self, f: &mut Formatter<W>) -> fmt::Result {
         let why = match self.fault {
             WaitFault::NoCaller => "too many runs wait",
-            _ => "would wait for ever",
+            WaitFault::Run { .. } => "no room",
+            WaitFault::Itself | WaitFault::Deadlock => "would wait for ever",
         };
         write!(f, "item {}, action {}: {why}", self.item, self.action)?;
         match self.more {

@@ -28,7 +28,7 @@ use std::time::Clock;
 pub struct Done {
     /// How many calls were left out for want of room.
     pub full: u64,
-    /// The waits that were refused, if any were.
+    /// The waits that were left out, if any were: those for want of room, or else those that were refused.
     pub refused: Option<RefusedWaits>,
 }
 
@@ -221,7 +221,8 @@ pub fn run_run<S: Source, O: Sink, E: Sink, R: Threads + Wait + Clock + Sync>(
     status(&ended)
 }
 
-/// Tells what was left out of a history: calls for want of room, or else waits that were refused.
+/// Tells what was left out of a history: calls for want of room, or else waits for want of it, or else waits that were
+/// refused.
 fn tell_done<E: Sink>(done: &Done, errors: &mut E) {
     match (done.full, done.refused) {
         (0, None) => {}
@@ -248,11 +249,11 @@ fn status(ended: &Result<Done, Failure>) -> u8
 }
 
 fn status_of(done: &Done) -> u8
-    ensures { result ≡ done_status done.now.full (is_some done.now.refused) }
+    ensures { result ≡ done_status done.now.full done.now.refused }
 {
     match (done.full, done.refused) {
         (0, None) => 0,
-        (0, Some(_)) => 6,
+        (0, Some(waits)) => waits.status(),
         _ => 4,
     }
 }

@@ -1,5 +1,8 @@
 -- What callers see of a book: its history with the shape and the room, and what one more call makes of it.
-use Rattle.std.specs.Prelude.{◌≡◌, if◌then◌else◌, ◌∷◌}
+use Rattle.std.specs.Prelude.{◌≡◌, ◌+◌, ◌&&◌, if◌then◌else◌, ◌∷◌, nat_le}
+use Rattle.cmwq_model.specs.Prelude.{has_time, queued_at, room_needed}
+use Rattle.cmwq_core.specs.Common.{booking}
+use Rattle.cmwq_model.specs.declared.record.Booking.{Booking}
 use Rattle.cmwq_core.specs.Common.{ℕ, Bool, false, not, List, find, Option, Some, option_map, is_some, option_map_or}
 use Rattle.cmwq_core.specs.Common.{ItemId, Who, Call, Entry, Queueing, Ticket, is_at, number_started, queueing_at}
 use Rattle.cmwq_core.specs.Common.{unended_tickets, waits_for, entry_for, bits, has_room, item_marked}
@@ -13,6 +16,15 @@ next_entry h who call = entry_for h.layout (past_in h) who call
 
 abbrev pub takes : History → Who → Call → Bool
 takes h who call = has_room h.layout h.room (past_in h) who call
+
+-- and whether there is room for it and for so many entries more
+abbrev pub takes_with : History → Who → Call → ℕ → Bool
+takes_with h who call more =
+    has_time (past_in h) call && nat_le (room_needed h.layout (next_entry h who call ∷ past_in h) + more) h.room
+
+-- what is opened of a booked item, if it is fired or flushed now
+abbrev pub queued_of_booked : List Entry → ℕ → Option Queueing
+queued_of_booked past i = option_map (λ (b : Booking). queued_at past i b.place) (booking past i)
 
 -- A mark names the item of its entry, or that of the queueing that its entry starts or finishes.
 abbrev pub item_named : Mark → Option ℕ

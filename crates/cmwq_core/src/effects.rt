@@ -178,7 +178,7 @@ fn place_wanted(state: &State, entry: Entry, item: ItemId) -> Option<Place>
 
 /// The queueing of an item at a place: it goes to the CPU where the item runs.
 #[inline(always)]
-fn queued_at(state: &State, item: ItemId, place: Place) -> Queueing
+pub(crate) fn queued_at(state: &State, item: ItemId, place: Place) -> Queueing
     requires { item.0 < state.now.layout.items }
     ensures { result ≡ queued_at (past_of state.now.entries) item.0 place }
 {

@@ -7,11 +7,12 @@ ghost use Rattle.cmwq_state.specs.Pwqs.{AreActiveCounts};
 ghost use Rattle.cmwq_state.specs.Tables as tables;
 ghost use Rattle.cmwq_theory_steps.specs.Endings.{ending};
 ghost use Rattle.cmwq_theory_steps.specs.TicketSteps.{ticket_ended};
-ghost use Rattle.cmwq_core.specs.History.{past_in, next_entry, takes, with_entry, IsMark, is_ready};
+ghost use Rattle.cmwq_core.specs.History.{past_in, next_entry, queued_of_booked, takes, takes_with, with_entry};
+ghost use Rattle.cmwq_core.specs.History.{IsMark, is_ready};
 ghost use Rattle.cmwq_core.specs.Plans.{IsPlan};
 ghost use Rattle.cmwq_core.specs.Relied.{IsReliable};
 
-use crate::effects::{done_by, ended_by, next_entry as predicted, opened_by};
+use crate::effects::{done_by, effect_of, ended_by, next_entry as predicted, opened_by, queued_at};
 use crate::entering::{Untold, enter, plan};
 use crate::marks::bits_of;
 use crate::plan::Plan;
@@ -126,6 +127,27 @@ impl Execution {
         done_by(&self.state, plan.mark.entry)
     }
 
+    /// The queueing that is opened of a booked item, if it is fired or flushed now.
+    pub fn queued_of_booked(&self, item: ItemId) -> Option<Queueing>
+        requires { item.0 < self.now.layout.items }
+        ensures { result ≡ queued_of_booked (past_in self.now) item.0 }
+    {
+        let timer = self.state.timer(item)?;
+        Some(queued_at(&self.state, item, timer.place))
+    }
+
+    /// Whether there is room for the call, with what would be owed then, and for so many entries more.
+    pub fn has_room_with(&self, who: Who, call: Call, more: u32) -> bool
+        requires { IsTrue (fits self.now.layout who call) }
+        ensures { result ≡ takes_with self.now who call more }
+    {
+        let _few = self.state.len();
+        let entry = predicted(&self.state, who, call);
+        let effect = effect_of(&self.state, entry);
+        self.state
+            .has_room(call, effect.owing.saturating_add(u64::from(more)))
+    }
+
     /// Makes the entry that was planned, and answers its reply. The execution is still the one that planned it.
     #[inline(always)]
     pub fn commit(&mut self, plan: &Plan) -> Reply
@@ -217,6 +239,13 @@ impl Execution {
         ensures { result ≡ widths.width self.now.layout (past_in self.now) queue.0 }
     {
         self.state.width(queue)
+    }
+
+    /// What stands after the entries: all that a state can be asked.
+    pub fn state(&self) -> &State
+        ensures { result.now ≡ self.now }
+    {
+        &self.state
     }
 
     /// What a user relies on holds of the history. Nothing runs but a look at its length.

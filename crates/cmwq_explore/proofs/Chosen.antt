@@ -5,7 +5,6 @@ use Rattle.std.proofs.Common.{refl, subst, sym, ap, ◌∙◌, arith, add-one}
 use Rattle.std.specs.List.{filter, range_with_len}
 use Rattle.std.proofs.lemmas.List.{append-nil}
 use Rattle.std.proofs.lemmas.List.Elements.{filter-append}
-use Rattle.cmwq_explore.specs.declared.place.Step.{Step}
 use Rattle.cmwq_explore.specs.Stands.{Stand, may, moved}
 use Rattle.cmwq_explore.specs.Chances.{IsPlayed, after_draw, chosen, movers_of}
 use Rattle.cmwq_explore.proofs.First.{range_next}
@@ -59,17 +58,12 @@ played_all most k s p Goal is so = so zero (omega arith) p here
     here = refl
 
 -- one more was made
-pub played_more : (n s : ℕ) (p q : Stand) (movers : List ℕ) (step : Step) → movers ≡ movers_of p → 0 < length movers
-    → step.party ≡ chosen s movers → IsPlayed n (after_draw s) (moved p step) q → IsPlayed (suc n) s p q
+pub played_more : (n s : ℕ) (p q : Stand) (movers : List ℕ) (party : ℕ) → movers ≡ movers_of p → 0 < length movers
+    → party ≡ chosen s movers → IsPlayed n (after_draw s) (moved p party) q → IsPlayed (suc n) s p q
 unfolding IsPlayed
-played_more n s p q movers step all some is goes =
-    let party : step.party ≡ chosen s (movers_of p) = is ∙ ap (chosen s) all in
+played_more n s p q movers party all some is goes =
+    let chose : party ≡ chosen s (movers_of p) = is ∙ ap (chosen s) all in
     inr (
       (λ empty. some_length movers some (all ∙ empty)),
-      (
-        step.is_refused,
-        subst
-            (λ (k : ℕ). IsPlayed n (after_draw s) (moved p (record { party = k; is_refused = step.is_refused })) q) party
-            goes,
-      ),
+      subst (λ (k : ℕ). IsPlayed n (after_draw s) (moved p k) q) chose goes,
     )

@@ -6,4 +6,3 @@ pub mod First
 pub mod Moving
 pub mod Searching
 pub mod Starting
-pub mod Waiting

@@ -5,37 +5,48 @@ use Rattle.std.proofs.Common.{add-one, refl, subst, sym, ap, ◌∙◌, arith, �
 use Rattle.std.proofs.Math.Seq.{take-suc}
 use Rattle.std.proofs.lemmas.List.{get_or_default}
 use Rattle.std.proofs.lemmas.List.Elements.{All-get_or}
-use Rattle.std.proofs.lemmas.Bool.{ltb-true, ltb-false}
 use Rattle.std.proofs.lemmas.Bool.Decides.{nat_tests}
-use Rattle.std.specs.Prelude.{All, Contains, nat_lt, IfOk}
-use Rattle.cmwq_explore.specs.declared.place.Step.{Step}
+use Rattle.std.specs.Prelude.{All, Contains, IfOk}
 use Rattle.cmwq_explore.specs.Stands.{Stand, IsDone, may, moved}
-use Rattle.cmwq_explore.specs.Searches.{AllEnd, AllEndAfter, EndsAfter, NoneStuck, NoneStuckAfter, NoneStuckAt, after}
+use Rattle.cmwq_explore.specs.Searches.{AllEnd, AllEndAfter, AllEndOrOneIsStuck, GetsStuck, IsSchedule, NoneStuck}
+use Rattle.cmwq_explore.specs.Searches.{IsFine, NoneStuckAfter, StuckAreLong, after}
 
--- after one step more
-pub after_more : (p : Stand) (steps : List Step) (step : Step)
-    → after p (steps ++ step ∷ []) ≡ moved (after p steps) step
-after_more p [] step = refl
-after_more p (first ∷ steps) step = after_more (moved p first) steps step
+-- after one move more
+pub after_more : (p : Stand) (schedule : List ℕ) (party : ℕ)
+    → after p (schedule ++ party ∷ []) ≡ moved (after p schedule) party
+after_more p [] party = refl
+after_more p (first ∷ more) party = after_more (moved p first) more party
 
--- after a step that is put to the end of those before
-pub after_push : (start p q : Stand) (steps more : List Step) (step : Step) → p ≡ after start steps
-    → q ≡ moved p step → more ≡ steps ++ step ∷ [] → q ≡ after start more
-after_push start p q steps more step was is pushed =
-    is ∙ ap (λ s. moved s step) was ∙ sym (after_more start steps step) ∙ ap (after start) (sym pushed)
+-- after a move that is put to the end of those before
+pub after_push : (start p q : Stand) (schedule longer : List ℕ) (party : ℕ) → p ≡ after start schedule
+    → q ≡ moved p party → longer ≡ schedule ++ party ∷ [] → q ≡ after start longer
+after_push start p q schedule longer party was is pushed =
+    is ∙ ap (λ s. moved s party) was ∙ sym (after_more start schedule party) ∙ ap (after start) (sym pushed)
 
--- after the first so many steps and the next one
-pub after_next : (p : Stand) (steps : List Step) (n : ℕ) (d : Step) → n < length steps
-    → after p (take (suc n) steps) ≡ moved (after p (take n steps)) (get_or steps n d)
-after_next p steps n d less =
-    ap (after p) (take-suc steps n d less) ∙ after_more p (take n steps) (get_or steps n d)
+-- it is a schedule too, where that one may move
+schedule_more : (p : Stand) (schedule : List ℕ) (party : ℕ) → IsSchedule p schedule
+    → may (after p schedule) party ≡ true → IsSchedule p (schedule ++ party ∷ [])
+schedule_more p [] party goes is = (is, tt)
+schedule_more p (first ∷ more) party goes is = (goes.0, schedule_more (moved p first) more party goes.1 is)
+
+pub schedule_push : (start p : Stand) (schedule longer : List ℕ) (party : ℕ) → p ≡ after start schedule
+    → IsSchedule start schedule → may p party ≡ true → longer ≡ schedule ++ party ∷ [] → IsSchedule start longer
+schedule_push start p schedule longer party was goes is pushed =
+    subst (IsSchedule start) (sym pushed) (schedule_more start schedule party goes
+    (subst (λ q. may q party ≡ true) was is))
+
+-- after the first so many moves and the next one
+pub after_next : (p : Stand) (schedule : List ℕ) (n d : ℕ) → n < length schedule
+    → after p (take (suc n) schedule) ≡ moved (after p (take n schedule)) (get_or schedule n d)
+after_next p schedule n d less =
+    ap (after p) (take-suc schedule n d less) ∙ after_more p (take n schedule) (get_or schedule n d)
 
 -- a turn of a replay
-pub after_turn : (start : Stand) (steps : List Step) (n : ℕ) (p q : Stand) (d : Step) → n < length steps
-    → p ≡ after start (take n steps) → q ≡ moved p (get_or steps n d) → q ≡ after start (take (n + 1) steps)
-after_turn start steps n p q d less was is =
-    is ∙ ap (λ s. moved s (get_or steps n d)) was ∙ sym (after_next start steps n d less)
-    ∙ ap (λ m. after start (take m steps)) (sym (add-one n))
+pub after_turn : (start : Stand) (schedule : List ℕ) (n : ℕ) (p q : Stand) (d : ℕ) → n < length schedule
+    → p ≡ after start (take n schedule) → q ≡ moved p (get_or schedule n d) → q ≡ after start (take (n + 1) schedule)
+after_turn start schedule n p q d less was is =
+    is ∙ ap (λ s. moved s (get_or schedule n d)) was ∙ sym (after_next start schedule n d less)
+    ∙ ap (λ m. after start (take m schedule)) (sym (add-one n))
 
 false_unless : (b : Bool) → (b ≡ true → ⊥) → b ≡ false
 false_unless true never = absurd (never refl)
@@ -71,7 +82,7 @@ all_tried_more n p movers all sound some tried = (
   (λ k is.
       let at = all k is in
       let same : get_or movers at.0 0 ≡ k = get_or_default movers at.0 0 k at.1 ∙ at.2 in
-      subst (EndsAfter n p) same (tried at.0 at.1)),
+      subst (λ j. AllEnd n (moved p j)) same (tried at.0 at.1)),
 )
 
 pub all_tried : (depth : ℕ) (p : Stand) (movers : List ℕ) → 0 < depth
@@ -82,23 +93,6 @@ all_tried zero p movers deep all sound some tried = absurd (omega arith)
 all_tried (suc n) p movers deep all sound some tried =
     let less : suc n - 1 ≡ n = omega arith in
     all_tried_more n p movers all sound some (subst (λ m. AllEndAfter m p movers (length movers)) less tried)
-
--- of the first of them this is known after a step of theirs, and now of the next one
-pub one_more_known : (Q : Stand → Type 0) (p : Stand) (movers : List ℕ) (k : ℕ) (step : Step)
-    → ((j : ℕ) → j < k → (refused : Bool) × Q (moved p (record { party = get_or movers j 0; is_refused = refused })))
-    → step.party ≡ get_or movers k 0 → Q (moved p step)
-    → (j : ℕ) → j < k + 1 → (refused : Bool) × Q (moved p (record { party = get_or movers j 0; is_refused = refused }))
-one_more_known Q p movers k step before is known j less = at (nat_lt j k) refl
-  where
-    at : (b : Bool) → nat_lt j k ≡ b
-        → (refused : Bool) × Q (moved p (record { party = get_or movers j 0; is_refused = refused }))
-    at true lt = before j (ltb-true j k lt)
-    at false not =
-        let past = ltb-false j k not in
-        let same : k ≡ j = omega arith in
-        subst (λ i. (refused : Bool) × Q (moved p (record { party = get_or movers i 0; is_refused = refused }))) same
-        (subst (λ i. (refused : Bool) × Q (moved p (record { party = i; is_refused = refused }))) is
-        (step.is_refused, known))
 
 -- nobody may move: where fewer moves were made than that, nothing is left to do
 pub none_here : (n : ℕ) (p : Stand) (movers : List ℕ) → ((k : ℕ) → may p k ≡ true → Contains movers k)
@@ -118,7 +112,7 @@ all_known_more n p movers all sound some known = (
   (λ k is.
       let at = all k is in
       let same : get_or movers at.0 0 ≡ k = get_or_default movers at.0 0 k at.1 ∙ at.2 in
-      subst (NoneStuckAt n p) same (known at.0 at.1)),
+      subst (λ j. NoneStuck n (moved p j)) same (known at.0 at.1)),
 )
 
 pub all_known : (n : ℕ) (p : Stand) (movers : List ℕ) → ((k : ℕ) → may p k ≡ true → Contains movers k)
@@ -149,3 +143,29 @@ then_so (Err e) so holds = tt
 -- none of them
 pub none_tried : (n : ℕ) (p : Stand) (movers : List ℕ) → AllEndAfter n p movers 0
 none_tried n p movers j less = absurd (omega arith)
+
+-- ---- what a search tells is never both
+
+never_fine : (p : Stand) → IsFine p → GetsStuck p [] → ⊥
+never_fine p fine stuck = stuck.not_done (fine stuck.rests)
+
+-- the rest of a schedule that gets stuck does so after its first move
+stuck_after : (p : Stand) (party : ℕ) (more : List ℕ) → GetsStuck p (party ∷ more) → GetsStuck (moved p party) more
+stuck_after p party more stuck =
+    record { goes = stuck.goes.1; rests = stuck.rests; not_done = stuck.not_done }
+
+pub ends_or_stuck : AllEndOrOneIsStuck
+unfolding AllEnd
+ends_or_stuck zero p [] all stuck = never_fine p all.0 stuck
+ends_or_stuck zero p (party ∷ more) all stuck = false_or (may p party) stuck.goes.0 (all.1 party)
+ends_or_stuck (suc n) p [] all stuck = never_fine p all.0 stuck
+ends_or_stuck (suc n) p (party ∷ more) all stuck =
+    ends_or_stuck n (moved p party) more (all.1 party stuck.goes.0) (stuck_after p party more stuck)
+
+pub stuck_long : StuckAreLong
+unfolding NoneStuck
+stuck_long zero p schedule none stuck = omega arith
+stuck_long (suc n) p [] none stuck = absurd (never_fine p none.0 stuck)
+stuck_long (suc n) p (party ∷ more) none stuck =
+    let less = stuck_long n (moved p party) more (none.1 party stuck.goes.0) (stuck_after p party more stuck) in
+    omega arith

@@ -1,5 +1,5 @@
 -- Whose move comes next, by a seed.
-use Rattle.std.specs.Prelude.{◌≡◌, ◌⊎◌, ◌+◌, ◌%◌, ℕ, zero, suc, Bool, List, [], length, max, slice_index}
+use Rattle.std.specs.Prelude.{◌≡◌, ◌⊎◌, ◌+◌, ◌%◌, ℕ, zero, suc, List, [], length, max, slice_index}
 use Rattle.std.specs.List.{filter, range_with_len}
 use Rattle.rand_xoshiro.specs.SplitMix64.{mix_u64}
 use Rattle.cmwq_explore.specs.Stands.{Stand, may, moved}
@@ -24,10 +24,8 @@ abbrev pub chosen : ℕ → List ℕ → ℕ
 chosen s movers = slice_index movers (drawn_below (length movers) s)
 
 -- So many moves were made, or fewer where nobody may move any more: each by the one who is chosen of those who may.
--- Where a run would begin a wait, it was refused or not.
 unfoldable pub IsPlayed : ℕ → ℕ → Stand → Stand → Type 0
 IsPlayed zero s p q = q ≡ p
 IsPlayed (suc n) s p q =
     ((movers_of p ≡ []) × (q ≡ p))
-    ⊎ ((movers_of p ≡ [] → ⊥) × ((refused : Bool) × IsPlayed n (after_draw s)
-    (moved p (record { party = chosen s (movers_of p); is_refused = refused })) q))
+    ⊎ ((movers_of p ≡ [] → ⊥) × IsPlayed n (after_draw s) (moved p (chosen s (movers_of p))) q)

@@ -5,3 +5,4 @@ pub mod Machines
 pub mod Searches
 pub mod Stands
 pub mod Starts
+pub mod Waiting

@@ -8,11 +8,12 @@ use Rattle.cmwq_model.specs.declared.call.Call.TheVariants as call
 use Rattle.cmwq_model.specs.declared.reply.Reply.{Reply}
 use Rattle.cmwq_model.specs.declared.reply.Reply.TheVariants as reply
 use Rattle.cmwq_model.specs.declared.entry.Entry.{Entry}
+use Rattle.cmwq_model.specs.declared.id.CallerId.{CallerId}
 use Rattle.cmwq_model.specs.declared.id.ItemId.{ItemId}
 use Rattle.cmwq_model.specs.declared.id.WorkerId.{WorkerId}
 use Rattle.cmwq_model.specs.declared.id.Who.{Who}
-use Rattle.cmwq_model.specs.declared.id.Who.TheVariants.{Worker}
-use Rattle.cmwq_core.specs.History.{History, past_in, next_entry, takes, with_entry}
+use Rattle.cmwq_model.specs.declared.id.Who.TheVariants.{Caller, Worker}
+use Rattle.cmwq_core.specs.History.{History, past_in, next_entry, takes, takes_with, with_entry}
 use Rattle.cmwq_explore.specs.declared.machine.Called.{Called}
 use Rattle.cmwq_explore.specs.declared.machine.Called.TheVariants.{NoRoom, Whole, Waits}
 use Rattle.cmwq_explore.specs.declared.place.Ticketed.{Ticketed}
@@ -48,6 +49,12 @@ is_retired r = false
 -- the worker would be sent to the reserve
 unfoldable pub retires : History → WorkerId → Bool
 retires h w = option_map_or is_retired (replied h (Worker w) call.Retire) false
+
+-- There is room for a whole wait of what a worker runs: for its sleep, and for the call of its caller with what is owed
+-- then and two entries more, which are the sleep and the wake.
+unfoldable pub has_wait_room : History → WorkerId → CallerId → Call → Bool
+has_wait_room h w c waits =
+    is_made h (Worker w) call.Sleep && (fits h.layout (Caller c) waits && takes_with h (Caller c) waits 2)
 
 -- ---- whole calls
 

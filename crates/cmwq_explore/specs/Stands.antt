@@ -1,9 +1,10 @@
 -- Where a script stands while it is played, who may move, and what a move makes of it.
-use Rattle.std.specs.Prelude.{◌≡◌, ◌+◌, ◌-◌, ◌^◌, ◌==◌, ◌||◌, ℕ, Bool, true, false, if◌then◌else◌, List, [], ◌∷◌, ◌++◌}
+use Rattle.std.specs.Prelude.{◌≡◌, ◌+◌, ◌-◌, ◌^◌, ◌||◌, ℕ, Bool, true, false, if◌then◌else◌, List, [], ◌∷◌, ◌++◌}
 use Rattle.std.specs.Prelude.{length, take, count_by, Option, Some, None, is_some, nat_lt, slice_get, slice_set}
+use Rattle.std.specs.Prelude.{option_and_then}
 use Rattle.std.specs.List.{list_any}
 use Rattle.std.specs.Option.{option_map_or}
-use Rattle.cmwq_model.specs.Prelude.{is_active, is_workers, item_called, still_open}
+use Rattle.cmwq_model.specs.Prelude.{is_active, is_workers, still_open}
 use Rattle.cmwq_model.specs.declared.call.Call.{Call}
 use Rattle.cmwq_model.specs.declared.call.Call.TheVariants as call
 use Rattle.cmwq_model.specs.declared.id.ItemId.{ItemId}
@@ -17,11 +18,12 @@ use Rattle.cmwq_explore.specs.declared.machine.Called.TheVariants.{Waits as Bega
 use Rattle.cmwq_explore.specs.declared.place.Ticketed.{Ticketed}
 use Rattle.cmwq_explore.specs.declared.place.CallerAt.{CallerAt}
 use Rattle.cmwq_explore.specs.declared.place.Doing.{Doing}
-use Rattle.cmwq_explore.specs.declared.place.Doing.TheVariants.{Acts, AtGate, Borrows, Waits, Returns}
+use Rattle.cmwq_explore.specs.declared.place.Doing.TheVariants.{Acts, AtGate, Waits}
 use Rattle.cmwq_explore.specs.declared.place.RunAt.{RunAt}
 use Rattle.cmwq_explore.specs.declared.place.WorkerAt.{WorkerAt}
-use Rattle.cmwq_explore.specs.declared.place.Step.{Step}
 use Rattle.cmwq_explore.specs.Machines.{AfterCall, stepped, replied, starts, ends, retires, ended, called}
+use Rattle.cmwq_explore.specs.Machines.{has_wait_room}
+use Rattle.cmwq_explore.specs.Waiting.{may_wait}
 
 -- the calls of each caller and the actions of each item, which stay; the history; where callers and workers stand;
 -- which gates are open; and the callers that may be lent, of which the last is lent next
@@ -117,12 +119,12 @@ caller_moved p k at =
 abbrev pub first_of : ItemId → RunAt
 first_of item = record { item = item; next = 0; doing = Acts }
 
--- the run after its action, and one that is about to give its caller back
+-- the run after its action
 abbrev pub after_action : RunAt → RunAt
 after_action run = record run { next = next_place run.next; doing = Acts }
 
-abbrev pub gives_back : RunAt → ℕ → RunAt
-gives_back run caller = record run { doing = Returns caller }
+abbrev pub went_on : Stand → ℕ → WorkerId → RunAt → Stand
+went_on p k id run = with_run p k id (Some (after_action run))
 
 -- a worker starts a run, if it would start one, and has none if not
 unfoldable pub started : Stand → ℕ → WorkerId → Stand
@@ -138,80 +140,70 @@ rested h id = if retires h id then stepped h (Worker id) call.Retire else h
 unfoldable pub finished : Stand → ℕ → WorkerId → Stand
 finished p k id = started (with_history p (rested (stepped p.history (Worker id) call.Finish) id)) k id
 
-abbrev pub is_of_item : Call → ItemId → Bool
-is_of_item c item = option_map_or (λ i. i == item.0) (item_called c) false
-
 -- the last of those that may be lent
 abbrev pub last_free : List ℕ → Option ℕ
 last_free free = slice_get free (length free - 1)
 
--- a run that is to wait takes a caller, unless it would wait for its own item, or none is left: then its wait is
--- refused
-unfoldable pub borrowed : Stand → ℕ → WorkerId → RunAt → Call → Stand
-borrowed p k id run c =
-    if is_of_item c run.item then with_run p k id (Some (after_action run))
-    else option_map_or
-    (λ caller. with_run (record p { free = take (length p.free - 1) p.free }) k id
-    (Some (record run { doing = Borrows caller }))) (last_free p.free)
-    (with_run p k id (Some (after_action run)))
+abbrev pub with_room : Stand → WorkerId → Call → ℕ → Option ℕ
+with_room p id c caller = if has_wait_room p.history id (record { 0 = caller }) c then Some caller else None
 
-unfoldable pub acted : Stand → ℕ → WorkerId → RunAt → Action → Stand
-acted p k id run (action.Call c) =
-    if is_workers c then with_run (with_history p (stepped p.history (Worker id) c)) k id (Some (after_action run))
-    else borrowed p k id run c
-acted p k id run (action.Open g) =
-    with_run (record p { gates = slice_set p.gates g true }) k id (Some (after_action run))
-acted p k id run (action.SleepAt g) =
-    with_run (with_history p (stepped p.history (Worker id) call.Sleep)) k id
-    (Some (record run { doing = AtGate g (is_some (replied p.history (Worker id) call.Sleep)) }))
+-- the caller by which a run waits, if its wait is not refused, one is left, and there is room for the wait
+unfoldable pub lent_for : Stand → WorkerId → Call → Option ℕ
+lent_for p id c =
+    if may_wait p.history p.workers id c then option_and_then (with_room p id c) (last_free p.free) else None
 
--- After the call of a run's caller: it waits, or the run wakes.
+-- After the call of its caller a run waits, and the caller is lent; or the run wakes.
 abbrev pub after_begin : Stand → ℕ → WorkerId → RunAt → ℕ → History → Called → Stand
 after_begin p k id run caller h (Began w) =
-    with_run (with_history p h) k id (Some (record run { doing = Waits caller w }))
-after_begin p k id run caller h c =
-    with_run (with_history p (stepped h (Worker id) call.Wake)) k id (Some (gives_back run caller))
+    with_run (record p { history = h; free = take (length p.free - 1) p.free }) k id
+    (Some (record run { doing = Waits caller w }))
+after_begin p k id run caller h c = went_on (with_history p (stepped h (Worker id) call.Wake)) k id run
 
 abbrev pub after_sleep : Stand → ℕ → WorkerId → RunAt → ℕ → AfterCall → Stand
 after_sleep p k id run caller r = after_begin p k id run caller r.history r.outcome
 
--- a run sleeps and its caller makes the call, if there is room for the sleep
-unfoldable pub wait_begun : Stand → ℕ → WorkerId → RunAt → ℕ → Call → Stand
-wait_begun p k id run caller c =
-    if is_some (replied p.history (Worker id) call.Sleep)
-    then after_sleep p k id run caller
+-- a run sleeps, and this caller makes the call
+unfoldable pub begun_by : Stand → ℕ → WorkerId → RunAt → Call → ℕ → Stand
+begun_by p k id run c caller =
+    after_sleep p k id run caller
     (called (stepped p.history (Worker id) call.Sleep) (Caller (record { 0 = caller })) c)
-    else with_run p k id (Some (gives_back run caller))
 
-abbrev pub call_in : Option Action → Option Call
-call_in (Some (action.Call c)) = Some c
-call_in o = None
+-- a run waits, or goes on
+unfoldable pub waited : Stand → ℕ → WorkerId → RunAt → Call → Stand
+waited p k id run c = option_map_or (begun_by p k id run c) (lent_for p id c) (went_on p k id run)
 
--- what a run does next, where its wait is refused or not
-abbrev pub did : Stand → ℕ → WorkerId → RunAt → Bool → Doing → Stand
-did p k id run refused Acts = option_map_or (acted p k id run) (action_of p run) (finished p k id)
-did p k id run refused (AtGate g slept) =
-    with_run (if slept then with_history p (stepped p.history (Worker id) call.Wake) else p) k id
-    (Some (after_action run))
-did p k id run refused (Borrows caller) =
-    if refused then with_run p k id (Some (gives_back run caller))
-    else option_map_or (wait_begun p k id run caller) (call_in (action_of p run)) p
-did p k id run refused (Waits caller w) =
-    with_run (with_history p (stepped (ended p.history (Caller (record { 0 = caller })) w) (Worker id) call.Wake)) k id
-    (Some (gives_back run caller))
-did p k id run refused (Returns caller) =
-    with_run (record p { free = p.free ++ caller ∷ [] }) k id (Some (after_action run))
+-- the wait of a run ends: it wakes, and gives its caller back
+unfoldable pub wait_ended : Stand → ℕ → WorkerId → RunAt → ℕ → Ticketed → Stand
+wait_ended p k id run caller w =
+    went_on (record p {
+      history = stepped (ended p.history (Caller (record { 0 = caller })) w) (Worker id) call.Wake;
+      free = p.free ++ caller ∷ [];
+    }) k id run
 
-unfoldable pub run_moved : Stand → ℕ → WorkerId → RunAt → Bool → Stand
-run_moved p k id run refused = did p k id run refused run.doing
+unfoldable pub acted : Stand → ℕ → WorkerId → RunAt → Action → Stand
+acted p k id run (action.Call c) =
+    if is_workers c then went_on (with_history p (stepped p.history (Worker id) c)) k id run
+    else waited p k id run c
+acted p k id run (action.Open g) = went_on (record p { gates = slice_set p.gates g true }) k id run
+acted p k id run (action.SleepAt g) =
+    with_run (with_history p (stepped p.history (Worker id) call.Sleep)) k id
+    (Some (record run { doing = AtGate g (is_some (replied p.history (Worker id) call.Sleep)) }))
 
-unfoldable pub worker_moved : Stand → ℕ → WorkerAt → Bool → Stand
-worker_moved p k at refused = option_map_or (λ run. run_moved p k at.id run refused) at.run (started p k at.id)
+-- what a run does next
+abbrev pub did : Stand → ℕ → WorkerId → RunAt → Doing → Stand
+did p k id run Acts = option_map_or (acted p k id run) (action_of p run) (finished p k id)
+did p k id run (AtGate g slept) =
+    went_on (if slept then with_history p (stepped p.history (Worker id) call.Wake) else p) k id run
+did p k id run (Waits caller w) = wait_ended p k id run caller w
 
--- the stand after a step of one who may move
-unfoldable pub moved : Stand → Step → Stand
-moved p step =
-    if nat_lt step.party (length p.callers)
-    then option_map_or (caller_moved p step.party) (slice_get p.callers step.party) p
-    else option_map_or (λ at. worker_moved p (step.party - length p.callers) at step.is_refused)
-    (slice_get p.workers (step.party - length p.callers)) p
+unfoldable pub run_moved : Stand → ℕ → WorkerId → RunAt → Stand
+run_moved p k id run = did p k id run run.doing
+
+unfoldable pub worker_moved : Stand → ℕ → WorkerAt → Stand
+worker_moved p k at = option_map_or (run_moved p k at.id) at.run (started p k at.id)
+
+-- the stand after the move of one who may move
+unfoldable pub moved : Stand → ℕ → Stand
+moved p party =
+    if nat_lt party (length p.callers) then option_map_or (caller_moved p party) (slice_get p.callers party) p
+    else option_map_or (worker_moved p (party - length p.callers)) (slice_get p.workers (party - length p.callers)) p

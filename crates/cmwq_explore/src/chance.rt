@@ -143,8 +143,7 @@ fn play_uniform(play: &mut Play<'_>, generator: &mut SplitMix64) -> Result<u64, 
             return Ok(number as u64);
         }
         let place = below(generator, movers.len() as u64) as usize;
-        let step = play.step_of(movers[place]);
-        play.make_move(step)?;
+        play.make_move(movers[place])?;
     }
     Ok(MOST_MOVES as u64)
 }
@@ -158,8 +157,7 @@ fn play_in_order(play: &mut Play<'_>, order: Order) -> Result<u64, AllocError> {
             return Ok(number as u64);
         }
         let party = order.first_of(&movers);
-        let step = play.step_of(party);
-        play.make_move(step)?;
+        play.make_move(party)?;
         order.has_moved(party, number as u64);
     }
     Ok(MOST_MOVES as u64)

@@ -8,10 +8,13 @@ mod place;
 mod play;
 mod search;
 mod setup;
+mod waiting;
 
 pub use chance::{Chooser, length_of_first, play_by};
 pub use parties::{Party, PartyName};
-pub use place::{CallerAt, Doing, RunAt, Step, Ticketed, WorkerAt};
+pub use place::{CallerAt, Doing, RunAt, Ticketed, WorkerAt};
 pub use play::{Play, Standing};
-pub use search::{Found, Limits, MOST_MOVES, Watch, search_all};
+pub use search::{
+    Found, Limits, MOST_MOVES, Watch, all_end_or_one_is_stuck, search_all, stuck_are_long,
+};
 pub use setup::Setup;

@@ -13,6 +13,9 @@ use cmwq_model::{
 use std::alloc::{AllocError, Global};
 use std::marker::Model;
 
+/// How many entries a run makes that waits: it sleeps, and it wakes.
+const SLEEP_AND_WAKE: u32 = 2;
+
 /// A runtime with all its entries.
 #[derive(Drop)]
 pub struct Machine<'a> {
@@ -53,7 +56,36 @@ fn ticket_in(reply: Reply) -> Option<Number>
         | Reply::TicketCancelled(ticket, _)
         | Reply::TicketUnbooked(ticket)
         | Reply::TicketNo(ticket) => Some(ticket),
-        _ => None,
+        Reply::Yes(_)
+        | Reply::Booked(_)
+        | Reply::Again(_)
+        | Reply::Rebooked(_)
+        | Reply::No
+        | Reply::Foreign
+        | Reply::Draining
+        | Reply::Misuse
+        | Reply::Cancelled(_)
+        | Reply::Unbooked
+        | Reply::Now(_)
+        | Reply::Fired(_, _)
+        | Reply::Nothing
+        | Reply::Idle
+        | Reply::Crowded
+        | Reply::Done
+        | Reply::Waiting(_)
+        | Reply::Started(_)
+        | Reply::StartedEnlist(_, _)
+        | Reply::Held
+        | Reply::Finished(_)
+        | Reply::Slept
+        | Reply::Woke
+        | Reply::Retired
+        | Reply::Kept
+        | Reply::Width(_)
+        | Reply::Frozen
+        | Reply::Thawed
+        | Reply::Gone
+        | Reply::Timers => None,
     }
 }
 
@@ -190,19 +222,6 @@ impl<'a> Machine<'a> {
         }
     }
 
-    /// What the worker runs, unless its run sleeps.
-    pub fn run_of(&self, worker: WorkerId) -> Option<Queueing> {
-        let (who, call) = (Who::Worker(worker), Call::Finish);
-        if !self.shape.fits(who, call) {
-            return None;
-        }
-        let planned = self.execution.plan(who, call);
-        match &planned {
-            Ok(plan) => self.execution.ended_by(plan),
-            Err(Full) => None,
-        }
-    }
-
     /// The queueing of this item that hasn't started.
     pub fn unstarted(&self, item: ItemId) -> Option<Queueing> {
         let (who, call) = (Who::Caller(CallerId(0)), Call::Cancel { item });
@@ -232,6 +251,19 @@ impl<'a> Machine<'a> {
             Some(reply) => is_done(reply),
             None => false,
         }
+    }
+
+    /// Whether there is room for a whole wait of what the worker runs, by a call of this caller: for its sleep, and for
+    /// the call with what is owed then and two entries more.
+    #[tactic(auto, unfolding(crate::specs::Machines::has_wait_room, crate::specs::Machines::replied))]
+    pub fn has_wait_room(&self, worker: WorkerId, caller: CallerId, call: Call) -> bool
+        ensures { result ≡ spec.has_wait_room self.now worker caller call }
+    {
+        let who = Who::Caller(caller);
+        if self.would(Who::Worker(worker), Call::Sleep).is_none() || !self.shape.fits(who, call) {
+            return false;
+        }
+        self.execution.has_room_with(who, call, SLEEP_AND_WAKE)
     }
 
     /// Whether the worker would be sent to the reserve.

@@ -127,7 +127,7 @@ impl<'a> Party<'a> {
                 caller,
                 wait: awaits(play, Who::Caller(CallerId(caller)), wait),
             },
-            _ => State::Runs { worker, item },
+            Doing::Acts => State::Runs { worker, item },
         };
         Some(Party {
             names: Names::of(play.script()),
@@ -178,7 +178,21 @@ impl<'a> Display for CallWords<'a> {
             Call::CancelSync { item } => {
                 write!(f, "the cancelling of item {}", self.names.item(item))
             }
-            _ => f.write_str("a call"),
+            Call::Queue { .. }
+            | Call::Delay { .. }
+            | Call::Modify { .. }
+            | Call::Cancel { .. }
+            | Call::Tick { .. }
+            | Call::Fire
+            | Call::End { .. }
+            | Call::Take
+            | Call::Finish
+            | Call::Sleep
+            | Call::Wake
+            | Call::Retire
+            | Call::SetMax { .. }
+            | Call::Freeze
+            | Call::Thaw => f.write_str("a call"),
         }
     }
 }

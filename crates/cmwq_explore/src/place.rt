@@ -3,7 +3,7 @@
 ghost use Rattle.std.specs.Prelude.{◌≡◌};
 ghost use Rattle.cmwq_explore.specs.Stands as spec;
 
-use cmwq_model::{Call, CallerId, ItemId, Number, Ticket, WorkerId};
+use cmwq_model::{Call, CallerId, ItemId, Number, WorkerId};
 
 /// A wait that has begun: its ticket, and the call that it is of.
 #[derive(Clone, Copy, Debug)]
@@ -27,12 +27,8 @@ pub enum Doing {
     Acts,
     /// It waits at a gate, asleep unless there was no room for that.
     AtGate { gate: u8, slept: bool },
-    /// It has taken a caller, and is about to wait by it.
-    Borrows { caller: u8 },
-    /// It waits by a caller.
+    /// It waits by a caller, which is lent to it.
     Waits { caller: u8, wait: Ticketed },
-    /// It is about to give the caller back.
-    Returns { caller: u8 },
 }
 
 /// A run of an item: which action is next, or under way.
@@ -50,32 +46,6 @@ pub struct WorkerAt {
     pub run: Option<RunAt>,
 }
 
-/// A step of a schedule: whose move it is, and whether a wait that it would begin is refused, since it could never end.
-#[derive(Clone, Copy, Debug, PartialEq, Eq)]
-pub struct Step {
-    pub party: usize,
-    pub is_refused: bool,
-}
-
-/// The ticket of a caller.
-pub(crate) fn ticket_of(caller: u8, wait: Ticketed) -> Ticket {
-    Ticket {
-        caller: CallerId(caller),
-        call: wait.call,
-        number: wait.ticket,
-    }
-}
-
-/// Whether the call names this item.
-pub(crate) fn is_of_item(call: Call, item: ItemId) -> bool
-    ensures { result ≡ spec.is_of_item call item }
-{
-    match call.item() {
-        Some(named) => named.0 == item.0,
-        None => false,
-    }
-}
-
 /// The place after this one.
 pub(crate) fn next_place(place: usize) -> usize
     ensures { result ≡ spec.next_place place }
@@ -90,16 +60,6 @@ pub(crate) fn after_action(run: RunAt) -> RunAt
     RunAt {
         next: next_place(run.next),
         doing: Doing::Acts,
-        ..run
-    }
-}
-
-/// The run that is about to give its caller back.
-pub(crate) fn gives_back(run: RunAt, caller: u8) -> RunAt
-    ensures { result ≡ spec.gives_back run caller }
-{
-    RunAt {
-        doing: Doing::Returns { caller },
         ..run
     }
 }

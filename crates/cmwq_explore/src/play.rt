@@ -2,11 +2,13 @@
 //!
 //! A move is what a thread of `run` does in one hold of the hub's lock, or without it: a call of a caller with what it
 //! fires, and with its end where that is done at once; the end of a caller's wait; a worker's start, action, or end of
-//! a run with the next start. A run that waits takes a caller, makes its call, ends it, and gives the caller back.
+//! a run with the next start. A wait of a run is two moves: it sleeps and takes a caller, which makes the call; and the
+//! wait ends, the run wakes and gives the caller back. It is one move where it ends at once, is refused, or finds no
+//! caller or no room.
 
 ghost use Rattle.std.specs.Prelude.{◌≡◌, ◌<◌, ◌+◌, ℕ, true, false, length, All, Contains, IfOk, slice_set};
 ghost use Rattle.std.specs.List.{list_any};
-ghost use Rattle.cmwq_model.specs.Prelude.{IsLegal};
+ghost use Rattle.cmwq_model.specs.Prelude.{IsLegal, has_numbers};
 ghost use Rattle.cmwq_core.specs.History.{past_in};
 ghost use Rattle.cmwq_explore.specs.Stands as spec;
 ghost use Rattle.cmwq_explore.specs.Stands.{NoneLeft, has_run};
@@ -16,17 +18,16 @@ ghost use Rattle.cmwq_explore.specs.Starts.{start_of};
 ghost use Rattle.cmwq_explore.specs.declared.play.Standing.TheVariants as standing;
 ghost use Rattle.cmwq_model.specs.declared.id.Who.TheVariants as who;
 ghost use Rattle.cmwq_explore.specs.Machines as machines;
+ghost use Rattle.cmwq_explore.specs.Waiting.{is_refused};
 ghost use Rattle.cmwq_explore.specs.declared.place.Doing.TheVariants as doing;
 
 use crate::machine::{Called, Machine};
 use crate::parties::PartyName;
-use crate::place::{
-    CallerAt, Doing, RunAt, Step, Ticketed, WorkerAt, after_action, gives_back, is_of_item,
-    next_place, ticket_of,
-};
+use crate::place::{CallerAt, Doing, RunAt, Ticketed, WorkerAt, after_action, next_place};
 use crate::setup::Setup;
+use crate::waiting;
 use cmwq_json_script::{Action, Script};
-use cmwq_model::{Call, CallerId, Entry, NoMemory, Queueing, Shape, Who, WorkerId};
+use cmwq_model::{Call, CallerId, Entry, NoMemory, Shape, Who, WorkerId};
 use cmwq_waits::RunWaits;
 use std::alloc::{AllocError, Global};
 use std::marker::Model;
@@ -57,6 +58,7 @@ pub struct Play<'a> {
     gates: Vec<bool>,
     /// The callers that may be lent, of which the last is lent next.
     free: Vec<u8>,
+    /// The runs that wait, as they are noted for each look at a wait.
     waits: RunWaits,
     left_out: u64,
     refused: u64,
@@ -154,12 +156,12 @@ impl<'a> Play<'a> {
         self.setup.script
     }
 
-    /// How many calls of callers were left out for want of room.
+    /// How many calls of callers, and waits of runs, were left out for want of room.
     pub fn left_out(&self) -> u64 {
         self.left_out
     }
 
-    /// How many waits of runs were refused.
+    /// How many waits of runs were refused, or found no caller.
     pub fn refused(&self) -> u64 {
         self.refused
     }
@@ -227,7 +229,7 @@ impl<'a> Play<'a> {
             Doing::Waits { caller, wait } => self
                 .machine
                 .would_end(Who::Caller(CallerId(caller)), wait.ticket),
-            Doing::Acts | Doing::Borrows { .. } | Doing::Returns { .. } => true,
+            Doing::Acts => true,
         }
     }
 
@@ -336,81 +338,31 @@ impl<'a> Play<'a> {
         self.standing_still()
     }
 
-    /// Whether this one is about to begin a wait of a run that could never end.
-    pub fn is_refused(&mut self, party: usize) -> bool
-        ensures { self.new ≡ self.old }
+    /// Makes the move of one who may move.
+    #[tactic(auto, unfolding(crate::specs::Stands::moved))]
+    pub fn make_move(&mut self, party: usize) -> Result<(), AllocError>
+        ensures { IfOk result (λ _. self.new ≡ spec.moved self.old party) }
     {
         let callers = self.callers.len();
         if party < callers {
-            return false;
-        }
-        let Some(at) = self.workers.get(party - callers) else {
-            return false;
-        };
-        let WorkerAt { id, run } = *at;
-        match run {
-            Some(run) => self.is_wait_refused(id, run),
-            None => false,
-        }
-    }
-
-    fn is_wait_refused(&mut self, id: WorkerId, run: RunAt) -> bool
-        ensures { self.new ≡ self.old }
-    {
-        let Doing::Borrows { caller } = run.doing else {
-            return false;
-        };
-        let (Some(Action::Call(call)), Some(queueing)) = (
-            self.action_of(run),
-            self.machine.run_of(id),
-        ) else {
-            return false;
-        };
-        self.waits
-            .refuses(
-                self.machine.execution(),
-                self.machine.shape(),
-                &queueing,
-                CallerId(caller),
-                call,
-            )
-            .is_some()
-    }
-
-    /// The step of this one's move.
-    pub fn step_of(&mut self, party: usize) -> Step
-        ensures party { result.party ≡ party }
-        ensures same { self.new ≡ self.old }
-    {
-        let is_refused = self.is_refused(party);
-        Step { party, is_refused }
-    }
-
-    /// Makes a step, whose party may move.
-    #[tactic(auto, unfolding(crate::specs::Stands::moved))]
-    pub fn make_move(&mut self, step: Step) -> Result<(), AllocError>
-        ensures { IfOk result (λ _. self.new ≡ spec.moved self.old step) }
-    {
-        let callers = self.callers.len();
-        if step.party < callers {
-            let at = self.callers[step.party];
-            self.move_caller(step.party, at)
-        } else if step.party - callers < self.workers.len() {
-            let k = step.party - callers;
+            let at = self.callers[party];
+            self.move_caller(party, at)
+        } else if party - callers < self.workers.len() {
+            let k = party - callers;
             let at = self.workers[k];
-            self.move_worker(k, at, step.is_refused)
+            self.move_worker(k, at)
         } else {
             Ok(())
         }
     }
 
-    /// Plays these steps of the script of this setup from the start.
-    pub fn replay(&mut self, setup: &'a Setup<'a>, steps: &[Step]) -> Result<(), AllocError>
-        ensures { IfOk result (λ _. self.new ≡ after (start_of setup.now) steps.now) }
+    /// Plays this schedule of the script of this setup from the start.
+    pub fn replay(&mut self, setup: &'a Setup<'a>, schedule: &[usize]) -> Result<(), AllocError>
+        ensures { IfOk result (λ _. self.new ≡ after (start_of setup.now) schedule.now) }
     {
         self.restart(setup)?;
-        for step in steps {
-            self.make_move(*step)?;
+        for party in schedule {
+            self.make_move(*party)?;
         }
         Ok(())
     }
@@ -451,7 +403,9 @@ impl<'a> Play<'a> {
             (λ _. self.new ≡ spec.after_call self.old k at (machines.called self.old.history (who.Caller at.id) call)) }
     {
         let called = self.machine.call(Who::Caller(at.id), call)?;
-        self.count_left_out(called);
+        if matches!(called, Called::NoRoom) {
+            self.count_left_out();
+        }
         let after = CallerAt {
             next: next_place(at.next),
             wait: wait_of(called),
@@ -461,12 +415,10 @@ impl<'a> Play<'a> {
         Ok(())
     }
 
-    fn count_left_out(&mut self, called: Called)
+    fn count_left_out(&mut self)
         ensures { self.new ≡ self.old }
     {
-        if matches!(called, Called::NoRoom) {
-            self.left_out = self.left_out.saturating_add(1);
-        }
+        self.left_out = self.left_out.saturating_add(1);
     }
 
     fn count_refused(&mut self)
@@ -476,12 +428,12 @@ impl<'a> Play<'a> {
     }
 
     #[tactic(auto, unfolding(crate::specs::Stands::worker_moved))]
-    fn move_worker(&mut self, k: usize, at: WorkerAt, is_refused: bool) -> Result<(), AllocError>
+    fn move_worker(&mut self, k: usize, at: WorkerAt) -> Result<(), AllocError>
         requires { k < length self.old.workers }
-        ensures { IfOk result (λ _. self.new ≡ spec.worker_moved self.old k at is_refused) }
+        ensures { IfOk result (λ _. self.new ≡ spec.worker_moved self.old k at) }
     {
         match at.run {
-            Some(run) => self.move_run(k, at.id, run, is_refused),
+            Some(run) => self.move_run(k, at.id, run),
             None => self.start(k, at.id),
         }
     }
@@ -536,15 +488,9 @@ impl<'a> Play<'a> {
     }
 
     #[tactic(auto, unfolding(crate::specs::Stands::run_moved))]
-    fn move_run(
-        &mut self,
-        k: usize,
-        id: WorkerId,
-        run: RunAt,
-        is_refused: bool,
-    ) -> Result<(), AllocError>
+    fn move_run(&mut self, k: usize, id: WorkerId, run: RunAt) -> Result<(), AllocError>
         requires { k < length self.old.workers }
-        ensures { IfOk result (λ _. self.new ≡ spec.run_moved self.old k id run is_refused) }
+        ensures { IfOk result (λ _. self.new ≡ spec.run_moved self.old k id run) }
     {
         match run.doing {
             Doing::Acts => match self.action_of(run) {
@@ -552,36 +498,18 @@ impl<'a> Play<'a> {
                 None => self.finish(k, id),
             },
             Doing::AtGate { slept, .. } => self.pass(k, id, run, slept),
-            Doing::Borrows { caller } => self.begin(k, id, run, caller, is_refused),
             Doing::Waits { caller, wait } => self.end_wait(k, id, run, caller, wait),
-            Doing::Returns { caller } => self.give_back(k, id, run, caller),
         }
     }
 
     /// The run passes a gate, and wakes if it slept.
     fn pass(&mut self, k: usize, id: WorkerId, run: RunAt, slept: bool) -> Result<(), AllocError>
         requires { k < length self.old.workers }
-        ensures { IfOk result (λ _. self.new ≡ spec.did self.old k id run false (doing.AtGate 0 slept)) }
+        ensures { IfOk result (λ _. self.new ≡ spec.did self.old k id run (doing.AtGate 0 slept)) }
     {
         if slept {
             self.machine.step(Who::Worker(id), Call::Wake)?;
         }
-        self.put_run(k, id, Some(after_action(run)));
-        Ok(())
-    }
-
-    /// The run gives its caller back.
-    fn give_back(
-        &mut self,
-        k: usize,
-        id: WorkerId,
-        run: RunAt,
-        caller: u8,
-    ) -> Result<(), AllocError>
-        requires { k < length self.old.workers }
-        ensures { IfOk result (λ _. self.new ≡ spec.did self.old k id run false (doing.Returns caller)) }
-    {
-        self.free.push(caller)?;
         self.put_run(k, id, Some(after_action(run)));
         Ok(())
     }
@@ -594,8 +522,7 @@ impl<'a> Play<'a> {
         match action {
             Action::Call(call) => {
                 if !call.is_workers() {
-                    self.borrow_caller(k, id, run, call);
-                    return Ok(());
+                    return self.wait(k, id, run, call);
                 }
                 self.machine.step(Who::Worker(id), call)?;
                 self.put_run(k, id, Some(after_action(run)));
@@ -624,85 +551,80 @@ impl<'a> Play<'a> {
         }
     }
 
-    /// A run that is to wait takes a caller. Its wait is refused if it names the run's own item, or no caller is left.
-    #[tactic(auto, unfolding(crate::specs::Stands::borrowed))]
-    fn borrow_caller(&mut self, k: usize, id: WorkerId, run: RunAt, call: Call)
+    /// The run waits, or goes on where its wait is refused, or finds no caller or no room.
+    #[tactic(auto, unfolding(crate::specs::Stands::waited))]
+    fn wait(&mut self, k: usize, id: WorkerId, run: RunAt, call: Call) -> Result<(), AllocError>
         requires { k < length self.old.workers }
-        ensures { self.new ≡ spec.borrowed self.old k id run call }
+        ensures { IfOk result (λ _. self.new ≡ spec.waited self.old k id run call) }
     {
-        if is_of_item(call, run.item) {
-            self.count_refused();
-            self.put_run(k, id, Some(after_action(run)));
-            return;
-        }
-        match self.free.pop() {
-            Some(caller) => {
-                let doing = Doing::Borrows { caller };
-                self.put_run(k, id, Some(RunAt { doing, ..run }));
-            }
+        match self.lent_for(id, call)? {
+            Some(caller) => self.begin(k, id, run, call, caller),
             None => {
-                self.count_refused();
                 self.put_run(k, id, Some(after_action(run)));
+                Ok(())
             }
         }
     }
 
-    /// The run begins its wait, unless that is refused.
+    /// The caller by which a run waits. There is none where the call is not inside the shape, the wait is refused, no
+    /// caller is left, or there is no room for the wait: this is the order in which it is asked.
+    #[tactic(auto, unfolding(crate::specs::Stands::lent_for))]
+    fn lent_for(&mut self, id: WorkerId, call: Call) -> Result<Option<u8>, AllocError>
+        ensures same { self.new ≡ self.old }
+        ensures lent { IfOk result (λ caller. caller ≡ spec.lent_for self.old id call) }
+    {
+        if !self.machine.shape().has_numbers(call) {
+            self.count_left_out();
+            return Ok(None);
+        }
+        if self.is_refused(id, call)? {
+            self.count_refused();
+            return Ok(None);
+        }
+        let Some(caller) = self.last_free() else {
+            self.count_refused();
+            return Ok(None);
+        };
+        if !self.machine.has_wait_room(id, CallerId(caller), call) {
+            self.count_left_out();
+            return Ok(None);
+        }
+        Ok(Some(caller))
+    }
+
+    fn is_refused(&mut self, id: WorkerId, call: Call) -> Result<bool, AllocError>
+        requires { has_numbers self.old.history.layout call ≡ true }
+        ensures same { self.new ≡ self.old }
+        ensures is { IfOk result (λ is. is ≡ is_refused self.old.history self.old.workers id call) }
+    {
+        waiting::is_refused(&mut self.waits, &self.machine, &self.workers, id, call)
+    }
+
+    fn last_free(&self) -> Option<u8>
+        ensures { result ≡ spec.last_free self.now.free }
+    {
+        self.free.last().copied()
+    }
+
+    /// The run sleeps, and its caller makes the call.
+    #[tactic(auto, unfolding(crate::specs::Stands::begun_by))]
     fn begin(
         &mut self,
         k: usize,
         id: WorkerId,
         run: RunAt,
-        caller: u8,
-        is_refused: bool,
-    ) -> Result<(), AllocError>
-        requires { k < length self.old.workers }
-        ensures { IfOk result (λ _. self.new ≡ spec.did self.old k id run is_refused (doing.Borrows caller)) }
-    {
-        if is_refused {
-            self.count_refused();
-            self.put_run(k, id, Some(gives_back(run, caller)));
-            return Ok(());
-        }
-        match self.action_of(run) {
-            Some(Action::Call(call)) => self.begin_wait(k, id, run, caller, call),
-            _ => Ok(()),
-        }
-    }
-
-    /// The run sleeps, and its caller makes the call; if that waits for nothing, the run wakes.
-    #[tactic(auto, unfolding(crate::specs::Stands::wait_begun))]
-    fn begin_wait(
-        &mut self,
-        k: usize,
-        id: WorkerId,
-        run: RunAt,
-        caller: u8,
         call: Call,
+        caller: u8,
     ) -> Result<(), AllocError>
         requires { k < length self.old.workers }
-        ensures { IfOk result (λ _. self.new ≡ spec.wait_begun self.old k id run caller call) }
+        ensures { IfOk result (λ _. self.new ≡ spec.begun_by self.old k id run call caller) }
     {
-        let queueing = self.machine.run_of(id);
-        if self.machine.step(Who::Worker(id), Call::Sleep)?.is_none() {
-            self.put_run(k, id, Some(gives_back(run, caller)));
-            return Ok(());
-        }
+        self.machine.step(Who::Worker(id), Call::Sleep)?;
         let called = self.machine.call(Who::Caller(CallerId(caller)), call)?;
-        self.note_wait(queueing, caller, called);
         self.go_on(k, id, run, caller, called)
     }
 
-    /// What a run waits for is known from now on, if it waits.
-    fn note_wait(&mut self, queueing: Option<Queueing>, caller: u8, called: Called)
-        ensures { self.new ≡ self.old }
-    {
-        if let (Some(queueing), Called::Waits(wait)) = (queueing, called) {
-            self.waits.begins(queueing, ticket_of(caller, wait));
-        }
-    }
-
-    /// After the call of its caller a run waits, or wakes.
+    /// After the call of its caller a run waits, and the caller is lent; or the run wakes.
     fn go_on(
         &mut self,
         k: usize,
@@ -716,19 +638,21 @@ impl<'a> Play<'a> {
     {
         match called {
             Called::Waits(wait) => {
+                self.free.pop();
                 let doing = Doing::Waits { caller, wait };
                 self.put_run(k, id, Some(RunAt { doing, ..run }));
                 Ok(())
             }
             Called::NoRoom | Called::Whole => {
                 self.machine.step(Who::Worker(id), Call::Wake)?;
-                self.put_run(k, id, Some(gives_back(run, caller)));
+                self.put_run(k, id, Some(after_action(run)));
                 Ok(())
             }
         }
     }
 
-    /// The wait of a run ends, and the run wakes.
+    /// The wait of a run ends: it wakes, and gives its caller back.
+    #[tactic(auto, unfolding(crate::specs::Stands::wait_ended))]
     fn end_wait(
         &mut self,
         k: usize,
@@ -738,12 +662,12 @@ impl<'a> Play<'a> {
         wait: Ticketed,
     ) -> Result<(), AllocError>
         requires { k < length self.old.workers }
-        ensures { IfOk result (λ _. self.new ≡ spec.did self.old k id run false (doing.Waits caller wait)) }
+        ensures { IfOk result (λ _. self.new ≡ spec.wait_ended self.old k id run caller wait) }
     {
         self.machine.end(Who::Caller(CallerId(caller)), wait)?;
-        self.waits.ends(CallerId(caller));
         self.machine.step(Who::Worker(id), Call::Wake)?;
-        self.put_run(k, id, Some(gives_back(run, caller)));
+        self.free.push(caller)?;
+        self.put_run(k, id, Some(after_action(run)));
         Ok(())
     }
 }

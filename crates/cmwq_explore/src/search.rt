@@ -1,14 +1,14 @@
 //! All schedules of a script, depth first.
 
-ghost use Rattle.std.specs.Prelude.{◌≡◌, ◌≤◌, ◌<◌, ◌+◌, ◌-◌, ◌++◌, ◌∷◌, ℕ, [], true, length, None, IfOk, IfSome};
+ghost use Rattle.std.specs.Prelude.{◌≡◌, ◌≤◌, ◌<◌, ◌+◌, ◌-◌, ◌++◌, ◌∷◌, ℕ, [], true, length, All, None, IfOk, IfSome};
 ghost use Rattle.cmwq_explore.specs.Stands as spec;
-ghost use Rattle.cmwq_explore.specs.Searches.{AllEnd, AllEndAfter, GetsStuck, HasAtLeast, KnowsStuck};
-ghost use Rattle.cmwq_explore.specs.Searches.{NoneStuck, NoneStuckAfter, Rests, TellsStuck, after};
+ghost use Rattle.cmwq_explore.specs.Searches.{AllEnd, AllEndAfter, AllEndOrOneIsStuck, GetsStuck, HasAtLeast};
+ghost use Rattle.cmwq_explore.specs.Searches.{IsSchedule, KnowsStuck, NoneStuck, NoneStuckAfter, Rests};
+ghost use Rattle.cmwq_explore.specs.Searches.{StuckAreLong, TellsStuck, after};
 ghost use Rattle.cmwq_explore.specs.Counts.{CountsEnd, CountsStuck};
 ghost use Rattle.cmwq_explore.specs.declared.play.Standing.TheVariants as standing;
 ghost use Rattle.cmwq_explore.specs.Starts.{start_of};
 
-use crate::place::Step;
 use crate::play::{Play, Standing};
 use crate::setup::Setup;
 use std::alloc::{AllocError, Global};
@@ -99,15 +99,15 @@ struct Search {
     alloc: Global,
     limits: Limits,
     found: Found,
-    shortest: Option<Vec<Step>>,
+    shortest: Option<Vec<usize>>,
     next_look: u64,
 }
 
-/// The steps, copied.
-fn copy_of(alloc: Global, steps: &[Step]) -> Result<Vec<Step>, AllocError>
-    ensures { IfOk result (λ copy. copy.items ≡ steps.now) }
+/// The schedule, copied.
+fn copy_of(alloc: Global, schedule: &[usize]) -> Result<Vec<usize>, AllocError>
+    ensures { IfOk result (λ copy. copy.items ≡ schedule.now) }
 {
-    Ok(steps.to_vec(alloc)?)
+    Ok(schedule.to_vec(alloc)?)
 }
 
 impl Search {
@@ -150,7 +150,7 @@ impl Search {
     }
 
     /// Keeps a schedule that got stuck, if none that is shorter is known.
-    fn keep_shortest(&mut self, path: &[Step]) -> Result<(), AllocError>
+    fn keep_shortest(&mut self, path: &[usize]) -> Result<(), AllocError>
         ensures sound { IfOk result (λ _. (start : spec.Stand) → GetsStuck start path.now
             → TellsStuck start self.old.shortest → TellsStuck start self.new.shortest) }
         ensures within { IfOk result (λ _. IfSome self.new.shortest (λ s. length s.items ≤ length path.now)) }
@@ -160,7 +160,7 @@ impl Search {
         ensures found { self.new.found ≡ self.old.found }
     {
         match &self.shortest {
-            Some(steps) if steps.len() <= path.len() => Ok(()),
+            Some(known) if known.len() <= path.len() => Ok(()),
             _ => {
                 self.shortest = Some(copy_of(self.alloc, path)?);
                 Ok(())
@@ -172,13 +172,14 @@ impl Search {
     fn note_end<W: Watch>(
         &mut self,
         play: &Play<'_>,
-        path: &[Step],
+        path: &[usize],
         watch: &mut W,
     ) -> Result<(), AllocError>
         ensures done { self.new.found.stuck ≡ 0 → spec.IsDone play.now }
         ensures cut { self.new.found.cut ≡ self.old.found.cut }
         ensures stuck { self.old.found.stuck ≤ self.new.found.stuck }
-        ensures sound { IfOk result (λ _. (start : spec.Stand) → play.now ≡ after start path.now → Rests play.now
+        ensures sound { IfOk result (λ _. (start : spec.Stand) → play.now ≡ after start path.now
+            → IsSchedule start path.now → Rests play.now
             → TellsStuck start self.old.shortest → TellsStuck start self.new.shortest) }
         ensures none { IfOk result (λ _. (n : ℕ) → HasAtLeast n self.new.shortest → length path.now < n
             → spec.IsDone play.now) }
@@ -211,7 +212,7 @@ impl Search {
         &mut self,
         setup: &'a Setup<'a>,
         play: &mut Play<'a>,
-        path: &[Step],
+        path: &[usize],
         is_first: bool,
         watch: &mut W,
     ) -> Result<(), AllocError>
@@ -228,24 +229,27 @@ impl Search {
         Ok(())
     }
 
-    /// Makes a step, which is the last one of the path from then on.
-    fn step_on<W: Watch>(
+    /// Makes a move, which is the last one of the path from then on.
+    fn move_on<W: Watch>(
         &mut self,
         play: &mut Play<'_>,
-        path: &mut Vec<Step>,
-        step: Step,
+        path: &mut Vec<usize>,
+        party: usize,
         watch: &mut W,
     ) -> Result<(), AllocError>
-        ensures play { IfOk result (λ _. play.new ≡ spec.moved play.old step) }
-        ensures path { IfOk result (λ _. path.new.items ≡ path.old.items ++ step ∷ []) }
+        ensures play { IfOk result (λ _. play.new ≡ spec.moved play.old party) }
+        ensures path { IfOk result (λ _. path.new.items ≡ path.old.items ++ party ∷ []) }
         ensures at { IfOk result (λ _. (start : spec.Stand) → play.old ≡ after start path.old.items
             → play.new ≡ after start path.new.items) }
+        ensures goes { IfOk result (λ _. (start : spec.Stand) → play.old ≡ after start path.old.items
+            → IsSchedule start path.old.items → spec.may play.old party ≡ true
+            → IsSchedule start path.new.items) }
         ensures counts { (self.new.found.cut ≡ self.old.found.cut) × (self.new.found.stuck ≡ self.old.found.stuck) }
         ensures shortest { self.new.shortest ≡ self.old.shortest }
     {
-        play.make_move(step)?;
+        play.make_move(party)?;
         self.count_moves(1, watch);
-        path.push(step)?;
+        path.push(party)?;
         Ok(())
     }
 
@@ -255,11 +259,12 @@ impl Search {
         &mut self,
         setup: &'a Setup<'a>,
         play: &mut Play<'a>,
-        path: &mut Vec<Step>,
+        path: &mut Vec<usize>,
         depth: usize,
         watch: &mut W,
     ) -> Result<(), AllocError>
-        requires { play.old ≡ after (start_of setup.now) path.old.items }
+        requires at { play.old ≡ after (start_of setup.now) path.old.items }
+        requires goes { IsSchedule (start_of setup.now) path.old.items }
         ensures all { IfOk result
             (λ _. self.new.found.cut ≡ 0 → self.new.found.stuck ≡ 0 → AllEnd depth play.old) }
         ensures path { IfOk result (λ _. path.new.items ≡ path.old.items) }
@@ -292,12 +297,14 @@ impl Search {
         &mut self,
         setup: &'a Setup<'a>,
         play: &mut Play<'a>,
-        path: &mut Vec<Step>,
+        path: &mut Vec<usize>,
         depth: usize,
         movers: &[usize],
         watch: &mut W,
     ) -> Result<(), AllocError>
-        requires { play.old ≡ after (start_of setup.now) path.old.items }
+        requires at { play.old ≡ after (start_of setup.now) path.old.items }
+        requires goes { IsSchedule (start_of setup.now) path.old.items }
+        requires movers { All (λ k. spec.may play.old k ≡ true) movers.now }
         ensures all { IfOk result (λ _. self.new.found.cut ≡ 0 → self.new.found.stuck ≡ 0
             → AllEndAfter depth play.old movers.now (length movers.now)) }
         ensures path { IfOk result (λ _. path.new.items ≡ path.old.items) }
@@ -318,31 +325,32 @@ impl Search {
                 return Ok(());
             }
             self.stand_at(setup, play, path, k == 0, watch)?;
-            let step = play.step_of(movers[k]);
-            self.visit_step(setup, play, path, depth, step, watch)?;
+            self.visit_move(setup, play, path, depth, movers[k], watch)?;
         }
         Ok(())
     }
 
-    /// Makes a step, and visits all states after it.
+    /// Makes a move, and visits all states after it.
     #[cycle(visiting)]
-    fn visit_step<'a, W: Watch>(
+    fn visit_move<'a, W: Watch>(
         &mut self,
         setup: &'a Setup<'a>,
         play: &mut Play<'a>,
-        path: &mut Vec<Step>,
+        path: &mut Vec<usize>,
         depth: usize,
-        step: Step,
+        party: usize,
         watch: &mut W,
     ) -> Result<(), AllocError>
-        requires { play.old ≡ after (start_of setup.now) path.old.items }
+        requires at { play.old ≡ after (start_of setup.now) path.old.items }
+        requires goes { IsSchedule (start_of setup.now) path.old.items }
+        requires may { spec.may play.old party ≡ true }
         ensures all { IfOk result (λ _. self.new.found.cut ≡ 0 → self.new.found.stuck ≡ 0
-            → AllEnd depth (spec.moved play.old step)) }
+            → AllEnd depth (spec.moved play.old party)) }
         ensures path { IfOk result (λ _. path.new.items ≡ path.old.items) }
         ensures cut { self.old.found.cut ≤ self.new.found.cut }
         ensures stuck { self.old.found.stuck ≤ self.new.found.stuck }
         ensures none { IfOk result (λ _. self.new.found.cut ≡ 0 → (n : ℕ) → HasAtLeast n self.new.shortest
-            → NoneStuck (n - (length path.old.items + 1)) (spec.moved play.old step)) }
+            → NoneStuck (n - (length path.old.items + 1)) (spec.moved play.old party)) }
         ensures sound { IfOk result (λ _. TellsStuck (start_of setup.now) self.old.shortest
             → TellsStuck (start_of setup.now) self.new.shortest) }
         ensures shorter { IfOk result (λ _. (n : ℕ) → HasAtLeast n self.new.shortest
@@ -350,7 +358,7 @@ impl Search {
         ensures known { IfOk result (λ _. KnowsStuck self.old.found.stuck self.old.shortest
             → KnowsStuck self.new.found.stuck self.new.shortest) }
     {
-        self.step_on(play, path, step, watch)?;
+        self.move_on(play, path, party, watch)?;
         self.visit(setup, play, path, depth, watch)?;
         path.pop();
         Ok(())
@@ -387,14 +395,24 @@ pub fn search_all<'a, W: Watch>(
     setup: &'a Setup<'a>,
     limits: Limits,
     watch: &mut W,
-) -> Result<(Found, Option<Vec<Step>>), AllocError>
+) -> Result<(Found, Option<Vec<usize>>), AllocError>
     ensures all { IfOk result (λ r. r.0.cut ≡ 0 → r.0.stuck ≡ 0 → AllEnd MOST_MOVES (start_of setup.now)) }
     ensures stuck { IfOk result (λ r. TellsStuck (start_of setup.now) r.1) }
     ensures known { IfOk result (λ r. KnowsStuck r.0.stuck r.1) }
     ensures shortest { IfOk result (λ r. r.0.cut ≡ 0
-        → IfSome r.1 (λ steps. NoneStuck (length steps.items) (start_of setup.now))) }
+        → IfSome r.1 (λ schedule. NoneStuck (length schedule.items) (start_of setup.now))) }
 {
     let mut search = Search::new(alloc, limits);
     search.visit_all(setup, watch)?;
     Ok((search.found, search.shortest))
 }
+
+/// Where every schedule ends, none gets stuck: so what `search_all` tells is never both.
+pub fn all_end_or_one_is_stuck()
+    ensures { AllEndOrOneIsStuck }
+{}
+
+/// Where no schedule of fewer moves gets stuck, one that does is as long at least.
+pub fn stuck_are_long()
+    ensures { StuckAreLong }
+{}

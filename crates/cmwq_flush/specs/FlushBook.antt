@@ -1,9 +1,10 @@
 -- The flushes of a queue, as plain lists.
 use Rattle.std.specs.Prelude.{◌≡◌, ℕ, ◌+◌, ◌*◌, ◌<◌, ◌≤◌, if◌then◌else◌, List, [], ◌∷◌, ◌++◌, length, filter, find, All}
-use Rattle.std.specs.Prelude.{Option, MatchOption, is_some, nat_lt}
+use Rattle.std.specs.Prelude.{Bool, true, Option, MatchOption, is_some, nat_lt}
+use Rattle.std.specs.Option.{option_map_or}
 use Rattle.cmwq_flush.specs.declared.served.Served.{Served}
 use Rattle.cmwq_flush.specs.Numbers.{without}
-use Rattle.cmwq_flush.specs.Served.{tickets_of_served, has_ticket, is_other_flush}
+use Rattle.cmwq_flush.specs.Served.{tickets_of_served, has_ticket, is_other_flush, served_waits_for}
 
 -- next is one more than the number that was opened last, opened the open numbers, which rise; the flushes that are
 -- served and the tickets in overflow stand by age
@@ -32,6 +33,9 @@ IsLatestFlush b t = All (λ u. u < t) (flush_tickets b)
 -- a flush that is served waits for all that was opened before, one in overflow for all that is open
 abbrev pub served_of : FlushBook → ℕ → Option Served
 served_of b t = find (has_ticket t) b.served
+
+abbrev pub is_waited_for : FlushBook → ℕ → ℕ → Bool
+is_waited_for b t n = option_map_or (served_waits_for n) (served_of b t) true
 
 abbrev pub IsReady : FlushBook → ℕ → Type 0
 IsReady b t = MatchOption (served_of b t) (b.opened ≡ []) (λ s. All (λ n. s.bound ≤ n) b.opened)

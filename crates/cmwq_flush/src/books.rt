@@ -3,7 +3,8 @@ ghost use Rattle.std.specs.Prelude.{◌≡◌, [], ◌*◌, ◌<◌, ◌≤◌, 
 ghost use Rattle.std.specs.Prelude.{length, replicate, slice_get};
 ghost use Rattle.cmwq_flush.specs.ItemNumbers.{IsItemReady, item_waits_for, numbers_open};
 ghost use Rattle.cmwq_flush.specs.Colouring.{IsToldByColours};
-ghost use Rattle.cmwq_flush.specs.FlushBook.{IsReady, flush_tickets, flushes_with_wait, flushes_without_wait, new_book};
+ghost use Rattle.cmwq_flush.specs.FlushBook.{IsReady, flush_tickets, flushes_with_wait, flushes_without_wait, is_waited_for};
+ghost use Rattle.cmwq_flush.specs.FlushBook.{new_book};
 ghost use Rattle.cmwq_flush.specs.Queues.{AreQueuesRight, books_by};
 ghost use Rattle.cmwq_flush.specs.FlushBooks.{CanBegin, CanOpenOn, IsOpenOn, book_in, new_flush_state, with_book};
 ghost use Rattle.cmwq_flush.specs.FlushBooks.{with_open, without_open};
@@ -107,6 +108,15 @@ impl FlushBooks {
     {
         let is_empty = self.openings.is_empty(queue);
         self.queues[usize::from(queue.0)].ready(ticket, is_empty)
+    }
+
+    /// Whether a flush that stands waits for this number, if that is open of the queue: a served one for what was opened
+    /// before it was served, one in overflow for all.
+    pub fn is_waited_for(&self, queue: QueueId, ticket: Number, number: Number) -> bool
+        requires { queue.0 < length self.now.books }
+        ensures { result ≡ is_waited_for (book_in self.now.books queue.0) ticket number }
+    {
+        self.queues[usize::from(queue.0)].waits_for(ticket, number)
     }
 
     /// A flush that is ready ends (`__flush_workqueue` after its wait). Where it was served, the oldest of the overflow

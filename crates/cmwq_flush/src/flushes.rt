@@ -3,7 +3,7 @@ ghost use Rattle.std.specs.Prelude.{length, slice_index, take, vec_capacity, vec
 ghost use Rattle.std.specs.List.{list_all, remove, sum_by};
 ghost use Rattle.std.specs.List.Sorted.{IsNonDecreasingBy};
 ghost use Rattle.cmwq_flush.specs.declared.openings.Row.{Row};
-ghost use Rattle.cmwq_flush.specs.FlushBook.{CanOpen, IsLatestFlush, IsReady, flush_tickets, flushes_with_open};
+ghost use Rattle.cmwq_flush.specs.FlushBook.{CanOpen, IsLatestFlush, IsReady, flush_tickets, flushes_with_open, is_waited_for};
 ghost use Rattle.cmwq_flush.specs.FlushBook.{flushes_with_wait, flushes_without_open, flushes_without_wait, new_book};
 ghost use Rattle.cmwq_flush.specs.FlushBook.{served_with_oldest, without_oldest};
 ghost use Rattle.cmwq_flush.specs.Colouring.{AreUnused, IsColouring, IsToldByColours, WaitsForNothing};
@@ -112,6 +112,18 @@ impl Flushes {
         match find_served(&self.served, ticket) {
             Some(place) => is_served_ready(&self.counts, &self.colours, &self.served, place),
             None => is_empty,
+        }
+    }
+
+    /// Whether a flush waits for this number, if that is open.
+    pub(crate) fn waits_for(&self, ticket: Number, number: Number) -> bool
+        requires { (items : ℕ) × (rows : List Row) × (overflow : List ℕ) × IsQueueRight items rows overflow self.now }
+        ensures { (items : ℕ) (rows : List Row) (overflow : List ℕ) → IsQueueRight items rows overflow self.now
+            → result ≡ is_waited_for (book_by items rows overflow self.now) ticket number }
+    {
+        match find_served(&self.served, ticket) {
+            Some(place) => number < self.served[place].bound,
+            None => true,
         }
     }
 

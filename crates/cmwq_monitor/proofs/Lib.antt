@@ -6,3 +6,4 @@ pub mod Firing
 pub mod Whole
 pub mod Fitting
 mod Predicted
+pub mod Waits

@@ -7,7 +7,7 @@ mod monitor;
 mod participant;
 mod sleepers;
 
-pub use cmwq_waits::Stuck;
+pub use cmwq_waits::{RunWaits, Stuck};
 pub use fault::{RunFault, Shortage};
 pub use journal::{Journal, Rest};
 pub use monitor::{MOST_FIRES, Monitor};

@@ -1,13 +1,16 @@
 //! What a hub keeps under its lock: the execution, the published history, the ledger of entries, and who sleeps.
 ghost use Rattle.std.specs.Prelude.{◌≡◌, ◌≤◌, ◌<◌, ◌+◌, ◌++◌, ◌∷◌, [], drop, length, OnErr, true, false, IsTrue, IfOk};
-ghost use Rattle.std.specs.Prelude.{IfErr, IfSome, MatchOption, MatchBool, Some, None};
+ghost use Rattle.std.specs.Prelude.{IfErr, IfSome, MatchOption, MatchBool, Some, None, if◌then◌else◌};
 ghost use Rattle.cmwq_model.specs.declared.call.Call.{Call};
-ghost use Rattle.cmwq_model.specs.Prelude.{fits, past_of, IsLegal, is_done};
+ghost use Rattle.cmwq_model.specs.Prelude.{fits, past_of, IsLegal, has_numbers, is_done};
 ghost use Rattle.cmwq_model.specs.declared.call.Call.TheVariants as calls;
 ghost use Rattle.cmwq_model.specs.declared.reply.Reply.TheVariants as replies;
 ghost use Rattle.cmwq_core.specs.Plans.{IsPlan};
 ghost use Rattle.cmwq_monitor.specs.Participants.{View, Gains, is_caller};
 ghost use Rattle.cmwq_monitor.specs.Held.{Held, held_at_first, IsOpenTo, GoesOn, LeavesHeld, is_over, active_in};
+ghost use Rattle.cmwq_monitor.specs.Held.{has_room_to_wait, refusal_at, waits_with};
+ghost use Rattle.cmwq_waits.specs.HeldUp.{AreWaiting};
+ghost use Rattle.cmwq_waits.specs.Registered.{waits_after};
 ghost use Rattle.cmwq_monitor.specs.Calls.{Extends, own_entry};
 ghost use Rattle.cmwq_monitor.specs.Faults.{SaysFault, Refused, IsStranger, is_full};
 ghost use Rattle.cmwq_monitor.specs.Whole.{Stops};
@@ -24,7 +27,7 @@ use cmwq_core::{Execution, Full, Plan};
 use cmwq_model::{Call, Entry, ItemId, NoMemory, Number, Queueing, Reply, Shape, Ticket, Who};
 use cmwq_publish::{HubName, Publisher};
 use cmwq_state::Tail;
-use cmwq_waits::Stuck;
+use cmwq_waits::{RunWaits, Stuck};
 use std::marker::Model;
 use std::sync::ledger::Share;
 use std::sync::{Wait, ledger};
@@ -41,6 +44,7 @@ pub struct Monitor<N: HubName> {
     publisher: Publisher<N>,
     entries: ledger::Book<N>,
     sleepers: Sleepers,
+    runs: RunWaits,
     failed: bool,
     closed: bool,
     crowded: bool,
@@ -48,15 +52,17 @@ pub struct Monitor<N: HubName> {
 
 impl<N: HubName> Model for Monitor<N> {
     ghost use Rattle.std.specs.Prelude.{◌≡◌, length};
+    ghost use Rattle.cmwq_model.specs.Prelude.{past_of};
     ghost use Rattle.cmwq_monitor.specs.Held.{Held};
+    ghost use Rattle.cmwq_waits.specs.HeldUp.{AreWaiting};
 
     ghost Value = { Held };
 
-    ghost view = { λ d. record { history = d.execution.entries; closed = d.closed; failed = d.failed } };
+    ghost view = { λ d. record { history = d.execution.entries; closed = d.closed; failed = d.failed; waits = d.runs } };
 
     ghost invariant = { λ d. (d.shape ≡ N.layout) × (d.execution.layout ≡ N.layout) × (d.execution.room ≡ N.layout.room)
         × (d.publisher.entries ≡ d.execution.entries) × (d.entries.total ≡ length d.execution.entries)
-        × (d.tail.all ≡ d.execution.entries) };
+        × (d.tail.all ≡ d.execution.entries) × AreWaiting (past_of d.execution.entries) d.runs };
 }
 
 impl<N: HubName> Monitor<N> {
@@ -68,12 +74,14 @@ impl<N: HubName> Monitor<N> {
         publisher: Publisher<N>,
         entries: ledger::Book<N>,
         sleepers: Sleepers,
+        runs: RunWaits,
     ) -> Monitor<N>
         requires shape { shape ≡ N.layout }
         requires execution { execution ≡ record { layout = N.layout; room = N.layout.room; entries = [] } }
         requires tail { tail.all ≡ [] }
         requires publisher { publisher.entries ≡ [] }
         requires entries { entries.total ≡ 0 }
+        requires runs { runs ≡ [] }
         ensures { result ≡ held_at_first }
     {
         Monitor {
@@ -83,6 +91,7 @@ impl<N: HubName> Monitor<N> {
             publisher,
             entries,
             sleepers,
+            runs,
             failed: false,
             closed: false,
             crowded: false,
@@ -110,6 +119,8 @@ impl<N: HubName> Monitor<N> {
             (λ _. participant.new.seen ≡ self.old.history ++ own_entry N.layout self.old.history participant.old call
             ∷ []) }
         ensures goes_on { IfOk result (λ _. GoesOn self.old self.new) }
+        ensures waits { IfOk result (λ _. self.new.waits ≡ waits_after (past_of self.old.history)
+            (own_entry N.layout self.old.history participant.old call) self.old.waits) }
         ensures failed { IfErr result
             (λ _. (self.new ≡ record self.old { failed = true }) × (participant.new ≡ participant.old)) }
     {
@@ -129,6 +140,7 @@ impl<N: HubName> Monitor<N> {
         let ended = self.execution.ended_by(plan);
         let done = self.execution.done_by(plan);
         let reply = self.execution.commit(plan);
+        self.runs.entered(&ended, &done);
         self.tail.push(plan.mark.entry);
         participant.count(self.publisher.prefix(), serial + 1, &mut self.entries);
         self.wake(&plan.mark.entry, &ended, &done);
@@ -157,6 +169,8 @@ impl<N: HubName> Monitor<N> {
         requires fits { IsTrue (fits N.layout participant.old.who call) }
         requires step { InStep self.old.history participant.old }
         ensures made { IfOk result (λ reply. Extends N.layout participant.old call reply participant.new) }
+        ensures seen { IfOk result (λ _. participant.new.seen ≡ self.old.history
+            ++ own_entry N.layout self.old.history participant.old call ∷ []) }
         ensures goes_on { IfOk result (λ _. GoesOn self.old self.new) }
         ensures short { IfErr result (λ what. Gains participant.old [] participant.new
             × Lacks N.layout self.old participant.new call what self.new) }
@@ -244,6 +258,8 @@ impl<N: HubName> Monitor<N> {
         requires { IsTrue (fits N.layout participant.old.who call) }
         ensures made { IfOk result (λ reply. Extends N.layout participant.old call reply participant.new
             × InStep self.new.history participant.new) }
+        ensures seen { IfOk result (λ _. participant.new.seen ≡ self.old.history
+            ++ own_entry N.layout self.old.history participant.old call ∷ []) }
         ensures open { IfOk result (λ _. IsOpenTo self.old participant.old.who × GoesOn self.old self.new) }
         ensures refused { IfErr result (λ f. Refused N.layout participant.old call f participant.new) }
         ensures first { IfErr result (λ f. TellsFirst self.old participant.old f) }
@@ -286,65 +302,52 @@ impl<N: HubName> Monitor<N> {
         }
     }
 
-    /// What the worker runs, unless its run sleeps.
-    fn run_of(&self, participant: &Participant<N>) -> Option<Queueing>
-        requires { is_caller participant.now.who ≡ false }
-    {
-        let who = participant.who();
-        let planned = self.execution.plan(who, Call::Finish);
-        match &planned {
-            Ok(plan) => self.execution.ended_by(plan),
-            Err(Full) => None,
-        }
-    }
-
-    /// What the worker runs, if its run may wait by this call of a caller that is lent to it. Of a run that sleeps
-    /// nothing is known.
-    ///
-    /// # Errors
-    /// Why the wait could never end, if that is seen.
-    pub fn may_wait(
+    /// Why a wait of what the worker runs, by this call of a caller that is lent to it, is refused, if it is.
+    pub fn refuses(
         &mut self,
         participant: &Participant<N>,
-        caller: Who,
         call: Call,
-    ) -> Result<Option<Queueing>, Stuck>
-        requires { is_caller participant.now.who ≡ false }
-        ensures { self.new ≡ self.old }
+    ) -> Result<Option<Stuck>, RunFault>
+        requires { has_numbers N.layout call ≡ true }
+        ensures is { IfOk result (λ stuck. stuck ≡ refusal_at N.layout self.old participant.now.who call) }
+        ensures step { IfOk result (λ _. InStep self.old.history participant.now) }
+        ensures waiting { AreWaiting (past_of self.old.history) self.old.waits }
+        ensures stranger { IfErr result (λ f. IsStranger participant.now f) }
+        ensures same { self.new ≡ self.old }
     {
-        let (Some(run), Who::Caller(caller)) = (self.run_of(participant), caller) else {
-            return Ok(None);
-        };
-        match self
-            .sleepers
-            .refuses(&self.execution, &self.shape, &run, caller, call)
-        {
-            Some(stuck) => Err(stuck),
-            None => Ok(Some(run)),
+        self.compare(participant)?;
+        match participant.who() {
+            Who::Worker(worker) => Ok(
+                self.runs
+                    .refuses(&self.execution, &self.shape, worker, call),
+            ),
+            Who::Caller(_) => Ok(None),
         }
     }
 
-    /// The run waits from now on, for the ticket that the call of this caller gave.
-    pub fn run_waits(&mut self, run: Option<Queueing>, caller: Who, call: Call, ticket: Number)
-        ensures { self.new ≡ self.old }
+    /// Whether there is room for the caller's call, with what would be owed then, and for a sleep and a wake.
+    pub fn has_room_to_wait(&self, caller: &Participant<N>, call: Call) -> bool
+        requires { IsTrue (fits N.layout caller.now.who call) }
+        ensures { result ≡ has_room_to_wait N.layout self.now caller.now.who call }
     {
-        let (Some(run), Who::Caller(caller)) = (run, caller) else {
-            return;
-        };
-        let ticket = Ticket {
-            caller,
-            call,
-            number: ticket,
-        };
-        self.sleepers.run_waits(run, ticket);
+        self.execution.has_room_with(caller.who(), call, 2)
     }
 
-    /// The run to which this caller is lent goes on.
-    pub fn run_goes_on(&mut self, caller: Who)
-        ensures { self.new ≡ self.old }
+    /// What the worker runs waits from now on for this ticket of the caller. It returns false where there was no space
+    /// for it: there is for as many as the hub has callers.
+    pub fn run_waits(
+        &mut self,
+        participant: &Participant<N>,
+        caller: &Participant<N>,
+        ticket: Number,
+    ) -> bool
+        ensures { self.new ≡ record self.old { waits = if result
+            then waits_with self.old participant.now.who caller.now.who ticket else self.old.waits } }
     {
-        if let Who::Caller(caller) = caller {
-            self.sleepers.run_goes_on(caller);
+        match (participant.who(), caller.who()) {
+            (Who::Worker(worker), Who::Caller(caller)) =>
+                self.runs.registers(&self.execution, worker, caller, ticket),
+            _ => true,
         }
     }
 
@@ -651,12 +654,19 @@ impl<N: HubName> Monitor<N> {
         ensures refused { OnErr result (journal.new.seen ≡ journal.old.seen) }
         ensures same { self.new ≡ self.old }
     {
+        self.uncrowd();
+        let first = self.tail.first();
+        journal.take(first, &mut self.tail, self.publisher.prefix())
+    }
+
+    /// Wakes those who sleep until there is space.
+    fn uncrowd(&mut self)
+        ensures { self.new ≡ self.old }
+    {
         if self.crowded {
             self.crowded = false;
             self.sleepers.wake_all();
         }
-        let first = self.tail.first();
-        journal.take(first, &mut self.tail, self.publisher.prefix())
     }
 
     /// What was not handed over. It waits for the readers to leave.
@@ -672,6 +682,7 @@ impl<N: HubName> Monitor<N> {
             publisher,
             entries: _entries,
             sleepers,
+            runs,
             failed: _,
             closed: _,
             crowded: _,
@@ -679,6 +690,7 @@ impl<N: HubName> Monitor<N> {
         let _len = execution.len();
         execution.end();
         drop(sleepers);
+        drop(runs);
         drop(shape);
         publisher.end(rt);
         let first = tail.first();

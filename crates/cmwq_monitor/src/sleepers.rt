@@ -8,7 +8,6 @@ use cmwq_model::{
     Call, CallerId, CpuId, Entry, NoMemory, PoolId, QueueId, Queueing, Reply, Shape, Ticket, Who,
     WorkerId,
 };
-use cmwq_waits::{RunWaits, Stuck};
 use std::alloc::Global;
 
 /// How many callers, and how many workers, are named where they are to be woken. Where there are more, all are woken.
@@ -96,8 +95,6 @@ pub struct Sleepers {
     /// By pool.
     idle: Vec<IdleWorkers>,
     wakes: Wakes,
-    /// The runs that wait.
-    runs: RunWaits,
 }
 
 /// The bit of a worker in the word of its pool.
@@ -241,7 +238,6 @@ impl Sleepers {
             flushes: Vec::with_capacity(alloc, usize::from(counts.callers))?,
             idle: Vec::from_elem(alloc, NONE_IDLE, 2 * usize::from(counts.cpus))?,
             wakes: NOBODY,
-            runs: RunWaits::new(alloc, shape)?,
         })
     }
 
@@ -399,30 +395,6 @@ impl Sleepers {
                 }
             }
         }
-    }
-
-    /// A run begins to wait for this ticket.
-    pub fn run_waits(&mut self, run: Queueing, ticket: Ticket) {
-        self.runs.begins(run, ticket);
-    }
-
-    /// The run to which this caller is lent goes on.
-    pub fn run_goes_on(&mut self, caller: CallerId) {
-        self.runs.ends(caller);
-    }
-
-    /// Why a wait of this run, by this call of a caller that is lent to it, could never end, if that is seen.
-    pub fn refuses(
-        &mut self,
-        book: &Execution,
-        shape: &Shape,
-        run: &Queueing,
-        caller: CallerId,
-        call: Call,
-    ) -> Option<Stuck>
-        requires { book.now.layout ≡ shape.now }
-    {
-        self.runs.refuses(book, shape, run, caller, call)
     }
 
     /// All workers are to be woken.

@@ -1,8 +1,8 @@
 -- What a flush book answers is what the definitions say.
-use Rattle.cmwq_refinement.specs.Common.{◌≡◌, ◌<◌, ◌≤◌, ◌↔◌, ℕ, Bool, true, false, cond, List, [], ◌∷◌, filter, find}
+use Rattle.cmwq_refinement.specs.Common.{◌≡◌, ◌<◌, ◌≤◌, ◌↔◌, ℕ, Bool, true, false, cond, List, [], ◌∷◌, filter, find, length}
 use Rattle.cmwq_refinement.specs.Common.{count_by, Option, Some, None, nat_lt, nat_le, refl, sym, ap, ◌∙◌, subst, arith}
-use Rattle.cmwq_refinement.specs.Common.{⊎_elim, option_map, slice_get, Contains, All, MatchOption, AllByRecursion}
-use Rattle.cmwq_refinement.specs.Common.{eqb-true, ltb-false, le-ltb, QueueId, Entry, Ticket, Layout, still_open}
+use Rattle.cmwq_refinement.specs.Common.{⊎_elim, option_map, option_map_or, slice_get, Contains, All, MatchOption, AllByRecursion}
+use Rattle.cmwq_refinement.specs.Common.{eqb-true, ltb-false, le-ltb, QueueId, Entry, Queueing, Ticket, Layout, still_open}
 use Rattle.cmwq_refinement.specs.Common.{unended_tickets, is_flush_of, serving_from, is_within, is_older_flush}
 use Rattle.cmwq_refinement.specs.Common.{waits_for, Served, tickets_of_served, has_ticket, FlushBook, flush_tickets}
 use Rattle.cmwq_refinement.specs.Common.{served_of, find_none, nat_tests}
@@ -10,10 +10,10 @@ use Rattle.cmwq_refinement.proofs.Numbers.{In, RisesBy, all_unfound, contained_i
 use Rattle.cmwq_refinement.proofs.Numbers.{first_number, found, in_append, in_contained, in_mapped, itself}
 use Rattle.cmwq_refinement.proofs.Numbers.{number_of_queueing, number_of_ticket, numbers_rise, of_in, rises_filter}
 use Rattle.cmwq_model.specs.declared.call.Call.TheVariants as call
-use Rattle.cmwq_flush.specs.FlushBook.{IsReady}
+use Rattle.cmwq_flush.specs.FlushBook.{IsReady, is_waited_for}
 use Rattle.cmwq_refinement.specs.FlushBooks.{is_on_queue, open_numbers, IsServedFrom, AreFlushes}
 use Rattle.cmwq_refinement.proofs.QueueingSteps.{open_numbers_rise}
-use Rattle.cmwq_refinement.proofs.FlushSteps.{few_are_older, many_are_older}
+use Rattle.cmwq_refinement.proofs.FlushSteps.{few_are_older, many_are_older, served_before}
 
 -- what a flush waits for, read off the open numbers
 waits_by_number : (past : List Entry) (q : QueueId) (b : FlushBook) (t : ℕ) → b.opened ≡ open_numbers past q.0
@@ -61,6 +61,55 @@ ready_flushes_wait_for_nothing s past q b t is here = by (served_of b t) refl
         (of_in (IsServedFrom past q.0 b.opened) b.served f is.served_from k.0))
         (all_unfound (λ n. f.bound ≤ n) (λ n. nat_lt n f.bound) b.opened (λ n le. le-ltb n f.bound le)
         (λ n h. ltb-false n f.bound h))
+
+-- ---- whether an open queueing is waited for
+
+pub flushes_wait_within : (s : Layout) (past : List Entry) (q : ℕ) (b : FlushBook) (t : ℕ) (x : Queueing)
+    → AreFlushes s past q b → Contains (flush_tickets b) t → Contains (still_open past) x → is_on_queue q x ≡ true
+    → is_waited_for b t x.number ≡ is_within (serving_from past q t) x.number
+flushes_wait_within s past q b t x is here open_x on_q = by (served_of b t) refl
+  where
+    there : In x.number b.opened
+    there =
+        subst (In x.number) (sym is.opened)
+        (in_mapped number_of_queueing (filter (is_on_queue q) (still_open past)) x
+        (filter_in (is_on_queue q) (still_open past) x (contained_in (still_open past) x open_x) on_q))
+
+    by : (o : Option Served) → served_of b t ≡ o
+        → option_map_or (λ (f : Served). nat_lt x.number f.bound) o true ≡ is_within (serving_from past q t) x.number
+    by None none =
+        let over =
+        of_in (λ u. serving_from past q u ≡ None) b.overflow t is.overflowed
+        (in_overflow b t none (contained_in (flush_tickets b) t here)) in
+        rw over refl
+    by (Some f) some =
+        let k = found (has_ticket t) b.served f some in
+        let h = of_in (IsServedFrom past q b.opened) b.served f is.served_from k.0 in
+        of_in (λ m. nat_lt m f.bound ≡ nat_le m h.position) b.opened x.number h.same there
+        ∙ ap (λ o. is_within o x.number) (sym (ap (serving_from past q) (sym (eqb-true f.ticket t k.1)) ∙ h.is_served))
+
+-- and one that is opened next
+pub flushes_wait_for_next : (s : Layout) (past : List Entry) (q : ℕ) (b : FlushBook) (t : ℕ) → AreFlushes s past q b
+    → Contains (flush_tickets b) t
+    → is_waited_for b t (length past) ≡ is_within (serving_from past q t) (length past)
+flushes_wait_for_next s past q b t is here = by (served_of b t) refl
+  where
+    by : (o : Option Served) → served_of b t ≡ o
+        → option_map_or (λ (f : Served). nat_lt (length past) f.bound) o true
+        ≡ is_within (serving_from past q t) (length past)
+    by None none =
+        let over =
+        of_in (λ u. serving_from past q u ≡ None) b.overflow t is.overflowed
+        (in_overflow b t none (contained_in (flush_tickets b) t here)) in
+        rw over refl
+    by (Some f) some =
+        let k = found (has_ticket t) b.served f some in
+        let h = of_in (IsServedFrom past q b.opened) b.served f is.served_from k.0 in
+        let bound = of_in (λ (g : Served). g.bound ≤ b.next) b.served f is.bounds k.0 in
+        let served : serving_from past q t ≡ Some h.position =
+        ap (serving_from past q) (sym (eqb-true f.ticket t k.1)) ∙ h.is_served in
+        let before = served_before past q t h.position served in
+        rw served (grind (arith, nat_tests, is.next))
 
 -- ---- what stands
 

@@ -37,7 +37,7 @@ not_yet : (e : Entry) (past : List Entry) (q t : ℕ) → serving_from past q t 
 unfolding serving_from
 not_yet e past q t none after = rw (none, after, and_false) refl
 
-served_before : (past : List Entry) (q t p : ℕ) → serving_from past q t ≡ Some p → p < length past
+pub served_before : (past : List Entry) (q t p : ℕ) → serving_from past q t ≡ Some p → p < length past
 unfolding serving_from
 served_before [] q t p h = cc
 served_before (e ∷ past) q t p h = grind (arith, served_before past q t p, h)

@@ -3,11 +3,11 @@ use Rattle.std.specs.Prelude.{◌≡◌, ◌<◌, ◌≤◌, ◌↔◌, ◌==◌
 use Rattle.cmwq_refinement.specs.Common.{ℕ, Bool, List, length, map, filter, count_by, [], Contains, true, Option, Some}
 use Rattle.cmwq_refinement.specs.Common.{None, slice_get, nat_lt, nat_le, AllByRecursion, QueueId, Entry, Queueing}
 use Rattle.cmwq_refinement.specs.Common.{Ticket, Layout, still_open, opening, unended_tickets, is_flush_of}
-use Rattle.cmwq_refinement.specs.Common.{serving_from, is_older_flush, waits_for, IsLegal, ending, ticket_ended, Served}
+use Rattle.cmwq_refinement.specs.Common.{serving_from, is_within, is_older_flush, waits_for, IsLegal, ending, ticket_ended, Served}
 use Rattle.cmwq_refinement.specs.Common.{FlushBook, new_book, flush_tickets, CanOpen, flushes_with_open}
 use Rattle.cmwq_refinement.specs.Common.{flushes_without_open, flushes_with_wait, flushes_without_wait, IsServing}
 use Rattle.cmwq_model.specs.declared.call.Call.TheVariants as call
-use Rattle.cmwq_flush.specs.FlushBook.{IsLatestFlush, IsReady}
+use Rattle.cmwq_flush.specs.FlushBook.{IsLatestFlush, IsReady, is_waited_for}
 use Rattle.cmwq_flush.specs.FlushBooks.{book_in, overflow_count}
 use Rattle.cmwq_refinement.specs.ByNumber.{number_of_queueing, number_of_ticket, ticket_given}
 
@@ -85,6 +85,18 @@ abbrev pub FlushesWaitForLeastOpen : Type 0
 FlushesWaitForLeastOpen = (s : Layout) (past : List Entry) (q : QueueId) (b : FlushBook) (t n : ℕ)
     → AreFlushes s past q.0 b → Contains (flush_tickets b) t
     → waits_for past t (call.Flush q) ≡ Some n → slice_get b.opened 0 ≡ Some n
+
+-- whether it waits for an open queueing of its queue
+abbrev pub FlushesWaitWithin : Type 0
+FlushesWaitWithin = (s : Layout) (past : List Entry) (q : ℕ) (b : FlushBook) (t : ℕ) (x : Queueing)
+    → AreFlushes s past q b → Contains (flush_tickets b) t → Contains (still_open past) x → is_on_queue q x ≡ true
+    → is_waited_for b t x.number ≡ is_within (serving_from past q t) x.number
+
+-- and for the one that is opened next
+abbrev pub FlushesWaitForNext : Type 0
+FlushesWaitForNext = (s : Layout) (past : List Entry) (q : ℕ) (b : FlushBook) (t : ℕ) → AreFlushes s past q b
+    → Contains (flush_tickets b) t
+    → is_waited_for b t (length past) ≡ is_within (serving_from past q t) (length past)
 
 -- a drain and a destroy wait for the least open queueing
 abbrev pub DrainsWaitForLeastOpen : Type 0

@@ -2,7 +2,8 @@
 //! history, and what it answers is what the definitions say.
 
 ghost use Rattle.cmwq_refinement.specs.FlushBooks.{FlushesAtFirst, FlushesRefine, ReadyFlushesWaitForNothing};
-ghost use Rattle.cmwq_refinement.specs.FlushBooks.{FlushesWaitForLeastOpen, DrainsWaitForLeastOpen};
+ghost use Rattle.cmwq_refinement.specs.FlushBooks.{FlushesWaitForLeastOpen, FlushesWaitForNext, FlushesWaitWithin};
+ghost use Rattle.cmwq_refinement.specs.FlushBooks.{DrainsWaitForLeastOpen};
 ghost use Rattle.cmwq_refinement.specs.FlushBooks.{OverflowedAreBehindFifteen, DoneFlushesMayEnd};
 ghost use Rattle.cmwq_refinement.specs.FlushBooks.{EntriesApplyToFlushes, GivenFlushesHaveRoom, UnendedFlushesStand};
 
@@ -13,6 +14,8 @@ pub fn flushes_refine()
     ensures flushes_refine { FlushesRefine }
     ensures unended_flushes_stand { UnendedFlushesStand }
     ensures ready_flushes_wait_for_nothing { ReadyFlushesWaitForNothing }
+    ensures flushes_wait_within { FlushesWaitWithin }
+    ensures flushes_wait_for_next { FlushesWaitForNext }
     ensures flushes_wait_for_least_open { FlushesWaitForLeastOpen }
     ensures drains_wait_for_least_open { DrainsWaitForLeastOpen }
     ensures overflowed_are_behind_fifteen { OverflowedAreBehindFifteen }

@@ -7,7 +7,7 @@ use Rattle.cmwq_model.specs.Prelude.{is_callers}
 use Rattle.cmwq_monitor.specs.Whole.{is_tick}
 use Rattle.cmwq_rt.specs.Later.{Later}
 use Rattle.cmwq_rt.specs.Running.{MakesOne}
-use Rattle.cmwq_rt.specs.Waiting.{SleepsThrough, is_wait}
+use Rattle.cmwq_rt.specs.Waiting.{SleepsThrough, WasAllowed, is_wait}
 use Rattle.cmwq_rt.proofs.Later.{later_trans, later_made}
 
 -- who may make the call by which a run waits
@@ -43,12 +43,13 @@ later_slept s v w c r x =
 
 -- put together of its steps
 pub slept_through : (s : Layout) (v asleep before after w : View) (c : Call) (o : Result Reply WaitFault)
-    → MakesOne s v call.Sleep asleep → is_caller after.who ≡ true → IfOk o (λ r. Completes s before c r after)
+    → MakesOne s v call.Sleep asleep → WasAllowed s v c asleep → is_caller after.who ≡ true → IfOk o (λ r. Completes s before c r after)
     → IfOk o (λ _. MakesOne s asleep call.Wake w) → IfOk o (λ _. IsPrefix asleep.seen after.seen)
     → IfOk o (λ _. IsPrefix after.seen w.seen) → IfOk o (λ r. SleepsThrough s v c r w)
-slept_through s v asleep before after w c (Ok r) sleeps caller completes wakes saw_sleep sees = record {
+slept_through s v asleep before after w c (Ok r) sleeps allowed caller completes wakes saw_sleep sees = record {
   asleep = asleep;
   sleeps = sleeps;
+  allowed = allowed;
   before = before;
   after = after;
   by_caller = caller;
@@ -57,4 +58,4 @@ slept_through s v asleep before after w c (Ok r) sleeps caller completes wakes s
   saw_sleep = saw_sleep;
   sees = sees;
 }
-slept_through s v asleep before after w c (Err f) sleeps caller completes wakes saw_sleep sees = tt
+slept_through s v asleep before after w c (Err f) sleeps allowed caller completes wakes saw_sleep sees = tt

@@ -1,9 +1,17 @@
 -- Waits of runs, and what they leave.
-use Rattle.std.specs.Prelude.{◌≡◌, ◌⊎◌}
+use Rattle.std.specs.Prelude.{◌≡◌, ◌⊎◌, ◌==◌, ◌++◌, ◌∷◌, [], IfSome, Some, None}
 use Rattle.cmwq_rt.specs.Common.{Bool, true, false, Option, Result, Err, IsPrefix, Call, Reply, Layout, View, Refused}
 use Rattle.cmwq_rt.specs.Common.{is_caller, is_full, Completes, RunFault, Full}
 use Rattle.cmwq_model.specs.declared.call.Call.TheVariants as call
-use Rattle.cmwq_rt.specs.Running.{MakesOne, breaks_off, fault_after}
+use Rattle.cmwq_model.specs.Prelude.{past_of}
+use Rattle.cmwq_model.specs.declared.id.ItemId.{ItemId}
+use Rattle.cmwq_monitor.specs.Calls.{own_entry}
+use Rattle.cmwq_monitor.specs.Held.{Held, refusal_at}
+use Rattle.cmwq_monitor.specs.Steps.{InStep}
+use Rattle.cmwq_rt.specs.Running.{MakesOne, Running, breaks_off, fault_after}
+use Rattle.cmwq_waits.specs.HeldUp.{AreWaiting}
+use Rattle.cmwq_waits.specs.declared.waits.Stuck.{Stuck}
+use Rattle.cmwq_waits.specs.declared.waits.Stuck.TheVariants as stuck
 use Rattle.cmwq_rt.specs.declared.wait_fault.WaitFault.{WaitFault}
 use Rattle.cmwq_rt.specs.declared.wait_fault.WaitFault.TheVariants.{Itself, Deadlock, NoCaller, Run}
 
@@ -20,10 +28,18 @@ is_wait c = false
 abbrev pub IsAwake : Layout → View → View → Type 0
 IsAwake s v w = (w ≡ v) ⊎ MakesOne s v call.Wake w
 
+-- Under the lock, before it fell asleep, its wait was not refused.
+pub record WasAllowed (s : Layout) (v : View) (c : Call) (asleep : View) : Type 0 where
+  pub held : Held
+  pub waiting : AreWaiting (past_of held.history) held.waits
+  pub allowed : refusal_at s held v.who c ≡ None
+  pub slept : asleep.seen ≡ held.history ++ own_entry s held.history v call.Sleep ∷ []
+
 -- The worker slept, and woke. Between the two, in what it sees, a caller made this call whole.
 pub record SleepsThrough (s : Layout) (v : View) (c : Call) (r : Reply) (w : View) : Type 0 where
   pub asleep : View
   pub sleeps : MakesOne s v call.Sleep asleep
+  pub allowed : WasAllowed s v c asleep
   pub before : View
   pub after : View
   pub by_caller : is_caller after.who ≡ true
@@ -36,15 +52,15 @@ pub record SleepsThrough (s : Layout) (v : View) (c : Call) (r : Reply) (w : Vie
 abbrev pub HasWaited : Layout → View → Call → Reply → View → Type 0
 HasWaited s v c r w = (awake : View) × IsAwake s v awake × SleepsThrough s awake c r w
 
--- there was no room for a sleep, or the worker slept and woke
-abbrev pub SleepsInVain : Layout → View → View → Type 0
-SleepsInVain s v w =
-    Refused s v call.Sleep Full w ⊎ ((asleep : View) × MakesOne s v call.Sleep asleep × MakesOne s asleep call.Wake w)
+-- There was no room for the wait: the run made nothing.
+abbrev pub MakesNothing : Layout → View → View → Type 0
+MakesNothing s v w = (w ≡ v) ⊎ Refused s v call.Sleep Full w
 
--- A wait had no room: a run that was asleep had none to wake, or, awake, it had none to sleep, or it slept and woke,
--- since there was none for what it would wait for.
+-- A wait had no room: a run that was asleep had none to wake, or woke, and made nothing else.
 abbrev pub HadNoRoom : Layout → View → View → Type 0
-HadNoRoom s v w = Refused s v call.Wake Full w ⊎ ((awake : View) × IsAwake s v awake × SleepsInVain s awake w)
+HadNoRoom s v w = Refused s v call.Wake Full w ⊎ ((awake : View) × IsAwake s v awake × MakesNothing s awake w)
+
+-- ---- refusals
 
 -- whether the wait was refused, with nothing made
 abbrev pub is_refusal : WaitFault → Bool
@@ -62,3 +78,31 @@ IsOfRun f = Unit {0}
 abbrev pub fault_after_wait : Result Reply WaitFault → Option RunFault → Option RunFault
 fault_after_wait (Err (Run f)) old = fault_after (Err f) old
 fault_after_wait r old = old
+
+-- why it was refused, where that is a matter of what waits for what
+abbrev pub stuck_of : WaitFault → Option Stuck
+stuck_of Itself = Some stuck.Itself
+stuck_of Deadlock = Some stuck.Circle
+stuck_of f = None
+
+-- Under the lock, a wait of what the worker ran was refused for this reason. The hub counted as many entries of the
+-- worker as it had made, and had all that it had seen.
+pub record WasRefused (s : Layout) (v : View) (c : Call) (why : Stuck) : Type 0 where
+  pub held : Held
+  pub step : InStep held.history v
+  pub waiting : AreWaiting (past_of held.history) held.waits
+  pub refused : refusal_at s held v.who c ≡ Some why
+
+abbrev pub IsStuck : Layout → View → Call → WaitFault → Type 0
+IsStuck s v c f = IfSome (stuck_of f) (WasRefused s v c)
+
+-- the call waits for the item that runs
+abbrev pub is_for_itself : ItemId → Call → Bool
+is_for_itself own (call.FlushItem i) = i.0 == own.0
+is_for_itself own (call.CancelSync i) = i.0 == own.0
+is_for_itself own c = false
+
+-- a run that waits for its own item, or could not wait once it was awake
+abbrev pub MayNotWait : Layout → Running → Call → WaitFault → Type 0
+MayNotWait s r c f =
+    (is_for_itself r.item c ≡ true) ⊎ ((awake : View) × IsAwake s r.participant awake × IsStuck s awake c f)

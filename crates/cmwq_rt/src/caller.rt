@@ -14,7 +14,7 @@ ghost use Rattle.cmwq_rt.specs.Batches.{MakesBatch, StopsBatch};
 use crate::batch::BatchFault;
 use crate::hub::Hub;
 use crate::worker::Worker;
-use cmwq_model::{Call, CpuId, ItemId, Number, QueueId, Queueing, Reply, Who};
+use cmwq_model::{Call, CpuId, ItemId, Number, QueueId, Reply, Who};
 use cmwq_monitor::{Monitor, Participant, RunFault};
 use cmwq_publish::{HubName, Reader};
 use std::marker::Model;
@@ -227,7 +227,7 @@ impl<N: HubName> Caller<N> {
         rt: &R,
         hub: &'a Hub<N>,
         monitor: MutexGuard<'a, Monitor<N>>,
-        run: Option<Queueing>,
+        worker: &Participant<N>,
         call: Call,
     ) -> (MutexGuard<'a, Monitor<N>>, Result<Reply, RunFault>)
         requires callers { is_callers call ≡ true }
@@ -236,7 +236,7 @@ impl<N: HubName> Caller<N> {
         ensures done { IfOk result.1 (λ reply. Completes N.layout self.old call reply self.new) }
         ensures broke { IfErr result.1 (λ f. BrokeOff N.layout self.old call f self.new) }
     {
-        let who = self.participant.who();
+        let _who = self.participant.who();
         let mut monitor = monitor;
         let reply = match monitor.call_in_run(rt, &mut self.participant, call) {
             Ok(reply) => reply,
@@ -245,15 +245,14 @@ impl<N: HubName> Caller<N> {
         let Some(ticket) = ticket_in(reply) else {
             return (monitor, Ok(reply));
         };
-        monitor.run_waits(run, who, call, ticket);
-        let (mut monitor, ended) = hub.until_ended(
+        monitor.run_waits(worker, &self.participant, ticket);
+        let (monitor, ended) = hub.until_ended(
             rt,
             monitor,
             &mut self.participant,
             call,
             ticket,
         );
-        monitor.run_goes_on(who);
         match ended {
             Ok(()) => {}
             Err(fault) => return (monitor, Err(fault)),

@@ -8,7 +8,7 @@ use crate::hub::Hub;
 use crate::participants::Participants;
 use cmwq_core::Execution;
 use cmwq_model::{Entry, MOST_CALLERS, MOST_CPUS, MOST_WORKERS, NoMemory, Shape};
-use cmwq_monitor::{MOST_FIRES, Monitor, RunFault, Sleepers};
+use cmwq_monitor::{MOST_FIRES, Monitor, RunFault, RunWaits, Sleepers};
 use cmwq_publish::{HubName, Opening};
 use cmwq_state::Tail;
 use cmwq_turns::Turnstile;
@@ -27,6 +27,7 @@ pub struct HubParts {
     tail: Tail<Entry>,
     pub opening: Opening,
     sleepers: Sleepers,
+    runs: RunWaits,
     condvars: Condvars,
     pub blank: Blank,
     is_dropping: bool,
@@ -34,6 +35,7 @@ pub struct HubParts {
     ghost shapes_are: { shape_of_monitor ≡ shape },
     ghost execution_is: { execution ≡ record { layout = shape; room = shape.room; entries = [] } },
     ghost tail_is: { tail.all ≡ [] },
+    ghost runs_are: { runs ≡ [] },
     ghost opening_is: { opening.layout ≡ shape },
     ghost shares: { blank.parts ≡ shares },
 }
@@ -43,6 +45,7 @@ struct Rest {
     shape: Shape,
     shape_of_monitor: Shape,
     sleepers: Sleepers,
+    runs: RunWaits,
     condvars: Condvars,
     tail: Tail<Entry>,
     execution: Execution,
@@ -53,6 +56,7 @@ fn rest_of(alloc: Global, shape: &Shape, kept: u32) -> Result<Rest, NoMemory>
     ensures execution { IfOk result
         (λ r. r.execution ≡ record { layout = shape.now; room = shape.now.room; entries = [] }) }
     ensures tail { IfOk result (λ r. r.tail.all ≡ []) }
+    ensures runs { IfOk result (λ r. r.runs ≡ []) }
 {
     let (sleepers, condvars) = sleepers_of(alloc, shape)?;
     let tail = Tail::new(alloc, kept)?;
@@ -61,6 +65,7 @@ fn rest_of(alloc: Global, shape: &Shape, kept: u32) -> Result<Rest, NoMemory>
         shape: own,
         shape_of_monitor: of_monitor,
         sleepers,
+        runs: RunWaits::new(alloc, shape)?,
         condvars,
         tail,
         execution: Execution::new(alloc, shape, shape.counts().room)?,
@@ -170,6 +175,7 @@ impl HubParts {
             execution,
             tail,
             sleepers,
+            runs,
             condvars,
         } = rest;
         Ok(HubParts {
@@ -179,6 +185,7 @@ impl HubParts {
             tail,
             opening,
             sleepers,
+            runs,
             condvars,
             blank: Blank::new(SHARES),
             is_dropping: false,
@@ -244,6 +251,7 @@ impl<N: HubName> Hub<N> {
             tail,
             opening,
             sleepers,
+            runs,
             condvars,
             blank,
             is_dropping,
@@ -260,6 +268,7 @@ impl<N: HubName> Hub<N> {
             publisher,
             entries,
             sleepers,
+            runs,
         );
         let participants = Participants::new(counts, readers, start, rest);
         (

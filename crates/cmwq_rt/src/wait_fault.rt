@@ -1,7 +1,7 @@
 //! Why a run did not wait.
 
-ghost use Rattle.std.specs.Prelude.{◌≡◌, true};
-ghost use Rattle.cmwq_rt.specs.Waiting.{is_refusal};
+ghost use Rattle.std.specs.Prelude.{◌≡◌, Some, true};
+ghost use Rattle.cmwq_rt.specs.Waiting.{is_refusal, stuck_of};
 
 use cmwq_monitor::{RunFault, Stuck};
 use thiserror::Error;
@@ -24,7 +24,8 @@ pub enum WaitFault {
 }
 
 pub(crate) fn fault_of(stuck: Stuck) -> WaitFault
-    ensures { is_refusal result ≡ true }
+    ensures refusal { is_refusal result ≡ true }
+    ensures stuck { stuck_of result ≡ Some stuck }
 {
     match stuck {
         Stuck::Itself => WaitFault::Itself,

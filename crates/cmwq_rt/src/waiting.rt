@@ -1,8 +1,8 @@
 //! A run that waits: its worker sleeps, and a caller that is lent to it waits.
 
-ghost use Rattle.std.specs.Prelude.{◌≡◌, true, false, IfOk, IfErr};
+ghost use Rattle.std.specs.Prelude.{◌≡◌, true, false, IfOk, IfErr, None};
 ghost use mathlib.Core.List.{IsPrefix};
-ghost use Rattle.cmwq_model.specs.Prelude.{has_numbers, is_callers};
+ghost use Rattle.cmwq_model.specs.Prelude.{has_numbers, is_callers, past_of};
 ghost use Rattle.cmwq_model.specs.declared.call.Call.TheVariants as calls;
 ghost use Rattle.cmwq_monitor.specs.Faults.{is_full};
 ghost use Rattle.cmwq_monitor.specs.declared.fault.RunFault.TheVariants.{Full};
@@ -10,14 +10,17 @@ ghost use Rattle.cmwq_monitor.specs.Participants.{is_caller};
 ghost use Rattle.cmwq_monitor.specs.Whole.{Completes, is_tick};
 ghost use Rattle.cmwq_rt.specs.Later.{Later};
 ghost use Rattle.cmwq_rt.specs.Running.{MakesOne, breaks_off};
-ghost use Rattle.cmwq_rt.specs.Waiting.{IsOfRun, SleepsInVain, SleepsThrough, is_refusal};
+ghost use Rattle.cmwq_monitor.specs.Held.{refusal_at};
+ghost use Rattle.cmwq_rt.specs.Waiting.{IsOfRun, IsStuck, MakesNothing, SleepsThrough, WasAllowed, is_refusal, stuck_of};
+ghost use Rattle.cmwq_waits.specs.HeldUp.{AreWaiting};
 ghost use Rattle.cmwq_rt.specs.declared.wait_fault.WaitFault.TheVariants as waits;
 
 use crate::caller::Caller;
 use crate::hub::Hub;
+use crate::lent::Lent;
 use crate::wait_fault::{WaitFault, fault_of};
 use crate::work::with_room;
-use cmwq_model::{Call, Queueing, Reply};
+use cmwq_model::{Call, Reply};
 use cmwq_monitor::{Monitor, Participant, RunFault};
 use cmwq_publish::HubName;
 use std::sync::{MutexGuard, Wait};
@@ -41,16 +44,80 @@ fn stranger<N: HubName>(later: &Participant<N>, other: &Participant<N>) -> RunFa
     }
 }
 
+/// Lends a caller to the worker's run for a wait by this call, and the run goes to sleep. Where it may not wait, neither
+/// is done. All is decided in one hold of the lock, so that what is refused has held nothing.
+fn begin_wait<N: HubName, R: Wait>(
+    rt: &R,
+    monitor: &mut Monitor<N>,
+    worker: &mut Participant<N>,
+    lent: Option<&Lent<N>>,
+    call: Call,
+) -> Result<Caller<N>, WaitFault>
+    requires worker { is_caller worker.old.who ≡ false }
+    requires callers { is_callers call ≡ true }
+    requires numbers { has_numbers N.layout call ≡ true }
+    ensures sleeps { IfOk result (λ _. MakesOne N.layout worker.old calls.Sleep worker.new) }
+    ensures allowed { IfOk result (λ _. WasAllowed N.layout worker.old call worker.new) }
+    ensures refused { IfErr result (λ f. is_refusal f ≡ true → worker.new ≡ worker.old) }
+    ensures stuck { IfErr result (IsStuck N.layout worker.old call) }
+    ensures full { IfErr result (λ f. f ≡ waits.Run Full → MakesNothing N.layout worker.old worker.new) }
+    ensures fault { IfErr result IsOfRun }
+    ensures later { Later worker.old worker.new }
+{
+    let _who = worker.who();
+    may_wait(monitor, worker, call)?;
+    let Some(lent) = lent else {
+        return Err(WaitFault::NoCaller);
+    };
+    let Some(caller) = lent.take(rt) else {
+        return Err(WaitFault::NoCaller);
+    };
+    if !monitor.has_room_to_wait(caller.participant(), call) {
+        lent.give(rt, caller);
+        return Err(WaitFault::Run {
+            fault: RunFault::Full,
+        });
+    }
+    match monitor.call(rt, worker, Call::Sleep) {
+        Ok(_) => Ok(caller),
+        Err(fault) => {
+            lent.give(rt, caller);
+            Err(WaitFault::Run { fault })
+        }
+    }
+}
+
+/// Whether the worker's run may wait by this call.
+fn may_wait<N: HubName>(
+    monitor: &mut Monitor<N>,
+    worker: &Participant<N>,
+    call: Call,
+) -> Result<(), WaitFault>
+    requires { has_numbers N.layout call ≡ true }
+    ensures allowed { IfOk result (λ _. refusal_at N.layout monitor.old worker.now.who call ≡ None) }
+    ensures waiting { AreWaiting (past_of monitor.old.history) monitor.old.waits }
+    ensures stuck { IfErr result (IsStuck N.layout worker.now call) }
+    ensures full { IfErr result (λ f. f ≡ waits.Run Full → ⊥) }
+    ensures fault { IfErr result IsOfRun }
+    ensures same { monitor.new ≡ monitor.old }
+{
+    match monitor.refuses(worker, call) {
+        Ok(None) => Ok(()),
+        Ok(Some(stuck)) => Err(fault_of(stuck)),
+        Err(fault) => Err(WaitFault::Run { fault }),
+    }
+}
+
 impl<N: HubName> Hub<N> {
-    /// The worker's run sleeps while this caller makes a whole call, and wakes after it.
+    /// The worker's run sleeps while a caller that is lent to it makes a whole call, and wakes after it.
     ///
     /// The lock is held from the look for a deadlock until the first entries, and from the last entry until the run is
-    /// awake. So there is space for both entries before the look.
+    /// awake and the caller is given back. So there is space for both entries before the look.
     pub(crate) fn sleep_through<R: Wait>(
         &self,
         rt: &R,
         worker: &mut Participant<N>,
-        caller: &mut Caller<N>,
+        lent: Option<&Lent<N>>,
         call: Call,
     ) -> Result<Reply, WaitFault>
         requires worker { is_caller worker.old.who ≡ false }
@@ -59,25 +126,27 @@ impl<N: HubName> Hub<N> {
         requires waits { is_tick call ≡ false }
         ensures waited { IfOk result (λ reply. SleepsThrough N.layout worker.old call reply worker.new) }
         ensures refused { IfErr result (λ f. is_refusal f ≡ true → worker.new ≡ worker.old) }
-        ensures unused { IfErr result (λ f. is_refusal f ≡ true → caller.new ≡ caller.old) }
-        ensures full { IfErr result (λ f. f ≡ waits.Run Full → SleepsInVain N.layout worker.old worker.new) }
+        ensures stuck { IfErr result (IsStuck N.layout worker.old call) }
+        ensures full { IfErr result (λ f. f ≡ waits.Run Full → MakesNothing N.layout worker.old worker.new) }
         ensures fault { IfErr result IsOfRun }
         ensures later { Later worker.old worker.new }
     {
         let _who = worker.who();
         let mut monitor = self.spacious(rt, self.lock(rt), worker.who(), 2);
-        let run = match monitor.may_wait(worker, caller.participant().who(), call) {
-            Ok(run) => run,
-            Err(stuck) => {
+        let begun = begin_wait(rt, &mut monitor, worker, lent, call);
+        let mut caller = match begun {
+            Ok(caller) => caller,
+            Err(fault) => {
                 self.leave(rt, monitor);
-                return Err(fault_of(stuck));
+                return Err(fault);
             }
         };
-        if let Err(fault) = monitor.call(rt, worker, Call::Sleep) {
-            self.leave(rt, monitor);
-            return Err(WaitFault::Run { fault });
+        let (monitor, answer) = self.wake_after(rt, monitor, worker, &mut caller, call);
+        if let Some(lent) = lent {
+            lent.give(rt, caller);
         }
-        self.wake_after(rt, monitor, run, worker, caller, call)
+        self.leave(rt, monitor);
+        answer
     }
 
     /// The caller makes its call, and in any case the worker wakes after it.
@@ -85,43 +154,41 @@ impl<N: HubName> Hub<N> {
         &'a self,
         rt: &R,
         monitor: MutexGuard<'a, Monitor<N>>,
-        run: Option<Queueing>,
         worker: &mut Participant<N>,
         caller: &mut Caller<N>,
         call: Call,
-    ) -> Result<Reply, WaitFault>
+    ) -> (MutexGuard<'a, Monitor<N>>, Result<Reply, WaitFault>)
         requires worker { is_caller worker.old.who ≡ false }
         requires callers { is_callers call ≡ true }
         requires numbers { has_numbers N.layout call ≡ true }
         requires waits { is_tick call ≡ false }
-        ensures completes { IfOk result (λ reply. Completes N.layout caller.old call reply caller.new) }
+        ensures completes { IfOk result.1 (λ reply. Completes N.layout caller.old call reply caller.new) }
         ensures by_caller { is_caller caller.new.who ≡ true }
-        ensures wakes { IfOk result (λ _. MakesOne N.layout worker.old calls.Wake worker.new) }
-        ensures saw_sleep { IfOk result (λ _. IsPrefix worker.old.seen caller.new.seen) }
-        ensures sees { IfOk result (λ _. IsPrefix caller.new.seen worker.new.seen) }
-        ensures refused { IfErr result (λ f. is_refusal f ≡ false) }
-        ensures full { IfErr result (λ f. f ≡ waits.Run Full → MakesOne N.layout worker.old calls.Wake worker.new) }
-        ensures fault { IfErr result IsOfRun }
+        ensures wakes { IfOk result.1 (λ _. MakesOne N.layout worker.old calls.Wake worker.new) }
+        ensures saw_sleep { IfOk result.1 (λ _. IsPrefix worker.old.seen caller.new.seen) }
+        ensures sees { IfOk result.1 (λ _. IsPrefix caller.new.seen worker.new.seen) }
+        ensures refused { IfErr result.1 (λ f. is_refusal f ≡ false) }
+        ensures stuck { IfErr result.1 (λ f. stuck_of f ≡ None) }
+        ensures full { IfErr result.1 (λ f. f ≡ waits.Run Full → ⊥) }
+        ensures fault { IfErr result.1 IsOfRun }
         ensures later { Later worker.old worker.new }
     {
         let _who = worker.who();
-        let (monitor, answer) = caller.wait_in_run(rt, self, monitor, run, call);
+        let (monitor, answer) = caller.wait_in_run(rt, self, monitor, worker, call);
         let saw_sleep = has_seen(caller.participant(), worker);
         let mut monitor = self.spacious(rt, monitor, worker.who(), 1);
         let woke = monitor.call(rt, worker, Call::Wake);
-        self.leave(rt, monitor);
-        if let Err(fault) = woke {
-            let fault = with_room(fault);
-            return Err(WaitFault::Run { fault });
-        }
-        let reply = match answer {
-            Ok(reply) => reply,
-            Err(fault) => return Err(WaitFault::Run { fault }),
+        let reply = match (woke, answer) {
+            (Ok(_), Ok(reply)) => reply,
+            (Err(fault), _) | (_, Err(fault)) => {
+                let fault = with_room(fault);
+                return (monitor, Err(WaitFault::Run { fault }));
+            }
         };
         if !saw_sleep || !has_seen(worker, caller.participant()) {
             let fault = stranger(worker, caller.participant());
-            return Err(WaitFault::Run { fault });
+            return (monitor, Err(WaitFault::Run { fault }));
         }
-        Ok(reply)
+        (monitor, Ok(reply))
     }
 }

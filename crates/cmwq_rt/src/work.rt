@@ -12,8 +12,8 @@ ghost use Rattle.cmwq_rt.specs.Batches.{MakesBatch, StopsBatch, fault_after_batc
 ghost use Rattle.cmwq_rt.specs.Later.{Later};
 ghost use Rattle.cmwq_rt.specs.Starting.{HasStarted};
 ghost use Rattle.cmwq_rt.specs.Running.{RunsItem, MakesOne, fault_after, breaks_off};
-ghost use Rattle.cmwq_rt.specs.Waiting.{HadNoRoom, HasWaited, IsOfRun, SleepsInVain, SleepsThrough, fault_after_wait};
-ghost use Rattle.cmwq_rt.specs.Waiting.{is_refusal, is_wait};
+ghost use Rattle.cmwq_rt.specs.Waiting.{HadNoRoom, HasWaited, IsStuck, MakesNothing, MayNotWait, SleepsThrough};
+ghost use Rattle.cmwq_rt.specs.Waiting.{fault_after_wait, is_for_itself, is_refusal, is_wait};
 ghost use Rattle.cmwq_rt.specs.declared.wait_fault.WaitFault.TheVariants as waits;
 ghost use Rattle.cmwq_monitor.specs.Whole.{is_tick};
 
@@ -359,6 +359,7 @@ impl<'a, N: HubName, R: Wait> RunCtx<'a, N, R> {
         ensures itself { item.0 ≡ self.old.item.0 → (result ≡ Err waits.Itself) × (self.new ≡ self.old) }
         ensures refused { IfErr result (λ f. is_refusal f ≡ true → (self.new.participant ≡ self.old.participant)
             ⊎ MakesOne N.layout self.old.participant calls.Wake self.new.participant) }
+        ensures stuck { IfErr result (MayNotWait N.layout self.old (calls.FlushItem item)) }
         ensures fault { self.new.fault ≡ fault_after_wait result self.old.fault }
         ensures item { self.new.item ≡ self.old.item }
     {
@@ -378,6 +379,7 @@ impl<'a, N: HubName, R: Wait> RunCtx<'a, N, R> {
         ensures itself { item.0 ≡ self.old.item.0 → (result ≡ Err waits.Itself) × (self.new ≡ self.old) }
         ensures refused { IfErr result (λ f. is_refusal f ≡ true → (self.new.participant ≡ self.old.participant)
             ⊎ MakesOne N.layout self.old.participant calls.Wake self.new.participant) }
+        ensures stuck { IfErr result (MayNotWait N.layout self.old (calls.CancelSync item)) }
         ensures fault { self.new.fault ≡ fault_after_wait result self.old.fault }
         ensures item { self.new.item ≡ self.old.item }
     {
@@ -393,9 +395,9 @@ impl<'a, N: HubName, R: Wait> RunCtx<'a, N, R> {
         ensures later { Later self.old.participant self.new.participant }
         ensures waited { IfOk result
             (λ reply. HasWaited N.layout self.old.participant (calls.FlushDelayed item) reply self.new.participant) }
-        ensures itself { item.0 ≡ self.old.item.0 → (result ≡ Err waits.Itself) × (self.new ≡ self.old) }
         ensures refused { IfErr result (λ f. is_refusal f ≡ true → (self.new.participant ≡ self.old.participant)
             ⊎ MakesOne N.layout self.old.participant calls.Wake self.new.participant) }
+        ensures stuck { IfErr result (MayNotWait N.layout self.old (calls.FlushDelayed item)) }
         ensures fault { self.new.fault ≡ fault_after_wait result self.old.fault }
         ensures item { self.new.item ≡ self.old.item }
     {
@@ -414,6 +416,7 @@ impl<'a, N: HubName, R: Wait> RunCtx<'a, N, R> {
             (λ reply. HasWaited N.layout self.old.participant (calls.Flush queue) reply self.new.participant) }
         ensures refused { IfErr result (λ f. is_refusal f ≡ true → (self.new.participant ≡ self.old.participant)
             ⊎ MakesOne N.layout self.old.participant calls.Wake self.new.participant) }
+        ensures stuck { IfErr result (MayNotWait N.layout self.old (calls.Flush queue)) }
         ensures fault { self.new.fault ≡ fault_after_wait result self.old.fault }
         ensures item { self.new.item ≡ self.old.item }
     {
@@ -432,6 +435,7 @@ impl<'a, N: HubName, R: Wait> RunCtx<'a, N, R> {
             (λ reply. HasWaited N.layout self.old.participant (calls.Drain queue) reply self.new.participant) }
         ensures refused { IfErr result (λ f. is_refusal f ≡ true → (self.new.participant ≡ self.old.participant)
             ⊎ MakesOne N.layout self.old.participant calls.Wake self.new.participant) }
+        ensures stuck { IfErr result (MayNotWait N.layout self.old (calls.Drain queue)) }
         ensures fault { self.new.fault ≡ fault_after_wait result self.old.fault }
         ensures item { self.new.item ≡ self.old.item }
     {
@@ -442,37 +446,39 @@ impl<'a, N: HubName, R: Wait> RunCtx<'a, N, R> {
     /// before the call's first entry until after its last. A run that is asleep wakes first.
     ///
     /// # Errors
-    /// `Itself` for the item or the queue of the run; `Deadlock` for what cannot end or start before this run, or runs
-    /// that wait for it, have ended; `NoCaller` if no caller is left to be lent. Then nothing was made, but that a run
-    /// that was asleep may have woken. `Run` for a fault of the hub.
+    /// They are looked for in this order. `Itself` if it would wait for its own run. `Deadlock` if it could never end,
+    /// unless another thread takes something back, moves it or widens a queue. `NoCaller` if no caller is left to be
+    /// lent. `Run` with `Full` if there is no room for the whole wait. Then nothing was made, but that a run that was
+    /// asleep may have woken. `Run` with another fault of the hub.
     pub fn wait(&mut self, call: Call) -> Result<Reply, WaitFault>
         requires waits { is_wait call ≡ true }
         requires numbers { has_numbers N.layout call ≡ true }
         ensures later { Later self.old.participant self.new.participant }
         ensures waited { IfOk result
             (λ reply. HasWaited N.layout self.old.participant call reply self.new.participant) }
-        ensures itself { item_called call ≡ Some self.old.item.0 → (result ≡ Err waits.Itself) × (self.new ≡ self.old) }
+        ensures itself { is_for_itself self.old.item call ≡ true → (result ≡ Err waits.Itself) × (self.new ≡ self.old) }
         ensures refused { IfErr result (λ f. is_refusal f ≡ true → (self.new.participant ≡ self.old.participant)
             ⊎ MakesOne N.layout self.old.participant calls.Wake self.new.participant) }
+        ensures stuck { IfErr result (MayNotWait N.layout self.old call) }
         ensures full { IfErr result
             (λ f. f ≡ waits.Run Full → HadNoRoom N.layout self.old.participant self.new.participant) }
         ensures fault { self.new.fault ≡ fault_after_wait result self.old.fault }
         ensures item { self.new.item ≡ self.old.item }
     {
-        if is_of_item(call, self.item) {
+        if is_for_itself(self.item, call) {
             return Err(WaitFault::Itself);
         }
         self.wait_lent(call)
     }
 }
 
-/// Whether the call names this item.
-fn is_of_item(call: Call, item: ItemId) -> bool
-    ensures { item_called call ≡ Some item.0 → result ≡ true }
+/// Whether the call waits for this item's run.
+fn is_for_itself(own: ItemId, call: Call) -> bool
+    ensures { result ≡ is_for_itself own call }
 {
-    match call.item() {
-        Some(named) => named.0 == item.0,
-        None => false,
+    match call {
+        Call::FlushItem { item } | Call::CancelSync { item } => item.0 == own.0,
+        _ => false,
     }
 }
 
@@ -487,40 +493,14 @@ impl<'a, N: HubName, R: Wait> RunCtx<'a, N, R> {
             (λ reply. HasWaited N.layout self.old.participant call reply self.new.participant) }
         ensures refused { IfErr result (λ f. is_refusal f ≡ true → (self.new.participant ≡ self.old.participant)
             ⊎ MakesOne N.layout self.old.participant calls.Wake self.new.participant) }
-        ensures full { IfErr result
-            (λ f. f ≡ waits.Run Full → HadNoRoom N.layout self.old.participant self.new.participant) }
-        ensures fault { self.new.fault ≡ fault_after_wait result self.old.fault }
-        ensures item { self.new.item ≡ self.old.item }
-    {
-        let Some(lent) = self.lent else {
-            return Err(WaitFault::NoCaller);
-        };
-        let Some(caller) = lent.take(self.rt) else {
-            return Err(WaitFault::NoCaller);
-        };
-        let mut caller = caller;
-        let answer = self.wait_by(&mut caller, call);
-        lent.give(self.rt, caller);
-        answer
-    }
-
-    /// Waits by this caller, awake.
-    fn wait_by(&mut self, caller: &mut Caller<N>, call: Call) -> Result<Reply, WaitFault>
-        requires callers { is_callers call ≡ true }
-        requires numbers { has_numbers N.layout call ≡ true }
-        requires waits { is_tick call ≡ false }
-        ensures later { Later self.old.participant self.new.participant }
-        ensures waited { IfOk result
-            (λ reply. HasWaited N.layout self.old.participant call reply self.new.participant) }
-        ensures refused { IfErr result (λ f. is_refusal f ≡ true → (self.new.participant ≡ self.old.participant)
-            ⊎ MakesOne N.layout self.old.participant calls.Wake self.new.participant) }
+        ensures stuck { IfErr result (MayNotWait N.layout self.old call) }
         ensures full { IfErr result
             (λ f. f ≡ waits.Run Full → HadNoRoom N.layout self.old.participant self.new.participant) }
         ensures fault { self.new.fault ≡ fault_after_wait result self.old.fault }
         ensures item { self.new.item ≡ self.old.item }
     {
         match self.be_awake() {
-            Ok(()) => self.wait_awake(caller, call),
+            Ok(()) => self.wait_awake(call),
             Err(fault) => Err(WaitFault::Run { fault }),
         }
     }
@@ -546,8 +526,8 @@ impl<'a, N: HubName, R: Wait> RunCtx<'a, N, R> {
         }
     }
 
-    /// Waits by this caller. The run is awake.
-    fn wait_awake(&mut self, caller: &mut Caller<N>, call: Call) -> Result<Reply, WaitFault>
+    /// Waits by a caller that is lent to the run, which is awake.
+    fn wait_awake(&mut self, call: Call) -> Result<Reply, WaitFault>
         requires callers { is_callers call ≡ true }
         requires numbers { has_numbers N.layout call ≡ true }
         requires waits { is_tick call ≡ false }
@@ -555,15 +535,16 @@ impl<'a, N: HubName, R: Wait> RunCtx<'a, N, R> {
         ensures waited { IfOk result
             (λ reply. SleepsThrough N.layout self.old.participant call reply self.new.participant) }
         ensures refused { IfErr result (λ f. is_refusal f ≡ true → self.new.participant ≡ self.old.participant) }
+        ensures stuck { IfErr result (IsStuck N.layout self.old.participant call) }
         ensures full { IfErr result
-            (λ f. f ≡ waits.Run Full → SleepsInVain N.layout self.old.participant self.new.participant) }
+            (λ f. f ≡ waits.Run Full → MakesNothing N.layout self.old.participant self.new.participant) }
         ensures fault { self.new.fault ≡ fault_after_wait result self.old.fault }
         ensures item { self.new.item ≡ self.old.item }
     {
         let _who = self.participant.who();
         let answer = self
             .hub
-            .sleep_through(self.rt, &mut self.participant, caller, call);
+            .sleep_through(self.rt, &mut self.participant, self.lent, call);
         match answer {
             Ok(_)
             | Err(

@@ -6,7 +6,9 @@ use Rattle.cmwq_state.specs.Common.{unended_tickets, ticket_of, is_ticket, waits
 use Rattle.cmwq_state.specs.Common.{IsLegal, found, in_contained, runs_are_queueings, found_number, FlushBook}
 use Rattle.cmwq_state.specs.Common.{flush_tickets, IsReady, AreFlushes, ready_flushes_wait_for_nothing}
 use Rattle.cmwq_state.specs.Common.{flushes_wait_for_least_open, drains_wait_for_least_open, numbers_of}
-use Rattle.cmwq_state.specs.Common.{ltb-true, has_numbers}
+use Rattle.cmwq_state.specs.Common.{ltb-true, has_numbers, arith, ◌≤◌}
+use Rattle.std.proofs.lemmas.Bool.Decides.{nat_tests}
+use Rattle.cmwq_model.specs.Prelude.{serving_from}
 use Rattle.cmwq_model.specs.declared.id.QueueId.{QueueId}
 use Rattle.cmwq_model.specs.declared.call.Call.TheVariants as call
 use Rattle.cmwq_state.specs.Flights.{run_open}
@@ -27,6 +29,12 @@ waits_for_first s past q b t r is here test h = by (waits_for past t (call.Flush
     by : (o : Option ℕ) → waits_for past t (call.Flush q) ≡ o → slice_get b.opened 0 ≡ waits_for past t (call.Flush q)
     by None none = let yes : r ≡ true = test.1 ((ready_flushes_wait_for_nothing s past q b t is here).1 none) in cc
     by (Some n) some = flushes_wait_for_least_open s past q b t n is here some ∙ sym some
+
+-- a flush that has not begun is not served yet
+pub none_served_yet : (past : List Entry) (q n : ℕ) → length past ≤ n → serving_from past q n ≡ None
+unfolding serving_from
+none_served_yet [] q n h = refl
+none_served_yet (e ∷ past) q n h = grind (arith, nat_tests, none_served_yet past q n)
 
 -- nothing is found that never passes
 pub none_waited : (xs : List Queueing) → None ≡ option_map (λ (x : Queueing). x.number) (find (λ x. false) xs)

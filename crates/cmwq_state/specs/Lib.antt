@@ -8,3 +8,4 @@ pub mod History
 pub mod Effects
 pub mod State
 pub mod Tails
+pub mod Waits

@@ -1,4 +1,5 @@
-//! Tests of schedules: how many a small script has, which of them gets stuck, and that a seed gives the same one again.
+//! Tests of schedules: how many a small script has, which of them gets stuck, which waits are refused, and that a seed
+//! gives the same one again.
 #![tactic(auto)]
 
 #[cfg(test)]
@@ -7,3 +8,5 @@ mod scripts;
 mod searches;
 #[cfg(test)]
 mod seeds;
+#[cfg(test)]
+mod waits;

@@ -1,6 +1,13 @@
 //! Which runs wait, and for what, so that a wait that could never end is found.
 #![tactic(auto)]
 
+mod calls;
+mod deadlock;
+mod laws;
+mod look;
+mod run_wait;
 mod waits;
 
+pub use laws::{refusals_are_exact, waits_go_on};
+pub use run_wait::RunWait;
 pub use waits::{RunWaits, Stuck};

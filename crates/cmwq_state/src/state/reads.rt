@@ -46,6 +46,15 @@ impl State {
         width_by(&self.queues, &self.most, self.frozen, queue)
     }
 
+    /// `max_active` of a queue: how wide it is, or will be once it is thawed.
+    pub fn max_active(&self, queue: QueueId) -> u32
+        requires { queue.0 < length self.now.layout.queues }
+        ensures { result ≡ widths.max_active self.now.layout (past_of self.now.entries) queue.0 }
+    {
+        let most: &[u32] = &self.most;
+        most[usize::from(queue.0)]
+    }
+
     /// How many queueings of each queue are active on each CPU: `MOST_CPUS` numbers a queue.
     pub fn active_counts(&self) -> &[u32]
         ensures { AreActiveCounts self.now.layout (past_of self.now.entries) result.now }

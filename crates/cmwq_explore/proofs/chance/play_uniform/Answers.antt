@@ -31,12 +31,11 @@ loop-number-preserved c = λ n e q goes.
     let counted : c.len.result ≡ length movers.items = omega (arith, movers.ok.0) in
     let small = c.below-place.ensures.small in
     let there : c.below-place.result < length movers.items = omega arith in
-    let party : c.step_of-step.result.party ≡ chosen c.loop-number.generator movers.items =
-    c.step_of-step.ensures.party
-    ∙ get_or_read movers.items c.below-place.result c.index.result.now there c.index.ensures 0
+    let party : c.index.result.now ≡ chosen c.loop-number.generator movers.items =
+    get_or_read movers.items c.below-place.result c.index.result.now there c.index.ensures 0
     ∙ ap (slice_index movers.items)
     (c.below-place.ensures.drawn ∙ ap (λ m. drawn_below m c.loop-number.generator) counted) in
-    let went = rw (c.below-place.ensures.after, c.in_ok-make_move.ensures, c.step_of-step.ensures.same) at goes in
+    let went = rw (c.below-place.ensures.after, c.in_ok-make_move.ensures) at goes in
     c.loop-number.invariant (suc n) (omega arith) q
-    (played_more n c.loop-number.generator c.loop-number.play q movers.items c.step_of-step.result
+    (played_more n c.loop-number.generator c.loop-number.play q movers.items c.index.result.now
     c.in_ok-movers.ensures.list some party went)

@@ -1,9 +1,10 @@
-use Rattle.std.proofs.Common.{◌≡◌, ◌<◌, ◌+◌, ◌-◌, ◌∙◌, List, length, subst, sym, ap, arith}
+use Rattle.std.proofs.Common.{◌≡◌, ◌<◌, ◌+◌, ◌-◌, ◌∙◌, ℕ, List, length, get_or, subst, sym, ap, arith}
+use Rattle.std.proofs.Common.{below_more}
 use Rattle.cmwq_explore.specs.Searches.{AllEnd, NoneStuck, NoneStuckAfter, after}
-use Rattle.cmwq_explore.specs.declared.place.Step.{Step}
 use Rattle.cmwq_explore.specs.Starts.{start_of}
 use Rattle.cmwq_explore.proofs.Searching.{all_tried, always, end_here, is_none, is_some, all_known, none_here}
-use Rattle.cmwq_explore.proofs.Searching.{one_more_known, then_so}
+use Rattle.cmwq_explore.proofs.Searching.{then_so}
+use Rattle.cmwq_explore.specs.Stands.{moved}
 use Rattle.cmwq_explore.proofs.search.Search.+visiting.Goals as goal
 
 pub visit-returns-then-is_empty-clause-all : goal.visit-returns-then-is_empty-clause-all
@@ -60,32 +61,30 @@ visit_after-loop-k-preserved g t c =
     let counts = c.stand_at.ensures.counts in
     let same_cut = counts.0 in
     let same_stuck = counts.1 in
-    let more_cut = c.visit_step.ensures.cut in
-    let more_stuck = c.visit_step.ensures.stuck in
+    let more_cut = c.visit_move.ensures.cut in
+    let more_stuck = c.visit_move.ensures.stuck in
     let start = start_of c.args.setup.now in
-    let there : c.step_of-step.new.self ≡ c.args.play.now =
-    c.step_of-step.ensures.same ∙ c.in_ok-stand_at.ensures.play
-    ∙ ap (after start) (c.deref.ensures.value ∙ was.path) ∙ sym c.requires in
+    let there : c.stand_at.new.play ≡ c.args.play.now =
+    c.in_ok-stand_at.ensures.play ∙ ap (after start) (c.deref.ensures.value ∙ was.path) ∙ sym c.requires.at in
     record {
       cut = omega arith;
       stuck = omega arith;
-      path = c.in_ok-visit_step.ensures.path ∙ was.path;
+      path = c.in_ok-visit_move.ensures.path ∙ was.path;
       first = λ e. absurd (omega arith);
-      sound = λ old. c.in_ok-visit_step.ensures.sound (rw c.stand_at.ensures.shortest (was.sound old));
+      sound = λ old. c.in_ok-visit_move.ensures.sound (rw c.stand_at.ensures.shortest (was.sound old));
       shorter =
-          λ n least. was.shorter n (rw c.stand_at.ensures.shortest at (c.in_ok-visit_step.ensures.shorter n least));
+          λ n least. was.shorter n (rw c.stand_at.ensures.shortest at (c.in_ok-visit_move.ensures.shorter n least));
       counted =
-          λ old. c.in_ok-visit_step.ensures.known (rw (c.stand_at.ensures.shortest, same_stuck) (was.counted old));
+          λ old. c.in_ok-visit_move.ensures.known (rw (c.stand_at.ensures.shortest, same_stuck) (was.counted old));
       known = λ cut n least.
-          let before = rw c.stand_at.ensures.shortest at (c.in_ok-visit_step.ensures.shorter n least) in
+          let before = rw c.stand_at.ensures.shortest at (c.in_ok-visit_move.ensures.shorter n least) in
           let less : n - (length c.loop-k.path.items + 1) ≡ n - (length c.args.path.now.items + 1) =
-          ap (λ (xs : List Step). n - (length xs + 1)) was.path in
-          one_more_known (NoneStuck (n - (length c.args.path.now.items + 1))) c.args.play.now c.args.movers.now
-          c.loop-k.k
-          c.step_of-step.result (was.known (omega arith) n before) c.step_of-step.ensures.party
-          (rw (← there, ← less) (c.in_ok-visit_step.ensures.none cut n least));
+          ap (λ (xs : List ℕ). n - (length xs + 1)) was.path in
+          let most = n - (length c.args.path.now.items + 1) in
+          below_more (λ j. NoneStuck most (moved c.args.play.now (get_or c.args.movers.now j 0))) c.loop-k.k
+          (was.known (omega arith) n before)
+          (rw (← there, ← less) (c.in_ok-visit_move.ensures.none cut n least));
       tried = λ cut stuck.
-          one_more_known (AllEnd c.args.depth) c.args.play.now c.args.movers.now c.loop-k.k c.step_of-step.result
-          (was.tried (omega arith) (omega arith)) c.step_of-step.ensures.party
-          (rw (← there) (c.in_ok-visit_step.ensures.all cut stuck));
+          below_more (λ j. AllEnd c.args.depth (moved c.args.play.now (get_or c.args.movers.now j 0))) c.loop-k.k
+          (was.tried (omega arith) (omega arith)) (rw (← there) (c.in_ok-visit_move.ensures.all cut stuck));
     }

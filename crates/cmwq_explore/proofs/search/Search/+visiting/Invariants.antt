@@ -9,8 +9,8 @@ decreases-visit g l = 3 * l.depth
 abbrev pub decreases-visit_after : goal.decreases-visit_after
 decreases-visit_after g l = 3 * l.depth + 2
 
-abbrev pub decreases-visit_step : goal.decreases-visit_step
-decreases-visit_step g l = 3 * l.depth + 1
+abbrev pub decreases-visit_move : goal.decreases-visit_move
+decreases-visit_move g l = 3 * l.depth + 1
 
 abbrev pub invariant-visit_after-loop-k : goal.invariant-visit_after-loop-k
 invariant-visit_after-loop-k g l = record {

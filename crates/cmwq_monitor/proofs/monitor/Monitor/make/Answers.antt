@@ -1,8 +1,9 @@
-use Rattle.cmwq_monitor.specs.Common.{◌≡◌, ◌+◌, ◌++◌, ◌∷◌, [], refl, ap, ◌∙◌, subst, arith, List, IsPrefix, Entry}
+use Rattle.cmwq_monitor.specs.Common.{◌≡◌, ◌+◌, ◌++◌, ◌∷◌, [], refl, ap, ◌∙◌, subst, arith, rules, length, length-append, List, IsPrefix, Entry}
 use Rattle.cmwq_monitor.specs.Common.{serial_of, past_of, IsLegal, History}
 use Rattle.cmwq_monitor.specs.Held.{Held}
 use Rattle.cmwq_monitor.specs.Calls.{own_entry}
 use Rattle.cmwq_monitor.specs.Participants.{View}
+use Rattle.cmwq_monitor.proofs.Waits.{waiting_after, waits_told}
 use Rattle.cmwq_monitor.proofs.Entering.{serial_after, shown_is, extends, step_after, view_after}
 use Rattle.cmwq_monitor.proofs.monitor.Monitor.make.Goals as goal
 
@@ -60,3 +61,35 @@ returns-clause-seen g c =
 
 pub returns-clause-reply : goal.returns-clause-reply
 returns-clause-reply g c = c.commit-reply.ensures.reply ∙ ap (λ (e : Entry). e.reply) c.requires.plan.mark.is_next
+
+pub invariant_of-self-2 : goal.invariant_of-self-2
+invariant_of-self-2 g c =
+    let i = c.self.invariant in
+    let held : c.self.inside.execution.entries ≡ c.args.self.now.history =
+    ap (λ (h : Held). h.history) c.self.view_is in
+    (i.0,
+    ap (λ (h : History). h.layout) c.commit-reply.ensures.entry ∙ i.1,
+    ap (λ (h : History). h.room) c.commit-reply.ensures.entry ∙ i.2,
+    search rules,
+    omega (
+      arith,
+      c.count.ensures.counted,
+      i.4,
+      ap (λ (h : History). length h.entries) c.commit-reply.ensures.entry,
+      length-append c.self.inside.execution.entries (c.args.plan.now.mark.entry ∷ [])
+    ),
+    search rules,
+    waiting_after c.self.inside.execution c.args.plan.now.mark.entry c.self.inside.runs c.entered.new.self
+    c.commit-reply.new.self c.ended_by-ended.result c.done_by-done.result (rw (i.1, held) c.requires.plan.legal)
+    c.ended_by-ended.ensures c.done_by-done.ensures c.entered.ensures c.commit-reply.ensures.entry i.6)
+
+pub returns-clause-waits : goal.returns-clause-waits
+returns-clause-waits g c =
+    let held : c.self.inside.execution.entries ≡ c.args.self.now.history =
+    ap (λ (h : Held). h.history) c.self.view_is in
+    let runs : c.self.inside.runs ≡ c.args.self.now.waits = ap (λ (h : Held). h.waits) c.self.view_is in
+    ap (λ (h : Held). h.waits) c.wake.ensures
+    ∙ (waits_told (past_of c.self.inside.execution.entries) c.args.plan.now.mark.entry c.self.inside.runs
+    c.entered.new.self c.ended_by-ended.result c.done_by-done.result c.ended_by-ended.ensures c.done_by-done.ensures
+    c.entered.ensures
+    ∙ rw (held, runs, c.requires.plan.mark.is_next) refl)

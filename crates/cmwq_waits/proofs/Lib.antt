@@ -1,0 +1,12 @@
+pub mod Opened
+pub mod Places
+pub mod Held
+pub mod Loops
+pub mod Filling
+pub mod Awaiting
+pub mod Narrowing
+pub mod Queued
+pub mod Refusing
+pub mod Greatest
+pub mod Exact
+pub mod GoOn

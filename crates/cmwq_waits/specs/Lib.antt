@@ -1,0 +1,6 @@
+pub mod Common
+pub mod HeldUp
+pub mod Refused
+pub mod Looks
+pub mod Narrowing
+pub mod Registered
