@@ -23,7 +23,7 @@ use Rattle.cmwq_theory_steps.proofs.ItemSteps.{items_run_on, starts_some}
 use Rattle.cmwq_theory_steps.proofs.TicketSteps.{served_stay}
 use Rattle.cmwq_theory_steps.proofs.EndsAsTold.{runs_are_queueings}
 use Rattle.cmwq_theory_steps.proofs.RunsActive.{found_number}
-use Rattle.cmwq_theory_wakes.specs.Readiness.{is_held_up, may_release, Releases}
+use Rattle.cmwq_theory_wakes.specs.Readiness.{is_unready, may_release, Releases}
 
 -- ---- flushes of a queue get ready in the order in which they began
 
@@ -122,7 +122,7 @@ holding past n c x there holds = at (find (holds_up past n c) (still_open past))
     at (Some y) is = refl
 
 pub flushes_in_order : (past : List Entry) (q : QueueId) (m n : ℕ) → m ≤ n
-    → is_held_up past m (call.Flush q) ≡ true → is_held_up past n (call.Flush q) ≡ true
+    → is_unready past m (call.Flush q) ≡ true → is_unready past n (call.Flush q) ≡ true
 flushes_in_order past q m n less h =
     let k = held_by past m (call.Flush q) h in
     holding past n (call.Flush q) k.0 k.1 (held_later past q m n k.0 less k.2)
@@ -214,6 +214,6 @@ run_over s past e i legal (Some start) is h free =
     at false st false k = cc
 
 pub released_by : (s : Layout) (past : List Entry) (e : Entry) → IsLegal s (e ∷ past) → (n : ℕ) (c : Call)
-    → is_held_up past n c ≡ true → is_held_up (e ∷ past) n c ≡ false → Releases past e c
+    → is_unready past n c ≡ true → is_unready (e ∷ past) n c ≡ false → Releases past e c
 released_by s past e legal n (call.CancelSync i) h free = run_over s past e i legal (item_run past i.0) refl h free
 released_by s past e legal n c h free = released s past e n c legal h free

@@ -9,18 +9,18 @@ use Rattle.cmwq_theory_steps.proofs.Reasons.{done_reason}
 use Rattle.cmwq_theory_steps.proofs.Causes.{causes}
 use Rattle.cmwq_theory_steps.proofs.Given.{ticket_is}
 use Rattle.cmwq_theory_steps.proofs.TicketSteps.{is_done_reply}
-use Rattle.cmwq_theory_wakes.specs.Readiness.{is_held_up}
+use Rattle.cmwq_theory_wakes.specs.Readiness.{is_unready}
 use Rattle.cmwq_theory_wakes.specs.Starting.{worker_is_idle, would_start, allows_start, Attendant}
-use Rattle.cmwq_theory_wakes.specs.Rest.{IsOfItsCall, IsHeldUp, NoneForgotten, NobodyGoesOn}
+use Rattle.cmwq_theory_wakes.specs.Rest.{IsOfItsCall, IsUnready, NoneForgotten, NobodyGoesOn}
 use Rattle.cmwq_theory_wakes.proofs.Starting.{idle_start_alike}
 
 same_end : (n m : ℕ) → call.End n ≡ call.End m → n ≡ m
 same_end n m h = cc
 
--- the end of a ticket that is held up does not return done
-held_not_done : (s : Layout) (past : List Entry) (t : Ticket) → IsOfItsCall past t → IsHeldUp past t
+-- the end of a ticket that is not ready does not return done
+unready_not_done : (s : Layout) (past : List Entry) (t : Ticket) → IsOfItsCall past t → IsUnready past t
     → is_done (answer s past (Caller t.caller) (call.End t.number)) ≡ false
-held_not_done s past t known held = false_from_ne_true _ (λ done.
+unready_not_done s past t known held = false_from_ne_true _ (λ done.
     let cause = causes s past (Caller t.caller) (call.End t.number) in
     let why = done_reason s past (Caller t.caller) (call.End t.number) _ cause (is_done_reply _ done) in
     let of = ticket_is past (Caller t.caller) why.number why.ticket why.stands in
@@ -31,7 +31,7 @@ held_not_done s past t known held = false_from_ne_true _ (λ done.
     let calls : t.call ≡ why.ticket.call =
     same_Some t.call why.ticket.call
     (sym known ∙ (ap (option_map (λ (e : Entry). e.call)) at ∙ ap Some of.given.call)) in
-    let free : is_held_up past t.number t.call ≡ false =
+    let free : is_unready past t.number t.call ≡ false =
     ap₂ (λ n c. is_some (waits_for past n c)) same calls ∙ ap is_some why.ready in
     both_ways _ free held)
 
@@ -49,7 +49,7 @@ pub at_rest_nobody_goes_on : (s : Layout) (past : List Entry) → IsLegal s past
     (rests : WorkerId → Bool) → NoneForgotten s past tickets rests
     → ((w : WorkerId) → worker_is_idle past w ≡ true → rests w ≡ true) → NobodyGoesOn s past tickets
 at_rest_nobody_goes_on s past legal tickets rests none all = (
-  All_both (IsOfItsCall past) (IsHeldUp past) _ tickets (λ t known held. held_not_done s past t known held)
+  All_both (IsOfItsCall past) (IsUnready past) _ tickets (λ t known held. unready_not_done s past t known held)
       none.known none.callers,
   none_starts s past tickets rests none all,
 )

@@ -6,7 +6,7 @@ use Rattle.cmwq_theory_steps.specs.Common.{ap, ◌∙◌, arith, nat_lt, nat_tes
 use Rattle.cmwq_theory_steps.specs.Common.{WorkerId, Entry, Ticket, Layout, IsLegal}
 use Rattle.cmwq_theory_steps.proofs.Entries.{entry_at-older}
 use Rattle.cmwq_theory_wakes.specs.Starting.{IsAttended}
-use Rattle.cmwq_theory_wakes.specs.Rest.{call_at, IsOfItsCall, IsHeldUp, NoneForgotten}
+use Rattle.cmwq_theory_wakes.specs.Rest.{call_at, IsOfItsCall, IsUnready, NoneForgotten}
 use Rattle.cmwq_theory_wakes.specs.Steps.{LooksAfter}
 use Rattle.cmwq_theory_wakes.proofs.Readiness.{released_by}
 use Rattle.cmwq_theory_wakes.proofs.Attended.{stay_attended}
@@ -36,15 +36,15 @@ pub none_is_forgotten : (s : Layout) (past : List Entry) (e : Entry) → IsLegal
 none_is_forgotten s past e legal tickets stays rested rests looks_at k none = record {
   known = All_filter (IsOfItsCall (e ∷ past)) stays tickets
       (All_map (IsOfItsCall past) _ tickets (λ t h kept. known_on past e t h) none.known);
-  callers = All_filter (IsHeldUp (e ∷ past)) stays tickets
-      (All_map (IsHeldUp past) _ tickets (λ t h kept. held t kept h) none.callers);
+  callers = All_filter (IsUnready (e ∷ past)) stays tickets
+      (All_map (IsUnready past) _ tickets (λ t h kept. held t kept h) none.callers);
   workers = λ p. at p (looks_at p) refl;
 }
   where
-    held : (t : Ticket) → stays t ≡ true → IsHeldUp past t → IsHeldUp (e ∷ past) t
+    held : (t : Ticket) → stays t ≡ true → IsUnready past t → IsUnready (e ∷ past) t
     held t kept h = true_from_ne_false _ (λ free.
         let r = released_by s past e legal t.number t.call h free in
-        both_ways _ free (k.held_up t r.queueing kept r.ends r.released))
+        both_ways _ free (k.unready t r.queueing kept r.ends r.released))
 
     at : (p : PoolId) (b : Bool) → looks_at p ≡ b → IsAttended s (e ∷ past) rests p
     at p true is = k.attended p is

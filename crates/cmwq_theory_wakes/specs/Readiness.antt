@@ -8,9 +8,9 @@ use Rattle.cmwq_model.specs.declared.id.QueueId.{QueueId}
 use Rattle.cmwq_model.specs.declared.call.Call.{Call}
 use Rattle.cmwq_model.specs.declared.call.Call.TheVariants as call
 
--- A wait is held up if it waits for something. Otherwise it is ready.
-abbrev pub is_held_up : List Entry → ℕ → Call → Bool
-is_held_up past n c = is_some (waits_for past n c)
+-- A wait is not ready if it waits for something. Otherwise it is ready.
+abbrev pub is_unready : List Entry → ℕ → Call → Bool
+is_unready past n c = is_some (waits_for past n c)
 
 -- The end of a queueing may release a wait for its queue or for its item.
 abbrev pub may_release : Call → Queueing → Bool
@@ -28,13 +28,13 @@ pub record Releases (past : List Entry) (e : Entry) (c : Call) : Type 0 where
   pub ends : ending past e ≡ Some queueing
   pub released : may_release c queueing ≡ true
 
--- A wait that is held up before an entry, and ready after it, was released by the entry.
+-- A wait that is not ready before an entry, and ready after it, was released by the entry.
 abbrev pub WaitsGetReadyByEndings : Type 0
 WaitsGetReadyByEndings =
-    OfEntries (λ s past e. (n : ℕ) (c : Call) → is_held_up past n c ≡ true → is_held_up (e ∷ past) n c ≡ false
+    OfEntries (λ s past e. (n : ℕ) (c : Call) → is_unready past n c ≡ true → is_unready (e ∷ past) n c ≡ false
     → Releases past e c)
 
--- In any history: if a flush of a queue is held up, so is each later flush of that queue.
+-- In any history: if a flush of a queue is not ready, so is each later flush of that queue.
 abbrev pub FlushesGetReadyInOrder : Type 0
 FlushesGetReadyInOrder = (past : List Entry) (q : QueueId) (m n : ℕ) → m ≤ n
-    → is_held_up past m (call.Flush q) ≡ true → is_held_up past n (call.Flush q) ≡ true
+    → is_unready past m (call.Flush q) ≡ true → is_unready past n (call.Flush q) ≡ true

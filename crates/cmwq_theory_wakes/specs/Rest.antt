@@ -6,7 +6,7 @@ use Rattle.cmwq_theory_steps.specs.Common.{entry_at, is_done, number_started, an
 use Rattle.cmwq_theory_steps.specs.Histories.{OfLegal}
 use Rattle.cmwq_model.specs.declared.call.Call.{Call}
 use Rattle.cmwq_model.specs.declared.call.Call.TheVariants as call
-use Rattle.cmwq_theory_wakes.specs.Readiness.{is_held_up}
+use Rattle.cmwq_theory_wakes.specs.Readiness.{is_unready}
 use Rattle.cmwq_theory_wakes.specs.Starting.{worker_is_idle, IsAttended}
 
 -- the call of the entry with this number
@@ -17,15 +17,15 @@ call_at past n = option_map (λ (e : Entry). e.call) (entry_at past n)
 abbrev pub IsOfItsCall : List Entry → Ticket → Type 0
 IsOfItsCall past t = call_at past t.number ≡ Some t.call
 
-abbrev pub IsHeldUp : List Entry → Ticket → Type 0
-IsHeldUp past t = is_held_up past t.number t.call ≡ true
+abbrev pub IsUnready : List Entry → Ticket → Type 0
+IsUnready past t = is_unready past t.number t.call ≡ true
 
 -- The callers of these tickets sleep, and have not been told to wake. Nobody is forgotten if each of these tickets has
--- the call of its entry and is held up, and if each pool is attended.
+-- the call of its entry and is not ready, and if each pool is attended.
 pub record NoneForgotten (s : Layout) (past : List Entry) (tickets : List Ticket)
     (rests : WorkerId → Bool) : Type 0 where
   pub known : AllByRecursion (IsOfItsCall past) tickets
-  pub callers : AllByRecursion (IsHeldUp past) tickets
+  pub callers : AllByRecursion (IsUnready past) tickets
   pub workers : (p : PoolId) → IsAttended s past rests p
 
 -- No end of these tickets would return done, and no worker would start anything.

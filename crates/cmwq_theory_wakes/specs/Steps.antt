@@ -6,17 +6,17 @@ use Rattle.cmwq_theory_steps.specs.Histories.{OfEntries}
 use Rattle.cmwq_theory_steps.specs.Endings.{ending}
 use Rattle.cmwq_theory_wakes.specs.Readiness.{may_release}
 use Rattle.cmwq_theory_wakes.specs.Starting.{IsAttended, Touches}
-use Rattle.cmwq_theory_wakes.specs.Rest.{IsHeldUp, NoneForgotten}
+use Rattle.cmwq_theory_wakes.specs.Rest.{IsUnready, NoneForgotten}
 
 -- A step makes an entry and looks after those who wait and rest. The entry is not by a resting worker. If the entry
--- ends a queueing that may release a ticket, the ticket stays only if it is still held up. The step looks at every pool
+-- ends a queueing that may release a ticket, the ticket stays only if it is still not ready. The step looks at every pool
 -- that the entry touches, and leaves each pool that it looks at attended. In the other pools, the same workers rest as
 -- before.
 pub record LooksAfter (s : Layout) (past : List Entry) (e : Entry) (stays : Ticket → Bool)
     (rested rests : WorkerId → Bool) (looks_at : PoolId → Bool) : Type 0 where
   pub own : (w : WorkerId) → e.who ≡ Worker w → rested w ≡ false
-  pub held_up : (t : Ticket) (x : Queueing) → stays t ≡ true → ending past e ≡ Some x → may_release t.call x ≡ true
-      → IsHeldUp (e ∷ past) t
+  pub unready : (t : Ticket) (x : Queueing) → stays t ≡ true → ending past e ≡ Some x → may_release t.call x ≡ true
+      → IsUnready (e ∷ past) t
   pub touched : (p : PoolId) → Touches s past e p → looks_at p ≡ true
   pub attended : (p : PoolId) → looks_at p ≡ true → IsAttended s (e ∷ past) rests p
   pub others : (w : WorkerId) → looks_at w.pool ≡ false → rests w ≡ rested w

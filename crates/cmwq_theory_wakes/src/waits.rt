@@ -7,7 +7,7 @@ pub fn waits_get_ready_by_endings()
     ensures { WaitsGetReadyByEndings }
 {}
 
-/// While a flush of a queue is held up, so are all later flushes of that queue.
+/// While a flush of a queue is not ready, so are all later flushes of that queue.
 pub fn flushes_get_ready_in_order()
     ensures { FlushesGetReadyInOrder }
 {}
