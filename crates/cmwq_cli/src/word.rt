@@ -242,10 +242,15 @@ There are 1 to 4 CPUs, 1 to 8 workers in each of their two pools, room for up to
 An action is queue, delay, modify or cancel, or ["open",gate], or ["sleep_at",gate]: the run sleeps until the gate is
 open. There are at most 16 gates, and a name makes one. An action may also be flush_item, flush_delayed, cancel_sync,
 flush or drain: the run sleeps until that has ended. One run may do so at a time, or as many as "waits":n says. A wait
-that would never end is refused and told. The output is the history of this one run, which `check` accepts.
+that could never end is refused, and one without room is left out; both are told. The output is the history of this
+one run, which `check` accepts.
 
-A run may wait for ever: a caller that flushes, drains or destroys a frozen queue, or waits for an item on it, waits
-until another caller thaws it.
+These are not refused, and may wait for ever:
+
+  a call or a wait for what a freeze holds back: it ends only if another caller thaws it
+  a drain or a destroy of a queue whose runs go on queueing items there
+  a wait that could end when it began, and cannot since max_active was made smaller or a freeze came
+  what waits for a run at a gate that nobody opens: `run` lets that run go on after some seconds
 
 With "format":3 beside "room" it is of format 3, and there may be 1 to 64 CPUs and workers in a pool, 1 to 255 queues
 and callers, 1 to 65,535 items, and room for up to 4,611,686,018,427,387,904 entries. With "journal":64 it is written
