@@ -1,5 +1,5 @@
 -- A run that waits.
-use Rattle.cmwq_rt.specs.Common.{◌≡◌, true, false, refl, Result, Ok, Err, IfOk, IsPrefix, Call, Reply, Layout, View}
+use Rattle.cmwq_rt.specs.Common.{◌≡◌, true, false, refl, Result, Ok, Err, IfErr, IfOk, IsPrefix, Call, Reply, Layout, View}
 use Rattle.cmwq_rt.specs.Common.{is_caller, Completes}
 use Rattle.cmwq_rt.specs.declared.wait_fault.WaitFault.{WaitFault}
 use Rattle.cmwq_model.specs.declared.call.Call.TheVariants as call
@@ -7,7 +7,8 @@ use Rattle.cmwq_model.specs.Prelude.{is_callers}
 use Rattle.cmwq_monitor.specs.Whole.{is_tick}
 use Rattle.cmwq_rt.specs.Later.{Later}
 use Rattle.cmwq_rt.specs.Running.{MakesOne}
-use Rattle.cmwq_rt.specs.Waiting.{SleepsThrough, WasAllowed, is_wait}
+use Rattle.cmwq_rt.specs.Waiting.{SleepsThrough, TellsWhy, WasAllowed, is_refusal, is_wait}
+use Rattle.cmwq_rt.specs.declared.wait_fault.WaitFault.TheVariants.{Itself, Deadlock, NoCaller, Run}
 use Rattle.cmwq_rt.proofs.Later.{later_trans, later_made}
 
 -- who may make the call by which a run waits
@@ -40,6 +41,15 @@ later_one s v w c m = later_made s v w c m.0 m.1
 pub later_slept : (s : Layout) (v w : View) (c : Call) (r : Reply) → SleepsThrough s v c r w → Later v w
 later_slept s v w c r x =
     later_trans v x.asleep w (later_one s v x.asleep call.Sleep x.sleeps) (later_one s x.asleep w call.Wake x.wakes)
+
+-- a fault of the hub tells nothing of what was looked at
+pub tells_of_run : (s : Layout) (v : View) (c : Call) (o : Result Reply WaitFault)
+    → IfErr o (λ f. is_refusal f ≡ false) → IfErr o (TellsWhy s v c)
+tells_of_run s v c (Ok r) h = tt
+tells_of_run s v c (Err (Run f)) h = tt
+tells_of_run s v c (Err Itself) h = absurd (cc h)
+tells_of_run s v c (Err Deadlock) h = absurd (cc h)
+tells_of_run s v c (Err NoCaller) h = absurd (cc h)
 
 -- put together of its steps
 pub slept_through : (s : Layout) (v asleep before after w : View) (c : Call) (o : Result Reply WaitFault)

@@ -1,5 +1,5 @@
 -- Waits of runs, and what they leave.
-use Rattle.std.specs.Prelude.{◌≡◌, ◌⊎◌, ◌==◌, ◌++◌, ◌∷◌, [], IfSome, Some, None}
+use Rattle.std.specs.Prelude.{◌≡◌, ◌⊎◌, ◌==◌, ◌++◌, ◌∷◌, [], Some, None}
 use Rattle.cmwq_rt.specs.Common.{Bool, true, false, Option, Result, Err, IsPrefix, Call, Reply, Layout, View, Refused}
 use Rattle.cmwq_rt.specs.Common.{is_caller, is_full, Completes, RunFault, Full}
 use Rattle.cmwq_model.specs.declared.call.Call.TheVariants as call
@@ -85,16 +85,18 @@ stuck_of Itself = Some stuck.Itself
 stuck_of Deadlock = Some stuck.Circle
 stuck_of f = None
 
--- Under the lock, a wait of what the worker ran was refused for this reason. The hub counted as many entries of the
--- worker as it had made, and had all that it had seen.
-pub record WasRefused (s : Layout) (v : View) (c : Call) (why : Stuck) : Type 0 where
+-- Under the lock, this was the reason to refuse a wait of what the worker ran, or there was none. The hub counted as
+-- many entries of the worker as it had made, and had all that it had seen.
+pub record WasLookedAt (s : Layout) (v : View) (c : Call) (why : Option Stuck) : Type 0 where
   pub held : Held
   pub step : InStep held.history v
   pub waiting : AreWaiting (past_of held.history) held.waits
-  pub refused : refusal_at s held v.who c ≡ Some why
+  pub found : refusal_at s held v.who c ≡ why
 
-abbrev pub IsStuck : Layout → View → Call → WaitFault → Type 0
-IsStuck s v c f = IfSome (stuck_of f) (WasRefused s v c)
+-- A refused wait tells what was found under the lock: where it tells that no caller is left, no other reason was.
+abbrev pub TellsWhy : Layout → View → Call → WaitFault → Type 0
+TellsWhy s v c (Run f) = Unit {0}
+TellsWhy s v c f = WasLookedAt s v c (stuck_of f)
 
 -- the call waits for the item that runs
 abbrev pub is_for_itself : ItemId → Call → Bool
@@ -105,4 +107,4 @@ is_for_itself own c = false
 -- a run that waits for its own item, or could not wait once it was awake
 abbrev pub MayNotWait : Layout → Running → Call → WaitFault → Type 0
 MayNotWait s r c f =
-    (is_for_itself r.item c ≡ true) ⊎ ((awake : View) × IsAwake s r.participant awake × IsStuck s awake c f)
+    (is_for_itself r.item c ≡ true) ⊎ ((awake : View) × IsAwake s r.participant awake × TellsWhy s awake c f)

@@ -11,7 +11,8 @@ ghost use Rattle.cmwq_monitor.specs.Whole.{Completes, is_tick};
 ghost use Rattle.cmwq_rt.specs.Later.{Later};
 ghost use Rattle.cmwq_rt.specs.Running.{MakesOne, breaks_off};
 ghost use Rattle.cmwq_monitor.specs.Held.{refusal_at};
-ghost use Rattle.cmwq_rt.specs.Waiting.{IsOfRun, IsStuck, MakesNothing, SleepsThrough, WasAllowed, is_refusal, stuck_of};
+ghost use Rattle.cmwq_rt.specs.Waiting.{IsOfRun, MakesNothing, SleepsThrough, TellsWhy, WasAllowed, WasLookedAt};
+ghost use Rattle.cmwq_rt.specs.Waiting.{is_refusal};
 ghost use Rattle.cmwq_waits.specs.HeldUp.{AreWaiting};
 ghost use Rattle.cmwq_rt.specs.declared.wait_fault.WaitFault.TheVariants as waits;
 
@@ -59,7 +60,7 @@ fn begin_wait<N: HubName, R: Wait>(
     ensures sleeps { IfOk result (λ _. MakesOne N.layout worker.old calls.Sleep worker.new) }
     ensures allowed { IfOk result (λ _. WasAllowed N.layout worker.old call worker.new) }
     ensures refused { IfErr result (λ f. is_refusal f ≡ true → worker.new ≡ worker.old) }
-    ensures stuck { IfErr result (IsStuck N.layout worker.old call) }
+    ensures stuck { IfErr result (TellsWhy N.layout worker.old call) }
     ensures full { IfErr result (λ f. f ≡ waits.Run Full → MakesNothing N.layout worker.old worker.new) }
     ensures fault { IfErr result IsOfRun }
     ensures later { Later worker.old worker.new }
@@ -96,7 +97,8 @@ fn may_wait<N: HubName>(
     requires { has_numbers N.layout call ≡ true }
     ensures allowed { IfOk result (λ _. refusal_at N.layout monitor.old worker.now.who call ≡ None) }
     ensures waiting { AreWaiting (past_of monitor.old.history) monitor.old.waits }
-    ensures stuck { IfErr result (IsStuck N.layout worker.now call) }
+    ensures looked { IfOk result (λ _. WasLookedAt N.layout worker.now call None) }
+    ensures stuck { IfErr result (TellsWhy N.layout worker.now call) }
     ensures full { IfErr result (λ f. f ≡ waits.Run Full → ⊥) }
     ensures fault { IfErr result IsOfRun }
     ensures same { monitor.new ≡ monitor.old }
@@ -126,7 +128,7 @@ impl<N: HubName> Hub<N> {
         requires waits { is_tick call ≡ false }
         ensures waited { IfOk result (λ reply. SleepsThrough N.layout worker.old call reply worker.new) }
         ensures refused { IfErr result (λ f. is_refusal f ≡ true → worker.new ≡ worker.old) }
-        ensures stuck { IfErr result (IsStuck N.layout worker.old call) }
+        ensures stuck { IfErr result (TellsWhy N.layout worker.old call) }
         ensures full { IfErr result (λ f. f ≡ waits.Run Full → MakesNothing N.layout worker.old worker.new) }
         ensures fault { IfErr result IsOfRun }
         ensures later { Later worker.old worker.new }
@@ -168,7 +170,6 @@ impl<N: HubName> Hub<N> {
         ensures saw_sleep { IfOk result.1 (λ _. IsPrefix worker.old.seen caller.new.seen) }
         ensures sees { IfOk result.1 (λ _. IsPrefix caller.new.seen worker.new.seen) }
         ensures refused { IfErr result.1 (λ f. is_refusal f ≡ false) }
-        ensures stuck { IfErr result.1 (λ f. stuck_of f ≡ None) }
         ensures full { IfErr result.1 (λ f. f ≡ waits.Run Full → ⊥) }
         ensures fault { IfErr result.1 IsOfRun }
         ensures later { Later worker.old worker.new }

@@ -12,7 +12,7 @@ ghost use Rattle.cmwq_rt.specs.Batches.{MakesBatch, StopsBatch, fault_after_batc
 ghost use Rattle.cmwq_rt.specs.Later.{Later};
 ghost use Rattle.cmwq_rt.specs.Starting.{HasStarted};
 ghost use Rattle.cmwq_rt.specs.Running.{RunsItem, MakesOne, fault_after, breaks_off};
-ghost use Rattle.cmwq_rt.specs.Waiting.{HadNoRoom, HasWaited, IsStuck, MakesNothing, MayNotWait, SleepsThrough};
+ghost use Rattle.cmwq_rt.specs.Waiting.{HadNoRoom, HasWaited, MakesNothing, MayNotWait, SleepsThrough, TellsWhy};
 ghost use Rattle.cmwq_rt.specs.Waiting.{fault_after_wait, is_for_itself, is_refusal, is_wait};
 ghost use Rattle.cmwq_rt.specs.declared.wait_fault.WaitFault.TheVariants as waits;
 ghost use Rattle.cmwq_monitor.specs.Whole.{is_tick};
@@ -535,7 +535,7 @@ impl<'a, N: HubName, R: Wait> RunCtx<'a, N, R> {
         ensures waited { IfOk result
             (λ reply. SleepsThrough N.layout self.old.participant call reply self.new.participant) }
         ensures refused { IfErr result (λ f. is_refusal f ≡ true → self.new.participant ≡ self.old.participant) }
-        ensures stuck { IfErr result (IsStuck N.layout self.old.participant call) }
+        ensures stuck { IfErr result (TellsWhy N.layout self.old.participant call) }
         ensures full { IfErr result
             (λ f. f ≡ waits.Run Full → MakesNothing N.layout self.old.participant self.new.participant) }
         ensures fault { self.new.fault ≡ fault_after_wait result self.old.fault }

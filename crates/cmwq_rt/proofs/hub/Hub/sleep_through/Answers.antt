@@ -1,4 +1,4 @@
-use Rattle.cmwq_rt.proofs.Sleeping.{slept_through}
+use Rattle.cmwq_rt.proofs.Sleeping.{slept_through, tells_of_run}
 use Rattle.cmwq_rt.proofs.hub.Hub.sleep_through.Goals as goal
 
 pub returns-clause-waited : goal.returns-clause-waited
@@ -7,3 +7,8 @@ returns-clause-waited g c =
     slept_through g.N.HubName.layout c.args.worker.now c.begin_wait-begun.new.worker c.in-Ok.caller
     c.wake_after-monitor.new.caller c.wake_after-monitor.new.worker c.args.call c.wake_after-monitor.result.1
     c.in-Ok.ensures.sleeps c.in-Ok.ensures.allowed e.by_caller e.completes e.wakes e.saw_sleep e.sees
+
+pub returns-clause-stuck : goal.returns-clause-stuck
+returns-clause-stuck g c =
+    tells_of_run g.N.HubName.layout c.args.worker.now c.args.call c.wake_after-monitor.result.1
+    c.wake_after-monitor.ensures.refused
