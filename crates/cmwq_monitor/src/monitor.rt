@@ -341,12 +341,15 @@ impl<N: HubName> Monitor<N> {
         caller: &Participant<N>,
         ticket: Number,
     ) -> bool
-        ensures { self.new ≡ record self.old { waits = if result
-            then waits_with self.old participant.now.who caller.now.who ticket else self.old.waits } }
+        ensures { self.new ≡ record self.old {
+          waits = if result
+              then waits_with self.old participant.now.who caller.now.who ticket else self.old.waits;
+        } }
     {
         match (participant.who(), caller.who()) {
-            (Who::Worker(worker), Who::Caller(caller)) =>
-                self.runs.registers(&self.execution, worker, caller, ticket),
+            (Who::Worker(worker), Who::Caller(caller)) => self
+                .runs
+                .registers(&self.execution, worker, caller, ticket),
             _ => true,
         }
     }

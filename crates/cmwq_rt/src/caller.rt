@@ -246,13 +246,7 @@ impl<N: HubName> Caller<N> {
             return (monitor, Ok(reply));
         };
         monitor.run_waits(worker, &self.participant, ticket);
-        let (monitor, ended) = hub.until_ended(
-            rt,
-            monitor,
-            &mut self.participant,
-            call,
-            ticket,
-        );
+        let (monitor, ended) = hub.until_ended(rt, monitor, &mut self.participant, call, ticket);
         match ended {
             Ok(()) => {}
             Err(fault) => return (monitor, Err(fault)),

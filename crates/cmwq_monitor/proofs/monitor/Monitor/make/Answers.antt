@@ -66,22 +66,23 @@ pub invariant_of-self-2 : goal.invariant_of-self-2
 invariant_of-self-2 g c =
     let i = c.self.invariant in
     let held : c.self.inside.execution.entries ≡ c.args.self.now.history =
-    ap (λ (h : Held). h.history) c.self.view_is in
-    (i.0,
-    ap (λ (h : History). h.layout) c.commit-reply.ensures.entry ∙ i.1,
-    ap (λ (h : History). h.room) c.commit-reply.ensures.entry ∙ i.2,
-    search rules,
-    omega (
-      arith,
-      c.count.ensures.counted,
-      i.4,
-      ap (λ (h : History). length h.entries) c.commit-reply.ensures.entry,
-      length-append c.self.inside.execution.entries (c.args.plan.now.mark.entry ∷ [])
-    ),
-    search rules,
-    waiting_after c.self.inside.execution c.args.plan.now.mark.entry c.self.inside.runs c.entered.new.self
-    c.commit-reply.new.self c.ended_by-ended.result c.done_by-done.result (rw (i.1, held) c.requires.plan.legal)
-    c.ended_by-ended.ensures c.done_by-done.ensures c.entered.ensures c.commit-reply.ensures.entry i.6)
+    ap (λ (h : Held). h.history) c.self.view_is in (
+      i.0,
+      ap (λ (h : History). h.layout) c.commit-reply.ensures.entry ∙ i.1,
+      ap (λ (h : History). h.room) c.commit-reply.ensures.entry ∙ i.2,
+      search rules,
+      omega (
+        arith,
+        c.count.ensures.counted,
+        i.4,
+        ap (λ (h : History). length h.entries) c.commit-reply.ensures.entry,
+        length-append c.self.inside.execution.entries (c.args.plan.now.mark.entry ∷ []),
+      ),
+      search rules,
+      waiting_after c.self.inside.execution c.args.plan.now.mark.entry c.self.inside.runs c.entered.new.self
+          c.commit-reply.new.self c.ended_by-ended.result c.done_by-done.result (rw (i.1, held) c.requires.plan.legal)
+          c.ended_by-ended.ensures c.done_by-done.ensures c.entered.ensures c.commit-reply.ensures.entry i.6,
+    )
 
 pub returns-clause-waits : goal.returns-clause-waits
 returns-clause-waits g c =
