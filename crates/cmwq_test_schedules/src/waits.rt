@@ -38,7 +38,7 @@ fn found_of(rt: &(impl Abort + AllocGlobal), text: &str) -> (Found, Most) {
 fn alone(rt: &(impl Abort + AllocGlobal), text: &str) -> (u64, usize, u64, u64) {
     let (found, most) = found_of(rt, text);
     assert!(rt; found.ended == 1 && found.stuck == 0);
-    assert!(rt; found.states == found.moves + 1);
+    assert!(rt; found.states == found.moves.wrapping_add(1));
     (
         found.moves,
         most.entries,
