@@ -1,0 +1,14 @@
+pub mod Counts
+pub mod Staying
+pub mod Awaited
+pub mod Apart
+pub mod Workers
+pub mod Places
+pub mod Kept
+pub mod Lasting
+pub mod Alike
+pub mod Made
+pub mod Refused
+pub mod Asleep
+pub mod StillRefused
+pub mod Needed
