@@ -110,8 +110,8 @@ impl FlushBooks {
         self.queues[usize::from(queue.0)].ready(ticket, is_empty)
     }
 
-    /// Whether a flush that stands waits for this number, if that is open of the queue: a served one for what was opened
-    /// before it was served, one in overflow for all.
+    /// Whether a flush that stands waits for this number, if that is open of the queue: a served one for what was
+    /// opened before it was served, one in overflow for all.
     pub fn is_waited_for(&self, queue: QueueId, ticket: Number, number: Number) -> bool
         requires { queue.0 < length self.now.books }
         ensures { result ≡ is_waited_for (book_in self.now.books queue.0) ticket number }

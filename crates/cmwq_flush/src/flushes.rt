@@ -3,9 +3,9 @@ ghost use Rattle.std.specs.Prelude.{length, slice_index, take, vec_capacity, vec
 ghost use Rattle.std.specs.List.{list_all, remove, sum_by};
 ghost use Rattle.std.specs.List.Sorted.{IsNonDecreasingBy};
 ghost use Rattle.cmwq_flush.specs.declared.openings.Row.{Row};
-ghost use Rattle.cmwq_flush.specs.FlushBook.{CanOpen, IsLatestFlush, IsReady, flush_tickets, flushes_with_open, is_waited_for};
+ghost use Rattle.cmwq_flush.specs.FlushBook.{CanOpen, IsLatestFlush, IsReady, flush_tickets, flushes_with_open};
 ghost use Rattle.cmwq_flush.specs.FlushBook.{flushes_with_wait, flushes_without_open, flushes_without_wait, new_book};
-ghost use Rattle.cmwq_flush.specs.FlushBook.{served_with_oldest, without_oldest};
+ghost use Rattle.cmwq_flush.specs.FlushBook.{is_waited_for, served_with_oldest, without_oldest};
 ghost use Rattle.cmwq_flush.specs.Colouring.{AreUnused, IsColouring, IsToldByColours, WaitsForNothing};
 ghost use Rattle.cmwq_flush.specs.Overflow.{tickets_at, with_tickets};
 ghost use Rattle.cmwq_flush.specs.Rows.{IsTally, without_row};

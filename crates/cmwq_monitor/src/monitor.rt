@@ -58,7 +58,12 @@ impl<N: HubName> Model for Monitor<N> {
 
     ghost Value = { Held };
 
-    ghost view = { λ d. record { history = d.execution.entries; closed = d.closed; failed = d.failed; waits = d.runs } };
+    ghost view = { λ d. record {
+      history = d.execution.entries;
+      closed = d.closed;
+      failed = d.failed;
+      waits = d.runs;
+    } };
 
     ghost invariant = { λ d. (d.shape ≡ N.layout) × (d.execution.layout ≡ N.layout) × (d.execution.room ≡ N.layout.room)
         × (d.publisher.entries ≡ d.execution.entries) × (d.entries.total ≡ length d.execution.entries)

@@ -45,8 +45,8 @@ fn stranger<N: HubName>(later: &Participant<N>, other: &Participant<N>) -> RunFa
     }
 }
 
-/// Lends a caller to the worker's run for a wait by this call, and the run goes to sleep. Where it may not wait, neither
-/// is done. All is decided in one hold of the lock, so that what is refused has held nothing.
+/// Lends a caller to the worker's run for a wait by this call, and the run goes to sleep. Where it may not wait,
+/// neither is done. All is decided in one hold of the lock, so that what is refused has held nothing.
 fn begin_wait<N: HubName, R: Wait>(
     rt: &R,
     monitor: &mut Monitor<N>,

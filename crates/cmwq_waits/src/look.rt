@@ -3,14 +3,14 @@
 ghost use Rattle.std.specs.Prelude.{◌≡◌, ◌<◌, ◌≤◌, if◌then◌else◌, Contains, false, true, length, filter};
 ghost use Rattle.std.specs.Prelude.{option_to_list};
 ghost use Rattle.std.specs.List.{list_any};
-ghost use Rattle.cmwq_model.specs.Prelude.{has_numbers, is_ahead, is_started, is_unstarted, past_of, pool_at, same_pool};
-ghost use Rattle.cmwq_model.specs.Prelude.{still_open};
+ghost use Rattle.cmwq_model.specs.Prelude.{has_numbers, is_ahead, is_started, is_unstarted, past_of, pool_at};
+ghost use Rattle.cmwq_model.specs.Prelude.{same_pool, still_open};
 ghost use Rattle.cmwq_model.specs.Active as active;
 ghost use Rattle.cmwq_state.specs.Waits.{IsUnendedOrNext};
 ghost use Rattle.cmwq_waits.specs.HeldUp.{awaits, has_run_of, have_all_places, have_all_workers, is_held_up, is_kept};
 ghost use Rattle.cmwq_waits.specs.HeldUp.{places_ahead};
-ghost use Rattle.cmwq_waits.specs.Looks.{KeepNone, WaitsForQueue, awaited_by};
-ghost use Rattle.cmwq_waits.specs.Looks.{AreSeen, IsKnown, IsScene, IsSeen, holds_unstarted, is_item_held, unstarted_left};
+ghost use Rattle.cmwq_waits.specs.Looks.{AreSeen, KeepNone, WaitsForQueue, awaited_by};
+ghost use Rattle.cmwq_waits.specs.Looks.{IsKnown, IsScene, IsSeen, holds_unstarted, is_item_held, unstarted_left};
 
 use crate::calls::item_taken_back;
 use crate::run_wait::RunWait;

@@ -77,8 +77,8 @@ impl RunWaits {
     ) -> bool
         requires worker { tables.IsThere execution.now.layout (who.Worker worker) }
         requires caller { tables.IsThere execution.now.layout (who.Caller caller) }
-        ensures new { self.new
-            ≡ (if result then registered self.old (wait_of (past_in execution.now) worker caller ticket) else self.old) }
+        ensures new { self.new ≡ (if result
+            then registered self.old (wait_of (past_in execution.now) worker caller ticket) else self.old) }
         ensures waiting { AreWaiting (past_in execution.now) self.old → AreWaiting (past_in execution.now) self.new }
     {
         let state = execution.state();
