@@ -3,8 +3,8 @@ ghost use Rattle.std.specs.Prelude.{◌≡◌, [], ◌*◌, ◌<◌, ◌≤◌, 
 ghost use Rattle.std.specs.Prelude.{length, replicate, slice_get};
 ghost use Rattle.cmwq_flush.specs.ItemNumbers.{IsItemReady, item_waits_for, numbers_open};
 ghost use Rattle.cmwq_flush.specs.Colouring.{IsToldByColours};
-ghost use Rattle.cmwq_flush.specs.FlushBook.{IsReady, flush_tickets, flushes_with_wait, flushes_without_wait, is_waited_for};
-ghost use Rattle.cmwq_flush.specs.FlushBook.{new_book};
+ghost use Rattle.cmwq_flush.specs.FlushBook.{IsReady, flush_tickets, flushes_with_wait, flushes_without_wait};
+ghost use Rattle.cmwq_flush.specs.FlushBook.{is_waited_for, new_book};
 ghost use Rattle.cmwq_flush.specs.Queues.{AreQueuesRight, books_by};
 ghost use Rattle.cmwq_flush.specs.FlushBooks.{CanBegin, CanOpenOn, IsOpenOn, book_in, new_flush_state, with_book};
 ghost use Rattle.cmwq_flush.specs.FlushBooks.{with_open, without_open};
