@@ -9,9 +9,9 @@ use Rattle.cmwq_theory_wakes.specs.Starting.{IsAttended, Touches}
 use Rattle.cmwq_theory_wakes.specs.Rest.{IsUnready, NoneForgotten}
 
 -- A step makes an entry and looks after those who wait and rest. The entry is not by a resting worker. If the entry
--- ends a queueing that may release a ticket, the ticket stays only if it is still not ready. The step looks at every pool
--- that the entry touches, and leaves each pool that it looks at attended. In the other pools, the same workers rest as
--- before.
+-- ends a queueing that may release a ticket, the ticket stays only if it is still not ready. The step looks at every
+-- pool that the entry touches, and leaves each pool that it looks at attended. In the other pools, the same workers
+-- rest as before.
 pub record LooksAfter (s : Layout) (past : List Entry) (e : Entry) (stays : Ticket → Bool)
     (rested rests : WorkerId → Bool) (looks_at : PoolId → Bool) : Type 0 where
   pub own : (w : WorkerId) → e.who ≡ Worker w → rested w ≡ false
