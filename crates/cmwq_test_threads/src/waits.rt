@@ -217,7 +217,7 @@ fn a_run_without_a_caller_does_not_wait(rt: HostRuntime) {
         steps: &[Step::Queue(0)],
         deeds: &[ALL_CALLS],
         waited: 0,
-        refused: [1, 0, 6],
+        refused: [2, 0, 5],
         ..CASE
     };
     play_case(&rt, case);
