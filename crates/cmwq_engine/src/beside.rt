@@ -106,11 +106,11 @@ pub fn stop<N: HubName, C: Crew, R: Wait>(rt: &R, hub: &Hub<N>, crew: &C) {
 fn has_all<N: HubName>(monitor: &mut Monitor<N>, journal: &mut Journal<N>) -> Result<(), RunFault>
     ensures all { IfOk result
         (λ _. (journal.old.seen ≡ monitor.old.history) × (journal.new.seen ≡ monitor.old.history)) }
-    ensures same { monitor.new ≡ monitor.old }
+    ensures same { monitor.new.history ≡ monitor.old.history }
     ensures fault { IfErr result (λ f. is_silent f ≡ true) }
 {
     let own = journal.len();
-    match monitor.hand_over(journal) {
+    match monitor.give(journal) {
         Ok(()) if journal.batch().is_empty() => Ok(()),
         Ok(()) => Err(RunFault::Stranger {
             own,

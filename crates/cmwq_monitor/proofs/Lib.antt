@@ -2,8 +2,8 @@ pub mod Beginnings
 pub mod Entries
 pub mod Entering
 pub mod Serials
-pub mod Firing
+pub mod Fired
 pub mod Whole
 pub mod Fitting
 mod Predicted
-pub mod Waits
+pub mod Sleepers

@@ -1,18 +1,22 @@
 -- What an entry that would not be made says, and what one that starts a queueing names.
-use Rattle.cmwq_monitor.specs.Common.{◌≡◌, ◌≤◌, ◌<◌, ℕ, Bool, true, false, true≢false, List, [], ◌∷◌, ◌++◌, Some, refl}
-use Rattle.cmwq_monitor.specs.Common.{ap, sym, ◌∙◌, subst, arith, IsTrue, le-leb, same_Some, ItemId, Who, Call, Reply}
+use Rattle.cmwq_monitor.specs.Common.{◌≡◌, ◌<◌, ℕ, true, false, true≢false, List, [], ◌∷◌, ◌++◌, None}
+use Rattle.cmwq_monitor.specs.Common.{Option, Some, refl}
+use Rattle.cmwq_monitor.specs.Common.{ap, sym, ◌∙◌, subst, IsTrue, same_Some, ItemId, Who, Caller, Worker, Call, Reply}
 use Rattle.cmwq_monitor.specs.Common.{Entry, Mark, Queueing, Layout, fits, number_started, still_open, is_unstarted}
-use Rattle.cmwq_monitor.specs.Common.{unstarted_queueing, queueing_at, is_done, IsLegal, past_of, entry_for}
-use Rattle.cmwq_monitor.specs.Common.{room_needed, has_room, History, IsMark, IsThere}
-use Rattle.std.specs.Cmp.Derive.{both_true}
+use Rattle.cmwq_monitor.specs.Common.{unstarted_queueing, queueing_at, is_done, IsLegal, past_of, entry_for, answer}
+use Rattle.cmwq_monitor.specs.Common.{History, IsMark, IsThere}
+use Rattle.std.specs.Prelude.{is_some}
 use Rattle.cmwq_model.specs.declared.reply.Reply.TheVariants as reply
-use Rattle.cmwq_theory_steps.specs.RoomSteps.{is_promised}
-use Rattle.cmwq_theory_laws.proofs.WithinRoom.{promised_have_time}
-use Rattle.cmwq_theory_steps.proofs.Promised.{promised_need_no_more}
+use Rattle.cmwq_model.specs.declared.id.CallerId.{CallerId}
+use Rattle.cmwq_model.specs.declared.id.WorkerId.{WorkerId}
+use Rattle.cmwq_model.specs.declared.record.Ticket.{Ticket}
+use Rattle.cmwq_theory_steps.specs.Common.{end_of_ticket, ticket_of, waiting_for, waits_for}
 use Rattle.cmwq_theory_steps.proofs.Starts.{starts_next}
 use Rattle.cmwq_theory_steps.proofs.Unstarted.{next_unstarted}
 use Rattle.cmwq_theory_steps.proofs.StartsListed.{IsFound}
 use Rattle.cmwq_theory_steps.proofs.Ended.{found_open}
+use Rattle.cmwq_theory_wakes.specs.Starting.{would_start}
+use Rattle.cmwq_theory_wakes.proofs.Starting.{idle_start_alike}
 use Rattle.cmwq_lemmas.proofs.Members.{found, of_in}
 use Rattle.cmwq_refinement.proofs.PlacesFit.{open_there}
 use Rattle.cmwq_model.specs.declared.call.Call.TheVariants as call
@@ -24,42 +28,37 @@ use Rattle.cmwq_monitor.specs.Starts.{StartsItem}
 use Rattle.cmwq_monitor.proofs.Entering.{next_of_mark}
 use Rattle.cmwq_monitor.proofs.Fitting.{worker_fits}
 
--- ---- a promised reply has room, so a call for which there is none would not get it
+-- ---- what would not be answered
 
-unpromised : (s : Layout) (past : List Entry) (who : Who) (call : Call) (b : Bool) → IsTrue (fits s who call)
-    → IsLegal s past → room_needed s past ≤ s.room
-    → has_room s s.room past who call ≡ false → is_promised (entry_for s past who call).reply ≡ b → b ≡ false
-unfolding IsLegal
-unpromised s past who call false fit legal within full is = refl
-unpromised s past who call true fit legal within full is =
-    let e = entry_for s past who call in
-    let more : room_needed s (e ∷ past) ≤ room_needed s past = promised_need_no_more s past e (fit, refl, legal) is in
-    let taken : has_room s s.room past who call ≡ true =
-    both_true (promised_have_time s past who call is) (le-leb (room_needed s (e ∷ past)) s.room (omega arith)) in
-    absurd (true≢false (sym taken ∙ full))
+-- the end of a ticket that is not ready, or that the caller does not have, is not done
+pub unready_not_done : (past : List Entry) (c : CallerId) (n : ℕ) (t : Ticket) → ticket_of past (Caller c) n ≡ Some t
+    → is_some (waits_for past t.number t.call) ≡ true → (s : Layout)
+    → is_done (entry_for s past (Caller c) (call.End n)).reply ≡ false
+unfolding answer
+unready_not_done past c n t of waits s =
+    ap (λ o. is_done (end_of_ticket past o)) of ∙ at (waits_for past t.number t.call) waits
+  where
+    at : (o : Option ℕ) → is_some o ≡ true → is_done (waiting_for o) ≡ false
+    at (Some m) k = refl
+    at None k = cc
 
-starts_promised : (r : Reply) → is_promised r ≡ false → is_start r ≡ false
-starts_promised (reply.Started n) h = absurd (true≢false h)
-starts_promised (reply.StartedEnlist n x) h = absurd (true≢false h)
-starts_promised r h = refl
+pub unknown_not_done : (past : List Entry) (c : CallerId) (n : ℕ) → ticket_of past (Caller c) n ≡ None → (s : Layout)
+    → is_done (entry_for s past (Caller c) (call.End n)).reply ≡ false
+unfolding answer
+unknown_not_done past c n none s = ap (λ o. is_done (end_of_ticket past o)) none
 
-done_promised : (r : Reply) → is_promised r ≡ false → is_done r ≡ false
-done_promised reply.Done h = absurd (true≢false h)
-done_promised r h = refl
+start_number : (r : Reply) → is_start r ≡ is_some (number_started r)
+start_number (reply.Started n) = refl
+start_number (reply.StartedEnlist n x) = refl
+start_number r = refl
 
-pub full_starts_none : (s : Layout) (past : List Entry) (who : Who) (call : Call) → IsTrue (fits s who call)
-    → IsLegal s past → room_needed s past ≤ s.room
-    → has_room s s.room past who call ≡ false → is_start (entry_for s past who call).reply ≡ false
-full_starts_none s past who call fit legal within full =
-    starts_promised (entry_for s past who call).reply
-    (unpromised s past who call (is_promised (entry_for s past who call).reply) fit legal within full refl)
+pub would_not_start : (s : Layout) (past : List Entry) (w : WorkerId) → would_start s past w ≡ false
+    → is_start (entry_for s past (Worker w) call.Take).reply ≡ false
+would_not_start s past w not =
+    start_number (entry_for s past (Worker w) call.Take).reply ∙ (idle_start_alike s past w ∙ not)
 
-pub full_ends_none : (s : Layout) (past : List Entry) (who : Who) (call : Call) → IsTrue (fits s who call)
-    → IsLegal s past → room_needed s past ≤ s.room
-    → has_room s s.room past who call ≡ false → is_done (entry_for s past who call).reply ≡ false
-full_ends_none s past who call fit legal within full =
-    done_promised (entry_for s past who call).reply
-    (unpromised s past who call (is_promised (entry_for s past who call).reply) fit legal within full refl)
+pub is_start_of : (r : Reply) → is_some (number_started r) ≡ true → is_start r ≡ true
+is_start_of r h = start_number r ∙ h
 
 -- ---- the mark of a start names an item of the layout
 

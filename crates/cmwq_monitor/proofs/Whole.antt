@@ -11,7 +11,7 @@ use Rattle.cmwq_monitor.specs.Whole.{Completes, BrokeOff, Behind, Fires, EndsOwn
 use Rattle.cmwq_monitor.specs.Whole.{is_tick, is_drain, ticket_in_reply, ticket_left}
 use Rattle.cmwq_monitor.specs.Steps.{HasFired, HasFiredSome, HasEnded, HasEndedSome, still_unended}
 use Rattle.cmwq_monitor.proofs.Entries.{gains_none, gains_more}
-use Rattle.cmwq_monitor.proofs.Firing.{ends_extended}
+use Rattle.cmwq_monitor.proofs.Fired.{ends_extended}
 use Rattle.cmwq_monitor.proofs.Serials.{stand_next}
 
 behind_tick : (s : Layout) (who : Who) (history made es : List Entry) (c : Call) (r : Reply) → is_tick c ≡ true

@@ -1,5 +1,6 @@
 -- What the files of this crate name from outside it, in one import.
-pub use Rattle.std.proofs.Common.{Bool, IsTrue, List, None, Some, [], ap, append-nil, append_assoc, arith, cond, drop}
+pub use Rattle.std.proofs.Common.{Bool, IsTrue, List, None, Ok, Result, Some, [], ap, append-nil, append_assoc, arith}
+pub use Rattle.std.proofs.Common.{cond, drop}
 pub use Rattle.std.proofs.Common.{false, inl, inr, length, length-append, map, nat_lt, refl, reverse, rules, subst, suc}
 pub use Rattle.std.proofs.Common.{sym, true, true≢false, zero, ℕ, ◌&&◌, ◌++◌, ◌+◌, ◌<◌, ◌∙◌, ◌∷◌, ◌≡◌, ◌≢◌, ◌≤◌}
 pub use Rattle.std.proofs.lemmas.Bool.{le-leb, lt-ltb}

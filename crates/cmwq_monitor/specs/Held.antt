@@ -1,8 +1,12 @@
 -- What contracts see of what a hub keeps under its lock.
-use Rattle.std.specs.Prelude.{◌≡◌, ◌&&◌, ◌||◌, ◌==◌}
-use Rattle.cmwq_monitor.specs.Common.{ℕ, Bool, true, false, List, [], count_by, Who, Entry, Layout, past_of, still_open}
-use Rattle.cmwq_monitor.specs.Common.{is_active, Call, Caller, None, Option, Worker}
+use Rattle.std.specs.Prelude.{◌≡◌, ◌⊎◌, ◌+◌, ◌-◌, ◌*◌, ◌&&◌, ◌||◌, ◌==◌, nat_lt, nat_le}
+use Rattle.cmwq_monitor.specs.Common.{ℕ, Bool, true, false, List, [], length, count_by, Who, Entry, Layout, past_of}
+use Rattle.cmwq_monitor.specs.Common.{still_open, is_active, Call, Caller, None, Option, Worker, History}
 use Rattle.cmwq_core.specs.History.{takes_with}
+use Rattle.cmwq_dispatch.specs.Asleep.{Asleep, SleepOn}
+use Rattle.cmwq_dispatch.specs.Dispatched.{Dispatched, dispatched_of}
+use Rattle.cmwq_dispatch.specs.Naming.{NamesAll, names_journal}
+use Rattle.cmwq_dispatch.specs.declared.wakes.Wakes.{Wakes}
 use Rattle.cmwq_waits.specs.Registered.{refusal_of, registered, wait_of}
 use Rattle.cmwq_waits.specs.declared.run_wait.RunWait.{RunWait}
 use Rattle.cmwq_waits.specs.declared.waits.Stuck.{Stuck}
@@ -10,27 +14,88 @@ use Rattle.cmwq_monitor.specs.Participants.{is_caller}
 use Rattle.cmwq_monitor.specs.declared.fault.RunFault.{RunFault}
 use Rattle.cmwq_monitor.specs.declared.fault.RunFault.TheVariants.{NoMemory, Closed}
 
--- the history, with the oldest entry first; a closed hub takes no calls of callers, a failed one none at all; and the
--- runs that wait
+-- The history, with the oldest entry first. A closed hub takes no calls of callers, a failed one none at all. How many
+-- callers may still fire, whether somebody sleeps until there is space, the runs that wait, and who sleeps. How many
+-- entries were handed over or dropped, how many of the others are kept at most, and whether the one who writes the
+-- history down sleeps.
 pub record Held : Type 0 where
   pub history : List Entry
   pub closed : Bool
   pub failed : Bool
+  pub firing : ℕ
+  pub crowded : Bool
   pub waits : List RunWait
+  pub asleep : Asleep
+  pub given : ℕ
+  pub keeps : ℕ
+  pub writer_sleeps : Bool
 
-abbrev pub held_at_first : Held
-held_at_first = record { history = []; closed = false; failed = false; waits = [] }
+abbrev pub held_of : Dispatched → ℕ → ℕ → Bool → Held
+held_of d given keeps writer_sleeps = record {
+  history = d.history.entries;
+  closed = d.closed;
+  failed = d.failed;
+  firing = d.firing;
+  crowded = d.crowded;
+  waits = d.waits;
+  asleep = d.asleep;
+  given = given;
+  keeps = keeps;
+  writer_sleeps = writer_sleeps;
+}
+
+abbrev pub held_at_first : ℕ → Asleep → Held
+held_at_first keeps asleep = record {
+  history = [];
+  closed = false;
+  failed = false;
+  firing = 0;
+  crowded = false;
+  waits = [];
+  asleep = asleep;
+  given = 0;
+  keeps = keeps;
+  writer_sleeps = false;
+}
+
+-- the execution that has this history
+abbrev pub history_of : Layout → List Entry → History
+history_of s entries = record { layout = s; room = s.room; entries = entries }
+
+-- the same as contracts see a dispatch
+abbrev pub dispatched : Layout → Held → Dispatched
+dispatched s h = dispatched_of (history_of s h.history) h.closed h.failed h.crowded h.firing h.waits h.asleep
 
 -- it takes the calls of this one
 abbrev pub IsOpenTo : Held → Who → Type 0
 IsOpenTo h who = (h.failed ≡ false) × ((h.closed && is_caller who) ≡ false)
 
--- how many active queueings are open, and whether workers may go
+-- how many active queueings are open
 abbrev pub active_in : Layout → List Entry → ℕ
 active_in s history = count_by (is_active s (past_of history)) (still_open (past_of history))
 
+-- Workers may go: it has failed, or it is closed, no active queueing is open, and no caller may still fire.
 abbrev pub is_over : Layout → Held → Bool
-is_over s h = h.failed || (h.closed && (active_in s h.history == 0))
+is_over s h = h.failed || (h.closed && (active_in s h.history == 0) && (h.firing == 0))
+
+-- ---- what is kept for the one who writes the history down
+
+abbrev pub kept_in : Held → ℕ
+kept_in h = length h.history - h.given
+
+-- There is enough to hand over: half of what may be kept, or anything once it is over, or somebody sleeps until there
+-- is space. Or nothing more may come.
+abbrev pub is_writer_wanted : Layout → Held → Bool
+is_writer_wanted s h =
+    h.failed || h.crowded || ((nat_le h.keeps (2 * kept_in h) || is_over s h) && nat_lt 0 (kept_in h))
+
+-- how many more entries can be kept
+abbrev pub space_in : Held → ℕ
+space_in h = h.keeps + h.given - length h.history
+
+-- So many entries can be kept, or all that the room still allows, or nothing is made any more.
+abbrev pub has_space : Layout → Held → ℕ → Bool
+has_space s h n = h.failed || (nat_le n (space_in h) || nat_le s.room (space_in h + length h.history))
 
 -- ---- runs that wait
 
@@ -46,13 +111,19 @@ waits_with h worker caller n = h.waits
 
 -- there is room for the call, with what is owed then, and for a sleep and a wake
 abbrev pub has_room_to_wait : Layout → Held → Who → Call → Bool
-has_room_to_wait s h who c = takes_with (record { layout = s; room = s.room; entries = h.history }) who c 2
+has_room_to_wait s h who c = takes_with (history_of s h.history) who c 2
 
 -- ---- steps
 
--- A step that is answered neither opens nor closes it, and doesn't fail it.
-abbrev pub GoesOn : Held → Held → Type 0
-GoesOn old new = (new.closed ≡ old.closed) × (new.failed ≡ old.failed)
+-- A step that is answered neither opens nor closes it, and doesn't fail it. Nobody begins or ends to fire, or to sleep
+-- until there is space, and nothing is handed over.
+pub record GoesOn (old new : Held) : Type 0 where
+  pub closed : new.closed ≡ old.closed
+  pub failed : new.failed ≡ old.failed
+  pub firing : new.firing ≡ old.firing
+  pub crowded : new.crowded ≡ old.crowded
+  pub given : new.given ≡ old.given
+  pub keeps : new.keeps ≡ old.keeps
 
 -- What a fault leaves: want of memory a hub that has failed, any other one as it was. Only a closed one answers that it
 -- is closed.
@@ -60,3 +131,15 @@ abbrev pub LeavesHeld : Held → RunFault → Held → Type 0
 LeavesHeld old (NoMemory ticket) new = (new.closed ≡ old.closed) × (new.failed ≡ true)
 LeavesHeld old Closed new = (new ≡ old) × (old.closed ≡ true)
 LeavesHeld old f new = new ≡ old
+
+-- It has failed, and nobody sleeps.
+abbrev pub failed_from : Held → Asleep → Held
+failed_from h asleep = record h { failed = true; asleep = asleep; writer_sleeps = false }
+
+-- ---- who sleeps, and who is named to be woken
+
+-- Whoever slept sleeps on, or is named, or made the step.
+pub record SleepersGoOn (who : Who) (old new : Held) (before after : Wakes) : Type 0 where
+  pub waiting : SleepOn who old.asleep new.asleep before after
+  pub for_space : old.crowded ≡ true → (new.crowded ≡ true) ⊎ NamesAll after
+  pub writer : old.writer_sleeps ≡ true → (new.writer_sleeps ≡ true) ⊎ (names_journal after ≡ true)

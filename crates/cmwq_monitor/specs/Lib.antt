@@ -6,5 +6,6 @@ pub mod Faults
 pub mod Whole
 pub mod Steps
 pub mod Starts
+pub mod Sleeping
 pub mod Settled
 pub mod Journals

@@ -5,7 +5,7 @@ use Rattle.cmwq_monitor.specs.Common.{Reply, Entry, Layout, serial_of, IsLegal, 
 use Rattle.cmwq_model.specs.declared.call.Call.TheVariants as call
 use Rattle.cmwq_model.specs.declared.reply.Reply.TheVariants as reply
 use Rattle.cmwq_monitor.specs.Participants.{View, Gains, is_caller, made_by}
-use Rattle.cmwq_monitor.specs.Held.{Held, IsOpenTo}
+use Rattle.cmwq_monitor.specs.Held.{Held, IsOpenTo, failed_from}
 use Rattle.cmwq_monitor.specs.Calls.{own_entry}
 use Rattle.cmwq_monitor.specs.Whole.{Fires, EndsOwn, EndsFiring, IsFire, EndsTicket, PartEnd, Stops, is_drain}
 use Rattle.cmwq_monitor.specs.declared.fault.RunFault.{RunFault}
@@ -30,7 +30,7 @@ TellsFirst h v f = ⊥
 -- what was short, and what that leaves
 abbrev pub Lacks : Layout → Held → View → Call → Shortage → Held → Type 0
 Lacks s old w call Room new = (has_room s s.room (past_of w.seen) w.who call ≡ false) × (new ≡ old)
-Lacks s old w call Memory new = new ≡ record old { failed = true }
+Lacks s old w call Memory new = new ≡ failed_from old new.asleep
 
 -- all that was due was fired, as far as there was room
 pub record HasFired (s : Layout) (v w : View) : Type 0 where

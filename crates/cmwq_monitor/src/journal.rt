@@ -1,5 +1,6 @@
-ghost use Rattle.std.specs.Prelude.{◌≡◌, ◌++◌, length, OnErr, IfOk};
+ghost use Rattle.std.specs.Prelude.{◌≡◌, ◌++◌, length, IfErr, IfOk};
 ghost use Rattle.cmwq_model.specs.Prelude.{IsLegal, past_of};
+ghost use Rattle.cmwq_state.specs.Tails.{all_given};
 
 use crate::fault::RunFault;
 use cmwq_model::Entry;
@@ -64,8 +65,8 @@ impl<N: HubName> Journal<N> {
         requires all { tail.old.all ≡ all.now }
         ensures taken { IfOk result (λ _. self.new.seen ≡ all.now) }
         ensures batch { IfOk result (λ _. all.now ≡ self.old.seen ++ self.new.batch) }
-        ensures refused { OnErr result (self.new.seen ≡ self.old.seen) }
-        ensures tail { tail.new.all ≡ tail.old.all }
+        ensures refused { IfErr result (λ _. (self.new.seen ≡ self.old.seen) × (tail.new ≡ tail.old)) }
+        ensures given { IfOk result (λ _. tail.new ≡ all_given tail.old) }
     {
         let own = self.prefix.len();
         let _within = tail.first();

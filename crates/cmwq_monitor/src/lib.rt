@@ -5,11 +5,9 @@ mod fault;
 mod journal;
 mod monitor;
 mod participant;
-mod sleepers;
 
-pub use cmwq_waits::{RunWaits, Stuck};
+pub use cmwq_dispatch::{Dispatch, Firing, Named, Sleep, Stuck, Wakes};
 pub use fault::{RunFault, Shortage};
 pub use journal::{Journal, Rest};
-pub use monitor::{MOST_FIRES, Monitor};
+pub use monitor::{Ended, MOST_FIRES, Monitor, Next};
 pub use participant::Participant;
-pub use sleepers::{Sleepers, Wakes};

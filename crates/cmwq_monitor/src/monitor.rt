@@ -1,33 +1,38 @@
-//! What a hub keeps under its lock: the execution, the published history, the ledger of entries, and who sleeps.
-ghost use Rattle.std.specs.Prelude.{◌≡◌, ◌≤◌, ◌<◌, ◌+◌, ◌++◌, ◌∷◌, [], drop, length, OnErr, true, false, IsTrue, IfOk};
-ghost use Rattle.std.specs.Prelude.{IfErr, IfSome, MatchOption, MatchBool, Some, None, if◌then◌else◌};
+//! What a hub keeps under its lock: its decisions, the published history, and the ledger of entries.
+ghost use Rattle.std.specs.Prelude.{◌≡◌, ◌⊎◌, ◌≤◌, ◌<◌, ◌+◌, ◌-◌, ◌++◌, ◌∷◌, ◌&&◌, [], drop, length, true, false};
+ghost use Rattle.std.specs.Prelude.{IfOk, IfErr, IfSome, IsTrue, MatchOption, MatchBool, None, Some, if◌then◌else◌};
+ghost use Rattle.std.specs.Prelude.{is_some, nat_lt, not};
 ghost use Rattle.cmwq_model.specs.declared.call.Call.{Call};
-ghost use Rattle.cmwq_model.specs.Prelude.{fits, past_of, IsLegal, has_numbers, is_done};
+ghost use Rattle.cmwq_model.specs.Prelude.{Layout, fits, past_of, IsLegal, has_numbers};
 ghost use Rattle.cmwq_model.specs.declared.call.Call.TheVariants as calls;
 ghost use Rattle.cmwq_model.specs.declared.reply.Reply.TheVariants as replies;
 ghost use Rattle.cmwq_core.specs.Plans.{IsPlan};
+ghost use Rattle.cmwq_dispatch.specs.Asleep.{IsUpAgain, NobodySleeps};
+ghost use Rattle.cmwq_dispatch.specs.Dispatched.{MayEnter, Stands, is_new};
+ghost use Rattle.cmwq_dispatch.specs.Naming.{NamesAll, NamesMore, names_journal};
 ghost use Rattle.cmwq_monitor.specs.Participants.{View, Gains, is_caller};
-ghost use Rattle.cmwq_monitor.specs.Held.{Held, held_at_first, IsOpenTo, GoesOn, LeavesHeld, is_over, active_in};
-ghost use Rattle.cmwq_monitor.specs.Held.{has_room_to_wait, refusal_at, waits_with};
+ghost use Rattle.cmwq_monitor.specs.Held.{GoesOn, IsOpenTo, LeavesHeld, SleepersGoOn, active_in, dispatched};
+ghost use Rattle.cmwq_monitor.specs.Held.{failed_from, has_room_to_wait, has_space, held_at_first, held_of, history_of};
+ghost use Rattle.cmwq_monitor.specs.Held.{is_over, is_writer_wanted, refusal_at, waits_with};
 ghost use Rattle.cmwq_waits.specs.HeldUp.{AreWaiting};
 ghost use Rattle.cmwq_waits.specs.Registered.{waits_after};
 ghost use Rattle.cmwq_monitor.specs.Calls.{Extends, own_entry};
 ghost use Rattle.cmwq_monitor.specs.Faults.{SaysFault, Refused, IsStranger, is_full};
 ghost use Rattle.cmwq_monitor.specs.Whole.{Stops};
-ghost use Rattle.cmwq_monitor.specs.Steps.{InStep, IsFiring, TellsFirst, Lacks, HasFired, HasFiredSome, WouldNot};
-ghost use Rattle.cmwq_monitor.specs.Steps.{IsViewKept, is_start, is_retire_reply, is_nothing};
-ghost use Rattle.cmwq_monitor.specs.Starts.{StartsOne};
+ghost use Rattle.cmwq_monitor.specs.Steps.{InStep, IsFiring, TellsFirst, Lacks, HasFired, HasFiredSome};
+ghost use Rattle.cmwq_monitor.specs.Steps.{IsViewKept, is_retire_reply, is_nothing};
+ghost use Rattle.cmwq_monitor.specs.Sleeping.{EndsOrWaits, Starts, StartsOrRests, WhetherDone, makes_no_end};
+ghost use Rattle.cmwq_monitor.specs.Sleeping.{makes_no_start};
 ghost use Rattle.cmwq_monitor.specs.Settled.{Settles};
 
 use crate::fault::{RunFault, Shortage};
 use crate::journal::{Journal, Rest};
 use crate::participant::Participant;
-use crate::sleepers::{Sleepers, Wakes};
-use cmwq_core::{Execution, Full, Plan};
-use cmwq_model::{Call, Entry, ItemId, NoMemory, Number, Queueing, Reply, Shape, Ticket, Who};
+use cmwq_core::{Full, Plan};
+use cmwq_dispatch::{Dispatch, EndPlan, Firing, Sleep, Stuck, Wakes};
+use cmwq_model::{Call, Entry, ItemId, NoMemory, Number, Reply, Who};
 use cmwq_publish::{HubName, Publisher};
 use cmwq_state::Tail;
-use cmwq_waits::{RunWaits, Stuck};
 use std::marker::Model;
 use std::sync::ledger::Share;
 use std::sync::{Wait, ledger};
@@ -38,72 +43,81 @@ pub const MOST_FIRES: u16 = 128;
 /// What a hub keeps under its lock. Contracts see its history, which is legal and is the execution's and the published
 /// one, whether it is closed, and whether it has failed.
 pub struct Monitor<N: HubName> {
-    shape: Shape,
-    execution: Execution,
+    dispatch: Dispatch,
     tail: Tail<Entry>,
     publisher: Publisher<N>,
     entries: ledger::Book<N>,
-    sleepers: Sleepers,
-    runs: RunWaits,
-    failed: bool,
-    closed: bool,
-    crowded: bool,
+    /// Whether the one who writes the history down sleeps, and was not named since.
+    writer_sleeps: bool,
+}
+
+/// What becomes of a ticket that is to be ended.
+#[derive(Clone, Copy)]
+pub enum Ended {
+    /// Its end is done.
+    Done,
+    /// Its wait is not ready. What its caller does meanwhile.
+    Not(Sleep),
+}
+
+/// What a worker does next.
+#[derive(Clone, Copy)]
+pub enum Next {
+    /// It runs a queueing of this item, which it has started.
+    Runs(ItemId),
+    /// It would start nothing. What it does meanwhile.
+    Nothing(Sleep),
 }
 
 impl<N: HubName> Model for Monitor<N> {
-    ghost use Rattle.std.specs.Prelude.{◌≡◌, length};
-    ghost use Rattle.cmwq_model.specs.Prelude.{past_of};
-    ghost use Rattle.cmwq_monitor.specs.Held.{Held};
-    ghost use Rattle.cmwq_waits.specs.HeldUp.{AreWaiting};
+    ghost use Rattle.std.specs.Prelude.{◌≡◌, false, length, true};
+    ghost use Rattle.cmwq_monitor.specs.Held.{Held, held_of, is_writer_wanted};
 
     ghost Value = { Held };
 
-    ghost view = { λ d. record {
-      history = d.execution.entries;
-      closed = d.closed;
-      failed = d.failed;
-      waits = d.runs;
-    } };
+    ghost view = { λ d. held_of d.dispatch d.tail.given d.tail.room d.writer_sleeps };
 
-    ghost invariant = { λ d. (d.shape ≡ N.layout) × (d.execution.layout ≡ N.layout) × (d.execution.room ≡ N.layout.room)
-        × (d.publisher.entries ≡ d.execution.entries) × (d.entries.total ≡ length d.execution.entries)
-        × (d.tail.all ≡ d.execution.entries) × AreWaiting (past_of d.execution.entries) d.runs };
+    ghost invariant = { λ d. (d.dispatch.history.layout ≡ N.layout) × (d.dispatch.history.room ≡ N.layout.room)
+        × (d.publisher.entries ≡ d.dispatch.history.entries)
+        × (d.entries.total ≡ length d.dispatch.history.entries) × (d.tail.all ≡ d.dispatch.history.entries)
+        × (d.writer_sleeps ≡ true
+        → is_writer_wanted N.layout (held_of d.dispatch d.tail.given d.tail.room d.writer_sleeps) ≡ false) };
 }
 
 impl<N: HubName> Monitor<N> {
     /// The monitor of a hub that has no entry.
     pub fn new(
-        shape: Shape,
-        execution: Execution,
+        dispatch: Dispatch,
         tail: Tail<Entry>,
         publisher: Publisher<N>,
         entries: ledger::Book<N>,
-        sleepers: Sleepers,
-        runs: RunWaits,
     ) -> Monitor<N>
-        requires shape { shape ≡ N.layout }
-        requires execution { execution ≡ record { layout = N.layout; room = N.layout.room; entries = [] } }
-        requires tail { tail.all ≡ [] }
+        requires dispatch { dispatch ≡ is_new N.layout N.layout.room dispatch.asleep }
+        requires tail { tail ≡ record { all = []; given = 0; room = tail.room } }
         requires publisher { publisher.entries ≡ [] }
         requires entries { entries.total ≡ 0 }
-        requires runs { runs ≡ [] }
-        ensures { result ≡ held_at_first }
+        ensures { result ≡ held_at_first tail.room dispatch.asleep }
     {
         Monitor {
-            shape,
-            execution,
+            dispatch,
             tail,
             publisher,
             entries,
-            sleepers,
-            runs,
-            failed: false,
-            closed: false,
-            crowded: false,
+            writer_sleeps: false,
         }
     }
 
-    /// Makes the entry that was planned: it is published, then the execution makes it, and its participant has seen it.
+    /// What holds under the lock whoever has it. Nobody is forgotten, nobody sleeps once the hub is over, and the one
+    /// who writes the history down does not sleep while there is something to write. Nothing runs.
+    pub fn stands(&self)
+        ensures dispatch { Stands (dispatched N.layout self.now) }
+        ensures writer { self.now.writer_sleeps ≡ true → is_writer_wanted N.layout self.now ≡ false }
+        ensures legal { IsLegal N.layout (past_of self.now.history) }
+    {
+        self.dispatch.stands();
+    }
+
+    /// Makes the entry that was planned: it is published, then it is made, and its participant has seen it.
     #[inline(always)]
     fn make<R: Wait>(
         &mut self,
@@ -111,11 +125,13 @@ impl<N: HubName> Monitor<N> {
         participant: &mut Participant<N>,
         call: Call,
         plan: &Plan,
+        wakes: &mut Wakes,
     ) -> Result<Reply, NoMemory>
         requires fits { IsTrue (fits N.layout participant.old.who call) }
         requires step { InStep self.old.history participant.old }
-        requires plan { IsPlan (record { layout = N.layout; room = N.layout.room; entries = self.old.history })
-            participant.old.who call plan.now }
+        requires plan { IsPlan (history_of N.layout self.old.history) participant.old.who call plan.now }
+        requires may { MayEnter (dispatched N.layout self.old)
+            (own_entry N.layout self.old.history participant.old call) }
         ensures made { IfOk result (λ reply. Extends N.layout participant.old call reply participant.new
             × InStep self.new.history participant.new) }
         ensures reply { IfOk result
@@ -123,45 +139,31 @@ impl<N: HubName> Monitor<N> {
         ensures seen { IfOk result
             (λ _. participant.new.seen ≡ self.old.history ++ own_entry N.layout self.old.history participant.old call
             ∷ []) }
+        ensures all { IfOk result (λ _. self.new.history ≡ participant.new.seen) }
         ensures goes_on { IfOk result (λ _. GoesOn self.old self.new) }
         ensures waits { IfOk result (λ _. self.new.waits ≡ waits_after (past_of self.old.history)
             (own_entry N.layout self.old.history participant.old call) self.old.waits) }
         ensures failed { IfErr result
-            (λ _. (self.new ≡ record self.old { failed = true }) × (participant.new ≡ participant.old)) }
+            (λ _. (self.new ≡ failed_from self.old self.new.asleep) × (participant.new ≡ participant.old)) }
+        ensures named { SleepersGoOn participant.old.who self.old self.new wakes.old wakes.new }
     {
         let _call = call;
         let serial = participant.serial();
-        let _len = self.execution.len();
+        let _len = self.dispatch.execution().len();
         if self.tail.space() == 0 {
-            self.failed = true;
-            self.sleepers.wake_all();
+            self.fail(wakes);
             return Err(NoMemory);
         }
         let Ok(()) = self.publisher.publish(rt, &plan.mark) else {
-            self.failed = true;
-            self.sleepers.wake_all();
+            self.fail(wakes);
             return Err(NoMemory);
         };
-        let ended = self.execution.ended_by(plan);
-        let done = self.execution.done_by(plan);
-        let reply = self.execution.commit(plan);
-        self.runs.entered(&ended, &done);
+        let reply = self.dispatch.commit(plan, wakes);
+        let _most = self.dispatch.execution().len();
         self.tail.push(plan.mark.entry);
         participant.count(self.publisher.prefix(), serial + 1, &mut self.entries);
-        self.wake(&plan.mark.entry, &ended, &done);
+        self.writer_sleeps = sleeps_on(self.writer_sleeps, &self.dispatch, &self.tail, wakes);
         Ok(reply)
-    }
-
-    /// Who can go on after an entry that ended this queueing or ticket is to be woken.
-    #[inline(always)]
-    fn wake(&mut self, entry: &Entry, ended: &Option<Queueing>, done: &Option<Ticket>)
-        ensures { self.new ≡ self.old }
-    {
-        self.sleepers
-            .changed(&self.execution, &self.shape, entry, ended, done);
-        if self.closed && self.execution.active_count() == 0 {
-            self.sleepers.wake_workers();
-        }
     }
 
     /// The participant makes an entry. Where there is no room for it, it sees all the history.
@@ -170,22 +172,27 @@ impl<N: HubName> Monitor<N> {
         rt: &R,
         participant: &mut Participant<N>,
         call: Call,
+        wakes: &mut Wakes,
     ) -> Result<Reply, Shortage>
         requires fits { IsTrue (fits N.layout participant.old.who call) }
         requires step { InStep self.old.history participant.old }
+        requires may { MayEnter (dispatched N.layout self.old)
+            (own_entry N.layout self.old.history participant.old call) }
         ensures made { IfOk result (λ reply. Extends N.layout participant.old call reply participant.new) }
         ensures seen { IfOk result (λ _. participant.new.seen ≡ self.old.history
             ++ own_entry N.layout self.old.history participant.old call ∷ []) }
+        ensures all { IfOk result (λ _. self.new.history ≡ participant.new.seen) }
         ensures goes_on { IfOk result (λ _. GoesOn self.old self.new) }
         ensures short { IfErr result (λ what. Gains participant.old [] participant.new
             × Lacks N.layout self.old participant.new call what self.new) }
         ensures step { InStep self.new.history participant.new }
+        ensures named { SleepersGoOn participant.old.who self.old self.new wakes.old wakes.new }
     {
         let who = participant.who();
         let _own = participant.serial();
-        let planned = self.execution.plan(who, call);
+        let planned = self.dispatch.plan(who, call);
         match &planned {
-            Ok(plan) => match self.make(rt, participant, call, plan) {
+            Ok(plan) => match self.make(rt, participant, call, plan, wakes) {
                 Ok(reply) => Ok(reply),
                 Err(NoMemory) => Err(Shortage::Memory),
             },
@@ -203,7 +210,7 @@ impl<N: HubName> Monitor<N> {
         ensures stranger { IfErr result (λ f. IsStranger participant.now f) }
     {
         let own = participant.serial();
-        let book = self.execution.serial(participant.who());
+        let book = self.dispatch.execution().serial(participant.who());
         if own != book {
             return Err(RunFault::Stranger {
                 own: u64::from(own),
@@ -211,7 +218,7 @@ impl<N: HubName> Monitor<N> {
             });
         }
         let seen = participant.seen();
-        let len = u64::from(self.execution.len());
+        let len = u64::from(self.dispatch.execution().len());
         if len < seen {
             return Err(RunFault::Stranger {
                 own: seen,
@@ -230,25 +237,30 @@ impl<N: HubName> Monitor<N> {
         ensures first { IfErr result (λ f. TellsFirst self.now participant.now f) }
         ensures leaves { IfErr result (λ f. LeavesHeld self.now f self.now) }
     {
-        if self.closed && matches!(participant.who(), Who::Caller(_)) {
+        if self.dispatch.is_closed() && matches!(participant.who(), Who::Caller(_)) {
             return Err(RunFault::Closed);
         }
-        if self.failed {
+        if self.dispatch.has_failed() {
             return Err(RunFault::NoMemory { ticket: None });
         }
         self.compare(participant)
     }
 
-    /// Whether the hub takes a call that a closed one takes too.
+    /// Whether the hub takes a call by a caller that is lent to a run: it does, also once it is closed, until it is
+    /// over. No run is awake then.
     #[inline(always)]
-    fn admits_closed(&self, participant: &Participant<N>) -> Result<(), RunFault>
+    fn admits_in_run(&self, participant: &Participant<N>) -> Result<(), RunFault>
         ensures open { IfOk result (λ _. self.now.failed ≡ false) }
+        ensures lives { IfOk result (λ _. (is_caller participant.now.who && is_over N.layout self.now) ≡ false) }
         ensures step { IfOk result (λ _. InStep self.now.history participant.now) }
         ensures says { IfErr result (λ f. (call : Call) → SaysFault N.layout participant.now call f) }
         ensures leaves { IfErr result (λ f. LeavesHeld self.now f self.now) }
     {
-        if self.failed {
+        if self.dispatch.has_failed() {
             return Err(RunFault::NoMemory { ticket: None });
+        }
+        if self.is_over() && matches!(participant.who(), Who::Caller(_)) {
+            return Err(RunFault::Closed);
         }
         self.compare(participant)
     }
@@ -259,22 +271,25 @@ impl<N: HubName> Monitor<N> {
         rt: &R,
         participant: &mut Participant<N>,
         call: Call,
+        wakes: &mut Wakes,
     ) -> Result<Reply, RunFault>
         requires { IsTrue (fits N.layout participant.old.who call) }
         ensures made { IfOk result (λ reply. Extends N.layout participant.old call reply participant.new
             × InStep self.new.history participant.new) }
         ensures seen { IfOk result (λ _. participant.new.seen ≡ self.old.history
             ++ own_entry N.layout self.old.history participant.old call ∷ []) }
+        ensures all { IfOk result (λ _. self.new.history ≡ participant.new.seen) }
         ensures open { IfOk result (λ _. IsOpenTo self.old participant.old.who × GoesOn self.old self.new) }
         ensures refused { IfErr result (λ f. Refused N.layout participant.old call f participant.new) }
         ensures first { IfErr result (λ f. TellsFirst self.old participant.old f) }
         ensures leaves { IfErr result (λ f. LeavesHeld self.old f self.new) }
+        ensures named { SleepersGoOn participant.old.who self.old self.new wakes.old wakes.new }
     {
         match self.admits(participant) {
             Ok(()) => {}
             Err(fault) => return Err(fault),
         }
-        match self.enter(rt, participant, call) {
+        match self.enter(rt, participant, call, wakes) {
             Ok(reply) => Ok(reply),
             Err(Shortage::Room) => Err(RunFault::Full),
             Err(Shortage::Memory) => Err(RunFault::NoMemory { ticket: None }),
@@ -287,19 +302,23 @@ impl<N: HubName> Monitor<N> {
         rt: &R,
         participant: &mut Participant<N>,
         call: Call,
+        wakes: &mut Wakes,
     ) -> Result<Reply, RunFault>
         requires { IsTrue (fits N.layout participant.old.who call) }
         ensures made { IfOk result (λ reply. Extends N.layout participant.old call reply participant.new
             × InStep self.new.history participant.new) }
+        ensures seen { IfOk result (λ _. participant.new.seen ≡ self.old.history
+            ++ own_entry N.layout self.old.history participant.old call ∷ []) }
         ensures goes_on { IfOk result (λ _. (self.old.failed ≡ false) × GoesOn self.old self.new) }
         ensures refused { IfErr result (λ f. Refused N.layout participant.old call f participant.new) }
         ensures leaves { IfErr result (λ f. LeavesHeld self.old f self.new) }
+        ensures named { SleepersGoOn participant.old.who self.old self.new wakes.old wakes.new }
     {
-        match self.admits_closed(participant) {
+        match self.admits_in_run(participant) {
             Ok(()) => {}
             Err(fault) => return Err(fault),
         }
-        let entered = self.enter(rt, participant, call);
+        let entered = self.enter(rt, participant, call, wakes);
         match entered {
             Ok(reply) => Ok(reply),
             Err(Shortage::Room) => Err(RunFault::Full),
@@ -320,12 +339,10 @@ impl<N: HubName> Monitor<N> {
         ensures stranger { IfErr result (λ f. IsStranger participant.now f) }
         ensures same { self.new ≡ self.old }
     {
+        self.stands();
         self.compare(participant)?;
         match participant.who() {
-            Who::Worker(worker) => Ok(
-                self.runs
-                    .refuses(&self.execution, &self.shape, worker, call),
-            ),
+            Who::Worker(worker) => Ok(self.dispatch.refuses(worker, call)),
             Who::Caller(_) => Ok(None),
         }
     }
@@ -335,7 +352,9 @@ impl<N: HubName> Monitor<N> {
         requires { IsTrue (fits N.layout caller.now.who call) }
         ensures { result ≡ has_room_to_wait N.layout self.now caller.now.who call }
     {
-        self.execution.has_room_with(caller.who(), call, 2)
+        self.dispatch
+            .execution()
+            .has_room_with(caller.who(), call, 2)
     }
 
     /// What the worker runs waits from now on for this ticket of the caller. It returns false where there was no space
@@ -353,20 +372,22 @@ impl<N: HubName> Monitor<N> {
     {
         match (participant.who(), caller.who()) {
             (Who::Worker(worker), Who::Caller(caller)) => self
-                .runs
-                .registers(&self.execution, worker, caller, ticket),
+                .dispatch
+                .run_waits(worker, caller, ticket),
             _ => true,
         }
     }
 
     /// Fires what is due, at most `left` times in all, and at most `MOST_FIRES` in this hold of the lock. Answers how
     /// many times it may still be fired, or None once all is: there was nothing more, or no room, or it was fired so
-    /// many times. A closed hub fires too.
+    /// many times. A closed hub fires too. A hub that is over fails: whoever has begun to fire keeps it from being over
+    /// (`begins_firing`).
     pub fn fire_some<R: Wait>(
         &mut self,
         rt: &R,
         participant: &mut Participant<N>,
         left: u16,
+        wakes: &mut Wakes,
     ) -> Result<Option<u16>, RunFault>
         requires { is_caller participant.old.who ≡ true }
         ensures fired { IfOk result (λ o. (v : View) → IsFiring N.layout left v participant.old
@@ -377,15 +398,20 @@ impl<N: HubName> Monitor<N> {
             (λ f. Stops participant.new None f
             × ((v : View) → IsFiring N.layout left v participant.old → HasFiredSome v participant.new)) }
         ensures leaves { IfErr result (λ f. LeavesHeld self.old f self.new) }
+        ensures named { SleepersGoOn participant.old.who self.old self.new wakes.old wakes.new }
     {
-        if self.failed {
+        if self.dispatch.has_failed() {
             return Err(RunFault::NoMemory { ticket: None });
         }
         self.compare(participant)?;
         let most = left.min(MOST_FIRES);
         for _ in 0..most {
             let _who = participant.who();
-            match self.enter(rt, participant, Call::Fire) {
+            if self.is_over() {
+                self.fail(wakes);
+                return Err(RunFault::NoMemory { ticket: None });
+            }
+            match self.enter(rt, participant, Call::Fire, wakes) {
                 Ok(reply) => {
                     if is_nothing(reply) {
                         return Ok(None);
@@ -405,86 +431,108 @@ impl<N: HubName> Monitor<N> {
         }
     }
 
-    /// Ends a ticket of the participant's, if its end would be done now. A closed hub does that too.
-    pub fn end_ticket<R: Wait>(
+    /// A caller fires from now on, until it gives back what it gets here: after its tick, or after its drain was given
+    /// a ticket. Until then the hub is not over. It gets nothing from a hub that is over.
+    pub fn begins_firing(&mut self) -> Option<Firing>
+        ensures may { is_some result ≡ (not (is_over N.layout self.old) && nat_lt self.old.firing 4294967295) }
+        ensures new { self.new
+            ≡ (if is_some result then record self.old { firing = self.old.firing + 1 } else self.old) }
+    {
+        self.dispatch.begins_firing()
+    }
+
+    /// A caller fires no more.
+    pub fn ends_firing(&mut self, firing: Firing, wakes: &mut Wakes)
+        ensures new { self.new ≡ record self.old {
+          firing = self.old.firing - 1;
+          asleep = self.new.asleep;
+          writer_sleeps = self.new.writer_sleeps;
+        } }
+        ensures named { (who : _) → SleepersGoOn who self.old self.new wakes.old wakes.new }
+    {
+        self.dispatch.ends_firing(firing, wakes);
+        self.writer_sleeps = sleeps_on(self.writer_sleeps, &self.dispatch, &self.tail, wakes);
+    }
+
+    /// Ends a ticket of the participant's, if its end would be done now. A closed hub does that too. Otherwise its
+    /// caller sleeps from now on, in the same hold of the lock, until it is named.
+    pub fn end_or_sleep<R: Wait>(
         &mut self,
         rt: &R,
         participant: &mut Participant<N>,
         ticket: Number,
-    ) -> Result<bool, RunFault>
+        wakes: &mut Wakes,
+    ) -> Result<Ended, RunFault>
         requires { is_caller participant.old.who ≡ true }
         ensures done { IfOk result
-            (λ b. MatchBool b (Extends N.layout participant.old (calls.End ticket) replies.Done participant.new
+            (λ ended. WhetherDone ended
+            (Extends N.layout participant.old (calls.End ticket) replies.Done participant.new
             × InStep self.new.history participant.new) (participant.new ≡ participant.old)) }
-        ensures waits { IfOk result
-            (λ b. MatchBool b (GoesOn self.old self.new)
-            ((self.new ≡ self.old) × WouldNot is_done N.layout self.old.history participant.old (calls.End ticket))) }
+        ensures waits { IfOk result (λ ended. EndsOrWaits N.layout self.old participant.old ticket ended self.new) }
         ensures open { IfOk result (λ _. self.old.failed ≡ false) }
         ensures stopped { IfErr result
             (λ f. (participant.new ≡ participant.old) × Stops participant.old (Some ticket) f) }
         ensures leaves { IfErr result (λ f. LeavesHeld self.old f self.new) }
+        ensures named { MatchBool (makes_no_end result) (wakes.new ≡ wakes.old)
+            (SleepersGoOn participant.old.who self.old self.new wakes.old wakes.new) }
     {
-        if self.failed {
+        if self.dispatch.has_failed() {
             return Err(RunFault::NoMemory {
                 ticket: Some(ticket),
             });
         }
         self.compare(participant)?;
         let call = Call::End { ticket };
-        let _needed = self.execution.len();
-        let planned = self.execution.plan(participant.who(), call);
-        let Ok(plan) = &planned else {
-            return Ok(false);
+        let Who::Caller(caller) = participant.who() else {
+            unreachable!()
         };
-        if !is_done(plan.mark.entry.reply) {
-            return Ok(false);
-        }
-        match self.make(rt, participant, call, plan) {
-            Ok(_) => Ok(true),
-            Err(NoMemory) => Err(RunFault::NoMemory {
-                ticket: Some(ticket),
-            }),
+        match self.dispatch.plan_end(caller, ticket) {
+            EndPlan::Done(plan) => match self.make(rt, participant, call, &plan, wakes) {
+                Ok(_) => Ok(Ended::Done),
+                Err(NoMemory) => Err(RunFault::NoMemory {
+                    ticket: Some(ticket),
+                }),
+            },
+            EndPlan::Waits(found) => Ok(Ended::Not(self.dispatch.sleeps(found))),
+            EndPlan::Unknown => Ok(Ended::Not(Sleep::Over)),
         }
     }
 
-    /// Starts a queueing, if the worker would start one now, and answers its item.
-    pub fn start<R: Wait>(
+    /// Starts a queueing, if the worker would start one now. Otherwise it rests from now on, in the same hold of the
+    /// lock, until it is named; or it may go.
+    pub fn start_or_rest<R: Wait>(
         &mut self,
         rt: &R,
         participant: &mut Participant<N>,
-    ) -> Result<Option<ItemId>, RunFault>
+        wakes: &mut Wakes,
+    ) -> Result<Next, RunFault>
         requires { is_caller participant.old.who ≡ false }
-        ensures started { IfOk result
-            (λ o. MatchOption o (participant.new ≡ participant.old)
-            (λ item. (item.0 < N.layout.items) × StartsOne N.layout participant.old item participant.new)) }
-        ensures none { IfOk result
-            (λ o. MatchOption o
-            ((self.new ≡ self.old) × WouldNot is_start N.layout self.old.history participant.old calls.Take)
-            (λ _. GoesOn self.old self.new)) }
+        ensures started { IfOk result (λ next. Starts N.layout participant.old next participant.new) }
+        ensures none { IfOk result (λ next. StartsOrRests N.layout self.old participant.old next self.new) }
         ensures open { IfOk result (λ _. self.old.failed ≡ false) }
         ensures refused { IfErr result (λ f. Refused N.layout participant.old calls.Take f participant.new) }
         ensures room { IfErr result (λ f. is_full f ≡ false) }
         ensures first { IfErr result (λ f. TellsFirst self.old participant.old f) }
         ensures leaves { IfErr result (λ f. LeavesHeld self.old f self.new) }
+        ensures named { MatchBool (makes_no_start result) (wakes.new ≡ wakes.old)
+            (SleepersGoOn participant.old.who self.old self.new wakes.old wakes.new) }
     {
-        let who = participant.who();
-        if self.failed {
+        if self.dispatch.has_failed() {
             return Err(RunFault::NoMemory { ticket: None });
         }
         self.compare(participant)?;
-        let _needed = self.execution.len();
-        let planned = self.execution.plan(who, Call::Take);
-        let Ok(plan) = &planned else {
-            return Ok(None);
+        let _legal = self.dispatch.execution().len();
+        let Who::Worker(worker) = participant.who() else {
+            unreachable!()
         };
-        if !starts(plan.mark.entry.reply) {
-            return Ok(None);
-        }
+        let Some(plan) = self.dispatch.plan_start(worker) else {
+            return Ok(Next::Nothing(self.dispatch.idles(worker)));
+        };
         let Some(item) = plan.mark.item else {
             unreachable!()
         };
-        match self.make(rt, participant, Call::Take, plan) {
-            Ok(_) => Ok(Some(item)),
+        match self.make(rt, participant, Call::Take, &plan, wakes) {
+            Ok(_) => Ok(Next::Runs(item)),
             Err(NoMemory) => Err(RunFault::NoMemory { ticket: None }),
         }
     }
@@ -494,6 +542,7 @@ impl<N: HubName> Monitor<N> {
         &mut self,
         rt: &R,
         participant: &mut Participant<N>,
+        wakes: &mut Wakes,
     ) -> Result<bool, RunFault>
         requires { is_caller participant.old.who ≡ false }
         ensures retired { IfOk result
@@ -507,20 +556,21 @@ impl<N: HubName> Monitor<N> {
         ensures room { IfErr result (λ f. is_full f ≡ false) }
         ensures first { IfErr result (λ f. TellsFirst self.old participant.old f) }
         ensures leaves { IfErr result (λ f. LeavesHeld self.old f self.new) }
+        ensures named { SleepersGoOn participant.old.who self.old self.new wakes.old wakes.new }
     {
         let who = participant.who();
-        if self.failed {
+        if self.dispatch.has_failed() {
             return Err(RunFault::NoMemory { ticket: None });
         }
         self.compare(participant)?;
-        if !is_retired(self.execution.reply(who, Call::Retire)) {
+        if !is_retired(self.dispatch.execution().reply(who, Call::Retire)) {
             return Ok(false);
         }
-        let planned = self.execution.plan(who, Call::Retire);
+        let planned = self.dispatch.plan(who, Call::Retire);
         let Ok(plan) = &planned else {
             return Ok(false);
         };
-        match self.make(rt, participant, Call::Retire, plan) {
+        match self.make(rt, participant, Call::Retire, plan, wakes) {
             Ok(_) => Ok(true),
             Err(NoMemory) => Err(RunFault::NoMemory { ticket: None }),
         }
@@ -537,70 +587,50 @@ impl<N: HubName> Monitor<N> {
         Ok(())
     }
 
-    /// Whether workers may go: the hub has failed, or it is closed and no active queueing is open.
+    /// Whether workers may go: the hub has failed, or it is closed, no active queueing is open, and no caller may still
+    /// fire. A hub that is over stays so.
     pub fn is_over(&self) -> bool
         ensures { result ≡ is_over N.layout self.now }
     {
-        self.failed || self.closed && self.execution.active_count() == 0
+        self.dispatch.is_over()
     }
 
     /// How many active queueings are open.
     pub fn active_count(&self) -> u32
         ensures { result ≡ active_in N.layout self.now.history }
     {
-        self.execution.active_count()
+        self.dispatch.execution().active_count()
     }
 
-    /// Callers make no calls from now on.
-    pub fn close(&mut self)
-        ensures { self.new ≡ record self.old { closed = true } }
+    /// Callers make no calls from now on. Everybody is named.
+    pub fn close(&mut self, wakes: &mut Wakes)
+        ensures new { self.new
+            ≡ record self.old { closed = true; asleep = self.new.asleep; writer_sleeps = false } }
+        ensures nobody { NobodySleeps self.new.asleep }
+        ensures all { NamesAll wakes.new }
+        ensures more { NamesMore wakes.old wakes.new }
     {
-        self.closed = true;
-        self.sleepers.wake_all();
+        self.writer_sleeps = false;
+        self.dispatch.close(wakes);
     }
 
-    /// Nobody makes a call from now on.
-    pub fn fail(&mut self)
-        ensures { self.new ≡ record self.old { failed = true } }
+    /// Nobody makes a call from now on. Everybody is named.
+    pub fn fail(&mut self, wakes: &mut Wakes)
+        ensures new { self.new ≡ failed_from self.old self.new.asleep }
+        ensures nobody { NobodySleeps self.new.asleep }
+        ensures all { NamesAll wakes.new }
+        ensures more { NamesMore wakes.old wakes.new }
     {
-        self.failed = true;
-        self.sleepers.wake_all();
+        self.writer_sleeps = false;
+        self.dispatch.fail(wakes);
     }
 
-    /// A caller goes to sleep until the wait that the call began may end.
-    pub fn waits(&mut self, who: Who, call: Call, ticket: Number)
-        ensures { self.new ≡ self.old }
-    {
-        if let Who::Caller(caller) = who {
-            self.sleepers.waits(Ticket {
-                caller,
-                call,
-                number: ticket,
-            });
-        }
-    }
-
-    /// A worker goes to sleep until it may start something.
-    pub fn idles(&mut self, who: Who)
-        ensures { self.new ≡ self.old }
-    {
-        if let Who::Worker(worker) = who {
-            self.sleepers.idles(worker);
-        }
-    }
-
-    /// A caller or a worker is awake again, also where nobody woke it.
+    /// A caller or a worker is awake again, also where nobody named it.
     pub fn awakes(&mut self, who: Who)
-        ensures { self.new ≡ self.old }
+        ensures same { self.new ≡ record self.old { asleep = self.new.asleep } }
+        ensures awake { IsUpAgain who self.old.asleep self.new.asleep }
     {
-        self.sleepers.awakes(who);
-    }
-
-    /// Who is to be woken, once; None where nobody is.
-    pub fn wakes(&mut self) -> Option<Wakes>
-        ensures { self.new ≡ self.old }
-    {
-        self.sleepers.take()
+        self.dispatch.awakes(who);
     }
 
     /// The ledger has counted the entries of the history.
@@ -612,39 +642,53 @@ impl<N: HubName> Monitor<N> {
     }
 
     /// Whether so many entries can be kept, or all that the room still allows, or nothing is made any more.
-    pub fn has_space(&self, entries: u32) -> bool {
-        let space = self.tail.space();
-        let len = self.execution.len();
-        self.failed || entries <= space || self.shape.counts().room <= u64::from(space) + len
+    pub fn has_space(&self, entries: u32) -> bool
+        ensures { result ≡ has_space N.layout self.now entries }
+    {
+        if self.dispatch.has_failed() {
+            return true;
+        }
+        let space = u64::from(self.tail.space());
+        let len = u64::from(self.dispatch.execution().len());
+        let room = self.dispatch.shape().counts().room;
+        u64::from(entries) <= space || room <= space + len
     }
 
     /// Drops all that is kept, which nobody is handed then.
     pub fn drop_kept(&mut self)
-        ensures { self.new ≡ self.old }
+        ensures { self.new ≡ record self.old { given = length self.old.history } }
     {
+        let _len = self.tail.len();
         self.tail.forget();
     }
 
-    /// Somebody sleeps until there is space.
-    pub fn crowds(&mut self)
-        ensures { self.new ≡ self.old }
+    /// Somebody sleeps until there is space. The one who makes it is named.
+    pub fn crowds(&mut self, wakes: &mut Wakes)
+        ensures new { self.new ≡ record self.old { crowded = true; writer_sleeps = false } }
+        ensures named { names_journal wakes.new ≡ true }
+        ensures more { NamesMore wakes.old wakes.new }
     {
-        self.crowded = true;
+        self.dispatch.crowds();
+        self.writer_sleeps = false;
+        wakes.add_journal();
     }
 
     /// Whether nobody makes a call any more.
     pub fn has_failed(&self) -> bool
         ensures { result ≡ self.now.failed }
     {
-        self.failed
+        self.dispatch.has_failed()
     }
 
-    /// Whether there is enough to hand over: half of what may be kept, or anything of a hub that is over, or somebody
-    /// waits for space, or nothing more may come.
-    pub fn wants_journal(&self) -> bool {
-        let kept = self.tail.kept().len() as u64;
-        let is_enough = u64::from(self.tail.room()) <= 2 * kept || self.is_over();
-        self.failed || self.crowded || is_enough && kept > 0
+    /// Whether there is nothing to hand over yet. The one who writes the history down sleeps then from now on, until it
+    /// is named.
+    pub fn writer_sleeps(&mut self) -> bool
+        ensures is { result ≡ not (is_writer_wanted N.layout self.old) }
+        ensures new { self.new ≡ record self.old { writer_sleeps = result } }
+    {
+        let _within = self.tail.first();
+        self.writer_sleeps = !is_wanted(&self.dispatch, &self.tail);
+        self.writer_sleeps
     }
 
     /// Who writes the history down, and has all of it so far.
@@ -655,26 +699,31 @@ impl<N: HubName> Monitor<N> {
         Journal::new(self.publisher.prefix().again(), spare)
     }
 
-    /// Hands over what was entered since the last time. Nothing is copied.
-    pub fn hand_over(&mut self, journal: &mut Journal<N>) -> Result<(), RunFault>
+    /// Hands over what was entered since the last time. Nothing is copied. Everybody is named if somebody sleeps until
+    /// there is space.
+    pub fn hand_over(&mut self, journal: &mut Journal<N>, wakes: &mut Wakes) -> Result<(), RunFault>
         ensures handed { IfOk result (λ _. journal.new.seen ≡ self.old.history) }
         ensures batch { IfOk result (λ _. self.old.history ≡ journal.old.seen ++ journal.new.batch) }
-        ensures refused { OnErr result (journal.new.seen ≡ journal.old.seen) }
-        ensures same { self.new ≡ self.old }
+        ensures given { IfOk result
+            (λ _. self.new ≡ record self.old { given = length self.old.history; crowded = false }) }
+        ensures all { IfOk result (λ _. self.old.crowded ≡ true → NamesAll wakes.new) }
+        ensures more { NamesMore wakes.old wakes.new }
+        ensures refused { IfErr result (λ _. (journal.new.seen ≡ journal.old.seen) × (self.new ≡ self.old)) }
     {
-        self.uncrowd();
-        let first = self.tail.first();
-        journal.take(first, &mut self.tail, self.publisher.prefix())
+        self.give(journal)?;
+        self.dispatch.clears_space(wakes);
+        Ok(())
     }
 
-    /// Wakes those who sleep until there is space.
-    fn uncrowd(&mut self)
-        ensures { self.new ≡ self.old }
+    /// The same of a hub in which nobody sleeps any more.
+    pub fn give(&mut self, journal: &mut Journal<N>) -> Result<(), RunFault>
+        ensures handed { IfOk result (λ _. journal.new.seen ≡ self.old.history) }
+        ensures batch { IfOk result (λ _. self.old.history ≡ journal.old.seen ++ journal.new.batch) }
+        ensures given { IfOk result (λ _. self.new ≡ record self.old { given = length self.old.history }) }
+        ensures refused { IfErr result (λ _. (journal.new.seen ≡ journal.old.seen) × (self.new ≡ self.old)) }
     {
-        if self.crowded {
-            self.crowded = false;
-            self.sleepers.wake_all();
-        }
+        let first = self.tail.first();
+        journal.take(first, &mut self.tail, self.publisher.prefix())
     }
 
     /// What was not handed over. It waits for the readers to leave.
@@ -684,22 +733,14 @@ impl<N: HubName> Monitor<N> {
         ensures legal { IsLegal N.layout (past_of self.history) }
     {
         let Monitor {
-            shape,
-            execution,
+            dispatch,
             tail,
             publisher,
             entries: _entries,
-            sleepers,
-            runs,
-            failed: _,
-            closed: _,
-            crowded: _,
+            writer_sleeps: _,
         } = self;
-        let _len = execution.len();
-        execution.end();
-        drop(sleepers);
-        drop(runs);
-        drop(shape);
+        let _len = dispatch.execution().len();
+        dispatch.end();
         publisher.end(rt);
         let first = tail.first();
         Rest {
@@ -709,10 +750,37 @@ impl<N: HubName> Monitor<N> {
     }
 }
 
-fn is_done(reply: Reply) -> bool
-    ensures { result ≡ is_done reply }
+/// Whether there is something to write down.
+fn is_wanted(dispatch: &Dispatch, tail: &Tail<Entry>) -> bool
+    requires all { tail.now.all ≡ dispatch.now.history.entries }
+    ensures { (s : Layout) → dispatch.now.history.layout ≡ s → dispatch.now.history.room ≡ s.room → (sleeps : _)
+        → result ≡ is_writer_wanted s (held_of dispatch.now tail.now.given tail.now.room sleeps) }
 {
-    matches!(reply, Reply::Done)
+    let _within = tail.first();
+    let kept = tail.kept().len() as u64;
+    dispatch.has_failed()
+        || dispatch.is_crowded()
+        || (u64::from(tail.room()) <= 2 * kept || dispatch.is_over()) && kept > 0
+}
+
+/// Whether the one who writes the history down sleeps on, if it sleeps. It is named where there is something to write.
+fn sleeps_on(sleeps: bool, dispatch: &Dispatch, tail: &Tail<Entry>, wakes: &mut Wakes) -> bool
+    requires all { tail.now.all ≡ dispatch.now.history.entries }
+    ensures wanted { result ≡ true → (s : Layout) → dispatch.now.history.layout ≡ s
+        → dispatch.now.history.room ≡ s.room → (writer_sleeps : _)
+        → is_writer_wanted s (held_of dispatch.now tail.now.given tail.now.room writer_sleeps) ≡ false }
+    ensures sleeps { result ≡ true → sleeps ≡ true }
+    ensures named { sleeps ≡ true → (result ≡ true) ⊎ (names_journal wakes.new ≡ true) }
+    ensures more { NamesMore wakes.old wakes.new }
+{
+    if !sleeps {
+        return false;
+    }
+    if is_wanted(dispatch, tail) {
+        wakes.add_journal();
+        return false;
+    }
+    true
 }
 
 fn is_retired(reply: Reply) -> bool
@@ -725,10 +793,4 @@ fn is_nothing(reply: Reply) -> bool
     ensures { result ≡ is_nothing reply }
 {
     matches!(reply, Reply::Nothing)
-}
-
-fn starts(reply: Reply) -> bool
-    ensures { result ≡ is_start reply }
-{
-    matches!(reply, Reply::Started(_) | Reply::StartedEnlist(_, _))
 }

@@ -2,6 +2,9 @@
 use Rattle.cmwq_rt.specs.Common.{◌≡◌, refl, ap, sym, subst, List, false, true, inl, inr, Entry, Call, Layout, View}
 use Rattle.cmwq_rt.specs.Common.{Settles, Refused, IsStranger, is_full, BrokeOff, RunFault, NoMemory, Full, Unfinished}
 use Rattle.cmwq_rt.specs.Common.{NoPlace, Closed, Stranger, NoThread}
+use Rattle.cmwq_monitor.specs.Sleeping.{WhetherDone}
+use Rattle.cmwq_monitor.specs.declared.monitor.Ended.{Ended}
+use Rattle.cmwq_monitor.specs.declared.monitor.Ended.TheVariants.{Done, Not}
 use Rattle.cmwq_rt.specs.Running.{breaks_off}
 
 -- who settles on a history sees it
@@ -27,3 +30,8 @@ pub broke_breaks_off : (s : Layout) (v w : View) (c : Call) (f : RunFault) → B
 broke_breaks_off s v w c f (inl r) other = refused_breaks_off s v w c f r other
 broke_breaks_off s v w c f (inr (e, es, gains, part, inl memory)) other = ap breaks_off memory
 broke_breaks_off s v w c f (inr (e, es, gains, part, inr (own, book, stranger, differs))) other = ap breaks_off stranger
+
+-- what is promised of an end that is done
+pub when_done : (A B : Type 0) (e : Ended) → e ≡ Done → WhetherDone e A B → A
+when_done A B Done is h = h
+when_done A B (Not instead) is h = cc is

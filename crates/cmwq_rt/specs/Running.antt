@@ -1,10 +1,14 @@
 -- What a worker's loop leaves: one run after another.
 use Rattle.std.specs.Prelude.{◌≡◌, ◌⊎◌, ◌<◌}
-use Rattle.cmwq_rt.specs.Common.{ℕ, zero, suc, Bool, true, false, Option, Some, Result, Ok, Err, MatchOption, ItemId}
+use Rattle.cmwq_rt.specs.Common.{ℕ, zero, suc, Bool, true, false, Option, None, Some, Result, Ok, Err, MatchOption}
+use Rattle.cmwq_rt.specs.Common.{ItemId}
 use Rattle.cmwq_rt.specs.Common.{Call, Reply, Layout, View, active_in, Extends, Settles, StartsOne, RunFault, NoMemory}
 use Rattle.cmwq_rt.specs.Common.{Full, Closed, Stranger}
 use Rattle.cmwq_model.specs.declared.call.Call.TheVariants as call
 use Rattle.cmwq_model.specs.declared.reply.Reply.TheVariants as reply
+use Rattle.cmwq_dispatch.specs.declared.dispatch.Sleep.TheVariants.{Over}
+use Rattle.cmwq_monitor.specs.declared.monitor.Next.{Next}
+use Rattle.cmwq_monitor.specs.declared.monitor.Next.TheVariants.{Runs, Nothing}
 
 -- a worker that runs this item, and the fault that one of its calls has answered since the run began, want of room
 -- aside
@@ -59,3 +63,9 @@ HasWorked s does v w = (n : ℕ) × (last : View) × RunsInTurn s does n v last 
 abbrev pub IsNextStart : Layout → View → Option ItemId → View → Type 0
 IsNextStart s v next w =
     MatchOption next ((active_in s w.seen ≡ 0) × Settles w.seen v w) (λ item. (item.0 < s.items) × StartsOne s v item w)
+
+-- the same, or it does nothing yet
+abbrev pub IsNext : Layout → View → Next → View → Type 0
+IsNext s v (Runs item) w = IsNextStart s v (Some item) w
+IsNext s v (Nothing Over) w = IsNextStart s v None w
+IsNext s v (Nothing instead) w = w ≡ v

@@ -1,7 +1,7 @@
 -- Waits of runs, and what they leave.
 use Rattle.std.specs.Prelude.{◌≡◌, ◌⊎◌, ◌==◌, ◌++◌, ◌∷◌, [], Some, None}
 use Rattle.cmwq_rt.specs.Common.{Bool, true, false, Option, Result, Err, IsPrefix, Call, Reply, Layout, View, Refused}
-use Rattle.cmwq_rt.specs.Common.{is_caller, is_full, Completes, RunFault, Full}
+use Rattle.cmwq_rt.specs.Common.{made_by, is_caller, is_full, Completes, RunFault, Full}
 use Rattle.cmwq_model.specs.declared.call.Call.TheVariants as call
 use Rattle.cmwq_model.specs.Prelude.{past_of}
 use Rattle.cmwq_model.specs.declared.id.ItemId.{ItemId}
@@ -35,13 +35,15 @@ pub record WasAllowed (s : Layout) (v : View) (c : Call) (asleep : View) : Type 
   pub allowed : refusal_at s held v.who c ≡ None
   pub slept : asleep.seen ≡ held.history ++ own_entry s held.history v call.Sleep ∷ []
 
--- The worker slept, and woke. Between the two, in what it sees, a caller made this call whole.
+-- The worker slept, and woke. Between the two, in what it sees, a caller made this call whole: when the worker fell
+-- asleep, the caller had made what it had made before, and no more.
 pub record SleepsThrough (s : Layout) (v : View) (c : Call) (r : Reply) (w : View) : Type 0 where
   pub asleep : View
   pub sleeps : MakesOne s v call.Sleep asleep
   pub allowed : WasAllowed s v c asleep
   pub before : View
   pub after : View
+  pub nothing_yet : made_by before.who asleep.seen ≡ made_by before.who before.seen
   pub by_caller : is_caller after.who ≡ true
   pub completes : Completes s before c r after
   pub wakes : MakesOne s asleep call.Wake w

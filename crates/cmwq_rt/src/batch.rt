@@ -37,21 +37,25 @@ impl<N: HubName> Hub<N> {
             (λ e. StopsBatch N.layout participant.old calls.now e.made e.fault replies.old replies.new
             participant.new) }
     {
-        let mut monitor = self.lock(rt);
+        let mut hold = self.lock(rt);
         for k in 0..calls.len() {
             if k > 0 && k % CALLS_IN_HOLD == 0 {
-                monitor = self.let_in(rt, monitor);
+                hold = self.let_in(rt, hold);
             }
-            monitor = self.spacious(rt, monitor, participant.who(), 1);
-            match monitor.call(rt, participant, calls[k]) {
+            hold = self.spacious(rt, hold, participant.who(), 1);
+            let held = &mut hold;
+            match held
+                .monitor
+                .call(rt, participant, calls[k], &mut held.wakes)
+            {
                 Ok(reply) => replies[k] = reply,
                 Err(fault) => {
-                    self.leave(rt, monitor);
+                    self.leave(rt, hold);
                     return Err(BatchFault { made: k, fault });
                 }
             }
         }
-        self.leave(rt, monitor);
+        self.leave(rt, hold);
         Ok(())
     }
 }

@@ -4,7 +4,7 @@ ghost use Rattle.std.specs.List.{list_all};
 ghost use mathlib.Core.List.{IsPrefix};
 ghost use Rattle.cmwq_model.specs.Prelude.{has_numbers, is_callers, past_of, IsLegal, bits};
 ghost use Rattle.cmwq_model.specs.declared.call.Call.TheVariants as calls;
-ghost use Rattle.cmwq_monitor.specs.Participants.{Agree, Gains, is_caller};
+ghost use Rattle.cmwq_monitor.specs.Participants.{Agree, Gains, is_caller, made_by};
 ghost use Rattle.cmwq_monitor.specs.Calls.{Extends};
 ghost use Rattle.cmwq_monitor.specs.Faults.{Refused, IsStranger};
 ghost use Rattle.cmwq_monitor.specs.Whole.{Completes, BrokeOff, is_tick, ticket_in_reply};
@@ -12,14 +12,15 @@ ghost use Rattle.cmwq_monitor.specs.Settled.{Settles};
 ghost use Rattle.cmwq_rt.specs.Batches.{MakesBatch, StopsBatch};
 
 use crate::batch::BatchFault;
+use crate::hold::Hold;
 use crate::hub::Hub;
 use crate::worker::Worker;
 use cmwq_model::{Call, CpuId, ItemId, Number, QueueId, Reply, Who};
 use cmwq_monitor::{Monitor, Participant, RunFault};
 use cmwq_publish::{HubName, Reader};
 use std::marker::Model;
+use std::sync::Wait;
 use std::sync::ledger::Share;
-use std::sync::{MutexGuard, Wait};
 
 /// One of the callers of a hub. Contracts see who it is, its serial and the history that it has seen.
 #[derive(Drop)]
@@ -175,17 +176,17 @@ impl<N: HubName> Caller<N> {
         &mut self,
         rt: &R,
         hub: &'a Hub<N>,
-        monitor: MutexGuard<'a, Monitor<N>>,
+        hold: Hold<'a, N>,
         call: Call,
-    ) -> (MutexGuard<'a, Monitor<N>>, Result<Reply, RunFault>)
+    ) -> (Hold<'a, N>, Result<Reply, RunFault>)
         requires callers { is_callers call ≡ true }
         requires numbers { has_numbers N.layout call ≡ true }
         ensures done { IfOk result.1 (λ reply. Completes N.layout self.old call reply self.new) }
         ensures broke { IfErr result.1 (λ f. BrokeOff N.layout self.old call f self.new) }
     {
         match call {
-            Call::Tick { ticks } => self.tick_locked(rt, hub, monitor, ticks),
-            _ => self.wait_out(rt, hub, monitor, call),
+            Call::Tick { ticks } => self.tick_locked(rt, hub, hold, ticks),
+            _ => self.wait_out(rt, hub, hold, call),
         }
     }
 
@@ -194,9 +195,9 @@ impl<N: HubName> Caller<N> {
         &mut self,
         rt: &R,
         hub: &'a Hub<N>,
-        monitor: MutexGuard<'a, Monitor<N>>,
+        hold: Hold<'a, N>,
         call: Call,
-    ) -> (MutexGuard<'a, Monitor<N>>, Result<Reply, RunFault>)
+    ) -> (Hold<'a, N>, Result<Reply, RunFault>)
         requires callers { is_callers call ≡ true }
         requires numbers { has_numbers N.layout call ≡ true }
         requires waits { is_tick call ≡ false }
@@ -204,20 +205,24 @@ impl<N: HubName> Caller<N> {
         ensures broke { IfErr result.1 (λ f. BrokeOff N.layout self.old call f self.new) }
     {
         let _who = self.participant.who();
-        let mut monitor = hub.spacious(rt, monitor, self.participant.who(), 1);
-        let reply = match monitor.call(rt, &mut self.participant, call) {
+        let mut hold = hub.spacious(rt, hold, self.participant.who(), 1);
+        let held = &mut hold;
+        let called = held
+            .monitor
+            .call(rt, &mut self.participant, call, &mut held.wakes);
+        let reply = match called {
             Ok(reply) => reply,
-            Err(fault) => return (monitor, Err(fault)),
+            Err(fault) => return (hold, Err(fault)),
         };
         let Some(ticket) = ticket_in(reply) else {
-            return (monitor, Ok(reply));
+            return (hold, Ok(reply));
         };
-        let (monitor, ended) = hub.until_ended(rt, monitor, &mut self.participant, call, ticket);
+        let (hold, ended) = hub.until_ended(rt, hold, &mut self.participant, call, ticket);
         match ended {
             Ok(()) => {}
-            Err(fault) => return (monitor, Err(fault)),
+            Err(fault) => return (hold, Err(fault)),
         }
-        (monitor, Ok(reply))
+        (hold, Ok(reply))
     }
 
     /// The same for a run that waits. A closed hub takes it too, and the monitor knows meanwhile what the run waits
@@ -226,32 +231,38 @@ impl<N: HubName> Caller<N> {
         &mut self,
         rt: &R,
         hub: &'a Hub<N>,
-        monitor: MutexGuard<'a, Monitor<N>>,
+        hold: Hold<'a, N>,
         worker: &Participant<N>,
         call: Call,
-    ) -> (MutexGuard<'a, Monitor<N>>, Result<Reply, RunFault>)
+    ) -> (Hold<'a, N>, Result<Reply, RunFault>)
         requires callers { is_callers call ≡ true }
         requires numbers { has_numbers N.layout call ≡ true }
         requires waits { is_tick call ≡ false }
         ensures done { IfOk result.1 (λ reply. Completes N.layout self.old call reply self.new) }
+        ensures nothing_yet { IfOk result.1
+            (λ _. made_by self.old.who hold.entry.monitor.value.history ≡ made_by self.old.who self.old.seen) }
         ensures broke { IfErr result.1 (λ f. BrokeOff N.layout self.old call f self.new) }
     {
         let _who = self.participant.who();
-        let mut monitor = monitor;
-        let reply = match monitor.call_in_run(rt, &mut self.participant, call) {
+        let mut hold = hold;
+        let held = &mut hold;
+        let called = held
+            .monitor
+            .call_in_run(rt, &mut self.participant, call, &mut held.wakes);
+        let reply = match called {
             Ok(reply) => reply,
-            Err(fault) => return (monitor, Err(fault)),
+            Err(fault) => return (hold, Err(fault)),
         };
         let Some(ticket) = ticket_in(reply) else {
-            return (monitor, Ok(reply));
+            return (hold, Ok(reply));
         };
-        monitor.run_waits(worker, &self.participant, ticket);
-        let (monitor, ended) = hub.until_ended(rt, monitor, &mut self.participant, call, ticket);
+        hold.monitor.run_waits(worker, &self.participant, ticket);
+        let (hold, ended) = hub.until_ended(rt, hold, &mut self.participant, call, ticket);
         match ended {
             Ok(()) => {}
-            Err(fault) => return (monitor, Err(fault)),
+            Err(fault) => return (hold, Err(fault)),
         }
-        (monitor, Ok(reply))
+        (hold, Ok(reply))
     }
 
     /// A tick, and all that is due after it.
@@ -259,23 +270,28 @@ impl<N: HubName> Caller<N> {
         &mut self,
         rt: &R,
         hub: &'a Hub<N>,
-        monitor: MutexGuard<'a, Monitor<N>>,
+        hold: Hold<'a, N>,
         ticks: u32,
-    ) -> (MutexGuard<'a, Monitor<N>>, Result<Reply, RunFault>)
+    ) -> (Hold<'a, N>, Result<Reply, RunFault>)
         ensures done { IfOk result.1 (λ reply. Completes N.layout self.old (calls.Tick ticks) reply self.new) }
         ensures broke { IfErr result.1 (λ f. BrokeOff N.layout self.old (calls.Tick ticks) f self.new) }
     {
-        let mut monitor = hub.spacious(rt, monitor, self.participant.who(), hub.with_fires());
-        let reply = match monitor.call(rt, &mut self.participant, Call::Tick { ticks }) {
+        let mut hold = hub.spacious(rt, hold, self.participant.who(), hub.with_fires());
+        let call = Call::Tick { ticks };
+        let held = &mut hold;
+        let called = held
+            .monitor
+            .call(rt, &mut self.participant, call, &mut held.wakes);
+        let reply = match called {
             Ok(reply) => reply,
-            Err(fault) => return (monitor, Err(fault)),
+            Err(fault) => return (hold, Err(fault)),
         };
-        let (monitor, fired) = hub.until_fired(rt, monitor, &mut self.participant);
+        let (hold, fired) = hub.until_fired(rt, hold, &mut self.participant);
         match fired {
             Ok(()) => {}
-            Err(fault) => return (monitor, Err(fault)),
+            Err(fault) => return (hold, Err(fault)),
         }
-        (monitor, Ok(reply))
+        (hold, Ok(reply))
     }
 
     /// A whole call: it makes its entry and those that belong to it, as the method of its name does.
@@ -293,8 +309,8 @@ impl<N: HubName> Caller<N> {
         ensures done { IfOk result (λ reply. Completes N.layout self.old call reply self.new) }
         ensures broke { IfErr result (λ f. BrokeOff N.layout self.old call f self.new) }
     {
-        let (monitor, answer) = self.make_locked(rt, hub, hub.lock(rt), call);
-        hub.leave(rt, monitor);
+        let (hold, answer) = self.make_locked(rt, hub, hub.lock(rt), call);
+        hub.leave(rt, hold);
         answer
     }
 

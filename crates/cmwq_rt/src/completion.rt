@@ -1,13 +1,15 @@
 //! What threads of a hub wait for that is no call.
-ghost use Rattle.std.specs.Prelude.{◌≡◌, IfErr, None};
+ghost use Rattle.std.specs.Prelude.{◌≡◌, IfErr, None, true};
+ghost use Rattle.cmwq_dispatch.specs.Naming.{names_completions};
 ghost use Rattle.cmwq_monitor.specs.declared.fault.RunFault.TheVariants as faults;
 
+use crate::hold::Hold;
 use crate::hub::Hub;
-use cmwq_monitor::{Monitor, RunFault};
+use cmwq_monitor::{RunFault, Wakes};
 use cmwq_publish::HubName;
 use cmwq_turns::Turnstile;
+use std::sync::Wait;
 use std::sync::atomic::{AtomicU32, Ordering};
-use std::sync::{CondvarTimeouts, MutexGuard, Wait};
 use std::time::{Clock, Duration};
 
 /// So many times it is completed for good.
@@ -33,8 +35,11 @@ impl Completion {
         self.done.load(Ordering::SeqCst) != 0
     }
 
-    /// It is completed once more, or for good. The caller has the lock.
-    fn add(&self, is_for_good: bool) {
+    /// It is completed once more, or for good. All who wait for a completion are named, to look again. The caller has
+    /// the lock.
+    fn add(&self, is_for_good: bool, wakes: &mut Wakes)
+        ensures named { names_completions wakes.new ≡ true }
+    {
         let done = self.done.load(Ordering::SeqCst);
         let more = if is_for_good {
             FOR_GOOD
@@ -42,6 +47,7 @@ impl Completion {
             done.saturating_add(1)
         };
         self.done.store(more, Ordering::SeqCst);
+        wakes.add_completions();
     }
 
     /// Takes one, if there is one. The caller has the lock.
@@ -71,10 +77,9 @@ impl<N: HubName> Hub<N> {
     }
 
     fn complete_as<R: Wait>(&self, rt: &R, completion: &Completion, is_for_good: bool) {
-        let monitor = self.lock(rt);
-        completion.add(is_for_good);
-        self.leave(rt, monitor);
-        self.signal(rt);
+        let mut hold = self.lock(rt);
+        completion.add(is_for_good, &mut hold.wakes);
+        self.leave(rt, hold);
     }
 
     /// Sleeps until it is completed (`wait_for_completion`).
@@ -84,14 +89,14 @@ impl<N: HubName> Hub<N> {
     pub fn wait_for<R: Wait>(&self, rt: &R, completion: &Completion) -> Result<(), RunFault>
         ensures { IfErr result (λ f. f ≡ faults.NoMemory None) }
     {
-        let mut monitor = self.lock(rt);
+        let mut hold = self.lock(rt);
         for _ in rt.forever() {
             let is_done = completion.take();
-            if is_done || monitor.has_failed() {
-                self.leave(rt, monitor);
+            if is_done || hold.monitor.has_failed() {
+                self.leave(rt, hold);
                 return if is_done { Ok(()) } else { Err(FAILED) };
             }
-            monitor = self.sleep_until_completed(rt, monitor);
+            hold = self.sleep_until_completed(rt, hold);
         }
         unreachable!()
     }
@@ -109,31 +114,16 @@ impl<N: HubName> Hub<N> {
     ) -> Result<bool, RunFault>
         ensures { IfErr result (λ f. f ≡ faults.NoMemory None) }
     {
-        let monitor = match &self.turns {
+        let hold = match &self.turns {
             Some(turns) => self.wait_in_turn_within(rt, turns, completion, time),
-            None => self.wait_on_thread_within(rt, completion, time),
+            None => self.sleep_until_completed_within(rt, self.lock(rt), completion, time),
         };
-        let (is_done, has_failed) = (completion.take(), monitor.has_failed());
-        self.leave(rt, monitor);
+        let (is_done, has_failed) = (completion.take(), hold.monitor.has_failed());
+        self.leave(rt, hold);
         if !is_done && has_failed {
             return Err(FAILED);
         }
         Ok(is_done)
-    }
-
-    fn wait_on_thread_within<'a, R: Wait + Clock>(
-        &'a self,
-        rt: &R,
-        completion: &Completion,
-        time: Duration,
-    ) -> MutexGuard<'a, Monitor<N>> {
-        let (monitor, _) = self.completed.wait_timeout_while(
-            rt,
-            self.lock(rt),
-            time,
-            |monitor| !completion.is_done() && !monitor.has_failed(),
-        );
-        monitor
     }
 
     fn wait_in_turn_within<'a, R: Wait>(
@@ -142,15 +132,15 @@ impl<N: HubName> Hub<N> {
         turns: &Turnstile,
         completion: &Completion,
         time: Duration,
-    ) -> MutexGuard<'a, Monitor<N>> {
+    ) -> Hold<'a, N> {
         let until = turns.time_after(rt, time);
-        let mut monitor = self.lock(rt);
+        let mut hold = self.lock(rt);
         let mut is_past = false;
         for _ in rt.forever() {
-            if is_past || completion.is_done() || monitor.has_failed() {
-                return monitor;
+            if is_past || completion.is_done() || hold.monitor.has_failed() {
+                return hold;
             }
-            (monitor, is_past) = self.sleep_in_turn_until(rt, turns, monitor, until);
+            (hold, is_past) = self.sleep_in_turn_until(rt, turns, hold, until);
         }
         unreachable!()
     }

@@ -1,7 +1,7 @@
 //! Where callers and workers sleep, after a short spin where that is of use. No contract speaks of it.
 
 use cmwq_model::{NoMemory, Shape, Who, WorkerId};
-use cmwq_monitor::Wakes;
+use cmwq_monitor::Named;
 use std::alloc::Global;
 use std::hint::spin_loop;
 use std::sync::atomic::{AtomicBool, AtomicU32, Ordering};
@@ -121,7 +121,7 @@ impl Condvars {
         }
     }
 
-    /// Spins until its condvar is notified again, but not for long, without the lock. Behind it what is waited for is
+    /// Spins until its condvar is notified again, but not for long, without the lock. After that, what is waited for is
     /// looked at anew, under the lock, since the notification of what was done meanwhile may still come.
     pub fn spin(&self, who: Who, seen: u64) {
         if let Some(parker) = self.of(who) {
@@ -142,27 +142,27 @@ impl Condvars {
         }
     }
 
-    /// Wakes those who are to be woken.
-    pub fn notify(&self, wakes: &Wakes) {
-        self.notify_callers(wakes);
-        self.notify_workers(wakes);
+    /// Wakes the callers and the workers that are named.
+    pub fn notify(&self, named: &Named) {
+        self.notify_callers(named);
+        self.notify_workers(named);
     }
 
-    fn notify_callers(&self, wakes: &Wakes) {
-        if wakes.all_callers {
+    fn notify_callers(&self, named: &Named) {
+        if named.all_callers {
             return notify_all_of(&self.callers);
         }
-        for name in &wakes.callers {
+        for name in &named.callers {
             let Some(caller) = name else { return };
             self.wake(Who::Caller(*caller));
         }
     }
 
-    fn notify_workers(&self, wakes: &Wakes) {
-        if wakes.all_workers {
+    fn notify_workers(&self, named: &Named) {
+        if named.all_workers {
             return notify_all_of(&self.workers);
         }
-        for name in &wakes.workers {
+        for name in &named.workers {
             let Some(worker) = name else { return };
             self.wake(Who::Worker(*worker));
         }

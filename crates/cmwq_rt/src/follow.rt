@@ -45,25 +45,25 @@ impl<N: HubName> Caller<N> {
     {
         let first = self.serial();
         let mut full = 0u32;
-        let mut monitor = hub.lock(rt);
+        let mut hold = hub.lock(rt);
         for k in 0..script.len() {
             if k > 0 && k % CALLS_IN_HOLD == 0 {
-                monitor = hub.let_in(rt, monitor);
+                hold = hub.let_in(rt, hold);
             }
-            let (held, answer) = self.make_locked(rt, hub, monitor, script[k]);
-            monitor = held;
+            let (held, answer) = self.make_locked(rt, hub, hold, script[k]);
+            hold = held;
             match answer {
                 Ok(_) => {}
                 Err(fault) => {
                     if !is_full(fault) {
-                        hub.leave(rt, monitor);
+                        hub.leave(rt, hold);
                         return Err(fault);
                     }
                     full += 1;
                 }
             }
         }
-        hub.leave(rt, monitor);
+        hub.leave(rt, hold);
         Ok((self.serial() - first, full))
     }
 }

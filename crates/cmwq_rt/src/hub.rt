@@ -1,6 +1,5 @@
 //! The hub: one monitor behind a lock.
-ghost use Rattle.std.specs.Prelude.{◌≡◌, ◌⊎◌, ◌<◌, ◌++◌, [], OnErr, true, false, IsTrue, IfOk, IfErr, IfSome};
-ghost use Rattle.std.specs.Prelude.{MatchOption, None, Some};
+ghost use Rattle.std.specs.Prelude.{◌≡◌, ◌⊎◌, ◌<◌, ◌++◌, [], OnErr, true, false, IsTrue, IfOk, IfErr, None, Some};
 ghost use Rattle.cmwq_model.specs.declared.call.Call.TheVariants as calls;
 ghost use Rattle.cmwq_model.specs.declared.reply.Reply.TheVariants as replies;
 ghost use Rattle.cmwq_model.specs.Prelude.{fits, past_of, IsLegal};
@@ -10,21 +9,22 @@ ghost use Rattle.cmwq_monitor.specs.Faults.{Refused};
 ghost use Rattle.cmwq_monitor.specs.Whole.{Stops, is_drain};
 ghost use Rattle.cmwq_monitor.specs.Steps.{HasEnded, HasEndedSome, HasFired, HasFiredSome, IsFiring};
 ghost use Rattle.cmwq_rt.specs.Later.{Later};
-ghost use Rattle.cmwq_rt.specs.Running.{IsNextStart, breaks_off};
+ghost use Rattle.cmwq_rt.specs.Running.{IsNext, IsNextStart, breaks_off};
 ghost use Rattle.cmwq_monitor.specs.Settled.{AllSettle};
 ghost use Rattle.cmwq_rt.specs.Ending.{EndsAs, OneIsStranger};
 
 use crate::caller::Caller;
 use crate::condvars::Condvars;
+use crate::hold::Hold;
 use crate::parts::HubParts;
 use crate::schedule::awaited_end;
 use crate::worker::Worker;
 use cmwq_model::{Call, Entry, ItemId, Number, Reply, Shape};
-use cmwq_monitor::{Journal, MOST_FIRES, Monitor, Participant, Rest, RunFault};
+use cmwq_monitor::{Ended, Journal, MOST_FIRES, Monitor, Next, Participant, Rest, RunFault, Sleep};
 use cmwq_publish::HubName;
 use cmwq_turns::{Awaited, Turnstile};
 use std::alloc::Global;
-use std::sync::{Arc, Condvar, CondvarTimeouts, Mutex, MutexGuard, Wait};
+use std::sync::{Arc, Condvar, Mutex, Wait};
 use std::time::{Clock, Duration};
 
 /// The runtime that threads share. Its callers and workers carry its name, so that none of them is taken for another
@@ -69,13 +69,14 @@ impl<N: HubName> Hub<N> {
         &self.shape
     }
 
-    /// Callers make no calls from now on: each answers `Closed`. Calls that wait go on to their end, and workers go on
-    /// until no active queueing is open.
+    /// Callers make no calls from now on: each answers `Closed`. Calls that wait go on to their end, and fire what is
+    /// due. Workers go on until no active queueing is open, and nothing may be fired any more.
     pub fn close<R: Wait>(&self, rt: &R) {
         let has_turn = self.comes_to_close(rt);
-        let mut monitor = self.monitor.lock(rt);
-        monitor.close();
-        self.leave(rt, monitor);
+        let mut hold = self.lock_at_once(rt);
+        let held = &mut hold;
+        held.monitor.close(&mut held.wakes);
+        self.leave(rt, hold);
         if has_turn {
             self.goes(rt);
         }
@@ -84,9 +85,10 @@ impl<N: HubName> Hub<N> {
     /// Nobody makes a call from now on: each answers `NoMemory`, and so do those that wait. So ends the journal of a
     /// hub whose callers and workers have all come back.
     pub fn fail<R: Wait>(&self, rt: &R) {
-        let mut monitor = self.monitor.lock(rt);
-        monitor.fail();
-        self.leave(rt, monitor);
+        let mut hold = self.lock_at_once(rt);
+        let held = &mut hold;
+        held.monitor.fail(&mut held.wakes);
+        self.leave(rt, hold);
         self.stop_turns(rt);
     }
 
@@ -102,9 +104,9 @@ impl<N: HubName> Hub<N> {
         ensures legal { IsLegal N.layout (past_of result.seen) }
         ensures batch { result.batch ≡ [] }
     {
-        let monitor = self.monitor.lock(rt);
-        let journal = monitor.journal(spare);
-        self.leave(rt, monitor);
+        let hold = self.lock_at_once(rt);
+        let journal = hold.monitor.journal(spare);
+        self.leave(rt, hold);
         let _legal = journal.len();
         journal
     }
@@ -120,14 +122,14 @@ impl<N: HubName> Hub<N> {
         ensures legal { IfOk result (λ _. IsLegal N.layout (past_of journal.new.seen)) }
         ensures refused { OnErr result (journal.new.seen ≡ journal.old.seen) }
     {
-        let mut monitor = self.monitor.lock(rt);
+        let mut hold = self.lock_at_once(rt);
         for _ in rt.forever() {
-            if monitor.wants_journal() {
+            if !hold.monitor.writer_sleeps() {
                 break;
             }
-            monitor = self.journal.wait(rt, monitor);
+            hold = self.sleep_until_wanted(rt, hold);
         }
-        self.give(rt, monitor, journal)
+        self.give(rt, hold, journal)
     }
 
     /// The same, but it sleeps no longer than so, and takes what there is then: so the last entries of a quiet hub are
@@ -145,28 +147,29 @@ impl<N: HubName> Hub<N> {
         ensures legal { IfOk result (λ _. IsLegal N.layout (past_of journal.new.seen)) }
         ensures refused { OnErr result (journal.new.seen ≡ journal.old.seen) }
     {
-        let mut monitor = self.monitor.lock(rt);
-        if !monitor.wants_journal() {
-            (monitor, _) = self.journal.wait_timeout(rt, monitor, time);
+        let mut hold = self.lock_at_once(rt);
+        if hold.monitor.writer_sleeps() {
+            hold = self.sleep_until_wanted_within(rt, hold, time);
         }
-        self.give(rt, monitor, journal)
+        self.give(rt, hold, journal)
     }
 
     /// Hands over what there is, lets the lock go, and answers whether more may come.
     fn give<R: Wait>(
         &self,
         rt: &R,
-        monitor: MutexGuard<Monitor<N>>,
+        hold: Hold<N>,
         journal: &mut Journal<N>,
     ) -> Result<bool, RunFault>
         ensures batch { IfOk result (λ _. journal.new.seen ≡ journal.old.seen ++ journal.new.batch) }
         ensures legal { IfOk result (λ _. IsLegal N.layout (past_of journal.new.seen)) }
         ensures refused { OnErr result (journal.new.seen ≡ journal.old.seen) }
     {
-        let mut monitor = monitor;
-        let has_failed = monitor.has_failed();
-        let handed = monitor.hand_over(journal);
-        self.leave(rt, monitor);
+        let mut hold = hold;
+        let has_failed = hold.monitor.has_failed();
+        let held = &mut hold;
+        let handed = held.monitor.hand_over(journal, &mut held.wakes);
+        self.leave(rt, hold);
         match handed {
             Ok(()) => {
                 let _len = journal.len();
@@ -187,49 +190,99 @@ impl<N: HubName> Hub<N> {
         ensures made { IfOk result (λ reply. Extends N.layout participant.old call reply participant.new) }
         ensures refused { IfErr result (λ f. Refused N.layout participant.old call f participant.new) }
     {
-        let mut monitor = self.spacious(rt, self.lock(rt), participant.who(), 1);
-        let answer = monitor.call(rt, participant, call);
-        self.leave(rt, monitor);
+        let mut hold = self.spacious(rt, self.lock(rt), participant.who(), 1);
+        let held = &mut hold;
+        let answer = held.monitor.call(rt, participant, call, &mut held.wakes);
+        self.leave(rt, hold);
         answer
     }
 
-    /// Fires what is due, `MOST_FIRES` timers in a hold of the lock, so that others come in between.
+    /// Fires what is due, after the call of this hold. Until that is done the hub is not over.
     pub(crate) fn until_fired<'a, R: Wait>(
         &'a self,
         rt: &R,
-        monitor: MutexGuard<'a, Monitor<N>>,
+        hold: Hold<'a, N>,
         participant: &mut Participant<N>,
-    ) -> (MutexGuard<'a, Monitor<N>>, Result<(), RunFault>)
+    ) -> (Hold<'a, N>, Result<(), RunFault>)
         requires caller { is_caller participant.old.who ≡ true }
         requires begun { IsFiring N.layout N.layout.items participant.old participant.old }
         ensures fired { IfOk result.1 (λ _. HasFired N.layout participant.old participant.new) }
         ensures stopped { IfErr result.1
             (λ f. Stops participant.new None f × HasFiredSome participant.old participant.new) }
     {
-        let mut monitor = monitor;
+        let mut hold = hold;
+        let firing = hold.monitor.begins_firing();
+        let (mut hold, fired) = self.fire_all(rt, hold, participant);
+        hold.ends_firing(firing);
+        (hold, fired)
+    }
+
+    /// Fires what is due, `MOST_FIRES` timers in a hold of the lock, so that others come in between.
+    fn fire_all<'a, R: Wait>(
+        &'a self,
+        rt: &R,
+        hold: Hold<'a, N>,
+        participant: &mut Participant<N>,
+    ) -> (Hold<'a, N>, Result<(), RunFault>)
+        requires caller { is_caller participant.old.who ≡ true }
+        requires begun { IsFiring N.layout N.layout.items participant.old participant.old }
+        ensures fired { IfOk result.1 (λ _. HasFired N.layout participant.old participant.new) }
+        ensures stopped { IfErr result.1
+            (λ f. Stops participant.new None f × HasFiredSome participant.old participant.new) }
+    {
+        let mut hold = hold;
         let mut left = self.shape.counts().items;
         for _ in rt.forever() {
             let most = u32::from(left.min(MOST_FIRES));
-            monitor = self.spacious(rt, monitor, participant.who(), most);
-            match monitor.fire_some(rt, participant, left) {
+            hold = self.spacious(rt, hold, participant.who(), most);
+            let held = &mut hold;
+            match held
+                .monitor
+                .fire_some(rt, participant, left, &mut held.wakes)
+            {
                 Ok(Some(rest)) => left = rest,
-                Ok(None) => return (monitor, Ok(())),
-                Err(fault) => return (monitor, Err(fault)),
+                Ok(None) => return (hold, Ok(())),
+                Err(fault) => return (hold, Err(fault)),
             }
-            monitor = self.let_in(rt, monitor);
+            hold = self.let_in(rt, hold);
         }
         unreachable!()
     }
 
-    /// Sleeps until the wait that the call began has ended. Behind a drain what is due is fired.
+    /// Sleeps until the wait that the call of this hold began has ended. After a drain, what is due is fired: until
+    /// that is done the hub is not over.
     pub(crate) fn until_ended<'a, R: Wait>(
         &'a self,
         rt: &R,
-        monitor: MutexGuard<'a, Monitor<N>>,
+        hold: Hold<'a, N>,
         participant: &mut Participant<N>,
         call: Call,
         ticket: Number,
-    ) -> (MutexGuard<'a, Monitor<N>>, Result<(), RunFault>)
+    ) -> (Hold<'a, N>, Result<(), RunFault>)
+        requires { is_caller participant.old.who ≡ true }
+        ensures ended { IfOk result.1 (λ _. HasEnded N.layout participant.old call ticket participant.new) }
+        ensures stopped { IfErr result.1 (λ f. HasEndedSome N.layout participant.old call ticket f participant.new) }
+    {
+        let mut hold = hold;
+        let firing = if is_drain(call) {
+            hold.monitor.begins_firing()
+        } else {
+            None
+        };
+        let (mut hold, ended) = self.end_and_fire(rt, hold, participant, call, ticket);
+        hold.ends_firing(firing);
+        (hold, ended)
+    }
+
+    /// Sleeps until the wait has ended, and fires what is due after a drain.
+    fn end_and_fire<'a, R: Wait>(
+        &'a self,
+        rt: &R,
+        hold: Hold<'a, N>,
+        participant: &mut Participant<N>,
+        call: Call,
+        ticket: Number,
+    ) -> (Hold<'a, N>, Result<(), RunFault>)
         requires { is_caller participant.old.who ≡ true }
         ensures ended { IfOk result.1 (λ _. HasEnded N.layout participant.old call ticket participant.new) }
         ensures stopped { IfErr result.1 (λ f. HasEndedSome N.layout participant.old call ticket f participant.new) }
@@ -238,44 +291,49 @@ impl<N: HubName> Hub<N> {
             Call::Drain { .. } => self.with_fires(),
             _ => 1,
         };
-        let (monitor, ended) = self.until_done(rt, monitor, participant, call, ticket, most);
+        let (hold, ended) = self.until_done(rt, hold, participant, call, ticket, most);
         match ended {
             Ok(()) => {}
-            Err(fault) => return (monitor, Err(fault)),
+            Err(fault) => return (hold, Err(fault)),
         }
         if is_drain(call) {
-            return self.until_fired(rt, monitor, participant);
+            return self.fire_all(rt, hold, participant);
         }
-        (monitor, Ok(()))
+        (hold, Ok(()))
     }
 
     /// Sleeps until the ticket's end is done.
     fn until_done<'a, R: Wait>(
         &'a self,
         rt: &R,
-        monitor: MutexGuard<'a, Monitor<N>>,
+        hold: Hold<'a, N>,
         participant: &mut Participant<N>,
         call: Call,
         ticket: Number,
         most: u32,
-    ) -> (MutexGuard<'a, Monitor<N>>, Result<(), RunFault>)
+    ) -> (Hold<'a, N>, Result<(), RunFault>)
         requires { is_caller participant.old.who ≡ true }
         ensures done { IfOk result.1
             (λ _. Extends N.layout participant.old (calls.End ticket) replies.Done participant.new) }
         ensures stopped { IfErr result.1
             (λ f. (participant.new ≡ participant.old) × Stops participant.old (Some ticket) f) }
     {
-        let mut monitor = monitor;
+        let mut hold = hold;
         for _ in rt.forever() {
-            monitor = self.spacious(rt, monitor, participant.who(), most);
-            match monitor.end_ticket(rt, participant, ticket) {
-                Ok(true) => return (monitor, Ok(())),
-                Ok(false) => {}
-                Err(fault) => return (monitor, Err(fault)),
+            hold = self.spacious(rt, hold, participant.who(), most);
+            let held = &mut hold;
+            match held
+                .monitor
+                .end_or_sleep(rt, participant, ticket, &mut held.wakes)
+            {
+                Ok(Ended::Done) => return (hold, Ok(())),
+                Ok(Ended::Not(Sleep::LooksAgain)) => hold = self.let_in(rt, hold),
+                Ok(Ended::Not(Sleep::Sleeps | Sleep::Over)) => {
+                    let awaited = awaited_end(participant.who(), call, ticket);
+                    hold = self.sleep(rt, hold, participant.who(), awaited);
+                }
+                Err(fault) => return (hold, Err(fault)),
             }
-            monitor.waits(participant.who(), call, ticket);
-            let awaited = awaited_end(participant.who(), call, ticket);
-            monitor = self.sleep(rt, monitor, participant.who(), awaited);
         }
         unreachable!()
     }
@@ -284,7 +342,7 @@ impl<N: HubName> Hub<N> {
     pub(crate) fn until_start<'a, R: Wait>(
         &'a self,
         rt: &R,
-        monitor: MutexGuard<'a, Monitor<N>>,
+        hold: Hold<'a, N>,
         participant: &mut Participant<N>,
     ) -> Result<Option<ItemId>, RunFault>
         requires { is_caller participant.old.who ≡ false }
@@ -292,15 +350,27 @@ impl<N: HubName> Hub<N> {
         ensures next { IfOk result (λ o. IsNextStart N.layout participant.old o participant.new) }
         ensures later { Later participant.old participant.new }
     {
-        let mut monitor = monitor;
+        let mut hold = hold;
         for _ in rt.forever() {
-            monitor = self.spacious(rt, monitor, participant.who(), 1);
-            if let Some(next) = next_start(rt, &mut *monitor, participant) {
-                self.leave(rt, monitor);
-                return next;
+            hold = self.spacious(rt, hold, participant.who(), 1);
+            match next_start(rt, &mut hold, participant) {
+                Ok(Next::Runs(item)) => {
+                    self.leave(rt, hold);
+                    return Ok(Some(item));
+                }
+                Ok(Next::Nothing(Sleep::Over)) => {
+                    self.leave(rt, hold);
+                    return Ok(None);
+                }
+                Ok(Next::Nothing(Sleep::LooksAgain)) => hold = self.let_in(rt, hold),
+                Ok(Next::Nothing(Sleep::Sleeps)) => {
+                    hold = self.sleep(rt, hold, participant.who(), Awaited::Work);
+                }
+                Err(fault) => {
+                    self.leave(rt, hold);
+                    return Err(fault);
+                }
             }
-            monitor.idles(participant.who());
-            monitor = self.sleep(rt, monitor, participant.who(), Awaited::Work);
         }
         unreachable!()
     }
@@ -343,30 +413,27 @@ impl<N: HubName> Hub<N> {
     }
 }
 
-/// What the worker does next, or nothing where it is to sleep.
+/// What the worker does next. Where it may go it sees all the history.
 fn next_start<N: HubName, R: Wait>(
     rt: &R,
-    monitor: &mut Monitor<N>,
+    hold: &mut Hold<N>,
     participant: &mut Participant<N>,
-) -> Option<Result<Option<ItemId>, RunFault>>
+) -> Result<Next, RunFault>
     requires { is_caller participant.old.who ≡ false }
-    ensures fault { IfSome result (λ next. IfErr next (λ f. breaks_off f ≡ true)) }
-    ensures next { MatchOption result (participant.new ≡ participant.old)
-        (λ next. IfOk next (λ o. IsNextStart N.layout participant.old o participant.new)) }
+    ensures fault { IfErr result (λ f. breaks_off f ≡ true) }
+    ensures next { IfOk result (λ next. IsNext N.layout participant.old next participant.new) }
     ensures later { Later participant.old participant.new }
 {
-    match monitor.start(rt, participant) {
-        Ok(None) => {}
-        Ok(Some(item)) => return Some(Ok(Some(item))),
-        Err(fault) => return Some(Err(fault)),
+    match hold.monitor.start_or_rest(rt, participant, &mut hold.wakes) {
+        Ok(Next::Nothing(Sleep::Over)) => {}
+        Ok(Next::Nothing(Sleep::LooksAgain)) => return Ok(Next::Nothing(Sleep::LooksAgain)),
+        Ok(Next::Nothing(Sleep::Sleeps)) => return Ok(Next::Nothing(Sleep::Sleeps)),
+        Ok(Next::Runs(item)) => return Ok(Next::Runs(item)),
+        Err(fault) => return Err(fault),
     }
-    if !monitor.is_over() {
-        return None;
-    }
-    let settled = monitor.settle(participant);
-    match settled {
-        Ok(()) => Some(Ok(None)),
-        Err(fault) => Some(Err(fault)),
+    match hold.monitor.settle(participant) {
+        Ok(()) => Ok(Next::Nothing(Sleep::Over)),
+        Err(fault) => Err(fault),
     }
 }
 

@@ -12,6 +12,7 @@ mod condvars;
 pub mod ending;
 mod follow;
 mod gates;
+mod hold;
 mod hub;
 mod lent;
 mod participants;

@@ -1,14 +1,14 @@
 //! The parts of a hub that has no name yet.
 ghost use Rattle.std.specs.Prelude.{◌≡◌, ◌+◌, ◌≤◌, [], IfOk, IfErr, None};
+ghost use Rattle.cmwq_dispatch.specs.Dispatched.{is_new};
 ghost use Rattle.cmwq_monitor.specs.declared.fault.RunFault.TheVariants as faults;
 ghost use Rattle.cmwq_rt.specs.Places.{all_free, shares};
 
 use crate::condvars::Condvars;
 use crate::hub::Hub;
 use crate::participants::Participants;
-use cmwq_core::Execution;
 use cmwq_model::{Entry, MOST_CALLERS, MOST_CPUS, MOST_WORKERS, NoMemory, Shape};
-use cmwq_monitor::{MOST_FIRES, Monitor, RunFault, RunWaits, Sleepers};
+use cmwq_monitor::{Dispatch, MOST_FIRES, Monitor, RunFault};
 use cmwq_publish::{HubName, Opening};
 use cmwq_state::Tail;
 use cmwq_turns::Turnstile;
@@ -22,66 +22,38 @@ const SHARES: u64 = MOST_CALLERS as u64 + 2 * MOST_WORKERS as u64 * MOST_CPUS as
 /// All that a hub needs. No call of the hub takes memory.
 pub struct HubParts {
     pub shape: Shape,
-    shape_of_monitor: Shape,
-    execution: Execution,
+    dispatch: Dispatch,
     tail: Tail<Entry>,
     pub opening: Opening,
-    sleepers: Sleepers,
-    runs: RunWaits,
     condvars: Condvars,
     pub blank: Blank,
     is_dropping: bool,
     turns: Option<Arc<Turnstile, Global>>,
-    ghost shapes_are: { shape_of_monitor ≡ shape },
-    ghost execution_is: { execution ≡ record { layout = shape; room = shape.room; entries = [] } },
-    ghost tail_is: { tail.all ≡ [] },
-    ghost runs_are: { runs ≡ [] },
+    ghost dispatch_is: { dispatch ≡ is_new shape shape.room dispatch.asleep },
+    ghost tail_is: { tail ≡ record { all = []; given = 0; room = tail.room } },
     ghost opening_is: { opening.layout ≡ shape },
     ghost shares: { blank.parts ≡ shares },
 }
 
-/// What is made beside the published history. The execution is made last, as it has the most to drop.
+/// What is made beside the published history. The dispatch is made last, as it has the most to drop.
 struct Rest {
     shape: Shape,
-    shape_of_monitor: Shape,
-    sleepers: Sleepers,
-    runs: RunWaits,
     condvars: Condvars,
     tail: Tail<Entry>,
-    execution: Execution,
+    dispatch: Dispatch,
 }
 
 fn rest_of(alloc: Global, shape: &Shape, kept: u32) -> Result<Rest, NoMemory>
-    ensures shapes { IfOk result (λ r. (r.shape ≡ shape.now) × (r.shape_of_monitor ≡ shape.now)) }
-    ensures execution { IfOk result
-        (λ r. r.execution ≡ record { layout = shape.now; room = shape.now.room; entries = [] }) }
-    ensures tail { IfOk result (λ r. r.tail.all ≡ []) }
-    ensures runs { IfOk result (λ r. r.runs ≡ []) }
+    ensures shape { IfOk result (λ r. r.shape ≡ shape.now) }
+    ensures dispatch { IfOk result (λ r. r.dispatch ≡ is_new shape.now shape.now.room r.dispatch.asleep) }
+    ensures tail { IfOk result (λ r. r.tail ≡ record { all = []; given = 0; room = r.tail.room }) }
 {
-    let (sleepers, condvars) = sleepers_of(alloc, shape)?;
-    let tail = Tail::new(alloc, kept)?;
-    let (own, of_monitor) = copies_of(alloc, shape)?;
     Ok(Rest {
-        shape: own,
-        shape_of_monitor: of_monitor,
-        sleepers,
-        runs: RunWaits::new(alloc, shape)?,
-        condvars,
-        tail,
-        execution: Execution::new(alloc, shape, shape.counts().room)?,
+        shape: shape.copy(alloc)?,
+        condvars: Condvars::new(alloc, shape)?,
+        tail: Tail::new(alloc, kept)?,
+        dispatch: Dispatch::new(alloc, shape, shape.counts().room)?,
     })
-}
-
-fn sleepers_of(alloc: Global, shape: &Shape) -> Result<(Sleepers, Condvars), NoMemory> {
-    let sleepers = Sleepers::new(alloc, shape)?;
-    Ok((sleepers, Condvars::new(alloc, shape)?))
-}
-
-fn copies_of(alloc: Global, shape: &Shape) -> Result<(Shape, Shape), NoMemory>
-    ensures { IfOk result (λ t. (t.0 ≡ shape.now) × (t.1 ≡ shape.now)) }
-{
-    let own = shape.copy(alloc)?;
-    Ok((own, shape.copy(alloc)?))
 }
 
 impl HubParts {
@@ -171,21 +143,15 @@ impl HubParts {
         };
         let Rest {
             shape,
-            shape_of_monitor,
-            execution,
-            tail,
-            sleepers,
-            runs,
             condvars,
+            tail,
+            dispatch,
         } = rest;
         Ok(HubParts {
             shape,
-            shape_of_monitor,
-            execution,
+            dispatch,
             tail,
             opening,
-            sleepers,
-            runs,
             condvars,
             blank: Blank::new(SHARES),
             is_dropping: false,
@@ -246,12 +212,9 @@ impl<N: HubName> Hub<N> {
     {
         let HubParts {
             shape,
-            shape_of_monitor,
-            execution,
+            dispatch,
             tail,
             opening,
-            sleepers,
-            runs,
             condvars,
             blank,
             is_dropping,
@@ -261,15 +224,7 @@ impl<N: HubName> Hub<N> {
         let (publisher, readers) = opening.named::<N>();
         let start = publisher.prefix().again();
         let (entries, rest) = blank.open::<N>();
-        let monitor = Monitor::new(
-            shape_of_monitor,
-            execution,
-            tail,
-            publisher,
-            entries,
-            sleepers,
-            runs,
-        );
+        let monitor = Monitor::new(dispatch, tail, publisher, entries);
         let participants = Participants::new(counts, readers, start, rest);
         (
             Hub::new(monitor, condvars, turns, shape, is_dropping),

@@ -1,12 +1,15 @@
 //! Which thread of a hub goes on: the lock, and who sleeps and is woken. In a trial threads take turns, and a turn is a
 //! hold of the lock. No contract speaks of it.
 
+use crate::completion::Completion;
+use crate::hold::Hold;
 use crate::hub::Hub;
 use cmwq_model::{Call, Number, Who};
-use cmwq_monitor::{Monitor, Wakes};
+use cmwq_monitor::{Monitor, Named, Wakes};
 use cmwq_publish::HubName;
 use cmwq_turns::{Awaited, Turnstile};
-use std::sync::{MutexGuard, Wait};
+use std::sync::{CondvarTimeouts, MutexGuard, Wait};
+use std::time::{Clock, Duration};
 
 /// What a caller sleeps for whose call gave this ticket.
 pub(crate) fn awaited_end(who: Who, call: Call, ticket: Number) -> Awaited {
@@ -20,63 +23,94 @@ pub(crate) fn awaited_end(who: Who, call: Call, ticket: Number) -> Awaited {
     }
 }
 
+/// Whether a caller or a worker is named.
+fn names_anyone(named: &Named) -> bool {
+    named.callers[0].is_some()
+        || named.workers[0].is_some()
+        || named.all_callers
+        || named.all_workers
+}
+
+/// In a trial, those who are named want a turn. Where everybody is named nothing is completed by that: the hub is
+/// closed, is over or fails, or there is space. A hub that fails stops the trial.
+fn notify_in_turn<R: Wait>(rt: &R, turns: &Turnstile, named: &Named) {
+    if names_anyone(named) {
+        turns.wake(
+            rt,
+            &named.callers,
+            &named.workers,
+            named.all_callers,
+            named.all_workers,
+        );
+    }
+    if named.completions && !named.all_callers {
+        turns.signal(rt);
+    }
+}
+
 impl<N: HubName> Hub<N> {
     /// Takes the lock. In a trial others may move before.
-    pub(crate) fn lock<R: Wait>(&self, rt: &R) -> MutexGuard<Monitor<N>> {
+    pub(crate) fn lock<R: Wait>(&self, rt: &R) -> Hold<N> {
         match &self.turns {
             Some(turns) => {
                 turns.turn(rt);
                 self.lock_in_turn(rt, turns)
             }
-            None => self.monitor.lock(rt),
+            None => self.lock_at_once(rt),
         }
+    }
+
+    /// Takes the lock, in a trial too without a turn.
+    pub(crate) fn lock_at_once<R: Wait>(&self, rt: &R) -> Hold<N> {
+        Hold::new(self.monitor.lock(rt))
     }
 
     /// Takes the lock for the one that has the turn. A trial that has stopped fails the hub, so that all come to their
     /// end.
-    fn lock_in_turn<R: Wait>(&self, rt: &R, turns: &Turnstile) -> MutexGuard<Monitor<N>> {
-        let mut monitor = self.monitor.lock(rt);
-        if turns.has_stopped() && !monitor.has_failed() {
-            monitor.fail();
+    fn lock_in_turn<R: Wait>(&self, rt: &R, turns: &Turnstile) -> Hold<N> {
+        let mut hold = self.lock_at_once(rt);
+        if turns.has_stopped() && !hold.monitor.has_failed() {
+            let held = &mut hold;
+            held.monitor.fail(&mut held.wakes);
         }
+        hold
+    }
+
+    /// Lets the lock go, and then wakes those who are named, so that nobody wakes only to wait for it.
+    pub(crate) fn leave<R: Wait>(&self, rt: &R, hold: Hold<N>) {
+        let Hold { monitor, wakes } = hold;
+        MutexGuard::unlock(monitor);
+        self.notify(rt, wakes);
+    }
+
+    /// Lets the lock go and takes it again, so that others come in between.
+    pub(crate) fn let_in<'a, R: Wait>(&'a self, rt: &R, hold: Hold<'a, N>) -> Hold<'a, N> {
+        self.leave(rt, hold);
+        self.lock(rt)
+    }
+
+    /// Wakes those who are named, for one that goes to sleep by the lock.
+    fn wake_first<'a, R: Wait>(&self, rt: &R, hold: Hold<'a, N>) -> MutexGuard<'a, Monitor<N>> {
+        let Hold { monitor, wakes } = hold;
+        self.notify(rt, wakes);
         monitor
     }
 
-    /// Lets the lock go, and then wakes those who can go on after what was done under it.
-    pub(crate) fn leave<R: Wait>(&self, rt: &R, mut monitor: MutexGuard<Monitor<N>>) {
-        let wakes = monitor.wakes();
-        let is_wanted = monitor.wants_journal();
-        MutexGuard::unlock(monitor);
-        self.notify(rt, wakes);
-        if is_wanted {
+    /// Wakes those who are named.
+    fn notify<R: Wait>(&self, rt: &R, wakes: Wakes) {
+        let named = wakes.into_named();
+        match &self.turns {
+            Some(turns) => notify_in_turn(rt, turns, &named),
+            None => self.notify_threads(&named),
+        }
+        if named.journal {
             self.journal.notify_all();
         }
     }
 
-    /// Lets the lock go and takes it again, so that others come in between.
-    pub(crate) fn let_in<'a, R: Wait>(
-        &'a self,
-        rt: &R,
-        monitor: MutexGuard<'a, Monitor<N>>,
-    ) -> MutexGuard<'a, Monitor<N>> {
-        self.leave(rt, monitor);
-        self.lock(rt)
-    }
-
-    /// Wakes those whom the monitor named. The lock was let go, so that nobody wakes only to wait for it.
-    fn notify<R: Wait>(&self, rt: &R, wakes: Option<Wakes>) {
-        let Some(wakes) = wakes else { return };
-        match &self.turns {
-            Some(turns) => turns.wake(
-                rt,
-                &wakes.callers,
-                &wakes.workers,
-                wakes.all_callers,
-                wakes.all_workers,
-            ),
-            None => self.condvars.notify(&wakes),
-        }
-        if wakes.all_callers {
+    fn notify_threads(&self, named: &Named) {
+        self.condvars.notify(named);
+        if named.completions {
             self.completed.notify_all();
         }
     }
@@ -86,16 +120,16 @@ impl<N: HubName> Hub<N> {
     pub(crate) fn sleep<'a, R: Wait>(
         &'a self,
         rt: &R,
-        monitor: MutexGuard<'a, Monitor<N>>,
+        hold: Hold<'a, N>,
         who: Who,
         awaited: Awaited,
-    ) -> MutexGuard<'a, Monitor<N>> {
-        let mut monitor = match &self.turns {
-            Some(turns) => self.sleep_in_turn(rt, turns, monitor, awaited),
-            None => self.sleep_on_thread(rt, monitor, who),
+    ) -> Hold<'a, N> {
+        let mut hold = match &self.turns {
+            Some(turns) => self.sleep_in_turn(rt, turns, hold, awaited),
+            None => self.sleep_on_thread(rt, hold, who),
         };
-        monitor.awakes(who);
-        monitor
+        hold.monitor.awakes(who);
+        hold
     }
 
     /// Sleeps until it is woken and has the turn.
@@ -103,85 +137,104 @@ impl<N: HubName> Hub<N> {
         &'a self,
         rt: &R,
         turns: &Turnstile,
-        monitor: MutexGuard<'a, Monitor<N>>,
+        hold: Hold<'a, N>,
         awaited: Awaited,
-    ) -> MutexGuard<'a, Monitor<N>> {
-        self.leave(rt, monitor);
+    ) -> Hold<'a, N> {
+        self.leave(rt, hold);
         turns.sleep(rt, awaited);
         self.lock_in_turn(rt, turns)
     }
 
-    fn sleep_on_thread<'a, R: Wait>(
-        &'a self,
-        rt: &R,
-        monitor: MutexGuard<'a, Monitor<N>>,
-        who: Who,
-    ) -> MutexGuard<'a, Monitor<N>> {
+    fn sleep_on_thread<'a, R: Wait>(&'a self, rt: &R, hold: Hold<'a, N>, who: Who) -> Hold<'a, N> {
         match self.condvars.to_spin(who) {
             Some(seen) => {
-                self.leave(rt, monitor);
+                self.leave(rt, hold);
                 self.condvars.spin(who, seen);
-                self.monitor.lock(rt)
+                self.lock_at_once(rt)
             }
-            None => self.sleep_at_once(rt, monitor, who),
+            None => self.sleep_at_once(rt, hold, who),
         }
     }
 
     /// Sleeps until its condvar is notified, with the lock let go meanwhile.
-    fn sleep_at_once<'a, R: Wait>(
-        &self,
-        rt: &R,
-        mut monitor: MutexGuard<'a, Monitor<N>>,
-        who: Who,
-    ) -> MutexGuard<'a, Monitor<N>> {
-        self.notify(rt, monitor.wakes());
-        if monitor.wants_journal() {
-            self.journal.notify_all();
-        }
-        self.condvars.wait(rt, monitor, who)
+    fn sleep_at_once<'a, R: Wait>(&self, rt: &R, hold: Hold<'a, N>, who: Who) -> Hold<'a, N> {
+        let monitor = self.wake_first(rt, hold);
+        Hold::new(self.condvars.wait(rt, monitor, who))
     }
 
     /// Sleeps until there is space for so many entries, or makes it where nobody wants them.
     pub(crate) fn spacious<'a, R: Wait>(
         &'a self,
         rt: &R,
-        monitor: MutexGuard<'a, Monitor<N>>,
+        hold: Hold<'a, N>,
         who: Who,
         entries: u32,
-    ) -> MutexGuard<'a, Monitor<N>> {
-        let mut monitor = monitor;
+    ) -> Hold<'a, N> {
+        let mut hold = hold;
         for _ in rt.forever() {
-            if monitor.has_space(entries) {
-                return monitor;
+            if hold.monitor.has_space(entries) {
+                return hold;
             }
             if self.is_dropping {
-                monitor.drop_kept();
-                return monitor;
+                hold.monitor.drop_kept();
+                return hold;
             }
-            monitor.crowds();
-            monitor = self.sleep(rt, monitor, who, Awaited::Space);
+            let held = &mut hold;
+            held.monitor.crowds(&mut held.wakes);
+            hold = self.sleep(rt, hold, who, Awaited::Space);
         }
         unreachable!()
+    }
+
+    /// Sleeps until there is something to write down.
+    pub(crate) fn sleep_until_wanted<'a, R: Wait>(&self, rt: &R, hold: Hold<'a, N>) -> Hold<'a, N> {
+        let monitor = self.wake_first(rt, hold);
+        Hold::new(self.journal.wait(rt, monitor))
+    }
+
+    /// The same, but no longer than so.
+    pub(crate) fn sleep_until_wanted_within<'a, R: Wait + Clock>(
+        &self,
+        rt: &R,
+        hold: Hold<'a, N>,
+        time: Duration,
+    ) -> Hold<'a, N> {
+        let monitor = self.wake_first(rt, hold);
+        let (monitor, _) = self.journal.wait_timeout(rt, monitor, time);
+        Hold::new(monitor)
     }
 
     /// Sleeps until something is completed, or the hub has failed.
     pub(crate) fn sleep_until_completed<'a, R: Wait>(
         &'a self,
         rt: &R,
-        monitor: MutexGuard<'a, Monitor<N>>,
-    ) -> MutexGuard<'a, Monitor<N>> {
+        hold: Hold<'a, N>,
+    ) -> Hold<'a, N> {
         match &self.turns {
-            Some(turns) => self.sleep_in_turn(rt, turns, monitor, Awaited::Completion),
-            None => self.completed.wait(rt, monitor),
+            Some(turns) => self.sleep_in_turn(rt, turns, hold, Awaited::Completion),
+            None => {
+                let monitor = self.wake_first(rt, hold);
+                Hold::new(self.completed.wait(rt, monitor))
+            }
         }
     }
 
-    /// Wakes those who wait for a completion.
-    pub(crate) fn signal<R: Wait>(&self, rt: &R) {
-        match &self.turns {
-            Some(turns) => turns.signal(rt),
-            None => self.completed.notify_all(),
-        }
+    /// Sleeps until it is completed or the hub has failed, but no longer than so. The clock is that of threads.
+    pub(crate) fn sleep_until_completed_within<'a, R: Wait + Clock>(
+        &self,
+        rt: &R,
+        hold: Hold<'a, N>,
+        completion: &Completion,
+        time: Duration,
+    ) -> Hold<'a, N> {
+        let monitor = self.wake_first(rt, hold);
+        let (monitor, _) = self.completed.wait_timeout_while(
+            rt,
+            monitor,
+            time,
+            |monitor| !completion.is_done() && !monitor.has_failed(),
+        );
+        Hold::new(monitor)
     }
 
     /// In a trial, sleeps until something is completed, and returns whether it is this time by the trial's clock.
@@ -189,10 +242,10 @@ impl<N: HubName> Hub<N> {
         &'a self,
         rt: &R,
         turns: &Turnstile,
-        monitor: MutexGuard<'a, Monitor<N>>,
+        hold: Hold<'a, N>,
         until: u64,
-    ) -> (MutexGuard<'a, Monitor<N>>, bool) {
-        self.leave(rt, monitor);
+    ) -> (Hold<'a, N>, bool) {
+        self.leave(rt, hold);
         let is_past = turns.sleep_until(rt, Awaited::Completion, until);
         (self.lock_in_turn(rt, turns), is_past)
     }

@@ -6,7 +6,7 @@ ghost use Rattle.cmwq_model.specs.Prelude.{has_numbers, is_callers, past_of};
 ghost use Rattle.cmwq_model.specs.declared.call.Call.TheVariants as calls;
 ghost use Rattle.cmwq_monitor.specs.Faults.{is_full};
 ghost use Rattle.cmwq_monitor.specs.declared.fault.RunFault.TheVariants.{Full};
-ghost use Rattle.cmwq_monitor.specs.Participants.{is_caller};
+ghost use Rattle.cmwq_monitor.specs.Participants.{is_caller, made_by};
 ghost use Rattle.cmwq_monitor.specs.Whole.{Completes, is_tick};
 ghost use Rattle.cmwq_rt.specs.Later.{Later};
 ghost use Rattle.cmwq_rt.specs.Running.{MakesOne, breaks_off};
@@ -17,6 +17,7 @@ ghost use Rattle.cmwq_waits.specs.HeldUp.{AreWaiting};
 ghost use Rattle.cmwq_rt.specs.declared.wait_fault.WaitFault.TheVariants as waits;
 
 use crate::caller::Caller;
+use crate::hold::Hold;
 use crate::hub::Hub;
 use crate::lent::Lent;
 use crate::wait_fault::{WaitFault, fault_of};
@@ -24,7 +25,7 @@ use crate::work::with_room;
 use cmwq_model::{Call, Reply};
 use cmwq_monitor::{Monitor, Participant, RunFault};
 use cmwq_publish::HubName;
-use std::sync::{MutexGuard, Wait};
+use std::sync::Wait;
 
 /// Whether the later one has seen all that the other has. They see one history, so it has if it has seen as many
 /// entries.
@@ -49,7 +50,7 @@ fn stranger<N: HubName>(later: &Participant<N>, other: &Participant<N>) -> RunFa
 /// neither is done. All is decided in one hold of the lock, so that what is refused has held nothing.
 fn begin_wait<N: HubName, R: Wait>(
     rt: &R,
-    monitor: &mut Monitor<N>,
+    hold: &mut Hold<N>,
     worker: &mut Participant<N>,
     lent: Option<&Lent<N>>,
     call: Call,
@@ -59,6 +60,7 @@ fn begin_wait<N: HubName, R: Wait>(
     requires numbers { has_numbers N.layout call ≡ true }
     ensures sleeps { IfOk result (λ _. MakesOne N.layout worker.old calls.Sleep worker.new) }
     ensures allowed { IfOk result (λ _. WasAllowed N.layout worker.old call worker.new) }
+    ensures all { IfOk result (λ _. hold.new.monitor.value.history ≡ worker.new.seen) }
     ensures refused { IfErr result (λ f. is_refusal f ≡ true → worker.new ≡ worker.old) }
     ensures stuck { IfErr result (TellsWhy N.layout worker.old call) }
     ensures full { IfErr result (λ f. f ≡ waits.Run Full → MakesNothing N.layout worker.old worker.new) }
@@ -66,20 +68,21 @@ fn begin_wait<N: HubName, R: Wait>(
     ensures later { Later worker.old worker.new }
 {
     let _who = worker.who();
-    may_wait(monitor, worker, call)?;
+    may_wait(&mut hold.monitor, worker, call)?;
     let Some(lent) = lent else {
         return Err(WaitFault::NoCaller);
     };
     let Some(caller) = lent.take(rt) else {
         return Err(WaitFault::NoCaller);
     };
-    if !monitor.has_room_to_wait(caller.participant(), call) {
+    if !hold.monitor.has_room_to_wait(caller.participant(), call) {
         lent.give(rt, caller);
         return Err(WaitFault::Run {
             fault: RunFault::Full,
         });
     }
-    match monitor.call(rt, worker, Call::Sleep) {
+    let slept = hold.monitor.call(rt, worker, Call::Sleep, &mut hold.wakes);
+    match slept {
         Ok(_) => Ok(caller),
         Err(fault) => {
             lent.give(rt, caller);
@@ -134,20 +137,20 @@ impl<N: HubName> Hub<N> {
         ensures later { Later worker.old worker.new }
     {
         let _who = worker.who();
-        let mut monitor = self.spacious(rt, self.lock(rt), worker.who(), 2);
-        let begun = begin_wait(rt, &mut monitor, worker, lent, call);
+        let mut hold = self.spacious(rt, self.lock(rt), worker.who(), 2);
+        let begun = begin_wait(rt, &mut hold, worker, lent, call);
         let mut caller = match begun {
             Ok(caller) => caller,
             Err(fault) => {
-                self.leave(rt, monitor);
+                self.leave(rt, hold);
                 return Err(fault);
             }
         };
-        let (monitor, answer) = self.wake_after(rt, monitor, worker, &mut caller, call);
+        let (hold, answer) = self.wake_after(rt, hold, worker, &mut caller, call);
         if let Some(lent) = lent {
             lent.give(rt, caller);
         }
-        self.leave(rt, monitor);
+        self.leave(rt, hold);
         answer
     }
 
@@ -155,16 +158,18 @@ impl<N: HubName> Hub<N> {
     fn wake_after<'a, R: Wait>(
         &'a self,
         rt: &R,
-        monitor: MutexGuard<'a, Monitor<N>>,
+        hold: Hold<'a, N>,
         worker: &mut Participant<N>,
         caller: &mut Caller<N>,
         call: Call,
-    ) -> (MutexGuard<'a, Monitor<N>>, Result<Reply, WaitFault>)
+    ) -> (Hold<'a, N>, Result<Reply, WaitFault>)
         requires worker { is_caller worker.old.who ≡ false }
         requires callers { is_callers call ≡ true }
         requires numbers { has_numbers N.layout call ≡ true }
         requires waits { is_tick call ≡ false }
         ensures completes { IfOk result.1 (λ reply. Completes N.layout caller.old call reply caller.new) }
+        ensures nothing_yet { IfOk result.1
+            (λ _. made_by caller.old.who hold.entry.monitor.value.history ≡ made_by caller.old.who caller.old.seen) }
         ensures by_caller { is_caller caller.new.who ≡ true }
         ensures wakes { IfOk result.1 (λ _. MakesOne N.layout worker.old calls.Wake worker.new) }
         ensures saw_sleep { IfOk result.1 (λ _. IsPrefix worker.old.seen caller.new.seen) }
@@ -175,21 +180,22 @@ impl<N: HubName> Hub<N> {
         ensures later { Later worker.old worker.new }
     {
         let _who = worker.who();
-        let (monitor, answer) = caller.wait_in_run(rt, self, monitor, worker, call);
+        let (hold, answer) = caller.wait_in_run(rt, self, hold, worker, call);
         let saw_sleep = has_seen(caller.participant(), worker);
-        let mut monitor = self.spacious(rt, monitor, worker.who(), 1);
-        let woke = monitor.call(rt, worker, Call::Wake);
+        let mut hold = self.spacious(rt, hold, worker.who(), 1);
+        let held = &mut hold;
+        let woke = held.monitor.call(rt, worker, Call::Wake, &mut held.wakes);
         let reply = match (woke, answer) {
             (Ok(_), Ok(reply)) => reply,
             (Err(fault), _) | (_, Err(fault)) => {
                 let fault = with_room(fault);
-                return (monitor, Err(WaitFault::Run { fault }));
+                return (hold, Err(WaitFault::Run { fault }));
             }
         };
         if !saw_sleep || !has_seen(worker, caller.participant()) {
             let fault = stranger(worker, caller.participant());
-            return (monitor, Err(WaitFault::Run { fault }));
+            return (hold, Err(WaitFault::Run { fault }));
         }
-        (monitor, Ok(reply))
+        (hold, Ok(reply))
     }
 }

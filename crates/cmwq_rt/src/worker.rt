@@ -192,16 +192,22 @@ impl<N: HubName> Hub<N> {
             × IsNextStart N.layout ended o participant.new) }
         ensures later { Later participant.old participant.new }
     {
-        let mut monitor = self.spacious(rt, self.lock(rt), participant.who(), 1);
-        if let Err(fault) = monitor.call(rt, participant, Call::Finish) {
-            self.leave(rt, monitor);
+        let mut hold = self.spacious(rt, self.lock(rt), participant.who(), 1);
+        let held = &mut hold;
+        let finished = held
+            .monitor
+            .call(rt, participant, Call::Finish, &mut held.wakes);
+        if let Err(fault) = finished {
+            self.leave(rt, hold);
             return Err(with_room(fault));
         }
-        monitor = self.spacious(rt, monitor, participant.who(), 1);
-        if let Err(fault) = monitor.retire(rt, participant) {
-            self.leave(rt, monitor);
+        hold = self.spacious(rt, hold, participant.who(), 1);
+        let held = &mut hold;
+        let retired = held.monitor.retire(rt, participant, &mut held.wakes);
+        if let Err(fault) = retired {
+            self.leave(rt, hold);
             return Err(fault);
         }
-        self.until_start(rt, monitor, participant)
+        self.until_start(rt, hold, participant)
     }
 }

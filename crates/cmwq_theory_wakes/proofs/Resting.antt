@@ -18,7 +18,7 @@ same_end : (n m : ℕ) → call.End n ≡ call.End m → n ≡ m
 same_end n m h = cc
 
 -- the end of a ticket that is not ready does not return done
-unready_not_done : (s : Layout) (past : List Entry) (t : Ticket) → IsOfItsCall past t → IsUnready past t
+pub unready_not_done : (s : Layout) (past : List Entry) (t : Ticket) → IsOfItsCall past t → IsUnready past t
     → is_done (answer s past (Caller t.caller) (call.End t.number)) ≡ false
 unready_not_done s past t known held = false_from_ne_true _ (λ done.
     let cause = causes s past (Caller t.caller) (call.End t.number) in

@@ -117,12 +117,14 @@ pub(crate) fn replay(alloc: Global, shape: &Shape, entries: &[Entry]) -> Option<
 /// What a history says of those who take part.
 #[derive(Drop)]
 pub(crate) struct Scene<'a> {
-    pub alloc: Global,
+    /// The history, played again.
+    pub book: &'a Execution,
     pub shape: &'a Shape,
     pub entries: &'a [Entry],
     /// How many callers have threads: those of the service, the clock and the end.
     pub threads: u8,
     pub have_callers_ended: bool,
+    ghost of_shape: { book.now.layout ≡ shape.now },
 }
 
 /// The queueing that a ticket waits for.
@@ -147,10 +149,7 @@ fn queueing_awaited(
 impl<'a> Scene<'a> {
     /// The queueing that a ticket waits for at the end of the history, and its item.
     fn awaited_by(&self, caller: CallerId, ticket: Number) -> Option<(Number, ItemId)> {
-        let book = replay(self.alloc, self.shape, self.entries)?;
-        let number = queueing_awaited(&book, self.shape, caller, ticket);
-        book.end();
-        let number = number?;
+        let number = queueing_awaited(self.book, self.shape, caller, ticket)?;
         Some((number, item_numbered(self.entries, number)?))
     }
 

@@ -6,12 +6,13 @@ ghost use Rattle.cmwq_trial.specs.Counting.{IsReliableOf};
 ghost use Rattle.cmwq_trial.specs.Failing.{history_of, seed_of};
 
 use crate::failure::{Failure, Tried};
-use crate::party::{Party, Scene, have_callers_ended};
+use crate::party::{Party, Scene, have_callers_ended, replay};
+use cmwq_core::Execution;
 use cmwq_model::{Entry, NoMemory, Shape};
 use cmwq_rt::{HubParts, RunFault};
 use cmwq_service::crew::{Serving, readers_of, run_served};
 use cmwq_service::{Fault, Service, Stopped};
-use cmwq_turns::{Schedule, Seat, Turnstile};
+use cmwq_turns::{Party as Member, Schedule, Seat, Turnstile};
 use std::alloc::Global;
 use std::sync::{Arc, Wait};
 use std::thread::Threads;
@@ -81,15 +82,34 @@ fn parties_of<R: Wait>(
     entries: &[Entry],
 ) -> Result<Vec<Party>, NoMemory> {
     let members = turnstile.stuck(rt, alloc)?;
+    let Some(book) = replay(alloc, shape, entries) else {
+        return Err(NoMemory);
+    };
+    let told = told_of(alloc, shape, &book, &members, threads, entries);
+    book.end();
+    told
+}
+
+/// The same, by the history that was played again.
+fn told_of(
+    alloc: Global,
+    shape: &Shape,
+    book: &Execution,
+    members: &[Member],
+    threads: u8,
+    entries: &[Entry],
+) -> Result<Vec<Party>, NoMemory>
+    requires { book.now.layout ≡ shape.now }
+{
     let scene = Scene {
-        alloc,
+        book,
         shape,
         entries,
         threads,
-        have_callers_ended: have_callers_ended(&members, threads),
+        have_callers_ended: have_callers_ended(members, threads),
     };
     let mut parties = Vec::new(alloc);
-    for member in &members {
+    for member in members {
         if member.who.is_some() && parties.push(scene.told(member)).is_err() {
             return Err(NoMemory);
         }

@@ -1,12 +1,22 @@
-use Rattle.cmwq_monitor.specs.Common.{ap, sym, ◌∙◌, refl, arith, subst, inl}
+use Rattle.cmwq_monitor.specs.Common.{◌≡◌, ap, sym, ◌∙◌, refl, arith, subst, inl}
 use Rattle.cmwq_model.specs.declared.call.Call.TheVariants as calls
 use Rattle.cmwq_monitor.specs.Participants.{is_caller}
 use Rattle.cmwq_monitor.specs.Steps.{Lacks}
 use Rattle.cmwq_monitor.specs.declared.fault.Shortage.TheVariants.{Room}
-use Rattle.cmwq_monitor.proofs.Firing.{up_to_none, up_to_more, up_to_last, up_to_full, up_to_all, up_to_some}
-use Rattle.cmwq_monitor.proofs.Firing.{up_to_rest}
+use Rattle.cmwq_monitor.proofs.Fired.{up_to_none, up_to_more, up_to_last, up_to_full, up_to_all, up_to_some}
+use Rattle.cmwq_monitor.proofs.Fired.{up_to_rest}
 use Rattle.cmwq_monitor.proofs.Fitting.{caller_fits}
+use Rattle.cmwq_monitor.specs.Held.{Held, SleepersGoOn}
+use Rattle.cmwq_monitor.specs.Participants.{View}
+use Rattle.cmwq_dispatch.specs.declared.wakes.Wakes.{Wakes}
+use Rattle.cmwq_monitor.proofs.Entries.{gains_none}
+use Rattle.cmwq_monitor.proofs.Sleepers.{everybody_named, go_on_more, go_on_same, goes_on_more, goes_on_same}
 use Rattle.cmwq_monitor.proofs.monitor.Monitor.fire_some.Goals as goal
+
+-- another fire, by the same caller
+more : (v w : View) (a b c : Held) (t u x : Wakes) → w.who ≡ v.who → SleepersGoOn v.who a b t u
+    → SleepersGoOn w.who b c u x → SleepersGoOn v.who a c t x
+more v w a b c t u x same h k = go_on_more v.who a b c t u x h (subst (λ who. SleepersGoOn who b c u x) same k)
 
 pub loop-init : goal.loop-init
 loop-init g c = (
@@ -15,7 +25,9 @@ loop-init g c = (
   c.requires,
   (let least = c.min-most.ensures in omega (arith, least)),
   omega arith,
-  (refl, refl),
+  goes_on_same c.args.self.now,
+  refl,
+  go_on_same c.args.participant.now.who c.args.self.now c.args.wakes.now,
 )
 
 pub enter-requires-clause-fits : goal.enter-requires-clause-fits
@@ -59,7 +71,10 @@ loop-preserved g c = (
   ap is_caller c.in-Ok.ensures.made.gains.same ∙ c.loop.invariant.2,
   c.loop.invariant.3,
   (let less = c.loop-test.true in omega (arith, less)),
-  (c.in-Ok.ensures.goes_on.0 ∙ c.loop.invariant.5.0, c.in-Ok.ensures.goes_on.1 ∙ c.loop.invariant.5.1),
+  goes_on_more c.args.self.now c.loop.self c.enter.new.self c.loop.invariant.5 c.in-Ok.ensures.goes_on,
+  c.in-Ok.ensures.made.gains.same ∙ c.loop.invariant.6,
+  more c.args.participant.now c.loop.participant c.args.self.now c.loop.self c.enter.new.self c.args.wakes.now
+      c.loop.wakes c.enter.new.wakes c.loop.invariant.6 c.loop.invariant.7 c.enter.ensures.named,
 )
 
 pub returns-then-left-most-clause-fired : goal.returns-then-left-most-clause-fired
@@ -72,3 +87,37 @@ pub returns-else-left-most-clause-fired : goal.returns-else-left-most-clause-fir
 returns-else-left-most-clause-fired g c = λ v so.
     up_to_all g.N.HubName.layout c.args.left c.loop.counter v c.loop.participant (let done = c.loop-test.false in
     let none = c.if-left-most.false in omega (arith, done, none)) (c.loop.invariant.0 v so)
+
+pub returns-then-is_nothing-clause-named : goal.returns-then-is_nothing-clause-named
+returns-then-is_nothing-clause-named g c =
+    more c.args.participant.now c.loop.participant c.args.self.now c.loop.self c.enter.new.self c.args.wakes.now
+    c.loop.wakes c.enter.new.wakes c.loop.invariant.6 c.loop.invariant.7 c.enter.ensures.named
+
+pub returns-in-Err-Room-clause-named : goal.returns-in-Err-Room-clause-named
+returns-in-Err-Room-clause-named g c =
+    more c.args.participant.now c.loop.participant c.args.self.now c.loop.self c.enter.new.self c.args.wakes.now
+    c.loop.wakes c.enter.new.wakes c.loop.invariant.6 c.loop.invariant.7 c.enter.ensures.named
+
+pub returns-in-Err-Memory-clause-named : goal.returns-in-Err-Memory-clause-named
+returns-in-Err-Memory-clause-named g c =
+    more c.args.participant.now c.loop.participant c.args.self.now c.loop.self c.enter.new.self c.args.wakes.now
+    c.loop.wakes c.enter.new.wakes c.loop.invariant.6 c.loop.invariant.7 c.enter.ensures.named
+
+pub returns-then-left-most-clause-named : goal.returns-then-left-most-clause-named
+returns-then-left-most-clause-named g c = c.loop.invariant.7
+
+pub returns-else-left-most-clause-named : goal.returns-else-left-most-clause-named
+returns-else-left-most-clause-named g c = c.loop.invariant.7
+
+pub returns-then-is_over-clause-named : goal.returns-then-is_over-clause-named
+returns-then-is_over-clause-named g c =
+    go_on_more c.args.participant.now.who c.args.self.now c.loop.self c.fail.new.self c.args.wakes.now c.loop.wakes
+    c.fail.new.wakes c.loop.invariant.7
+    (everybody_named _ _ _ _ _ c.fail.ensures.nobody c.fail.ensures.all c.fail.ensures.more)
+
+pub returns-then-is_over-clause-stopped : goal.returns-then-is_over-clause-stopped
+returns-then-is_over-clause-stopped g c = (
+  inl refl,
+  (λ v so. up_to_some g.N.HubName.layout c.args.left c.loop.counter v c.loop.participant c.loop.participant
+      (c.loop.invariant.0 v so) (gains_none c.loop.participant)),
+)

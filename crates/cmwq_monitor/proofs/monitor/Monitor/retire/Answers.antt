@@ -10,10 +10,10 @@ returns-in_default-clause-kept g c =
     let s = g.N.HubName.layout in
     let log = c.args.self.now.history in
     let v = c.args.participant.now in
-    let held : c.self.inside.execution.entries ≡ log = ap (λ (h : Held). h.history) c.self.view_is in
+    let held : c.self.inside.dispatch.history.entries ≡ log = ap (λ (h : Held). h.history) c.self.view_is in
     let full : has_room s s.room (past_of log) v.who calls.Retire ≡ false =
-    room_is s c.self.inside.execution log c.who-who.result v.who calls.Retire false c.self.invariant.1
-    c.self.invariant.2 held c.who-who.ensures.who (sym (ap is_ok c.in_default.is) ∙ c.plan-planned.ensures.room) in
+    room_is s c.self.inside.dispatch.history log c.who-who.result v.who calls.Retire false c.self.invariant.0
+    c.self.invariant.1 held c.who-who.ensures.who (sym (ap is_ok c.in_default.is) ∙ c.plan-planned.ensures.room) in
     (refl, inr full)
 
 pub returns-in-Ok-make-clause-retired : goal.returns-in-Ok-make-clause-retired

@@ -7,9 +7,9 @@ pub returns-in-Err-ended-clause-broke : goal.returns-in-Err-ended-clause-broke
 returns-in-Err-ended-clause-broke g c =
     let s = g.N.HubName.layout in
     let v = c.self.inside.participant in
-    let m = c.call.new.participant in
-    let w = c.until_ended-monitor.new.participant in
-    let stopped = IfErr-at_err _ c.in-Err-ended.is c.until_ended-monitor.ensures.stopped in
+    let m = c.call-called.new.participant in
+    let w = c.until_ended-hold.new.participant in
+    let stopped = IfErr-at_err _ c.in-Err-ended.is c.until_ended-hold.ensures.stopped in
     subst (λ (u : View). BrokeOff s u c.args.call c.in-Err-ended.fault w) c.self.view_is
     (ended_broke s v m w c.args.call c.in-Ok.reply c.in-Some.ticket c.in-Err-ended.fault c.requires.waits
     (sym c.ticket_in.ensures ∙ c.in-Some.is) c.in-Ok.ensures.made.0 stopped)
@@ -18,9 +18,9 @@ pub returns-clause-done : goal.returns-clause-done
 returns-clause-done g c =
     let s = g.N.HubName.layout in
     let v = c.self.inside.participant in
-    let m = c.call.new.participant in
-    let w = c.until_ended-monitor.new.participant in
-    let ended = IfOk-at_ok _ c.in-Ok-ended.is c.until_ended-monitor.ensures.ended in
+    let m = c.call-called.new.participant in
+    let w = c.until_ended-hold.new.participant in
+    let ended = IfOk-at_ok _ c.in-Ok-ended.is c.until_ended-hold.ensures.ended in
     subst (λ (u : View). Completes s u c.args.call c.in-Ok.reply w) c.self.view_is
     (ended_completes s v m w c.args.call c.in-Ok.reply c.in-Some.ticket c.requires.waits
     (sym c.ticket_in.ensures ∙ c.in-Some.is) c.in-Ok.ensures.made.0 ended)

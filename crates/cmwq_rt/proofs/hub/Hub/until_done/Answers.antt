@@ -3,14 +3,14 @@ use Rattle.cmwq_model.specs.declared.call.Call.TheVariants as calls
 use Rattle.cmwq_model.specs.declared.reply.Reply.TheVariants as replies
 use Rattle.cmwq_monitor.specs.Whole.{Stops}
 use Rattle.std.specs.Prelude.{Some}
-use Rattle.cmwq_monitor.proofs.Whole.{when_true}
+use Rattle.cmwq_rt.proofs.Running.{when_done}
 use Rattle.cmwq_rt.proofs.hub.Hub.until_done.Goals as goal
 
-pub returns-in-Ok-true-clause-done : goal.returns-in-Ok-true-clause-done
-returns-in-Ok-true-clause-done g c =
+pub returns-in-Ok-Done-clause-done : goal.returns-in-Ok-Done-clause-done
+returns-in-Ok-Done-clause-done g c =
     subst (λ (v : View). Extends g.N.HubName.layout v (calls.End c.args.ticket) replies.Done
-    c.end_ticket.new.participant) c.loop.invariant.2
-    (when_true _ c.in-Ok-true.field-0 c.in-Ok-true.field-0-test c.in-Ok-true.ensures.done).0
+    c.end_or_sleep.new.participant) c.loop.invariant.2
+    (when_done _ _ c.in-Ok-Done.field-0 c.in-Ok-Done.field-0-is c.in-Ok-Done.ensures.done).0
 
 pub returns-in-Err-clause-stopped : goal.returns-in-Err-clause-stopped
 returns-in-Err-clause-stopped g c = (

@@ -1,9 +1,11 @@
-use Rattle.cmwq_rt.specs.Common.{subst, IfOk, View}
-use Rattle.cmwq_rt.specs.Running.{IsNextStart}
+use Rattle.cmwq_rt.specs.Common.{subst, Some, View}
+use Rattle.cmwq_monitor.specs.declared.monitor.Next.{Next}
+use Rattle.cmwq_rt.specs.Running.{IsNext, IsNextStart}
 use Rattle.cmwq_rt.proofs.hub.Hub.until_start.Goals as goal
 
-pub returns-in-Some-next_start-clause-next : goal.returns-in-Some-next_start-clause-next
-returns-in-Some-next_start-clause-next g c =
-    subst (λ (v : View). IfOk c.in-Some-next_start.next
-    (λ o. IsNextStart g.N.HubName.layout v o c.next_start.new.participant)) c.loop.invariant.2
-    c.in-Some-next_start.ensures.next
+pub returns-in-Ok-Runs-clause-next : goal.returns-in-Ok-Runs-clause-next
+returns-in-Ok-Runs-clause-next g c =
+    let s = g.N.HubName.layout in
+    let w = c.next_start.new.participant in
+    subst (λ (v : View). IsNextStart s v (Some c.in-Ok-Runs.item) w) c.loop.invariant.2
+    (subst (λ (next : Next). IsNext s c.loop.participant next w) c.in-Ok-Runs.field-0-is c.in-Ok-Runs.ensures.next)

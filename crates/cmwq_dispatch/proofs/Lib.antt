@@ -1,0 +1,15 @@
+pub mod Sets
+pub mod OneNamed
+pub mod Asked
+pub mod Flushed
+pub mod OnePool
+pub mod Released
+pub mod EachPool
+pub mod Staying
+pub mod Reachable
+pub mod Listed
+pub mod Cared
+pub mod Over
+pub mod Planned
+pub mod Steady
+pub mod Quiet

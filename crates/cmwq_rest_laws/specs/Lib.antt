@@ -1,0 +1,3 @@
+pub mod Asleep
+pub mod Resting
+pub mod Needed
