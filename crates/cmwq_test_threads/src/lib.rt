@@ -8,6 +8,12 @@ mod batches;
 #[cfg(test)]
 mod blocked;
 #[cfg(test)]
+mod closed_at_each_moment;
+#[cfg(test)]
+mod closed_while_draining;
+#[cfg(test)]
+mod closed_while_ticking;
+#[cfg(test)]
 mod random;
 #[cfg(test)]
 mod scene;

@@ -23,6 +23,8 @@ pub(crate) enum Step {
     Begin(QueueId),
     /// Delays each item of the hub by so many ticks, sixteen on each CPU, of which eight on each queue.
     DelayAll(u32),
+    /// Delays each item of the hub by so many ticks on this queue, on the first CPU.
+    DelayOn { queue: QueueId, ticks: u32 },
     /// Makes so many calls of all kinds, up to the first that has a fault.
     Throw(u32),
     /// Queues or delays each item of the hub at random, and lets the time go by, so many times.
@@ -35,6 +37,8 @@ pub(crate) enum Step {
     OpenGate,
     BeginJournal,
     Close,
+    /// Closes the hub as soon as it has so many entries.
+    CloseAfter(u64),
     Fail,
 }
 
@@ -111,6 +115,25 @@ fn delay_all<N: HubName, R: Wait + Abort>(
             item: ItemId(item),
             queue: QueueId((queue % 256) as u8),
             cpu: CpuId((cpu % 256) as u8),
+            ticks,
+        };
+        make(rt, hub, caller, call)?;
+    }
+    Ok(())
+}
+
+fn delay_on<N: HubName, R: Wait + Abort>(
+    rt: &R,
+    hub: &Hub<N>,
+    caller: &mut Caller<N>,
+    queue: QueueId,
+    ticks: u32,
+) -> Result<(), RunFault> {
+    for item in 0..hub.shape().counts().items {
+        let call = Call::Delay {
+            item: ItemId(item),
+            queue,
+            cpu: CpuId(0),
             ticks,
         };
         make(rt, hub, caller, call)?;
@@ -197,6 +220,11 @@ fn throw<N: HubName, R: Wait + Abort>(
     Ok(())
 }
 
+fn has_entries<N: HubName, R: Wait + AllocGlobal>(rt: &R, hub: &Hub<N>, entries: u64) -> bool {
+    let journal = hub.journal(rt, Vec::new(rt.alloc()));
+    journal.len() >= entries
+}
+
 fn has_come<N: HubName, R: Wait + Abort + AllocGlobal>(
     rt: &R,
     hub: &Hub<N>,
@@ -205,10 +233,7 @@ fn has_come<N: HubName, R: Wait + Abort + AllocGlobal>(
     scene: &Scene,
 ) -> bool {
     match event {
-        Event::Entries(entries) => {
-            let journal = hub.journal(rt, Vec::new(rt.alloc()));
-            journal.len() >= entries
-        }
+        Event::Entries(entries) => has_entries(rt, hub, entries),
         Event::Runs(item) => {
             assert!(rt; item.0 < hub.shape().counts().items);
             matches!(caller.busy(item), Some(2..))
@@ -231,6 +256,17 @@ fn until<N: HubName, R: Wait + Clock + Abort + AllocGlobal>(
         thread::sleep(rt, Duration::from_millis(1));
     }
     panic!(rt; "not so: {event:?}");
+}
+
+/// Looks again and again, since a millisecond is as long as many entries.
+fn close_after<N: HubName, R: Wait + AllocGlobal>(rt: &R, hub: &Hub<N>, entries: u64) {
+    for _ in rt.forever() {
+        if has_entries(rt, hub, entries) {
+            break;
+        }
+        thread::yield_now();
+    }
+    hub.close(rt);
 }
 
 fn take<N: HubName, R: Wait + Clock + Abort + AllocGlobal>(
@@ -258,6 +294,7 @@ fn take<N: HubName, R: Wait + Clock + Abort + AllocGlobal>(
             caller.flush_begin(rt, hub, queue)?;
         }
         Step::DelayAll(ticks) => return delay_all(rt, hub, caller, ticks),
+        Step::DelayOn { queue, ticks } => return delay_on(rt, hub, caller, queue, ticks),
         Step::Scatter { seed, turns } => {
             let mut words = Pcg32::new(seed, 2);
             for _ in 0..turns {
@@ -274,6 +311,7 @@ fn take<N: HubName, R: Wait + Clock + Abort + AllocGlobal>(
         Step::OpenGate => scene.gates.open(rt, 0),
         Step::BeginJournal => scene.may_begin.store(true, Ordering::SeqCst),
         Step::Close => hub.close(rt),
+        Step::CloseAfter(entries) => close_after(rt, hub, entries),
         Step::Fail => hub.fail(rt),
     }
     Ok(())
