@@ -1,6 +1,7 @@
 -- What is still going on at the end of a history: a line for its entries and ticks, and then a line for each queue,
 -- run, queueing that hasn't started, booking, and unended wait.
-use Rattle.std.specs.Prelude.{ℕ, ◌*◌, ◌/◌, ◌%◌, Bool, if◌then◌else◌, List, [], ◌++◌, length, nat_lt, slice_get}
+use Rattle.std.specs.Prelude.{ℕ, ◌*◌, ◌/◌, ◌%◌, Bool, if◌then◌else◌, List, [], ◌∷◌, ◌++◌, length, nat_lt}
+use Rattle.std.specs.Prelude.{slice_get}
 use Rattle.std.specs.Prelude.{Option, Some, None, Result, flat_map, codes}
 use Rattle.std.specs.Option.{option_map_or}
 use Rattle.cmwq_model.specs.declared.id.Who.TheVariants.{Worker}
@@ -27,7 +28,6 @@ use Rattle.cmwq_history.specs.Views.{FrontViewEnds}
 use Rattle.cmwq_views.specs.Page.{line_end, line_of_entries, named_number, rows_text, worker_name, worker_of_row}
 use Rattle.cmwq_views.specs.declared.standing.Section.{Section}
 use Rattle.cmwq_views.specs.declared.standing.Section.TheVariants as section
-use Rattle.cmwq_views.specs.declared.standing.TheConstants.{SECTIONS}
 
 abbrev pub place_text : Place → List ℕ
 place_text p = named_number (codes ", queue ") p.queue.0 ++ named_number (codes " on CPU ") p.cpu.0
@@ -131,8 +131,12 @@ line_text s past section.Waits k = wait_line past k
 abbrev pub section_text : Layout → List Entry → Section → List ℕ
 section_text s past x = rows_text (line_text s past x) (line_count s x)
 
+-- the sections, in their order
+abbrev pub sections : List Section
+sections = section.Queues ∷ section.Runs ∷ section.Pending ∷ section.Booked ∷ section.Waits ∷ []
+
 abbrev pub standing_text : Layout → List Entry → List ℕ
-standing_text s past = line_of_entries (length past) (now past) ++ flat_map (section_text s past) SECTIONS
+standing_text s past = line_of_entries (length past) (now past) ++ flat_map (section_text s past) sections
 
 -- of a legal history all that
 abbrev pub open_text : File Entry → List ℕ

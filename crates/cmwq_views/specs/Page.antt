@@ -19,7 +19,6 @@ use Rattle.cmwq_summary.specs.TicketWaits.{longest_wait}
 use Rattle.cmwq_views.specs.Names.{call_name, reply_name}
 use Rattle.cmwq_views.specs.declared.table.Table.{Table}
 use Rattle.cmwq_views.specs.declared.table.Table.TheVariants as table
-use Rattle.cmwq_views.specs.declared.table.TheConstants.{TABLES}
 
 -- a name and a number after it
 abbrev pub named_number : List ℕ → ℕ → List ℕ
@@ -149,5 +148,9 @@ abbrev pub line_of_entries : ℕ → ℕ → List ℕ
 line_of_entries entries ticks = named_number (codes "entries ") entries ++ named_number (codes ", ticks ") ticks
     ++ line_end
 
+-- the tables, in their order
+abbrev pub tables : List Table
+tables = table.Calls ∷ table.Replies ∷ table.Places ∷ table.Workers ∷ table.Items ∷ table.Callers ∷ []
+
 abbrev pub page_text : Layout → List Entry → List ℕ
-page_text s past = line_of_entries (length past) (now past) ++ flat_map (rows_of_table s past) TABLES
+page_text s past = line_of_entries (length past) (now past) ++ flat_map (rows_of_table s past) tables
