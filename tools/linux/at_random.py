@@ -1,0 +1,158 @@
+"""Random scenarios, and the known ways in which a kernel differs from the program in them.
+
+A scenario depends on its name alone. It has no call that the program refuses, and none by which a kernel is known to do
+something else for long: an item is not taken back while a flush_item waits for its queueing, it is not modified during
+its cancel_sync, and no pool has two queues that are freezable. Scenarios of examples/linux show what happens then.
+"""
+import random
+
+import scenarios
+
+STEPS = 30
+
+# How many waits may be unended at once: 16 flushes of a queue are more than are served.
+MOST_WAITS = 10
+
+FLAGS = ("-", "-", "-", "h", "i", "hi", "f", "hf", "if")
+
+# How often which kind of call is chosen.
+OFTEN = {"end": 30, "wake": 8, "queue": 28, "delay": 7, "modify": 7, "cancel": 5, "tick": 5, "wait": 14, "set_max": 3,
+         "freeze": 3}
+
+TAKES_BACK = ("cancel", "modify", "cancel_sync")
+
+
+def names(seed, count):
+    return [f"random_{seed}_{it}" for it in range(count)]
+
+
+def queues(chance):
+    """The lines of the queues."""
+    lines, freezable = [], set()
+    for _ in range(chance.randint(1, 3)):
+        flags = chance.choice(FLAGS)
+        if "f" in flags and "h" in flags in freezable:
+            flags = "-"
+        if "f" in flags:
+            if ("h" in flags) in freezable:
+                flags = flags.replace("f", "") or "-"
+            freezable.add("h" in flags)
+        lines.append(f"wq {chance.choice((1, 1, 1, 2, 2, 3, 5))} {flags}")
+    return lines
+
+
+class Maker:
+    """Makes a scenario."""
+
+    def __init__(self, program, name):
+        self.chance = chance = random.Random(name)
+        self.cpus, self.items = chance.randint(1, 3), chance.randint(2, 6)
+        head = queues(chance)
+        self.queues = len(head)
+        self.talk = scenarios.Talk(program, [f"shape {self.cpus} 8 1 {self.items} 100000", *head])
+        self.is_frozen = False
+        # most items stay on one queue, so that they often run where they are queued again
+        self.home = [chance.randrange(self.queues) for _ in range(self.items)]
+        self.roams = chance.random() < 0.3
+
+    def make(self):
+        tries = 0
+        while self.talk.steps < STEPS and tries < 20 * STEPS:
+            tries += 1
+            line = self.line()
+            if line and self.is_fit(line.split()):
+                self.step(line)
+        return self.talk.close()
+
+    def step(self, line):
+        reply = self.talk.step(line)
+        if reply[0] in ("frozen", "thawed"):
+            self.is_frozen = reply[0] == "frozen"
+        while line.startswith("tick") and not self.draining_booked():
+            if self.talk.step("fire")[0] == "nothing":
+                break
+
+    def line(self):
+        """A random call, or none."""
+        chance, runs = self.chance, self.talk.state.runs.values()
+        awake = sorted(item for item, _, asleep in runs if not asleep)
+        asleep = sorted(item for item, _, asleep in runs if asleep)
+        item = chance.randrange(self.items)
+        queue = chance.randrange(self.queues) if self.roams else self.home[item]
+        cpu = chance.randrange(self.cpus)
+        kind = chance.choices([*OFTEN], OFTEN.values())[0]
+        if kind == "end":
+            return f"{chance.choice(('sleep', 'finish', 'finish'))} {chance.choice(awake)}" if awake else ""
+        if kind == "wake":
+            return f"wake {chance.choice(asleep)}" if asleep else ""
+        if kind == "tick":
+            return f"tick {chance.randint(1, 2)}"
+        if kind == "wait":
+            word = chance.choices(scenarios.WAITS, (4, 2, 1, 4, 3, 4))[0]
+            return f"{word} {queue if word in ('flush', 'drain', 'destroy') else item}"
+        if kind == "set_max":
+            return f"set_max {queue} {chance.choice((1, 1, 2, 3, 4))}"
+        if kind == "freeze":
+            return "thaw" if self.is_frozen else "freeze"
+        ticks = f" {chance.choice((0, 0, 1, 2, 3))}" if kind in ("delay", "modify") else ""
+        line = f"{kind} {item}" if kind == "cancel" else f"{kind} {item} {queue} {cpu}{ticks}"
+        return f"by {chance.choice(awake)} {line}" if awake and chance.random() < 0.2 else line
+
+    def draining_booked(self):
+        state = self.talk.state
+        return {it for it in state.booked if state.queue_of[it] in state.draining()}
+
+    def is_fit(self, words):
+        """Whether the program refuses no such call, and no kernel is known to do something else."""
+        state, by = self.talk.state, None
+        if words[0] == "by":
+            by, words = words[1], words[2:]
+        word, *numbers = words
+        draining = state.draining()
+        if word in scenarios.WAITS and len(state.waits) >= MOST_WAITS:
+            return False
+        if word in ("flush", "drain", "destroy", "set_max"):
+            destroyed = state.gone | {call[1] for call in state.waits.values() if call[0] == "destroy"}
+            booked = {state.queue_of[it] for it in state.booked}
+            return numbers[0] not in destroyed and not (word == "destroy" and numbers[0] in booked)
+        if word in ("queue", "delay", "modify"):
+            item, queue = numbers[:2]
+            runs = {run[0]: run[1] for run in state.runs.values()}
+            if queue in state.gone or runs.get(item, queue) != queue:
+                return False
+            if queue in draining and (runs.get(by) != queue or numbers[3:] not in ([], ["0"])):
+                return False
+            if word == "modify" and (int(item) in state.cancelling() or item in self.draining_booked()):
+                return False
+        if word == "flush_delayed":
+            return numbers[0] not in self.draining_booked()
+        return word not in TAKES_BACK or not self.is_flushed(numbers[0])
+
+    def is_flushed(self, item):
+        """Whether a flush of the item waits for its queueing that has not started."""
+        state = self.talk.state
+        return item in state.unstarted and any(
+            call[0] in ("flush_item", "flush_delayed") and call[1] == item and int(number) >= state.unstarted[item]
+            for number, call in state.waits.items())
+
+
+def make(program, name):
+    return Maker(program, name).make()
+
+
+def known_way(played, recorded, is_pending_in_cancel):
+    """The scenario of examples/linux that shows the first difference, or None."""
+    difference, _ = scenarios.first_difference(played, recorded, is_pending_in_cancel)
+    number = int(difference.split()[0])
+    ours = next(it for it in played.steps if it.number == number)
+    theirs = next(it for it in recorded.steps if it.number == number)
+    if ": started " not in difference:
+        return None
+    who, word, *_ = ours.call.split()
+    more = [it for it in theirs.started if it not in ours.started]
+    less = [it for it in ours.started if it not in theirs.started]
+    if word == "finish" and not less and [item for item, _ in more] == ours.ended:
+        return "again_at_once"
+    if word in TAKES_BACK and less and not more:
+        return f"{word}_wakes_nobody"
+    return None

@@ -1,0 +1,16 @@
+// SPDX-License-Identifier: GPL-2.0
+/* Process 1: loads the player, which turns the machine off at its end. */
+#include <fcntl.h>
+#include <stdio.h>
+#include <sys/syscall.h>
+#include <unistd.h>
+
+int main(void)
+{
+	int file = open("/player.ko", O_RDONLY);
+
+	if (file < 0 || syscall(SYS_finit_module, file, "", 0))
+		perror("player.ko");
+	for (;;)
+		pause();
+}
