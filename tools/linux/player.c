@@ -339,24 +339,30 @@ static int fire(void)
 	return first->number;
 }
 
-/* Lets all timers that are due expire in one jiffy, set in the order of booking. */
+/* The item that is due and was booked next after a step, or NULL. */
+static struct item *due_after(int step)
+{
+	struct item *item, *next = NULL;
+
+	for (item = scenario->items; item < scenario->items + scenario->nr_items; item++)
+		if (timer_pending(&item->work.timer) && due_of(item) <= scenario->now && item->booked > step)
+			if (!next || item->booked < next->booked)
+				next = item;
+	return next;
+}
+
+/* Lets all timers that are due expire in one jiffy, for which they are set in the order of their bookings. */
 static int expire(void)
 {
-	struct item *item, *next;
-	int since = -1;
+	unsigned long when = jiffies + 2;
+	struct item *item;
+	int step = -1;
 
 	local_irq_disable();
-	do {
-		next = NULL;
-		for (item = scenario->items; item < scenario->items + scenario->nr_items; item++)
-			if (timer_pending(&item->work.timer) && due_of(item) <= scenario->now && item->booked > since)
-				if (!next || item->booked < next->booked)
-					next = item;
-		if (next) {
-			since = next->booked;
-			mod_timer_pending(&next->work.timer, jiffies + 2);
-		}
-	} while (next);
+	while ((item = due_after(step))) {
+		step = item->booked;
+		mod_timer_pending(&item->work.timer, when);
+	}
 	local_irq_enable();
 	for (item = scenario->items; item < scenario->items + scenario->nr_items; item++)
 		if (item->expires && due_of(item) <= scenario->now && wait_until(!timer_pending(&item->work.timer)))
@@ -410,6 +416,8 @@ static int begin_wait(const char *call, const long *n)
 {
 	struct wait *wait = &scenario->waits[scenario->nr_waits];
 
+	if (scenario->nr_waits == MOST_WAITS)
+		return -ENOSPC;
 	wait->call = call;
 	wait->of = n[0];
 	wait->number = scenario->step;
@@ -617,8 +625,7 @@ static void add_queue(long max_active, const char *flags)
 		bits |= WQ_CPU_INTENSIVE;
 	if (strchr(flags, 'f'))
 		bits |= WQ_FREEZABLE;
-	scenario->queues[scenario->nr_queues] =
-		alloc_workqueue("player%d", bits, max_active, scenario->nr_queues);
+	scenario->queues[scenario->nr_queues] = alloc_workqueue("player%d", bits, max_active, scenario->nr_queues);
 	scenario->nr_queues++;
 }
 

@@ -58,12 +58,15 @@ class Facts:
         self.started, self.ended, self.done, self.warned = [], [], [], []
         self.pending, self.running = set(), set()
 
+    def starts(self):
+        """Those of each pool in their order; pools work side by side."""
+        return sorted(self.started, key=lambda it: it[1])
+
     def lists(self):
         """The facts as text, by their kinds."""
         return {
             "failed": self.failed, "returned": self.returned,
-            # pools work side by side
-            "started": " ".join(f"{item} {pool}" for item, pool in sorted(self.started, key=lambda it: it[1])),
+            "started": " ".join(f"{item} {pool}" for item, pool in self.starts()),
             "ended": " ".join(self.ended),
             "done": ", ".join(" ".join(it) for it in sorted(self.done)),
             "pending": spans(self.pending), "running": spans(self.running),
@@ -74,9 +77,9 @@ class Facts:
         """The line of a recorded file."""
         parts = [f"returned {self.returned}"] if self.returned else []
         parts += [f"failed {self.failed}"] if self.failed else []
-        parts += [f"started {item} {pool}" for item, pool in self.started]
+        parts += [f"started {item} {pool}" for item, pool in self.starts()]
         parts += [f"ended {it}" for it in self.ended]
-        parts += [f"done {' '.join(it)}" for it in self.done]
+        parts += [f"done {' '.join(it)}" for it in sorted(self.done)]
         parts += [f"pending {spans(self.pending)}".strip(), f"running {spans(self.running)}".strip()]
         parts += [f"warned {it}" for it in self.warned]
         return f"{self.number} {self.call}: {', '.join(parts)}"
