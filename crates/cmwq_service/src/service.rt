@@ -12,7 +12,7 @@ use std::time::{Clock, Duration};
 /// A function that answers a fault stops the service: all calls that are made or wait from then on answer a fault too,
 /// so that all threads come to their end, and `run` answers the first one.
 pub trait Service {
-    ghost use Rattle.std.specs.Prelude.{OnOk};
+    ghost use Rattle.std.specs.Prelude.{◌≡◌, OnOk};
     ghost use Rattle.cmwq_model.specs.Prelude.{Layout};
     ghost use Rattle.cmwq_rt.specs.Running.{Behavior};
     ghost use Rattle.cmwq_service.specs.Serving.{Conduct};
@@ -32,6 +32,7 @@ pub trait Service {
         item: ItemId,
         context: &mut C,
     ) -> Result<(), Fault>
+        requires { C.runs context.old ≡ item }
         ensures { OnOk result (does C.layout item (C.view context.old) (C.view context.new)) };
 
     /// What the caller of this place does, on a thread of its own. Places are numbered from 0; there are as many as the
