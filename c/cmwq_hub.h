@@ -54,6 +54,7 @@ struct cmwq_hub {
     uint8_t *high;              /* one for each queue */
     struct cmwq_seat *seats;    /* one for each worker */
     struct cmwq_wait_ *waits;   /* one for each lent caller; no run: it is free */
+    size_t queues;
     unsigned threads, waiting, idle, first_lent, lent;
     bool closing;
     uint32_t failed; /* why the hub makes no more entries */
@@ -113,7 +114,7 @@ static inline uint32_t cmwq_hub_step_(struct cmwq_hub *hub, const struct cmwq_ca
         cmwq_hub_spill_(hub);
         status = cmwq_step(&hub->book, call, reply);
     }
-    if (status == CMWQ_FULL && call->who.kind != CMWQ_CALLER && call->kind >= CMWQ_TAKE)
+    if (status == CMWQ_FULL && (call->kind == CMWQ_TAKE || call->kind == CMWQ_FINISH))
         hub->failed = status; /* a worker that can't go on */
     if (status != CMWQ_OK && !hub->failed)
         return status;
@@ -263,6 +264,22 @@ static inline uint32_t cmwq_hub_refusal_(struct cmwq_hub *hub, struct cmwq_run *
     return why;
 }
 
+/* Whether a call waits for an item or a queue that the hub has. */
+static inline bool cmwq_hub_may_wait_for_(const struct cmwq_hub *hub, const struct cmwq_call *call)
+{
+    switch (call->kind) {
+    case CMWQ_FLUSH_ITEM:
+    case CMWQ_FLUSH_DELAYED:
+    case CMWQ_CANCEL_SYNC:
+        return call->item < hub->shape.items;
+    case CMWQ_FLUSH:
+    case CMWQ_DRAIN:
+        return call->queue < hub->queues;
+    default:
+        return false;
+    }
+}
+
 /* A lent caller that no run waits by, or NULL. */
 static inline struct cmwq_wait_ *cmwq_hub_free_wait_(struct cmwq_hub *hub)
 {
@@ -280,7 +297,8 @@ static inline struct cmwq_wait_ *cmwq_hub_free_wait_(struct cmwq_hub *hub)
  * The run sleeps meanwhile, so that others of its pool may start. The history has it as the worker's sleep, the lent caller's call and end, and
  * the worker's wake.
  *
- * Return: as cmwq_hub_wait(), or a cmwq_refusal: then the run goes on, and may do something else
+ * Return: as cmwq_hub_wait(), or a cmwq_refusal: then the run goes on, and may do something else; CMWQ_REFUSED of another kind of call, or
+ * of an item or queue that the hub doesn't have
  */
 static inline uint32_t cmwq_wait_in_run(struct cmwq_run *run, const struct cmwq_call *call, struct cmwq_reply *reply)
 {
@@ -292,6 +310,8 @@ static inline uint32_t cmwq_wait_in_run(struct cmwq_run *run, const struct cmwq_
 
     sleep.kind = CMWQ_SLEEP;
     sleep.who = run->who;
+    if (!cmwq_hub_may_wait_for_(hub, call))
+        return CMWQ_REFUSED;
     pthread_mutex_lock(&hub->lock);
     wait = cmwq_hub_free_wait_(hub);
     status = cmwq_hub_refusal_(hub, run, call);
@@ -501,21 +521,27 @@ static inline bool cmwq_hub_take_(struct cmwq_hub *hub, const struct cmwq_shape 
 /**
  * cmwq_hub_lend() - lends @count callers of the shape, from @first on, to work functions that wait; as many may wait at the same time
  * Before the first call, and once. Nobody else calls as one of them.
+ * Return: CMWQ_REFUSED where the shape doesn't have all of them, and then none is lent
  */
-static inline void cmwq_hub_lend(struct cmwq_hub *hub, uint8_t first, uint8_t count)
+static inline uint32_t cmwq_hub_lend(struct cmwq_hub *hub, uint8_t first, uint8_t count)
 {
+    if (first > hub->shape.callers || count > hub->shape.callers - first)
+        return CMWQ_REFUSED;
     pthread_mutex_lock(&hub->lock);
     hub->first_lent = first;
     hub->lent = count;
     pthread_mutex_unlock(&hub->lock);
+    return CMWQ_OK;
 }
 
 /**
  * cmwq_hub_close() - lets what is queued run, joins the workers, and gives all up. All callers are done, no queue is frozen
- * Entries that are kept are handed to the hub's spill.
+ * Entries that are kept are handed to the hub's spill. Closing a closed hub does nothing.
  */
 static inline void cmwq_hub_close(struct cmwq_hub *hub)
 {
+    if (!hub->book.live)
+        return;
     pthread_mutex_lock(&hub->lock);
     hub->closing = true;
     pthread_cond_broadcast(&hub->workers);
@@ -534,7 +560,7 @@ static inline void cmwq_hub_close(struct cmwq_hub *hub)
  * cmwq_hub_open() - opens a book, and starts a thread for each of its workers
  * @works: one for each item of the shape
  * @spill: takes the lines of entries that are forgotten; NULL: nobody does
- * Return: as cmwq_open(); CMWQ_NO_MEMORY too where memory for the hub is missing or a thread doesn't start. At another status than CMWQ_OK there is nothing to close
+ * Return: as cmwq_open(); CMWQ_REFUSED too where no entry may be kept; CMWQ_NO_MEMORY too where memory for the hub is missing or a thread doesn't start. At another status than CMWQ_OK there is nothing to close
  */
 static inline uint32_t cmwq_hub_open(struct cmwq_hub *hub, const struct cmwq_shape *shape, const struct cmwq_queue *queues, size_t len,
                                      const struct cmwq_work *works, cmwq_spill_t spill, void *spill_data)
@@ -542,10 +568,13 @@ static inline uint32_t cmwq_hub_open(struct cmwq_hub *hub, const struct cmwq_sha
     uint32_t status;
 
     memset(hub, 0, sizeof *hub);
+    if (!shape->keep)
+        return CMWQ_REFUSED;
     status = cmwq_open(&hub->book, shape, queues, len);
     if (status != CMWQ_OK)
         return status;
     hub->shape = *shape;
+    hub->queues = len;
     if (!cmwq_hub_take_(hub, shape, queues, len, works)) {
         cmwq_hub_free_(hub);
         cmwq_close(&hub->book);

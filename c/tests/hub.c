@@ -70,6 +70,39 @@ static void *caller(void *at)
     return NULL;
 }
 
+static pthread_mutex_t gate = PTHREAD_MUTEX_INITIALIZER;
+
+static void sleep_without_room(struct cmwq_run *run, void *data)
+{
+    struct cmwq_call call = cmwq_call_of(CMWQ_SLEEP, run->who, 0, 0, 0, 0);
+    struct cmwq_reply reply;
+
+    pthread_mutex_lock(&gate);
+    CHECK(cmwq_hub_call(run->hub, &call, &reply) == CMWQ_FULL);
+    (*(int *)data)++;
+    pthread_mutex_unlock(&gate);
+}
+
+/* A run without room for its sleep goes on, and so does the hub: each of four queueings has three entries, and there is room for no more. */
+static void without_room(void)
+{
+    struct cmwq_shape shape = {.room = 12, .keep = 12, .items = 4, .cpus = 1, .workers = 1, .callers = 1};
+    struct cmwq_queue queue = {.max_active = 4};
+    struct cmwq_who me = {CMWQ_CALLER, 0, 0};
+    struct cmwq_work works[4];
+    int ran = 0;
+
+    for (int i = 0; i < 4; i++)
+        works[i] = (struct cmwq_work){sleep_without_room, &ran};
+    CHECK(cmwq_hub_open(&hub, &shape, &queue, 1, works, NULL, NULL) == CMWQ_OK);
+    pthread_mutex_lock(&gate);
+    for (uint16_t i = 0; i < 4; i++)
+        CHECK(cmwq_queue_work_on(&hub, me, 0, 0, i));
+    pthread_mutex_unlock(&gate);
+    cmwq_hub_close(&hub);
+    CHECK(ran == 4);
+}
+
 int main(void)
 {
     struct cmwq_shape shape = {.room = (uint64_t)1 << 40, .keep = 256, .items = ITEMS, .cpus = 1, .workers = 4, .callers = CALLERS};
@@ -85,6 +118,10 @@ int main(void)
     }
     wrong.workers = 65;
     CHECK(cmwq_hub_open(&hub, &wrong, queues, 2, works, NULL, NULL) == CMWQ_REFUSED);
+    cmwq_hub_close(&hub);
+    wrong = shape;
+    wrong.keep = 0;
+    CHECK(cmwq_hub_open(&hub, &wrong, queues, 2, works, NULL, NULL) == CMWQ_REFUSED);
     CHECK(cmwq_hub_open(&hub, &shape, queues, 2, works, count_line, NULL) == CMWQ_OK);
     for (int i = 0; i < CALLERS; i++) {
         names[i] = (uint8_t)i;
@@ -97,5 +134,6 @@ int main(void)
     for (int i = 0; i < ITEMS; i++)
         CHECK(items[i].ran == ROUNDS && items[i].queued == ROUNDS && !items[i].runs);
     CHECK(spilled > CALLERS * ROUNDS * MINE * 3);
+    without_room();
     return 0;
 }

@@ -48,6 +48,9 @@ static void work(struct cmwq_run *run, void *data)
 {
     struct item *item = (struct item *)data;
 
+    CHECK(cmwq_wait_item(run, CMWQ_FLUSH_ITEM, MOST) == CMWQ_REFUSED);
+    CHECK(cmwq_wait_item(run, CMWQ_QUEUE, run->item) == CMWQ_REFUSED);
+    CHECK(cmwq_wait_for_queue(run, CMWQ_DRAIN, UINT8_MAX) == CMWQ_REFUSED);
     if (together && item->waits)
         meet(run);
     if (item->waits)
@@ -80,7 +83,9 @@ static void open_hub(struct cmwq_shape shape, const struct cmwq_queue *queues, s
         works[i].data = &items[i];
     }
     CHECK(cmwq_hub_open(&hub, &shape, queues, len, works, keep_line, NULL) == CMWQ_OK);
-    cmwq_hub_lend(&hub, 1, lent);
+    CHECK(cmwq_hub_lend(&hub, 1, (uint8_t)(lent + 1)) == CMWQ_REFUSED);
+    CHECK(cmwq_hub_lend(&hub, 255, 1) == CMWQ_REFUSED);
+    CHECK(cmwq_hub_lend(&hub, 1, lent) == CMWQ_OK);
 }
 
 static void queue_item(uint16_t item, uint8_t queue, uint8_t cpu)
@@ -97,6 +102,7 @@ static void close_hub(void)
     size_t len = 0;
     uint32_t status;
 
+    cmwq_hub_close(&hub);
     cmwq_hub_close(&hub);
     written += (size_t)snprintf((char *)text + written, TEXT - written, "end %zu\n", entries);
     status = cmwq_check(text, written, verdict, sizeof verdict, &len);
