@@ -1,4 +1,4 @@
-//! A hub without threads: what its calls are answered, who sleeps, and who is to be woken.
+//! A hub without threads: what its calls return, who sleeps, and who is to be woken.
 
 ghost use Rattle.std.specs.Prelude.{◌≡◌, ◌<◌, ◌≤◌, ◌+◌, ◌-◌, ◌∷◌, ◌&&◌, [], IfOk, IfSome, IsTrue, drop, false, is_ok};
 ghost use Rattle.std.specs.Prelude.{not};

@@ -1,4 +1,4 @@
-//! The decisions of a hub: what its calls are answered, who sleeps, and who is to be woken. Nothing here waits or takes
+//! The decisions of a hub: what its calls return, who sleeps, and who is to be woken. Nothing here waits or takes
 //! a lock.
 #![tactic(auto)]
 

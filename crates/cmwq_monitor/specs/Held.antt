@@ -1,9 +1,10 @@
 -- What contracts see of what a hub keeps under its lock.
-use Rattle.std.specs.Prelude.{◌≡◌, ◌⊎◌, ◌+◌, ◌-◌, ◌*◌, ◌&&◌, ◌||◌, ◌==◌, nat_lt, nat_le}
-use Rattle.cmwq_monitor.specs.Common.{ℕ, Bool, true, false, List, [], length, count_by, Who, Entry, Layout, past_of}
-use Rattle.cmwq_monitor.specs.Common.{still_open, is_active, Call, Caller, None, Option, Worker, History}
+use Rattle.std.specs.Prelude.{◌≡◌, ◌⊎◌, ◌+◌, ◌-◌, ◌*◌, ◌&&◌, ◌||◌, nat_lt, nat_le}
+use Rattle.cmwq_monitor.specs.Common.{ℕ, Bool, true, false, List, [], length, Who, Entry, Layout, past_of}
+use Rattle.cmwq_monitor.specs.Common.{Call, Caller, None, Option, Worker, History}
 use Rattle.cmwq_core.specs.History.{takes_with}
 use Rattle.cmwq_dispatch.specs.Asleep.{Asleep, SleepOn}
+use Rattle.cmwq_dispatch.specs.Dispatched as Dispatch
 use Rattle.cmwq_dispatch.specs.Dispatched.{Dispatched, dispatched_of}
 use Rattle.cmwq_dispatch.specs.Naming.{NamesAll, names_journal}
 use Rattle.cmwq_dispatch.specs.declared.wakes.Wakes.{Wakes}
@@ -72,11 +73,11 @@ IsOpenTo h who = (h.failed ≡ false) × ((h.closed && is_caller who) ≡ false)
 
 -- how many active queueings are open
 abbrev pub active_in : Layout → List Entry → ℕ
-active_in s history = count_by (is_active s (past_of history)) (still_open (past_of history))
+active_in s history = Dispatch.active_in s (past_of history)
 
--- Workers may go: it has failed, or it is closed, no active queueing is open, and no caller may still fire.
+-- Workers may go: the dispatch is over.
 abbrev pub is_over : Layout → Held → Bool
-is_over s h = h.failed || (h.closed && (active_in s h.history == 0) && (h.firing == 0))
+is_over s h = Dispatch.is_over (dispatched s h)
 
 -- ---- what is kept for the one who writes the history down
 

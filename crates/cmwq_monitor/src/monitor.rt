@@ -380,13 +380,14 @@ impl<N: HubName> Monitor<N> {
 
     /// Fires what is due, at most `left` times in all, and at most `MOST_FIRES` in this hold of the lock. Answers how
     /// many times it may still be fired, or None once all is: there was nothing more, or no room, or it was fired so
-    /// many times. A closed hub fires too. A hub that is over fails: whoever has begun to fire keeps it from being over
-    /// (`begins_firing`).
+    /// many times. A closed hub fires too. Whoever has begun to fire keeps it from being over (`begins_firing`), so a
+    /// hub that is over fails.
     pub fn fire_some<R: Wait>(
         &mut self,
         rt: &R,
         participant: &mut Participant<N>,
         left: u16,
+        firing: &Firing,
         wakes: &mut Wakes,
     ) -> Result<Option<u16>, RunFault>
         requires { is_caller participant.old.who ≡ true }
@@ -403,6 +404,7 @@ impl<N: HubName> Monitor<N> {
         if self.dispatch.has_failed() {
             return Err(RunFault::NoMemory { ticket: None });
         }
+        let _firing = firing;
         self.compare(participant)?;
         let most = left.min(MOST_FIRES);
         for _ in 0..most {
@@ -642,6 +644,7 @@ impl<N: HubName> Monitor<N> {
     }
 
     /// Whether so many entries can be kept, or all that the room still allows, or nothing is made any more.
+    #[inline(always)]
     pub fn has_space(&self, entries: u32) -> bool
         ensures { result ≡ has_space N.layout self.now entries }
     {
@@ -649,9 +652,11 @@ impl<N: HubName> Monitor<N> {
             return true;
         }
         let space = u64::from(self.tail.space());
+        if u64::from(entries) <= space {
+            return true;
+        }
         let len = u64::from(self.dispatch.execution().len());
-        let room = self.dispatch.shape().counts().room;
-        u64::from(entries) <= space || room <= space + len
+        self.dispatch.shape().counts().room <= space + len
     }
 
     /// Drops all that is kept, which nobody is handed then.

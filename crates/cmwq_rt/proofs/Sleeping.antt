@@ -66,20 +66,20 @@ pub slept_through : (s : Layout) (v asleep before after w : View) (c : Call) (o 
     → IfOk o (λ r. Completes s before c r after)
     → IfOk o (λ _. MakesOne s asleep call.Wake w) → IfOk o (λ _. IsPrefix asleep.seen after.seen)
     → IfOk o (λ _. IsPrefix after.seen w.seen) → IfOk o (λ r. SleepsThrough s v c r w)
-slept_through s v asleep before after w c (Ok r) sleeps allowed caller nothing_yet completes wakes saw_sleep sees = record {
+slept_through s v asleep before after w c (Ok r) sleeps allowed caller none_yet completes wakes saw_sleep sees = record {
   asleep = asleep;
   sleeps = sleeps;
   allowed = allowed;
   before = before;
   after = after;
-  nothing_yet = nothing_yet;
+  nothing_yet = none_yet;
   by_caller = caller;
   completes = completes;
   wakes = wakes;
   saw_sleep = saw_sleep;
   sees = sees;
 }
-slept_through s v asleep before after w c (Err f) sleeps allowed caller nothing_yet completes wakes saw_sleep sees = tt
+slept_through s v asleep before after w c (Err f) sleeps allowed caller none_yet completes wakes saw_sleep sees = tt
 
 -- whoever has made a call had made before it what it had made
 pub made_when : (s : Layout) (v w : View) (log : List Entry) (c : Call) (r : Reply) → Extends s v c r w

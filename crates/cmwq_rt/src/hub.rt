@@ -20,7 +20,9 @@ use crate::parts::HubParts;
 use crate::schedule::awaited_end;
 use crate::worker::Worker;
 use cmwq_model::{Call, Entry, ItemId, Number, Reply, Shape};
-use cmwq_monitor::{Ended, Journal, MOST_FIRES, Monitor, Next, Participant, Rest, RunFault, Sleep};
+use cmwq_monitor::{
+    Ended, Firing, Journal, MOST_FIRES, Monitor, Next, Participant, Rest, RunFault, Sleep,
+};
 use cmwq_publish::HubName;
 use cmwq_turns::{Awaited, Turnstile};
 use std::alloc::Global;
@@ -211,9 +213,11 @@ impl<N: HubName> Hub<N> {
             (λ f. Stops participant.new None f × HasFiredSome participant.old participant.new) }
     {
         let mut hold = hold;
-        let firing = hold.monitor.begins_firing();
-        let (mut hold, fired) = self.fire_all(rt, hold, participant);
-        hold.ends_firing(firing);
+        let Some(firing) = hold.monitor.begins_firing() else {
+            return (failed(hold), Err(RunFault::NoMemory { ticket: None }));
+        };
+        let (mut hold, fired) = self.fire_all(rt, hold, participant, &firing);
+        hold.ends_firing(Some(firing));
         (hold, fired)
     }
 
@@ -223,6 +227,7 @@ impl<N: HubName> Hub<N> {
         rt: &R,
         hold: Hold<'a, N>,
         participant: &mut Participant<N>,
+        firing: &Firing,
     ) -> (Hold<'a, N>, Result<(), RunFault>)
         requires caller { is_caller participant.old.who ≡ true }
         requires begun { IsFiring N.layout N.layout.items participant.old participant.old }
@@ -238,7 +243,7 @@ impl<N: HubName> Hub<N> {
             let held = &mut hold;
             match held
                 .monitor
-                .fire_some(rt, participant, left, &mut held.wakes)
+                .fire_some(rt, participant, left, firing, &mut held.wakes)
             {
                 Ok(Some(rest)) => left = rest,
                 Ok(None) => return (hold, Ok(())),
@@ -269,7 +274,7 @@ impl<N: HubName> Hub<N> {
         } else {
             None
         };
-        let (mut hold, ended) = self.end_and_fire(rt, hold, participant, call, ticket);
+        let (mut hold, ended) = self.end_and_fire(rt, hold, participant, call, ticket, &firing);
         hold.ends_firing(firing);
         (hold, ended)
     }
@@ -282,6 +287,7 @@ impl<N: HubName> Hub<N> {
         participant: &mut Participant<N>,
         call: Call,
         ticket: Number,
+        firing: &Option<Firing>,
     ) -> (Hold<'a, N>, Result<(), RunFault>)
         requires { is_caller participant.old.who ≡ true }
         ensures ended { IfOk result.1 (λ _. HasEnded N.layout participant.old call ticket participant.new) }
@@ -296,10 +302,13 @@ impl<N: HubName> Hub<N> {
             Ok(()) => {}
             Err(fault) => return (hold, Err(fault)),
         }
-        if is_drain(call) {
-            return self.fire_all(rt, hold, participant);
+        if !is_drain(call) {
+            return (hold, Ok(()));
         }
-        (hold, Ok(()))
+        let Some(firing) = firing else {
+            return (failed(hold), Err(RunFault::NoMemory { ticket: None }));
+        };
+        self.fire_all(rt, hold, participant, firing)
     }
 
     /// Sleeps until the ticket's end is done.
@@ -411,6 +420,15 @@ impl<N: HubName> Hub<N> {
         } = self;
         monitor.into_inner()
     }
+}
+
+/// Lets the hub fail: somebody would fire in a hub that is over. Nobody who has begun to fire in the hold of a tick, or
+/// of the ticket of a drain, comes here.
+fn failed<N: HubName>(hold: Hold<N>) -> Hold<N> {
+    let mut hold = hold;
+    let held = &mut hold;
+    held.monitor.fail(&mut held.wakes);
+    hold
 }
 
 /// What the worker does next. Where it may go it sees all the history.

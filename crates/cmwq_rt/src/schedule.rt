@@ -163,7 +163,22 @@ impl<N: HubName> Hub<N> {
     }
 
     /// Sleeps until there is space for so many entries, or makes it where nobody wants them.
+    #[inline(always)]
     pub(crate) fn spacious<'a, R: Wait>(
+        &'a self,
+        rt: &R,
+        hold: Hold<'a, N>,
+        who: Who,
+        entries: u32,
+    ) -> Hold<'a, N> {
+        if hold.monitor.has_space(entries) {
+            return hold;
+        }
+        self.sleep_until_space(rt, hold, who, entries)
+    }
+
+    /// The same of a hub that has no space now.
+    fn sleep_until_space<'a, R: Wait>(
         &'a self,
         rt: &R,
         hold: Hold<'a, N>,

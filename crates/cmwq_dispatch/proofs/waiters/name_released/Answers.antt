@@ -6,7 +6,6 @@ use Rattle.cmwq_dispatch.proofs.waiters.name_released.Goals as goal
 use Rattle.cmwq_dispatch.proofs.waiters.name_released.Goals.{then-not-waiter+then-may_release+then-not-is_unready}
 use Rattle.cmwq_dispatch.proofs.waiters.name_released.Goals.{else-not-waiter, else-not-waiter-via-else-not-waiter}
 use Rattle.cmwq_dispatch.proofs.waiters.name_released.Goals.{else-not-waiter-via-then-not-waiter+else-may_release}
-use Rattle.cmwq_dispatch.proofs.waiters.name_released.Goals.{else-not-waiter-via-then-not-waiter+then-may_release+else-not-is_unready}
 
 pub is_unready-requires-clause-caller : goal.is_unready-requires-clause-caller
 is_unready-requires-clause-caller c =
@@ -28,7 +27,7 @@ loop-place-preserved c = elim c.if-not-waiter.branch [
       (omega (arith, c.loop-place.auto.waiters, c.loop-place-test.true)))
       w.add_caller.ensures.named w.add_caller.ensures.more)
   | else-not-waiter w ↦ elim w.else-not-waiter.branch [
-    | else-not-waiter-via-then-not-waiter+then-may_release+else-not-is_unready v ↦ rw (w.waiters-is, w.wakes-is)
+    | goal.else-not-waiter-via-then-not-waiter+then-may_release+else-not-is_unready v ↦ rw (w.waiters-is, w.wakes-is)
         (skipped c.loop-place.place c.loop-place.waiters c.loop-place.wakes _ c.loop-place.invariant
         (slice_get-get_or c.loop-place.waiters c.loop-place.place _
         (omega (arith, c.loop-place.auto.waiters, c.loop-place-test.true)))

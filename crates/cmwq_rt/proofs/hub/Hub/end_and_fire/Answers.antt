@@ -17,8 +17,8 @@ fire_all-requires-clause-begun g c =
     firing_begins g.N.HubName.layout c.args.participant.now c.until_done-hold.new.participant
     (calls.End c.args.ticket) replies.Done done
 
-pub returns-then-is_drain-clause-ended : goal.returns-then-is_drain-clause-ended
-returns-then-is_drain-clause-ended g c =
+pub returns-clause-ended : goal.returns-clause-ended
+returns-clause-ended g c =
     let done : Extends g.N.HubName.layout c.args.participant.now (calls.End c.args.ticket) replies.Done
     c.until_done-hold.new.participant =
     subst (λ r.
@@ -29,11 +29,11 @@ returns-then-is_drain-clause-ended g c =
     let m = c.until_done-hold.new.participant in
     let w = c.fire_all.new.participant in
     IfOk-weaker c.fire_all.result.1 _ _
-    (λ _ fired. ended_fired s v m w c.args.call c.args.ticket (sym c.is_drain.ensures ∙ c.if-is_drain.true) done
+    (λ _ fired. ended_fired s v m w c.args.call c.args.ticket (sym c.is_drain.ensures ∙ c.if-not-is_drain.false) done
     fired) c.fire_all.ensures.fired
 
-pub returns-then-is_drain-clause-stopped : goal.returns-then-is_drain-clause-stopped
-returns-then-is_drain-clause-stopped g c =
+pub returns-clause-stopped : goal.returns-clause-stopped
+returns-clause-stopped g c =
     let done : Extends g.N.HubName.layout c.args.participant.now (calls.End c.args.ticket) replies.Done
     c.until_done-hold.new.participant =
     subst (λ r.
@@ -44,7 +44,7 @@ returns-then-is_drain-clause-stopped g c =
     let m = c.until_done-hold.new.participant in
     let w = c.fire_all.new.participant in
     IfErr-weaker c.fire_all.result.1 _ _
-    (λ f some. ended_some s v m w c.args.call c.args.ticket f (sym c.is_drain.ensures ∙ c.if-is_drain.true) some.0
+    (λ f some. ended_some s v m w c.args.call c.args.ticket f (sym c.is_drain.ensures ∙ c.if-not-is_drain.false) some.0
     done some.1) c.fire_all.ensures.stopped
 
 pub returns-in-Err-clause-stopped : goal.returns-in-Err-clause-stopped
@@ -56,12 +56,12 @@ returns-in-Err-clause-stopped g c =
     c.until_done-hold.ensures.stopped in
     ended_not v w g.N.HubName.layout c.args.call c.args.ticket c.in-Err.fault stopped.0 stopped.1
 
-pub returns-clause-ended : goal.returns-clause-ended
-returns-clause-ended g c =
+pub returns-then-not-is_drain-clause-ended : goal.returns-then-not-is_drain-clause-ended
+returns-then-not-is_drain-clause-ended g c =
     let done : Extends g.N.HubName.layout c.args.participant.now (calls.End c.args.ticket) replies.Done
     c.until_done-hold.new.participant =
     subst (λ r.
     IfOk r (λ _. Extends g.N.HubName.layout c.args.participant.now (calls.End c.args.ticket) replies.Done
     c.until_done-hold.new.participant)) c.in-Ok.is c.until_done-hold.ensures.done in
     ended_alone g.N.HubName.layout c.args.participant.now c.until_done-hold.new.participant c.args.call c.args.ticket
-    (sym c.is_drain.ensures ∙ c.if-is_drain.false) done
+    (sym c.is_drain.ensures ∙ c.if-not-is_drain.true) done
