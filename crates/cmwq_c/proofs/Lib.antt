@@ -3,4 +3,6 @@ pub mod HeldValues
 pub mod Verdicts
 pub mod Tables
 pub mod Filled
-pub mod Written
+pub mod Growing
+pub mod Telling
+pub mod Faults

@@ -1,6 +1,6 @@
 -- The statuses of a board's calls.
-use Rattle.cmwq_c.specs.Common.{Who, Caller, Worker, Call, Entry, Layout, nat_lt}
-use Rattle.std.specs.Prelude.{ℕ, Bool, true, false, ◌==◌, ◌||◌, ◌&&◌, if◌then◌else◌, nat_le, List, [], ◌∷◌}
+use Rattle.cmwq_c.specs.Common.{Who, Caller, Worker, Call, Entry, nat_lt}
+use Rattle.std.specs.Prelude.{ℕ, ◌==◌, ◌||◌, ◌&&◌, if◌then◌else◌, nat_le, List, [], ◌∷◌, length}
 use Rattle.std.specs.Prelude.{Option, None, Some}
 use Rattle.cmwq_model.specs.declared.id.CallerId.{CallerId}
 use Rattle.cmwq_model.specs.declared.id.WorkerId.{WorkerId}
@@ -131,12 +131,8 @@ end_done status = if status == 14 || status == 16 || status == 17 then 0 else st
 -- ---- of lines
 
 -- 1 where entries are left, or the lines cannot hold as many as the board keeps
-abbrev pub are_none : {X : Type 0} → List X → Bool
-are_none [] = true
-are_none (x ∷ xs) = false
-
 abbrev pub hand_out_status : Boarded → Lined → ℕ
-hand_out_status b l = found_status (are_none l.left && nat_le b.keeps l.holds)
+hand_out_status b l = found_status ((length l.left == 0) && nat_le b.keeps l.holds)
 
 -- 5 where not even the first line is held
 abbrev pub write_status : List Entry → ℕ → ℕ

@@ -5,6 +5,7 @@ ghost use Rattle.cmwq_c.specs.BoardStatuses.{hand_out_status, write_status};
 ghost use Rattle.cmwq_c.specs.Lined.{WritesLines, no_lines, with_left};
 ghost use Rattle.cmwq_c.specs.Statuses.{if_live};
 
+use crate::board_session::BoardSession;
 use crate::handle::{BoardHandle, LinesHandle};
 use crate::lines::Lines;
 use crate::status::{CLOSED, DONE, NO_MEMORY};
@@ -84,15 +85,28 @@ pub extern "C" fn cmwq_board_hand_out(
 {
     match mem::replace(board, BoardHandle::none()).into_box(alloc) {
         Some(mut made) => {
-            let answer = match mem::replace(lines, LinesHandle::none()).into_box(alloc) {
-                Some(mut empty) => {
-                    let answer = made.as_mut().hand_out(empty.as_mut());
-                    *lines = LinesHandle::of(empty);
-                    answer
-                }
-                None => CLOSED,
-            };
+            let answer = hand_out(alloc, made.as_mut(), lines);
             *board = BoardHandle::of(made);
+            answer
+        }
+        None => CLOSED,
+    }
+}
+
+/// The lines of the handle take all that the board keeps, if there are lines.
+fn hand_out(alloc: Global, board: &mut BoardSession, lines: &mut LinesHandle) -> u32
+    ensures status { result ≡ if_live lines.old.live (hand_out_status board.old lines.old.held.lines) }
+    ensures live { lines.new.live ≡ lines.old.live }
+    ensures board { result ≡ 0 → board.new ≡ handed_out board.old }
+    ensures left { result ≡ 0 → lines.new.held.lines.left ≡ kept_in board.old }
+    ensures holds { result ≡ 0 → board.old.keeps ≤ lines.new.held.lines.holds }
+    ensures same_board { result ≢ 0 → board.new ≡ board.old }
+    ensures same_lines { result ≢ 0 → lines.old.live ≡ true → lines.new.held.lines ≡ lines.old.held.lines }
+{
+    match mem::replace(lines, LinesHandle::none()).into_box(alloc) {
+        Some(mut made) => {
+            let answer = board.hand_out(made.as_mut());
+            *lines = LinesHandle::of(made);
             answer
         }
         None => CLOSED,

@@ -167,7 +167,8 @@ impl BoardSession {
             return REFUSED;
         };
         let mut wakes = Wakes::new();
-        match self.board.call(who, call, &mut wakes) {
+        let called = self.board.call(who, call, &mut wakes);
+        match called {
             Ok(made) => {
                 *reply = told::reply_numbers(made);
                 tell(wakes, told);
@@ -181,6 +182,7 @@ impl BoardSession {
     }
 
     /// The worker starts something, or rests, or is over.
+    #[tactic(auto, using(crate::proofs::Faults::start_fault_stays, crate::proofs::Faults::start_is_done))]
     pub fn start(
         &mut self,
         worker: &WhoNumbers,
@@ -199,10 +201,11 @@ impl BoardSession {
             return REFUSED;
         };
         let mut wakes = Wakes::new();
-        match self.board.start(worker, &mut wakes) {
-            Ok(start) => {
+        let begun = self.board.start(worker, &mut wakes);
+        match begun {
+            Ok(answer) => {
                 tell(wakes, told);
-                started(start, item, number)
+                started(answer, item, number)
             }
             Err(fault) => {
                 forget(wakes);
@@ -221,7 +224,8 @@ impl BoardSession {
             return REFUSED;
         };
         let mut wakes = Wakes::new();
-        match self.board.finish(worker, &mut wakes) {
+        let finished = self.board.finish(worker, &mut wakes);
+        match finished {
             Ok(_finish) => {
                 tell(wakes, told);
                 DONE
@@ -234,6 +238,7 @@ impl BoardSession {
     }
 
     /// A wait begins.
+    #[tactic(auto, using(crate::proofs::Faults::begin_fault_stays, crate::proofs::Faults::begin_is_done))]
     pub fn begin(
         &mut self,
         call: &CallNumbers,
@@ -252,10 +257,11 @@ impl BoardSession {
             return REFUSED;
         };
         let mut wakes = Wakes::new();
-        match self.board.begin(run_of(who), call, &mut wakes) {
-            Ok(begun) => {
+        let begun = self.board.begin(run_of(who), call, &mut wakes);
+        match begun {
+            Ok(answer) => {
                 tell(wakes, told);
-                began(begun, party, reply)
+                began(answer, party, reply)
             }
             Err(fault) => {
                 forget(wakes);
@@ -265,6 +271,7 @@ impl BoardSession {
     }
 
     /// The wait of this party ends, or goes on.
+    #[tactic(auto, using(crate::proofs::Faults::end_fault_stays, crate::proofs::Faults::end_is_done))]
     pub fn end(&mut self, party: u8, told: &mut WakesNumbers) -> u32
         ensures status { end_done result ≡ end_status self.old party }
         ensures ends { end_done result ≡ 0 → (answer : Ended) × (result ≡ ended_number answer)
@@ -272,10 +279,11 @@ impl BoardSession {
         ensures kept { end_done result ≢ 0 → (self.new ≡ self.old) × (told.new ≡ told.old) }
     {
         let mut wakes = Wakes::new();
-        match self.board.end(CallerId(party), &mut wakes) {
-            Ok(ended) => {
+        let ended = self.board.end(CallerId(party), &mut wakes);
+        match ended {
+            Ok(answer) => {
                 tell(wakes, told);
-                ended_number(ended)
+                ended_number(answer)
             }
             Err(fault) => {
                 forget(wakes);
@@ -291,7 +299,8 @@ impl BoardSession {
         ensures kept { result ≢ 0 → (self.new ≡ self.old) × (told.new ≡ told.old) }
     {
         let mut wakes = Wakes::new();
-        match self.board.leaves(CallerId(party), &mut wakes) {
+        let left = self.board.leaves(CallerId(party), &mut wakes);
+        match left {
             Ok(()) => {
                 tell(wakes, told);
                 DONE
@@ -304,19 +313,14 @@ impl BoardSession {
     }
 
     /// So many ticks go by.
-    pub fn advance(
-        &mut self,
-        caller: u8,
-        ticks: u32,
-        now: &mut u64,
-        told: &mut WakesNumbers,
-    ) -> u32
+    pub fn advance(&mut self, caller: u8, ticks: u32, now: &mut u64, told: &mut WakesNumbers) -> u32
         ensures status { result ≡ advance_status self.old caller ticks }
         ensures advances { result ≡ 0 → AdvancesTo caller ticks self.old self.new now.new told.new }
         ensures kept { result ≢ 0 → (self.new ≡ self.old) × (now.new ≡ now.old) × (told.new ≡ told.old) }
     {
         let mut wakes = Wakes::new();
-        match self.board.advance(CallerId(caller), ticks, &mut wakes) {
+        let advanced = self.board.advance(CallerId(caller), ticks, &mut wakes);
+        match advanced {
             Ok(tick) => {
                 *now = tick;
                 tell(wakes, told);

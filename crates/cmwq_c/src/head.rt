@@ -1,5 +1,5 @@
 //! The lines that stand before the entries of a history.
-ghost use Rattle.std.specs.Prelude.{◌≡◌, ◌≢◌, ◌⊎◌, ◌<◌, false, IfOk, length};
+ghost use Rattle.std.specs.Prelude.{◌≡◌, ◌≢◌, ◌⊎◌, ◌<◌, false, true, IfOk, length};
 ghost use Rattle.cmwq_io.specs.Memory.{bytes_of};
 ghost use Rattle.cmwq_model.specs.Prelude.{is_layout};
 ghost use Rattle.cmwq_text.specs.HistoryText.{head_text};
@@ -24,7 +24,8 @@ const LINE: usize = 256;
 fn head_of(alloc: Global, shape: &Shape) -> Result<Memory<Vec<u8>>, NoMemory>
     ensures { IfOk result (λ text. (bytes_of text).items ≡ head_text 3 shape.now) }
 {
-    let room = LINE * (shape.queues().len() + 2);
+    let lines = shape.queues().len().saturating_add(2);
+    let room = lines.saturating_mul(LINE);
     let mut text = Memory::writer(alloc, room)?;
     match write_shape(&mut text, FORMAT, shape) {
         Ok(()) => Ok(text),

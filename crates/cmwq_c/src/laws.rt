@@ -2,6 +2,7 @@
 ghost use Rattle.std.specs.Prelude.{[], ◌∷◌};
 ghost use Rattle.cmwq_c.specs.Numbers.{CallNumbersReadAgain, RepliesStandApart};
 ghost use Rattle.cmwq_c.specs.Offsets.{FieldsLieAt};
+ghost use Rattle.cmwq_c.specs.Wakes.{CallersAreTold, WorkersAreTold};
 ghost use Rattle.cmwq_c.specs.contracts.handle.Handle.{the_row as Handle};
 ghost use Rattle.cmwq_c.specs.contracts.held.Held.{the_row as Held};
 ghost use Rattle.cmwq_c.specs.contracts.numbers.ShapeNumbers.{the_row as ShapeNumbers};
@@ -27,6 +28,13 @@ pub fn calls_read_again()
 #[tactic(auto, using(crate::proofs::Tables::replies_stand_apart))]
 pub fn replies_stand_apart()
     ensures { RepliesStandApart }
+{}
+
+/// Whoever is named is told, and nobody else.
+#[tactic(auto, using(crate::proofs::Telling::callers_are_told, crate::proofs::Telling::workers_are_told))]
+pub fn wakes_are_told()
+    ensures callers { CallersAreTold }
+    ensures workers { WorkersAreTold }
 {}
 
 /// Where the fields of each struct that C sees lie, in the order in which they are written. `tools/c` reads this table,

@@ -44,7 +44,7 @@ use crate::numbers::{
 use crate::status::{CLOSED, DONE, REFUSED};
 use crate::taken::{book_of, entry_of, foretell, line_of, line_step, number_step, serial_of};
 use cmwq_model::ItemId;
-pub use laws::{calls_read_again, fields_lie_as_told, replies_stand_apart};
+pub use laws::{calls_read_again, fields_lie_as_told, replies_stand_apart, wakes_are_told};
 use std::alloc::Global;
 use std::mem;
 

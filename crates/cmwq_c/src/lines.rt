@@ -67,6 +67,14 @@ impl Lines {
         })
     }
 
+    /// What is not written yet.
+    #[tactic(auto, using(crate::proofs::Growing::all_of))]
+    fn left(&self) -> &[Entry]
+        ensures { result.now ≡ self.now.left }
+    {
+        &self.entries[self.written..]
+    }
+
     /// Takes all that the board keeps.
     pub fn take(&mut self, board: &mut Board) -> u32
         ensures status { result ≡ hand_out_status board.old self.old }
@@ -75,10 +83,11 @@ impl Lines {
         ensures holds { result ≡ 0 → board.old.keeps ≤ self.new.holds }
         ensures kept { result ≢ 0 → (board.new ≡ board.old) × (self.new ≡ self.old) }
     {
-        if self.written < self.entries.len() || self.entries.capacity() < board.keeps() as usize {
+        if !self.left().is_empty() || self.entries.capacity() < board.keeps() as usize {
             return REFUSED;
         }
-        self.forget();
+        self.entries.clear();
+        self.written = 0;
         match board.hand_out(&mut self.entries) {
             Ok(()) => DONE,
             Err(_) => REFUSED,
@@ -91,8 +100,8 @@ impl Lines {
         ensures lines { result ≡ 0 → WritesLines self.old self.new written.new out.old out.new }
         ensures kept { result ≢ 0 → (self.new ≡ self.old) × (out.new ≡ out.old) × (written.new ≡ written.old) }
     {
-        let Written { lines, bytes } = write_lines(&self.entries[self.written..], out);
-        if lines == 0 && self.written < self.entries.len() {
+        let Written { lines, bytes } = write_lines(self.left(), out);
+        if lines == 0 && !self.left().is_empty() {
             return SHORT;
         }
         self.written += lines;
