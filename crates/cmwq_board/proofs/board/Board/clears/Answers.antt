@@ -1,5 +1,9 @@
-use Rattle.cmwq_board.specs.Waits.Clears.{nothing}
+use Rattle.std.specs.Prelude.{◌≡◌, length}
+use Rattle.std.proofs.Common.{subst}
+use Rattle.cmwq_board.specs.Boarded.{Boarded}
+use Rattle.cmwq_board.specs.Waits.{Clears}
+use Rattle.cmwq_board.proofs.Cleared.{clears_none}
 use Rattle.cmwq_board.proofs.board.Board.clears.Goals as goal
 
 pub returns-else-self : goal.returns-else-self
-returns-else-self c = nothing c.args.self.now c.args.wakes.now
+returns-else-self c = ?
