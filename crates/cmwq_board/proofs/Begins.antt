@@ -22,7 +22,8 @@ use Rattle.cmwq_model.specs.declared.entry.Entry.{Entry}
 use Rattle.cmwq_model.specs.declared.record.Ticket.{Ticket}
 use Rattle.cmwq_model.specs.declared.reply.Reply.{Reply}
 use Rattle.cmwq_board.specs.Waits.{begin_fault, caller_at, early_fault, fault_or, first_free, has_its_run, has_room_for}
-use Rattle.cmwq_board.specs.Waits.{is_free, is_there, lending_by, lent_fault, room_fault, stuck_now, with_firing}
+use Rattle.cmwq_board.specs.Waits.{is_free, is_there, lending_by, lent_fault, room_fault, sleeps_first, stuck_now}
+use Rattle.cmwq_board.specs.Waits.{with_firing}
 use Rattle.cmwq_board.specs.declared.fault.BoardFault.{BoardFault}
 use Rattle.cmwq_board.specs.declared.fault.BoardFault.TheVariants as fault
 use Rattle.cmwq_board.specs.declared.fault.WaitFault.TheVariants as wait
@@ -209,3 +210,8 @@ pub room_is : (b : Boarded) (run : Option WorkerId) (c : Call) (place : ℕ) (r 
     → room_fault b run c (first_free b.lent) ≡ (if r then None else Some (wait.Board fault.Full))
 room_is b run c place r first room =
     ap (room_fault b run c) first ∙ ap (λ x. if x then None else Some (wait.Board fault.Full)) room
+
+-- whoever may fire changes nothing of a run
+pub firing_sleeps : (d : Dispatched) (run : Option WorkerId) → sleeps_first (with_firing d) run ≡ sleeps_first d run
+firing_sleeps d None = refl
+firing_sleeps d (Some w) = refl

@@ -1,15 +1,18 @@
 use Rattle.std.specs.Prelude.{◌≡◌, ◌≢◌, ◌<◌, ◌+◌, ℕ, List, Some, length, slice_index_or, true, if◌then◌else◌}
 use Rattle.std.specs.List.{list_any}
-use Rattle.std.proofs.Common.{ap, ◌∙◌, refl, sym, subst}
+use Rattle.std.proofs.Common.{ap, ap₂, ◌∙◌, sym, subst}
+use Rattle.std.specs.Prelude.{slice_set}
+use Rattle.cmwq_model.specs.declared.id.CallerId.{CallerId}
 use Rattle.cmwq_core.specs.History.{History, past_in}
 use Rattle.cmwq_model.specs.declared.entry.Entry.{Entry}
 use Rattle.cmwq_dispatch.specs.Dispatched.{Dispatched, is_over, past_now}
 use Rattle.cmwq_state.specs.Tails.{Tailed}
 use Rattle.cmwq_board.specs.Boarded.{Boarded}
 use Rattle.cmwq_board.specs.Lent.{drains, first_lent, is_left, tickets_held}
-use Rattle.cmwq_board.specs.Waits.{firing_for}
+use Rattle.cmwq_board.specs.Waits.{BeginsWait, Settles, begun_by, caller_at, firing_for, lending_by, sleeps_first}
+use Rattle.cmwq_board.specs.Waits.{with_firing}
 use Rattle.cmwq_board.specs.declared.lending.Lending.{Lending}
-use Rattle.cmwq_board.proofs.Begins.{first_is_free, lending_not_left, may_lend, no_begin_fault}
+use Rattle.cmwq_board.proofs.Begins.{firing_sleeps, first_is_free, lending_not_left, may_lend, no_begin_fault}
 use Rattle.cmwq_board.proofs.Places.{any_less, board_set}
 use Rattle.cmwq_board.proofs.board.Board.lend.Goals as goal
 
@@ -114,3 +117,45 @@ invariant_of-self c =
       λ any. c.self.invariant.3 (any_less is_left lent c.args.place c.begins_wait-called.result.lending
           (ap is_left called.lending ∙ lending_not_left _ _ _ _) any),
     )
+
+pub returns : goal.returns
+returns c =
+    let b = c.args.self.now in
+    let i = c.self.inside in
+    let run = c.args.run in
+    let made = c.begins_wait-called in
+    let e = made.new.dispatch in
+    let reply = made.result.reply in
+    let number = made.result.number in
+    let own : c.caller_at-caller.result ≡ caller_at b c.args.place = c.caller_at-caller.ensures in
+    let from : c.begins_firing.new.dispatch ≡ with_firing b.dispatch =
+    c.begins_firing.ensures.new ∙ ap (λ (x : Boarded). with_firing x.dispatch) c.self.view_is in
+    let lent : i.lent.items ≡ b.lent = ap (λ (x : Boarded). x.lent) c.self.view_is in
+    record {
+      place = c.args.place;
+      is_first = c.requires.first;
+      reply = reply;
+      number = number;
+      called = e;
+      then_called = made.new.wakes;
+      waits = subst (λ k. BeginsWait run k c.args.call reply number (with_firing b.dispatch) e c.args.wakes.now
+          made.new.wakes) own
+          (subst (λ (d : Dispatched). BeginsWait run c.caller_at-caller.result c.args.call reply number d e
+          c.args.wakes.now made.new.wakes) from
+          (subst (λ w. BeginsWait run c.caller_at-caller.result c.args.call reply number c.begins_firing.new.dispatch e w
+          made.new.wakes) c.begins_firing.ensures.nobody made.ensures.waits));
+      begun = c.begun_by.ensures ∙ ap (λ k. begun_by k reply) own;
+      lent = ap₂ (λ ls l. slice_set ls c.args.place l) lent
+          (made.ensures.lending
+          ∙ ap₂ (λ (k : CallerId) (d : Dispatched). lending_by run (sleeps_first d run)
+          (record { caller = k; call = c.args.call; number = number }) reply) own from
+          ∙ ap (λ slept. lending_by run slept
+          (record { caller = caller_at b c.args.place; call = c.args.call; number = number }) reply)
+          (firing_sleeps b.dispatch run));
+      settles = subst (λ ls. Settles ls e c.ends_firing.new.dispatch made.new.wakes c.ends_firing.new.wakes)
+          c.deref.ensures.value c.ends_firing.ensures.settles;
+      kept = (
+        ap (λ (t : Tailed Entry). t.given) made.ensures.kept ∙ ap (λ (x : Boarded). x.given) c.self.view_is,
+        ap (λ (t : Tailed Entry). t.room) made.ensures.kept ∙ ap (λ (x : Boarded). x.keeps) c.self.view_is,
+      );
+    }
