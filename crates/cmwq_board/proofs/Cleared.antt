@@ -25,6 +25,6 @@ clears_none b w (suc k) none few =
     let less : k < length b.lent = omega arith in
     let here : is_left (lending_at b k) ≡ false =
     false_from_ne_true _ (λ left. both_ways _ none (list_any_at is_left b.lent k Free less left)) in
-    subst (λ n. Clears n b b w w) add-one
+    subst (λ n. Clears n b b w w) (add-one k)
     (more k b b b w w w (clears_none b w k none (omega arith))
     (subst (λ o. ClearsAt k o b b w w) (sym (not_ready b (lending_at b k) here)) (refl, refl)))

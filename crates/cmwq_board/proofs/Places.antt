@@ -22,7 +22,7 @@ use Rattle.std.proofs.lemmas.Bool.Decides.{nat_tests}
 use Rattle.std.proofs.lemmas.List.{get_or-set_other, get_or-set_same}
 use Rattle.std.proofs.lemmas.List.Folds.{list_any_at}
 use Rattle.cmwq_dispatch.proofs.OneNamed.{or_more}
-use Rattle.cmwq_dispatch.specs.Dispatched.{Dispatched, is_new, past_now}
+use Rattle.cmwq_dispatch.specs.Dispatched.{Dispatched, SameButAsleep, is_new, past_now}
 use Rattle.cmwq_model.specs.Prelude.{Layout, unended_tickets}
 use Rattle.cmwq_model.specs.declared.entry.Entry.{Entry}
 use Rattle.cmwq_model.specs.declared.record.Ticket.{Ticket}
@@ -117,6 +117,19 @@ done_is_ready h t p plan done found =
     done_waiting (waits_for (past_in h) t.number t.call)
     (ap (λ o. is_done (end_of_ticket (past_in h) o)) (sym found)
     ∙ ap (λ (e : Entry). is_done e.reply) (sym plan.mark.is_next) ∙ done)
+
+-- ---- only who sleeps changes
+
+pub same_asleep : (d n : Dispatched) → SameButAsleep d n → n ≡ record d { asleep = n.asleep }
+same_asleep d n s = λ i. record {
+  history = s.history i;
+  closed = s.closed i;
+  failed = s.failed i;
+  crowded = s.crowded i;
+  firing = s.firing i;
+  waits = s.waits i;
+  asleep = n.asleep;
+}
 
 -- ---- the place of a caller
 
