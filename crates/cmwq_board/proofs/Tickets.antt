@@ -14,6 +14,8 @@ use Rattle.cmwq_model.specs.declared.call.Call.TheVariants as call
 use Rattle.cmwq_core.specs.History.{History, next_entry, past_in, with_entry}
 use Rattle.cmwq_dispatch.proofs.Steady.{newest}
 use Rattle.cmwq_dispatch.specs.Asleep.{Asleep}
+use Rattle.cmwq_model.specs.declared.id.CallerId.{CallerId}
+use Rattle.std.proofs.lemmas.List.{length-reverse}
 use Rattle.cmwq_dispatch.specs.Dispatched.{Dispatched, past_now}
 use Rattle.cmwq_board.specs.Boarded.{IsBoard, board_of, most_made}
 use Rattle.cmwq_dispatch.specs.Asleep.{SleepOn}
@@ -149,3 +151,24 @@ makes_in d n t u lent who c v w made named kept = (
   record { made = made; named = named },
   ap (λ (x : Tailed Entry). board_of n x.given x.room lent) kept,
 )
+
+-- the call of a caller that has no ticket
+pub held_after_call : (h : History) (c : CallerId) (cl : Call)
+    → IsLegal h.layout (next_entry h (Caller c) cl ∷ past_in h) → tickets_held (past_in h) c.0 ≡ []
+    → tickets_held (next_entry h (Caller c) cl ∷ past_in h) c.0
+    ≡ (if gives_ticket (next_entry h (Caller c) cl).reply
+    then (record { caller = c; call = cl; number = length h.entries }) ∷ [] else [])
+held_after_call h c cl legal none = at (gives_ticket (next_entry h (Caller c) cl).reply) refl
+  where
+    at : (b : Bool) → gives_ticket (next_entry h (Caller c) cl).reply ≡ b
+        → tickets_held (next_entry h (Caller c) cl ∷ past_in h) c.0
+        ≡ (if b then (record { caller = c; call = cl; number = length h.entries }) ∷ [] else [])
+    at true gives =
+        held_given h.layout (past_in h) (next_entry h (Caller c) cl) c.0
+        (record { caller = c; call = cl; number = length h.entries }) legal none
+        (ap₂ (λ (b : Bool) (n : ℕ). if b then Some (record { caller = c; call = cl; number = n }) else None) gives
+        (length-reverse h.entries)) refl
+    at false gives =
+        held_none h.layout (past_in h) (next_entry h (Caller c) cl) c.0 legal none
+        (ap (λ (b : Bool). if b then Some (record { caller = c; call = cl; number = length (past_in h) }) else None)
+        gives)

@@ -1,5 +1,5 @@
 -- What an item does.
-use Rattle.std.specs.Prelude.{◌≡◌, ◌≤◌, ◌<◌, ℕ, Option, Some, None, List, false, nat_le, if◌then◌else◌}
+use Rattle.std.specs.Prelude.{◌≡◌, ◌≤◌, ◌<◌, ℕ, Option, Some, None, List, if◌then◌else◌, nat_le, option_and_then}
 use Rattle.cmwq_model.specs.Prelude.{booking, is_draining, item_run, unstarted_queueing}
 use Rattle.cmwq_model.specs.declared.entry.Entry.{Entry}
 use Rattle.cmwq_model.specs.declared.record.Booking.{Booking}
@@ -20,21 +20,26 @@ item_state past i = record {
   run = item_run past i;
 }
 
--- an item is booked for this tick on a queue that is not drained
+-- when the item may fire: as it is booked, if no drain holds its queue back
+abbrev pub due_unless_held : List Entry → Booking → Option ℕ
+due_unless_held past b = if is_draining past b.place.queue.0 then None else Some b.due
+
+abbrev pub due_of : List Entry → ℕ → Option ℕ
+due_of past i = option_and_then (due_unless_held past) (booking past i)
+
+-- an item may fire at this tick
 pub record MayFireAt (past : List Entry) (items due : ℕ) : Type 0 where
   pub item : ℕ
   pub there : item < items
-  pub booked : Booking
-  pub is_booked : booking past item ≡ Some booked
-  pub held : is_draining past booked.place.queue.0 ≡ false
-  pub when : booked.due ≡ due
+  pub when : due_of past item ≡ Some due
 
--- The least tick of a booking that may fire then, as no drain holds its queue back.
+-- The least tick at which an item may fire.
 abbrev pub IsDue : List Entry → ℕ → Option ℕ → Type 0
 IsDue past items (Some due) = MayFireAt past items due × ((d : ℕ) → MayFireAt past items d → due ≤ d)
 IsDue past items None = (d : ℕ) → MayFireAt past items d → ⊥
 
 -- the lesser of two ticks
-abbrev pub lesser : Option ℕ → ℕ → Option ℕ
-lesser None d = Some d
-lesser (Some e) d = if nat_le e d then Some e else Some d
+abbrev pub lesser : Option ℕ → Option ℕ → Option ℕ
+lesser None o = o
+lesser (Some d) None = Some d
+lesser (Some d) (Some e) = if nat_le d e then Some d else Some e

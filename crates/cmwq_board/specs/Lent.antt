@@ -27,6 +27,10 @@ drains Free = false
 drains (Waits t run slept) = is_drain t.call
 drains (Left t) = is_drain t.call
 
+abbrev pub is_left : Lending → Bool
+is_left (Left t) = true
+is_left l = false
+
 -- the unended tickets of a caller
 abbrev pub tickets_held : List Entry → ℕ → List Ticket
 tickets_held past c = filter (is_held_by (Caller (record { 0 = c }))) (unended_tickets past)

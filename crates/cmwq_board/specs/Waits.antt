@@ -2,15 +2,16 @@
 use Rattle.std.specs.Prelude.{◌≡◌, ◌⊎◌, ◌<◌, ◌≤◌, ◌+◌, ◌&&◌, ◌||◌, ◌∷◌, ◌++◌, ℕ, Bool, true, false, not, zero, suc, [], List}
 use Rattle.std.specs.Prelude.{Option, Some, None, if◌then◌else◌, is_some, length, option_map, option_and_then}
 use Rattle.std.specs.Prelude.{slice_index_or, slice_set}
-use Rattle.std.specs.List.{list_any, list_all}
-use Rattle.cmwq_core.specs.History.{next_entry, takes, takes_with}
+use Rattle.std.specs.List.{list_any, position}
+use Rattle.std.specs.Option.{option_map_or}
+use Rattle.cmwq_core.specs.History.{is_done_waiting, next_entry, takes, takes_with}
 use Rattle.cmwq_dispatch.specs.Asleep.{Asleep, IsUpAgain, SleepOn}
 use Rattle.cmwq_dispatch.specs.Asleep.{Waits as SleepsFor}
 use Rattle.cmwq_dispatch.specs.Dispatched.{Dispatched, FallsAsleep, is_end, is_over, past_now}
 use Rattle.cmwq_dispatch.specs.declared.dispatch.Sleep.{Sleep}
 use Rattle.cmwq_dispatch.specs.declared.dispatch.Sleep.TheVariants as sleep
 use Rattle.cmwq_dispatch.specs.declared.wakes.Wakes.{Wakes}
-use Rattle.cmwq_model.specs.Prelude.{gives_ticket, has_numbers, has_run, is_done, runs_asleep, runs_awake, waits_for}
+use Rattle.cmwq_model.specs.Prelude.{Layout, gives_ticket, has_numbers, has_run, is_done, runs_asleep, runs_awake}
 use Rattle.cmwq_model.specs.declared.call.Call.{Call}
 use Rattle.cmwq_model.specs.declared.call.Call.TheVariants as call
 use Rattle.cmwq_model.specs.declared.id.CallerId.{CallerId}
@@ -45,9 +46,8 @@ is_free Free = true
 is_free l = false
 
 -- the first place of a caller that may be lent
-unfoldable pub first_free : List Lending → Option ℕ
-first_free [] = None
-first_free (l ∷ ls) = if is_free l then Some 0 else option_map suc (first_free ls)
+abbrev pub first_free : List Lending → Option ℕ
+first_free lent = position is_free lent
 
 abbrev pub lending_at : Boarded → ℕ → Lending
 lending_at b place = slice_index_or b.lent place Free
@@ -58,52 +58,66 @@ caller_at b place = record { 0 = first_lent (layout_of b) b.lent + place }
 -- ---- why a wait does not begin
 
 -- the worker of the run that waits is there, and has a run
-abbrev pub is_there : Boarded → Option WorkerId → Bool
-is_there b (Some w) = has_worker (layout_of b) w
-is_there b None = true
+abbrev pub is_there : Layout → Option WorkerId → Bool
+is_there s (Some w) = has_worker s w
+is_there s None = true
 
 abbrev pub has_its_run : Boarded → Option WorkerId → Bool
 has_its_run b (Some w) = has_run (past_of_board b) w
 has_its_run b None = true
 
+-- numbers, the board, the run, space
+abbrev pub early_fault : Boarded → Option WorkerId → Call → Option BoardFault
+early_fault b run c =
+    if not (is_wait c && has_numbers (layout_of b) c && is_there (layout_of b) run) then Some fault.Refused
+    else if b.dispatch.failed then Some fault.Failed
+    else if is_over b.dispatch || (not (is_some run) && b.dispatch.closed) then Some fault.Closed
+    else if not (has_its_run b run) then Some fault.Misuse
+    else if not (has_space b 3) then Some fault.Crowded
+    else None
+
 -- it would wait for its own run, or it could never end, as the runs stand that wait now
-abbrev pub stuck_now : Boarded → Option WorkerId → Call → Option Stuck
-stuck_now b (Some w) c = refusal_of (layout_of b) (past_of_board b) b.dispatch.waits w c
-stuck_now b None c = None
+abbrev pub stuck_now : Dispatched → Option WorkerId → Call → Option Stuck
+stuck_now d (Some w) c = refusal_of d.history.layout (past_now d) d.waits w c
+stuck_now d None c = None
 
 -- a run also makes a sleep and a wake
 abbrev pub more_made : Option WorkerId → ℕ
 more_made (Some w) = 2
 more_made None = 0
 
-abbrev pub of_board : BoardFault → Option WaitFault
-of_board f = Some (wait.Board f)
+-- the run goes to sleep, if it is awake
+abbrev pub sleeps_first : Dispatched → Option WorkerId → Bool
+sleeps_first d (Some w) = runs_awake (past_now d) w
+sleeps_first d None = false
+
+-- there is room for that
+abbrev pub may_sleep : Dispatched → Option WorkerId → Bool
+may_sleep d (Some w) = not (runs_awake (past_now d) w) || takes d.history (Worker w) call.Sleep
+may_sleep d None = true
+
+-- There is room for the call of this caller, and for what the run makes besides.
+abbrev pub has_room_for : Dispatched → Option WorkerId → CallerId → Call → Bool
+has_room_for d run caller c = takes_with d.history (Caller caller) c (more_made run) && may_sleep d run
 
 abbrev pub room_fault : Boarded → Option WorkerId → Call → Option ℕ → Option WaitFault
 room_fault b run c None = Some wait.NoCaller
 room_fault b run c (Some place) =
-    if takes_with b.dispatch.history (Caller (caller_at b place)) c (more_made run) then None else of_board fault.Full
+    if has_room_for b.dispatch run (caller_at b place) c then None else Some (wait.Board fault.Full)
 
 abbrev pub lent_fault : Boarded → Option WorkerId → Call → Option Stuck → Option WaitFault
 lent_fault b run c (Some stuck) = Some (fault_of_stuck stuck)
 lent_fault b run c None = room_fault b run c (first_free b.lent)
 
--- in the order of the runs' own waits: numbers, the board, itself, a deadlock, no caller, no room
+abbrev pub fault_or : Option BoardFault → Option WaitFault → Option WaitFault
+fault_or (Some f) later = Some (wait.Board f)
+fault_or None later = later
+
+-- in the order of the runs' own waits: numbers, the board, space, itself, a deadlock, no caller, no room
 abbrev pub begin_fault : Boarded → Option WorkerId → Call → Option WaitFault
-begin_fault b run c =
-    if not (is_wait c && has_numbers (layout_of b) c && is_there b run) then of_board fault.Refused
-    else if b.dispatch.failed then of_board fault.Failed
-    else if is_over b.dispatch || (not (is_some run) && b.dispatch.closed) then of_board fault.Closed
-    else if not (has_its_run b run) then of_board fault.Misuse
-    else if not (has_space b 3) then of_board fault.Crowded
-    else lent_fault b run c (stuck_now b run c)
+begin_fault b run c = fault_or (early_fault b run c) (lent_fault b run c (stuck_now b.dispatch run c))
 
 -- ---- a wait begins
-
--- the run goes to sleep, if it is awake
-abbrev pub sleeps_first : Boarded → Option WorkerId → Bool
-sleeps_first b (Some w) = runs_awake (past_of_board b) w
-sleeps_first b None = false
 
 abbrev pub MayEnterOf : Option WorkerId → Call → Bool → Dispatched → Dispatched → Wakes → Wakes → Type 0
 MayEnterOf (Some w) c true old new before after = Enters (Worker w) c old new before after
@@ -118,52 +132,66 @@ IsWoken (Some w) old new before after =
     MayEnterOf (Some w) call.Wake (wakes_now old w) old new before after
 IsWoken None old new before after = (new ≡ old) × (after ≡ before)
 
--- whoever may fire keeps it from being over: there is one while any drain has not ended
+-- Whoever may fire keeps it from being over: there is one while any drain has not ended. Nothing else changes.
 abbrev pub firing_for : List Lending → ℕ
 firing_for lent = if list_any drains lent then 1 else 0
 
-abbrev pub waits_with : Dispatched → Option WorkerId → CallerId → ℕ → List RunWait
-waits_with d (Some w) c n = registered d.waits (wait_of (past_now d) w c n)
-waits_with d None c n = d.waits
+pub record Settles (lent : List Lending) (old new : Dispatched) (before after : Wakes) : Type 0 where
+  pub settled : new ≡ record old { firing = firing_for lent; asleep = new.asleep }
+  pub named : (who : Who) → SleepOn who old.asleep new.asleep before after
 
--- the caller of the place has the ticket that it was given
-abbrev pub lent_to : Boarded → Option WorkerId → Bool → ℕ → Call → ℕ → List Lending
-lent_to b run slept place c n =
-    slice_set b.lent place (Waits (record { caller = caller_at b place; call = c; number = n }) run slept)
+-- What the run waits for is known from then on, if there is a place for that: there is one for each caller.
+abbrev pub IsTold : Option WorkerId → CallerId → ℕ → Dispatched → Dispatched → Type 0
+IsTold (Some w) c n old new = (told : Bool)
+    × (new ≡ record old { waits = if told then registered old.waits (wait_of (past_now old) w c n) else old.waits })
+IsTold None c n old new = new ≡ old
 
-abbrev pub reply_of : Begun → Reply
-reply_of (begun.Waits party r) = r
-reply_of (begun.Ended r) = r
+-- the run of which this says that it went to sleep
+abbrev pub if_slept : Bool → Option WorkerId → Option WorkerId
+if_slept slept run = if slept then run else None
 
--- With a ticket the wait begins, and what the run waits for is known from then on. Otherwise the run that went to sleep
--- wakes.
-abbrev pub Lends : Option WorkerId → Bool → ℕ → Call → ℕ → Begun → Boarded → Dispatched → Boarded → Wakes → Wakes
-    → Type 0
-Lends run slept place c n (begun.Waits party r) old called new before after =
-    (gives_ticket r ≡ true) × (party ≡ caller_at old place) × (new.lent ≡ lent_to old run slept place c n)
-    × (new.dispatch ≡ record called {
-      waits = waits_with called run (caller_at old place) n;
-      firing = firing_for new.lent;
-      asleep = new.dispatch.asleep;
-    })
-Lends run slept place c n (begun.Ended r) old called new before after =
-    (gives_ticket r ≡ false) × (new.lent ≡ old.lent)
-    × IsWoken (if slept then run else None) called new.dispatch before after
+-- after the call: with a ticket the run waits, and else it wakes
+abbrev pub ThenWaits : Bool → Option WorkerId → Bool → CallerId → ℕ → Dispatched → Dispatched → Wakes → Wakes → Type 0
+ThenWaits true run slept c n old new before after = IsTold run c n old new × (after ≡ before)
+ThenWaits false run slept c n old new before after = IsWoken (if_slept slept run) old new before after
 
--- The run sleeps if it is awake, and then the call is made by the first caller that may be lent.
-pub record Begins (run : Option WorkerId) (c : Call) (answer : Begun) (old new : Boarded) (before after : Wakes)
-    : Type 0 where
-  pub place : ℕ
-  pub is_first : first_free old.lent ≡ Some place
+-- The run sleeps if it is awake, and then the caller makes the call, whose entry has this number.
+pub record BeginsWait (run : Option WorkerId) (caller : CallerId) (c : Call) (r : Reply) (n : ℕ) (old new : Dispatched)
+    (before after : Wakes) : Type 0 where
   pub asleep : Dispatched
   pub called : Dispatched
   pub then_asleep : Wakes
   pub then_called : Wakes
-  pub sleeps : MayEnterOf run call.Sleep (sleeps_first old run) old.dispatch asleep before then_asleep
-  pub calls : Enters (Caller (caller_at old place)) c (record asleep { firing = 1 }) called then_asleep then_called
-  pub reply : reply_of answer ≡ (next_entry asleep.history (Caller (caller_at old place)) c).reply
-  pub lends : Lends run (sleeps_first old run) place c (length asleep.history.entries) answer old called new
-      then_called after
+  pub sleeps : MayEnterOf run call.Sleep (sleeps_first old run) old asleep before then_asleep
+  pub calls : Enters (Caller caller) c asleep called then_asleep then_called
+  pub reply : r ≡ (next_entry asleep.history (Caller caller) c).reply
+  pub number : n ≡ length asleep.history.entries
+  pub waits : ThenWaits (gives_ticket r) run (sleeps_first old run) caller n called new then_called after
+
+-- what the caller does from then on, and what the wait became
+abbrev pub lending_by : Option WorkerId → Bool → Ticket → Reply → Lending
+lending_by run slept t r = if gives_ticket r then Waits t run slept else Free
+
+abbrev pub begun_by : CallerId → Reply → Begun
+begun_by c r = if gives_ticket r then begun.Waits c r else begun.Ended r
+
+abbrev pub with_firing : Dispatched → Dispatched
+with_firing d = record d { firing = 1 }
+
+-- It is begun by the first caller that may be lent. Somebody may fire meanwhile, so that it is not over.
+pub record Begins (run : Option WorkerId) (c : Call) (answer : Begun) (old new : Boarded) (before after : Wakes)
+    : Type 0 where
+  pub place : ℕ
+  pub is_first : first_free old.lent ≡ Some place
+  pub reply : Reply
+  pub number : ℕ
+  pub called : Dispatched
+  pub then_called : Wakes
+  pub waits : BeginsWait run (caller_at old place) c reply number (with_firing old.dispatch) called before then_called
+  pub begun : answer ≡ begun_by (caller_at old place) reply
+  pub lent : new.lent ≡ slice_set old.lent place (lending_by run (sleeps_first old.dispatch run)
+      (record { caller = caller_at old place; call = c; number = number }) reply)
+  pub settles : Settles new.lent called new.dispatch then_called after
   pub kept : (new.given ≡ old.given) × (new.keeps ≡ old.keeps)
 
 -- ---- a wait ends
@@ -176,11 +204,6 @@ ticket_at (Left t) = Some t
 abbrev pub is_waiting : Lending → Bool
 is_waiting (Waits t run slept) = true
 is_waiting l = false
-
--- the worker whose run wakes after it
-abbrev pub woken_by : Lending → Option WorkerId
-woken_by (Waits t run true) = run
-woken_by l = None
 
 abbrev pub MayFire : Bool → CallerId → Dispatched → Dispatched → Wakes → Wakes → Type 0
 MayFire true c old new before after = FiresDue c old new before after
@@ -205,27 +228,32 @@ pub record EndsAt (place : ℕ) (t : Ticket) (run : Option WorkerId) (old new : 
   pub then_ended : Wakes
   pub ends : EndsTicket t run old.dispatch ended before then_ended
   pub lent : new.lent ≡ slice_set old.lent place Free
-  pub settled : new.dispatch ≡ record ended { firing = firing_for new.lent; asleep = new.dispatch.asleep }
-  pub named : (who : Who) → SleepOn who ended.asleep new.dispatch.asleep then_ended after
+  pub settles : Settles new.lent ended new.dispatch then_ended after
   pub kept : (new.given ≡ old.given) × (new.keeps ≡ old.keeps)
 
--- So many tickets that were left and are ready are ended, one after another.
-pub data Clears : Boarded → Boarded → Wakes → Wakes → Type 0 where
-  nothing : (b : Boarded) (w : Wakes) → Clears b b w w
-  more : (a b c : Boarded) (u v w : Wakes) (place : ℕ) (t : Ticket) → Clears a b u v → lending_at b place ≡ Left t
-      → EndsAt place t None b c v w → Clears a c u w
+-- the ticket that is to be ended: it was left and is ready, and there is space for its end
+abbrev pub left_ready : Boarded → Lending → Option Ticket
+left_ready b (Left t) =
+    if has_space b (most_made (layout_of b)) && is_done_waiting (past_of_board b) t then Some t else None
+left_ready b l = None
 
-abbrev pub MayClear : ℕ → Boarded → Boarded → Wakes → Wakes → Type 0
-MayClear place old new before after = ((new ≡ old) × (after ≡ before))
-    ⊎ ((t : Ticket) × (lending_at old place ≡ Left t) × EndsAt place t None old new before after)
+abbrev pub ClearsAt : ℕ → Option Ticket → Boarded → Boarded → Wakes → Wakes → Type 0
+ClearsAt place (Some t) old new before after = EndsAt place t None old new before after
+ClearsAt place None old new before after = (new ≡ old) × (after ≡ before)
 
--- a step, after which the tickets are ended that were left and are ready
+-- so many places are gone through, one after another
+pub data Clears : ℕ → Boarded → Boarded → Wakes → Wakes → Type 0 where
+  nothing : (b : Boarded) (w : Wakes) → Clears 0 b b w w
+  more : (k : ℕ) (a b c : Boarded) (u v w : Wakes) → Clears k a b u v
+      → ClearsAt k (left_ready b (lending_at b k)) b c v w → Clears (k + 1) a c u w
+
+-- a step, after which at each place the ticket is ended that was left and is ready
 pub record ThenClears (Step : Boarded → Boarded → Wakes → Wakes → Type 0) (old new : Boarded) (before after : Wakes)
     : Type 0 where
   pub mid : Boarded
   pub meanwhile : Wakes
   pub step : Step old mid before meanwhile
-  pub clears : Clears mid new meanwhile after
+  pub clears : Clears (length mid.lent) mid new meanwhile after
 
 -- the place of a lent caller
 abbrev pub place_of : Boarded → CallerId → Option ℕ
@@ -235,20 +263,16 @@ abbrev pub waiting_at : Boarded → Option ℕ → Bool
 waiting_at b (Some place) = is_waiting (lending_at b place)
 waiting_at b None = false
 
--- the ticket waits for nothing any more
-abbrev pub is_ready : Boarded → Option Ticket → Bool
-is_ready b (Some t) = not (is_some (waits_for (past_of_board b) t.number t.call))
-is_ready b None = false
-
-abbrev pub ticket_of_place : Boarded → Option ℕ → Option Ticket
-ticket_of_place b (Some place) = ticket_at (lending_at b place)
-ticket_of_place b None = None
+-- its ticket waits for nothing any more
+abbrev pub is_ready_at : Boarded → Option ℕ → Bool
+is_ready_at b (Some place) = option_map_or (is_done_waiting (past_of_board b)) (ticket_at (lending_at b place)) false
+is_ready_at b None = false
 
 abbrev pub end_fault : Boarded → CallerId → Option BoardFault
 end_fault b c = if not (is_some (place_of b c)) then Some fault.Refused
     else if not (waiting_at b (place_of b c)) then Some fault.Misuse
     else if b.dispatch.failed then Some fault.Failed
-    else if is_ready b (ticket_of_place b (place_of b c)) && not (has_space b (most_made (layout_of b))) then Some fault.Crowded
+    else if is_ready_at b (place_of b c) && not (has_space b (most_made (layout_of b))) then Some fault.Crowded
     else None
 
 -- the caller is awake again, and nothing else changes
@@ -256,21 +280,28 @@ pub record IsAwake (c : CallerId) (old new : Boarded) : Type 0 where
   pub same : new ≡ with_asleep old new.dispatch.asleep
   pub awake : IsUpAgain (Caller c) old.dispatch.asleep new.dispatch.asleep
 
--- It has ended. Or it is not ready, and the caller begins to sleep until it is, has to look again, or it is over.
-abbrev pub Ends : CallerId → ℕ → Lending → Ended → Boarded → Boarded → Wakes → Wakes → Type 0
-Ends c place (Waits t run slept) Done awake new before after =
-    ThenClears (EndsAt place t (woken_by (Waits t run slept))) awake new before after
-Ends c place (Waits t run slept) (Not instead) awake new before after =
+-- the caller is awake again, and then this is done
+pub record IsAwakeThen (c : CallerId) (Then : Boarded → Type 0) (old : Boarded) : Type 0 where
+  pub awake : Boarded
+  pub awakes : IsAwake c old awake
+  pub next : Then awake
+
+-- The caller begins to sleep until its ticket is ready, or has to look again, or it is over.
+abbrev pub WaitsOn : Ticket → Sleep → Boarded → Boarded → Type 0
+WaitsOn t instead awake new =
     FallsAsleep (SleepsFor t) awake.dispatch instead new.dispatch × (new ≡ with_dispatch awake new.dispatch)
-    × (after ≡ before)
-Ends c place l answer awake new before after = ⊥
+
+-- it has ended, or it is not ready
+abbrev pub Ends : ℕ → Lending → Ended → Boarded → Wakes → Wakes → Boarded → Type 0
+Ends place (Waits t run slept) Done new before after awake =
+    ThenClears (EndsAt place t (if_slept slept run)) awake new before after
+Ends place (Waits t run slept) (Not instead) new before after awake = WaitsOn t instead awake new × (after ≡ before)
+Ends place l answer new before after awake = ⊥
 
 pub record EndsOrWaits (c : CallerId) (answer : Ended) (old new : Boarded) (before after : Wakes) : Type 0 where
   pub place : ℕ
   pub is_place : place_of old c ≡ Some place
-  pub awake : Boarded
-  pub awakes : IsAwake c old awake
-  pub ends : Ends c place (lending_at old place) answer awake new before after
+  pub ends : IsAwakeThen c (Ends place (lending_at old place) answer new before after) old
 
 -- ---- a wait is left
 
@@ -289,12 +320,13 @@ leave_fault b c = if not (is_some (place_of b c)) then Some fault.Refused
     else None
 
 -- nobody waits for the ticket any more
+abbrev pub IsLeft : ℕ → Ticket → Boarded → Boarded → Type 0
+IsLeft place t new awake = new ≡ record awake { lent = slice_set awake.lent place (Left t) }
+
 pub record Leaves (c : CallerId) (old new : Boarded) (before after : Wakes) : Type 0 where
   pub place : ℕ
   pub is_place : place_of old c ≡ Some place
   pub ticket : Ticket
   pub has_ticket : ticket_at (lending_at old place) ≡ Some ticket
-  pub awake : Boarded
-  pub awakes : IsAwake c old awake
-  pub left : new ≡ record awake { lent = slice_set old.lent place (Left ticket) }
+  pub left : IsAwakeThen c (IsLeft place ticket new) old
   pub nobody : after ≡ before

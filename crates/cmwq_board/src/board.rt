@@ -1,19 +1,20 @@
 //! A hub without threads: what its callers and workers are answered, who sleeps, and who is to be woken.
 
 ghost use Rattle.std.specs.Prelude.{◌≡◌, ◌≤◌, IfOk, IfErr, OnErr, IsTrue, None, Some, [], false, is_ok, length, min};
-ghost use Rattle.std.specs.Prelude.{vec_capacity};
+ghost use Rattle.std.specs.Prelude.{max, replicate, vec_capacity};
 ghost use Rattle.cmwq_model.specs.Prelude.{IsLegal};
 ghost use Rattle.cmwq_dispatch.specs.Asleep.{NobodySleeps};
-ghost use Rattle.cmwq_dispatch.specs.Dispatched.{Stands, is_over};
+ghost use Rattle.cmwq_dispatch.specs.Dispatched.{Stands, is_new, is_over};
 ghost use Rattle.cmwq_dispatch.specs.Naming.{NamesAll, NamesMore};
 ghost use Rattle.cmwq_board.specs.Boarded.{IsBoard, board_of, failed, handed_out, is_new_board, is_own, kept_in, layout_of};
 ghost use Rattle.cmwq_board.specs.Boarded.{most_made, past_of_board, stopped, with_asleep};
-ghost use Rattle.cmwq_board.specs.Lent.{drains, first_lent};
+ghost use Rattle.cmwq_board.specs.Lent.{drains, first_lent, is_left};
 ghost use Rattle.std.specs.List.{list_any};
 ghost use Rattle.cmwq_board.specs.Steps.{Finishes, Makes, Starts, call_fault, finish_fault};
 ghost use Rattle.cmwq_board.specs.Steps.{reply_now, start_fault};
 ghost use Rattle.cmwq_board.specs.Waits.{ThenClears};
 
+mod begin;
 mod items;
 mod time;
 mod waits;
@@ -26,7 +27,7 @@ use cmwq_core::Full;
 use cmwq_dispatch::{Dispatch, Firing, Sleep, Wakes};
 use cmwq_model::{Call, CallerId, Entry, ItemId, NoMemory, Number, Reply, Shape, Who, WorkerId};
 use cmwq_state::Tail;
-use std::alloc::Global;
+use std::alloc::{AllocError, Global};
 use std::marker::Model;
 
 /// What a worker does next.
@@ -76,22 +77,23 @@ pub struct Board {
     lent: Vec<Lending>,
     /// What whoever may still fire has: there is one while any drain has not ended.
     firing: Option<Firing>,
-    /// Whether somebody may have left a wait that has not ended.
+    /// Whether somebody may have left a wait that has not ended. If not, no ticket is looked at.
     left: bool,
 }
 
 impl Model for Board {
-    ghost use Rattle.std.specs.Prelude.{◌≡◌, is_some};
+    ghost use Rattle.std.specs.Prelude.{◌≡◌, is_some, true};
     ghost use Rattle.std.specs.List.{list_any};
     ghost use Rattle.cmwq_board.specs.Boarded.{Boarded, IsBoard, board_of};
-    ghost use Rattle.cmwq_board.specs.Lent.{drains};
+    ghost use Rattle.cmwq_board.specs.Lent.{drains, is_left};
 
     ghost Value = { Boarded };
 
     ghost view = { λ b. board_of b.dispatch b.tail.given b.tail.room b.lent.items };
 
     ghost invariant = { λ b. (b.tail.all ≡ b.dispatch.history.entries)
-        × (is_some b.firing ≡ list_any drains b.lent.items) × IsBoard b.dispatch b.tail.room b.lent.items };
+        × (is_some b.firing ≡ list_any drains b.lent.items) × IsBoard b.dispatch b.tail.room b.lent.items
+        × (list_any is_left b.lent.items ≡ true → b.left ≡ true) };
 }
 
 /// How many entries one call makes at most: the end of a drain ends it, fires each item, and wakes the run that waited.
@@ -99,6 +101,30 @@ fn most_made(shape: &Shape) -> u32
     ensures { result ≡ most_made shape.now }
 {
     u32::from(shape.counts().items) + 2
+}
+
+/// A dispatch with no entries, and the room of the shape.
+fn new_dispatch(alloc: Global, shape: &Shape) -> Result<Dispatch, NoMemory>
+    ensures new { IfOk result (λ dispatch. dispatch ≡ is_new shape.now shape.now.room dispatch.asleep) }
+    ensures nobody { IfOk result (λ dispatch. NobodySleeps dispatch.asleep) }
+{
+    Dispatch::new(alloc, shape, shape.counts().room)
+}
+
+/// No entries, of which so many are kept, or as many as one call may make if that is more.
+fn new_tail(alloc: Global, shape: &Shape, kept: u32) -> Result<Tail<Entry>, AllocError>
+    ensures { IfOk result
+        (λ tail. tail ≡ record { all = []; given = 0; room = max kept (most_made shape.now) }) }
+{
+    Tail::new(alloc, kept.max(most_made(shape)))
+}
+
+/// So many callers may be lent, or all if the shape has fewer.
+fn new_lent(alloc: Global, shape: &Shape, lent: u8) -> Result<Vec<Lending>, AllocError>
+    ensures { IfOk result (λ all. all.items ≡ replicate (min lent shape.now.callers) Lending.Free) }
+{
+    let lent = lent.min(shape.counts().callers);
+    Vec::from_elem(alloc, Lending::Free, usize::from(lent))
 }
 
 impl Board {
@@ -110,12 +136,9 @@ impl Board {
             board.dispatch.asleep) }
         ensures nobody { IfOk result (λ board. NobodySleeps board.dispatch.asleep) }
     {
-        let counts = shape.counts();
-        let keeps = kept.max(most_made(shape));
-        let lent = lent.min(counts.callers);
-        let dispatch = Dispatch::new(alloc, shape, counts.room)?;
-        let tail = Tail::new(alloc, keeps)?;
-        let lent = Vec::from_elem(alloc, Lending::Free, usize::from(lent))?;
+        let dispatch = new_dispatch(alloc, shape)?;
+        let tail = new_tail(alloc, shape, kept)?;
+        let lent = new_lent(alloc, shape, lent)?;
         Ok(Board::of_parts(dispatch, tail, lent))
     }
 
@@ -123,6 +146,7 @@ impl Board {
     fn of_parts(dispatch: Dispatch, tail: Tail<Entry>, lent: Vec<Lending>) -> Board
         requires kept { tail.all ≡ dispatch.history.entries }
         requires free { list_any drains lent.items ≡ false }
+        requires waited { list_any is_left lent.items ≡ false }
         requires board { IsBoard dispatch tail.room lent.items }
         ensures { result ≡ board_of dispatch tail.given tail.room lent.items }
     {
@@ -165,6 +189,7 @@ impl Board {
     fn first_lent(&self) -> u8
         ensures first { result ≡ first_lent (layout_of self.now) self.now.lent }
         ensures few { length self.now.lent ≤ (layout_of self.now).callers }
+        ensures small { (layout_of self.now).callers ≤ 255 }
     {
         let callers = self.dispatch.shape().counts().callers;
         callers - self.lent.len() as u8

@@ -2,7 +2,8 @@
 
 ghost use Rattle.std.specs.Prelude.{◌≡◌};
 ghost use Rattle.std.specs.List.{list_any};
-ghost use Rattle.cmwq_board.specs.Lent.{is_drain, drains};
+ghost use Rattle.cmwq_board.specs.Lent.{drains, is_drain, is_left};
+ghost use Rattle.cmwq_board.specs.Waits.{is_free};
 
 use cmwq_model::{Call, Ticket, WorkerId};
 
@@ -25,6 +26,20 @@ pub enum Lending {
 }
 
 impl Lending {
+    /// Whether it may be lent.
+    pub(crate) fn is_free(&self) -> bool
+        ensures { result ≡ is_free self.now }
+    {
+        matches!(self, Lending::Free)
+    }
+
+    /// Whether somebody has left its wait.
+    pub(crate) fn is_left(&self) -> bool
+        ensures { result ≡ is_left self.now }
+    {
+        matches!(self, Lending::Left { .. })
+    }
+
     /// Whether its ticket is one of a drain.
     pub(crate) fn drains(&self) -> bool
         ensures { result ≡ drains self.now }
@@ -34,6 +49,13 @@ impl Lending {
             Lending::Waits { ticket, .. } | Lending::Left { ticket } => is_drain(&ticket.call),
         }
     }
+}
+
+/// Whether somebody has left the wait of any of them.
+pub(crate) fn any_left(lent: &[Lending]) -> bool
+    ensures { result ≡ list_any is_left lent.now }
+{
+    lent.iter().any(|lending| lending.is_left())
 }
 
 /// Whether this call waits until a queue is empty, after which timers fire that were held back.

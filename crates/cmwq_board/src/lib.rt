@@ -2,10 +2,12 @@
 //! those who are named. It decides nothing.
 #![tactic(auto)]
 
+mod beginning;
 mod board;
 mod calls;
 mod entering;
 mod fault;
+mod firing;
 mod item_state;
 mod lending;
 #[cfg(test)]

@@ -1,9 +1,10 @@
 //! Time: ticks, and the timers that fire.
 
-ghost use Rattle.std.specs.Prelude.{◌≡◌, IfOk, IfErr, None, OnErr, Some};
+ghost use Rattle.std.specs.Prelude.{◌≡◌, ◌<◌, IfErr, IfOk, None, OnErr, Some};
+ghost use Rattle.cmwq_core.specs.History.{past_in};
 ghost use Rattle.cmwq_model.specs.Calls as model;
 ghost use Rattle.cmwq_board.specs.Boarded.{layout_of, past_of_board};
-ghost use Rattle.cmwq_board.specs.Items.{IsDue, lesser};
+ghost use Rattle.cmwq_board.specs.Items.{IsDue, due_of, lesser};
 ghost use Rattle.cmwq_board.specs.Steps.{Advances, advance_fault};
 
 use crate::board::{Board, most_made};
@@ -12,6 +13,7 @@ use crate::fault::BoardFault;
 use cmwq_core::Full;
 use cmwq_dispatch::Wakes;
 use cmwq_model::{CallerId, ItemId, Who};
+use cmwq_state::State;
 
 impl Board {
     /// So many ticks go by, and what is due is fired, by a caller of the user's own. It returns the tick that it is.
@@ -61,22 +63,32 @@ impl Board {
         let state = self.dispatch.execution().state();
         let mut least = None;
         for item in 0..self.dispatch.shape().counts().items {
-            if let Some(timer) = state.timer(ItemId(item)) {
-                if !state.is_draining(timer.place.queue) {
-                    least = sooner(least, timer.due);
-                }
-            }
+            least = lesser(least, due_of(state, ItemId(item)));
         }
         least
     }
 }
 
-/// The lesser of the least tick so far and another.
-fn sooner(least: Option<u64>, due: u64) -> Option<u64>
+/// When the item may fire: as it is booked, if no drain holds its queue back.
+fn due_of(state: &State, item: ItemId) -> Option<u64>
+    requires { item.0 < state.now.layout.items }
+    ensures { result ≡ due_of (past_in state.now) item.0 }
+{
+    let timer = state.timer(item)?;
+    if state.is_draining(timer.place.queue) {
+        None
+    } else {
+        Some(timer.due)
+    }
+}
+
+/// The lesser of two ticks.
+fn lesser(least: Option<u64>, due: Option<u64>) -> Option<u64>
     ensures { result ≡ lesser least due }
 {
-    match least {
-        Some(before) if before <= due => least,
-        _ => Some(due),
+    match (least, due) {
+        (None, _) => due,
+        (_, None) => least,
+        (Some(before), Some(after)) => { if before <= after { least } else { due } }
     }
 }

@@ -1,99 +1,49 @@
-//! Waits, each by a caller that is lent to it.
+//! Waits end, or are left.
 
-ghost use Rattle.std.specs.Prelude.{◌≡◌, ◌<◌, ◌≤◌, ◌+◌, IfOk, IfErr, None, OnErr, Some, is_some, length};
-ghost use Rattle.std.specs.Prelude.{false, true, if◌then◌else◌};
-ghost use Rattle.std.specs.List.{list_any};
+ghost use Rattle.std.specs.Prelude.{◌≡◌, ◌<◌, ◌∷◌, IfErr, IfOk, IfSome, None, OnErr, Some, [], false, is_some, length};
+ghost use Rattle.std.specs.Prelude.{true};
+ghost use Rattle.cmwq_core.specs.History.{is_done_waiting};
 ghost use Rattle.cmwq_core.specs.Plans.{IsPlan};
-ghost use Rattle.cmwq_dispatch.specs.Asleep.{IsUpAgain, SleepOn};
-ghost use Rattle.cmwq_dispatch.specs.Dispatched.{IsEndPlan, is_over, past_now};
+ghost use Rattle.cmwq_dispatch.specs.Asleep.{IsUpAgain};
+ghost use Rattle.cmwq_dispatch.specs.Dispatched.{past_now};
+ghost use Rattle.cmwq_dispatch.specs.Waiting.{IsKnown};
 ghost use Rattle.cmwq_model.specs.declared.call.Call.TheVariants as calls;
 ghost use Rattle.cmwq_model.specs.declared.id.Who.TheVariants as who;
-ghost use Rattle.cmwq_model.specs.Prelude.{IsLegal, is_done};
-ghost use Rattle.cmwq_board.specs.Boarded.{first_place, has_space, layout_of, most_made, with_asleep};
-ghost use Rattle.cmwq_board.specs.Lent.{drains};
-ghost use Rattle.cmwq_board.specs.Waits.{Begins, Clears, EndsAt, EndsOrWaits, Leaves, MayClear, ThenClears};
-ghost use Rattle.cmwq_board.specs.Waits.{begin_fault, caller_at};
-ghost use Rattle.cmwq_board.specs.Waits.{IsWoken, firing_for, is_there, end_fault, first_free, leave_fault, lending_at, place_of, ticket_at};
-ghost use Rattle.cmwq_board.specs.declared.fault.WaitFault.TheVariants as wait;
+ghost use Rattle.cmwq_model.specs.Prelude.{is_done};
+ghost use Rattle.cmwq_board.specs.Boarded.{has_space, layout_of, most_made, past_of_board, with_asleep};
+ghost use Rattle.cmwq_board.specs.Lent.{tickets_held};
+ghost use Rattle.cmwq_board.specs.Waits.{Clears, ClearsAt, EndsAt, EndsOrWaits, IsAwakeThen, IsLeft, Leaves};
+ghost use Rattle.cmwq_board.specs.Waits.{ThenClears, WaitsOn, end_fault, leave_fault, left_ready, lending_at, place_of};
+ghost use Rattle.cmwq_board.specs.Waits.{ticket_at};
 
-use crate::board::{Begun, Board, Ended, most_made};
-use crate::calls::is_wait;
-use crate::entering::{end_ticket, enter, has_worker, wake};
-use crate::fault::{BoardFault, WaitFault, fault_of};
-use crate::lending::{Lending, any_drains, is_drain};
-use cmwq_core::{Full, Plan};
-use cmwq_dispatch::{Dispatch, EndPlan, Firing, Sleep, Wakes};
-use cmwq_model::{Call, CallerId, Entry, Reply, Ticket, Who, WorkerId};
-use cmwq_state::Tail;
-use std::mem::replace;
+use crate::beginning::if_slept;
+use crate::board::{Board, Ended, most_made};
+use crate::entering::end_ticket;
+use crate::fault::BoardFault;
+use crate::firing::ends_firing;
+use crate::lending::{Lending, any_left};
+use cmwq_core::Plan;
+use cmwq_dispatch::{Dispatch, EndPlan, Sleep, Wakes};
+use cmwq_model::{CallerId, Ticket, Who, WorkerId};
 
-/// A fault of the board, as one of a wait.
-fn refused(fault: BoardFault) -> Result<Begun, WaitFault>
-    ensures { result ≡ Err (wait.Board fault) }
+/// The end of this ticket, if it is ready.
+fn planned_end(dispatch: &Dispatch, ticket: Ticket) -> Option<Plan>
+    requires there { ticket.caller.0 < dispatch.now.history.layout.callers }
+    requires held { tickets_held (past_now dispatch.now) ticket.caller.0 ≡ ticket ∷ [] }
+    ensures ready { is_some result ≡ is_done_waiting (past_now dispatch.now) ticket }
+    ensures plan { IfSome result
+        (λ plan. IsPlan dispatch.now.history (who.Caller ticket.caller) (calls.End ticket.number) plan) }
+    ensures done { IfSome result (λ plan. is_done plan.mark.entry.reply ≡ true) }
+    ensures known { result ≡ None → IsKnown dispatch.now.history.layout (past_now dispatch.now) ticket }
 {
-    Err(WaitFault::Board { fault })
-}
-
-/// A caller may fire from now on, if none may yet.
-fn begins_firing(dispatch: &mut Dispatch, firing: &mut Option<Firing>, wakes: &mut Wakes)
-    requires lives { is_over dispatch.old ≡ false }
-    requires token { dispatch.old.firing ≡ (if is_some firing.old then 1 else 0) }
-    ensures token { is_some firing.new ≡ true }
-    ensures new { dispatch.new ≡ record dispatch.old { firing = 1 } }
-    ensures nobody { wakes.new ≡ wakes.old }
-{
-    if firing.is_some() {
-        return;
+    match dispatch.plan_end(ticket.caller, ticket.number) {
+        EndPlan::Done(plan) => Some(plan),
+        EndPlan::Waits(_) => None,
+        EndPlan::Unknown => unreachable!(),
     }
-    let begun = dispatch.begins_firing();
-    if let Some(before) = replace(firing, begun) {
-        dispatch.ends_firing(before, wakes);
-    }
-}
-
-/// Nobody may fire any more once no drain has a ticket.
-fn ends_firing(
-    dispatch: &mut Dispatch,
-    firing: &mut Option<Firing>,
-    lent: &[Lending],
-    wakes: &mut Wakes,
-)
-    requires firing { dispatch.old.firing ≡ (if is_some firing.old then 1 else 0) }
-    requires token { list_any drains lent.now ≡ true → is_some firing.old ≡ true }
-    ensures token { is_some firing.new ≡ list_any drains lent.now }
-    ensures new { dispatch.new
-        ≡ record dispatch.old { firing = firing_for lent.now; asleep = dispatch.new.asleep } }
-    ensures named { (who : _) → SleepOn who dispatch.old.asleep dispatch.new.asleep wakes.old wakes.new }
-{
-    if any_drains(lent) {
-        return;
-    }
-    if let Some(before) = firing.take() {
-        dispatch.ends_firing(before, wakes);
-    }
-}
-
-/// The first of them that is free.
-fn first_free(lent: &[Lending]) -> Option<usize>
-    ensures { result ≡ first_free lent.now }
-{
-    for place in 0..lent.len() {
-        if matches!(lent[place], Lending::Free) {
-            return Some(place);
-        }
-    }
-    None
 }
 
 impl Board {
-    /// The caller of this place.
-    fn caller_at(&self, place: usize) -> CallerId
-        requires { place < length self.now.lent }
-        ensures { result ≡ caller_at self.now place }
-    {
-        CallerId(self.first_lent() + place as u8)
-    }
-
     /// The place of this caller, if it is one that is lent.
     fn place_of(&self, party: CallerId) -> Option<usize>
         ensures { result ≡ place_of self.now party }
@@ -108,129 +58,6 @@ impl Board {
         } else {
             None
         }
-    }
-
-    fn has_run_of(&self, run: Option<WorkerId>) -> bool
-        ensures { result ≡ is_there self.now run }
-    {
-        match run {
-            Some(worker) => has_worker(self.dispatch.shape(), worker),
-            None => true,
-        }
-    }
-
-    /// A wait begins by this call: flush, drain, destroy, flush_item, flush_delayed or cancel_sync. A caller is lent to
-    /// it. If a run waits, its worker is told, and the run sleeps meanwhile, if it is awake.
-    pub fn begin(
-        &mut self,
-        run: Option<WorkerId>,
-        call: Call,
-        wakes: &mut Wakes,
-    ) -> Result<Begun, WaitFault>
-        ensures begins { IfOk result (λ begun. Begins run call begun self.old self.new wakes.old wakes.new) }
-        ensures taken { IfOk result (λ _. begin_fault self.old run call ≡ None) }
-        ensures refused { IfErr result (λ fault. begin_fault self.old run call ≡ Some fault) }
-        ensures same { OnErr result ((self.new ≡ self.old) × (wakes.new ≡ wakes.old)) }
-    {
-        if !is_wait(&call) || !self.dispatch.shape().has_numbers(call) || !self.has_run_of(run) {
-            return refused(BoardFault::Refused);
-        }
-        if self.dispatch.has_failed() {
-            return refused(BoardFault::Failed);
-        }
-        if self.dispatch.is_over() || run.is_none() && self.dispatch.is_closed() {
-            return refused(BoardFault::Closed);
-        }
-        if let Some(worker) = run {
-            if !self.dispatch.execution().state().has_run(worker) {
-                return refused(BoardFault::Misuse);
-            }
-        }
-        if self.tail.space() < 3 {
-            return refused(BoardFault::Crowded);
-        }
-        if let Some(worker) = run {
-            if let Some(stuck) = self.dispatch.refuses(worker, call) {
-                return Err(fault_of(stuck));
-            }
-        }
-        let Some(place) = first_free(&self.lent) else {
-            return Err(WaitFault::NoCaller);
-        };
-        let caller = self.caller_at(place);
-        let more = if run.is_some() { 2 } else { 0 };
-        if !self
-            .dispatch
-            .execution()
-            .has_room_with(Who::Caller(caller), call, more)
-        {
-            return refused(BoardFault::Full);
-        }
-        self.lend(place, caller, run, call, wakes)
-    }
-
-    /// The wait begins, by the caller of this place.
-    fn lend(
-        &mut self,
-        place: usize,
-        caller: CallerId,
-        run: Option<WorkerId>,
-        call: Call,
-        wakes: &mut Wakes,
-    ) -> Result<Begun, WaitFault> {
-        begins_firing(&mut self.dispatch, &mut self.firing, wakes);
-        let slept = self.sleeps(run, wakes);
-        let number = self.tail.len();
-        let entered = enter(
-            &mut self.dispatch,
-            &mut self.tail,
-            Who::Caller(caller),
-            call,
-            wakes,
-        );
-        let begun = match entered {
-            Ok(reply) => {
-                if reply.gives_ticket() {
-                    let ticket = Ticket {
-                        caller,
-                        call,
-                        number,
-                    };
-                    self.lent[place] = Lending::Waits { ticket, run, slept };
-                    if let Some(worker) = run {
-                        self.dispatch.run_waits(worker, caller, number);
-                    }
-                    Ok(Begun::Waits {
-                        party: caller,
-                        reply,
-                    })
-                } else {
-                    Ok(Begun::Ended { reply })
-                }
-            }
-            Err(Full) => refused(BoardFault::Full),
-        };
-        if let (true, Ok(Begun::Ended { .. }) | Err(_)) = (slept, &begun) {
-            wake(&mut self.dispatch, &mut self.tail, run, wakes);
-        }
-        ends_firing(&mut self.dispatch, &mut self.firing, &self.lent, wakes);
-        begun
-    }
-
-    /// The run goes to sleep, if it is awake.
-    fn sleeps(&mut self, run: Option<WorkerId>, wakes: &mut Wakes) -> bool {
-        let Some(worker) = run else {
-            return false;
-        };
-        self.dispatch.execution().state().runs_awake(worker)
-            && enter(
-                &mut self.dispatch,
-                &mut self.tail,
-                Who::Worker(worker),
-                Call::Sleep,
-                wakes,
-            )
-            .is_ok()
     }
 
     /// Ends the wait of a lent caller if it is ready: after a drain what is due is fired, the run that slept for it
@@ -251,23 +78,48 @@ impl Board {
         if self.dispatch.has_failed() {
             return Err(BoardFault::Failed);
         }
-        match self.dispatch.plan_end(party, ticket.number) {
-            EndPlan::Done(plan) => {
-                if self.tail.space() < most_made(self.dispatch.shape()) {
-                    return Err(BoardFault::Crowded);
-                }
-                self.dispatch.awakes(Who::Caller(party));
-                let worker = if slept { run } else { None };
-                self.ends(place, ticket, worker, &plan, wakes);
-                self.clears(wakes);
-                Ok(Ended::Done)
-            }
-            EndPlan::Waits(found) => {
-                self.dispatch.awakes(Who::Caller(party));
-                Ok(Ended::Not(self.dispatch.sleeps(found)))
-            }
-            EndPlan::Unknown => Ok(Ended::Not(Sleep::Over)),
+        let Some(plan) = planned_end(&self.dispatch, ticket) else {
+            return Ok(Ended::Not(self.waits_on(ticket)));
+        };
+        if self.tail.space() < most_made(self.dispatch.shape()) {
+            return Err(BoardFault::Crowded);
         }
+        self.ends_wait(place, ticket, if_slept(slept, run), &plan, wakes);
+        Ok(Ended::Done)
+    }
+
+    /// The caller of this ticket is awake, and begins to sleep until it is ready.
+    fn waits_on(&mut self, ticket: Ticket) -> Sleep
+        requires known { IsKnown (layout_of self.old) (past_of_board self.old) ticket }
+        requires unready { is_done_waiting (past_of_board self.old) ticket ≡ false }
+        ensures { IsAwakeThen ticket.caller (λ awake. WaitsOn ticket result awake self.new) self.old }
+    {
+        self.dispatch.awakes(Who::Caller(ticket.caller));
+        self.dispatch.sleeps(ticket)
+    }
+
+    /// The caller of this ticket is awake, and its wait ends. Then the tickets are ended that were left and are ready
+    /// now.
+    fn ends_wait(
+        &mut self,
+        place: usize,
+        ticket: Ticket,
+        run: Option<WorkerId>,
+        plan: &Plan,
+        wakes: &mut Wakes,
+    )
+        requires place { place < length self.old.lent }
+        requires ticket { ticket_at (lending_at self.old place) ≡ Some ticket }
+        requires plan { IsPlan self.old.dispatch.history (who.Caller ticket.caller) (calls.End ticket.number) plan.now }
+        requires done { is_done plan.now.mark.entry.reply ≡ true }
+        requires lives { self.old.dispatch.failed ≡ false }
+        requires space { has_space self.old (most_made (layout_of self.old)) ≡ true }
+        ensures { IsAwakeThen ticket.caller
+            (λ awake. ThenClears (EndsAt place ticket run) awake self.new wakes.old wakes.new) self.old }
+    {
+        self.dispatch.awakes(Who::Caller(ticket.caller));
+        self.ends(place, ticket, run, plan, wakes);
+        self.clears(wakes);
     }
 
     /// Makes the end of a ticket that was planned, and what belongs to it.
@@ -297,17 +149,17 @@ impl Board {
     /// Ends the tickets that were left and are ready.
     pub(crate) fn clears(&mut self, wakes: &mut Wakes)
         requires { self.old.dispatch.failed ≡ false }
-        ensures { Clears self.old self.new wakes.old wakes.new }
+        ensures { Clears (length self.old.lent) self.old self.new wakes.old wakes.new }
     {
         if self.left {
-            self.left = false;
             self.clears_all(wakes);
+            self.left = any_left(&self.lent);
         }
     }
 
     fn clears_all(&mut self, wakes: &mut Wakes)
         requires { self.old.dispatch.failed ≡ false }
-        ensures { Clears self.old self.new wakes.old wakes.new }
+        ensures { Clears (length self.old.lent) self.old self.new wakes.old wakes.new }
     {
         let places = self.lent.len();
         for place in 0..places {
@@ -315,21 +167,22 @@ impl Board {
         }
     }
 
+    /// Ends the ticket of this place if it was left and is ready.
     fn clears_at(&mut self, place: usize, wakes: &mut Wakes)
         requires place { place < length self.old.lent }
         requires lives { self.old.dispatch.failed ≡ false }
-        ensures clears { MayClear place self.old self.new wakes.old wakes.new }
+        ensures clears { ClearsAt place (left_ready self.old (lending_at self.old place)) self.old self.new
+            wakes.old wakes.new }
         ensures lives { self.new.dispatch.failed ≡ false }
         ensures many { length self.new.lent ≡ length self.old.lent }
     {
         let Lending::Left { ticket } = self.lent[place] else {
             return;
         };
-        self.left = true;
         if self.tail.space() < most_made(self.dispatch.shape()) {
             return;
         }
-        if let EndPlan::Done(plan) = self.dispatch.plan_end(ticket.caller, ticket.number) {
+        if let Some(plan) = planned_end(&self.dispatch, ticket) {
             self.ends(place, ticket, None, &plan, wakes);
         }
     }
@@ -364,10 +217,19 @@ impl Board {
         if self.dispatch.has_failed() {
             return Err(BoardFault::Failed);
         }
-        self.dispatch.awakes(Who::Caller(party));
-        self.lent[place] = Lending::Left { ticket };
-        self.left = true;
+        self.leaves_at(place, ticket);
         self.clears(wakes);
         Ok(())
+    }
+
+    /// The caller of this place is awake, and nobody waits for its ticket any more.
+    fn leaves_at(&mut self, place: usize, ticket: Ticket)
+        requires place { place < length self.old.lent }
+        requires ticket { ticket_at (lending_at self.old place) ≡ Some ticket }
+        ensures { IsAwakeThen ticket.caller (IsLeft place ticket self.new) self.old }
+    {
+        self.dispatch.awakes(Who::Caller(ticket.caller));
+        self.lent[place] = Lending::Left { ticket };
+        self.left = true;
     }
 }

@@ -1,5 +1,5 @@
 use Rattle.std.proofs.Common.{arith}
-use Rattle.cmwq_board.proofs.Firing.{fired_more}
+use Rattle.cmwq_board.proofs.Fires.{fired_more}
 use Rattle.cmwq_board.proofs.entering.fire_due.Goals as goal
 
 pub loop-preserved : goal.loop-preserved

@@ -1,5 +1,5 @@
 use Rattle.std.proofs.Common.{◌≡◌, ◌≤◌}
-use Rattle.cmwq_board.proofs.Firing.{HasFired}
+use Rattle.cmwq_board.proofs.Fires.{HasFired}
 use Rattle.cmwq_board.proofs.entering.fire_due.Given as goal
 
 abbrev pub invariant-loop : goal.invariant-loop

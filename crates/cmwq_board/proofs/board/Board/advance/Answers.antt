@@ -19,4 +19,5 @@ invariant_of-self c =
           c.in-Ok.ensures.stays c.in-Ok.ensures.others
           (subst (λ (b : Boarded). is_own b (Caller c.args.caller) ≡ _) (sym c.self.view_is) own)
           (ap (λ (t : Tailed Entry). t.room) c.in-Ok.ensures.kept) c.self.invariant.2,
+      c.self.invariant.3,
     )

@@ -6,7 +6,7 @@ use Rattle.cmwq_dispatch.specs.Dispatched.{Dispatched, past_now}
 use Rattle.cmwq_model.specs.declared.entry.Entry.{Entry}
 use Rattle.cmwq_state.specs.Tails.{Tailed}
 use Rattle.cmwq_board.specs.Boarded.{Boarded}
-use Rattle.cmwq_board.specs.Lent.{drains, first_lent, tickets_held}
+use Rattle.cmwq_board.specs.Lent.{drains, first_lent, is_left, tickets_held}
 use Rattle.cmwq_board.specs.Waits.{firing_for, ticket_at}
 use Rattle.cmwq_board.specs.declared.lending.Lending.{Lending}
 use Rattle.cmwq_board.specs.declared.lending.Lending.TheVariants.{Free}
@@ -48,7 +48,7 @@ invariant_of-self c =
     c.self.invariant.2.lent less is in
     let e = c.end_ticket.new.dispatch in
     let history : c.ends_firing.new.dispatch.history ≡ e.history =
-    ap (λ (x : Dispatched). x.history) c.ends_firing.ensures.new in (
+    ap (λ (x : Dispatched). x.history) c.ends_firing.ensures.settles.settled in (
       ap (λ (t : Tailed Entry). t.all) c.end_ticket.ensures.kept ∙ ap (λ (h : History). h.entries) (sym history),
       c.ends_firing.ensures.token ∙ ap (list_any drains) c.deref.ensures.value,
       board_set d e c.ends_firing.new.dispatch c.self.inside.tail.room c.end_ticket.new.tail.room
@@ -56,6 +56,7 @@ invariant_of-self c =
           c.end_ticket.ensures.stays.room (ap (λ (t : Tailed Entry). t.room) c.end_ticket.ensures.kept) less
           (ap (tickets_held (past_now e)) (sym at) ∙ c.end_ticket.ensures.own)
           (λ m differs. c.end_ticket.ensures.others m (λ same. differs (same ∙ at))) history
-          (ap (λ (x : Dispatched). x.firing) c.ends_firing.ensures.new
+          (ap (λ (x : Dispatched). x.firing) c.ends_firing.ensures.settles.settled
           ∙ ap (λ ls. firing_for ls) c.deref.ensures.value),
+      λ any. c.self.invariant.3 (any_less is_left c.self.inside.lent.items c.args.place Free refl any),
     )

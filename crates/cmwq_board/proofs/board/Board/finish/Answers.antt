@@ -19,6 +19,7 @@ invariant_of-self c =
           c.in-Ok.ensures.stays c.in-Ok.ensures.others
           refl
           (ap (λ (t : Tailed Entry). t.room) c.in-Ok.ensures.kept) c.self.invariant.2,
+      c.self.invariant.3,
     )
 
 pub returns-in-Ok-clause-made : goal.returns-in-Ok-clause-made

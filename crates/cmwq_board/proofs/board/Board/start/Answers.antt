@@ -25,6 +25,7 @@ invariant_of-self-2 c =
           c.make.ensures.stays
           (subst (λ (x : Who). OthersTickets x (past_now d) (past_now n)) who c.make.ensures.others) refl
           (ap (λ (t : Tailed Entry). t.room) c.make.ensures.kept) c.self.invariant.2,
+      c.self.invariant.3,
     )
 
 pub returns-clause-starts : goal.returns-clause-starts
