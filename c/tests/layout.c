@@ -14,6 +14,10 @@ _Static_assert(sizeof(struct cmwq_who) == CMWQ_SIZE_WhoNumbers, "who");
 _Static_assert(sizeof(struct cmwq_call) == CMWQ_SIZE_CallNumbers, "call");
 _Static_assert(sizeof(struct cmwq_reply) == CMWQ_SIZE_ReplyNumbers, "reply");
 _Static_assert(sizeof(struct cmwq_entry) == CMWQ_SIZE_EntryNumbers, "entry");
+_Static_assert(sizeof(struct cmwq_wakes) == CMWQ_SIZE_WakesNumbers, "wakes");
+_Static_assert(sizeof(struct cmwq_item) == CMWQ_SIZE_ItemNumbers, "item");
+_Static_assert(sizeof(struct cmwq_board) == CMWQ_SIZE_BoardHandle, "board");
+_Static_assert(sizeof(struct cmwq_lines) == CMWQ_SIZE_LinesHandle, "lines");
 
 CMWQ_FIELDS_ShapeNumbers(LIES, cmwq_shape)
 CMWQ_FIELDS_QueueNumbers(LIES, cmwq_queue)
@@ -21,11 +25,17 @@ CMWQ_FIELDS_WhoNumbers(LIES, cmwq_who)
 CMWQ_FIELDS_CallNumbers(LIES, cmwq_call)
 CMWQ_FIELDS_ReplyNumbers(LIES, cmwq_reply)
 CMWQ_FIELDS_EntryNumbers(LIES, cmwq_entry)
+CMWQ_FIELDS_WakesNumbers(LIES, cmwq_wakes)
+CMWQ_FIELDS_ItemNumbers(LIES, cmwq_item)
 
 /* the crate has the pointer in a struct of its own, alone */
 CMWQ_FIELDS_Held(LIES, cmwq_book)
+CMWQ_FIELDS_HeldBoard(LIES, cmwq_board)
+CMWQ_FIELDS_HeldLines(LIES, cmwq_lines)
 #define held at
 CMWQ_FIELDS_Handle(LIES, cmwq_book)
+CMWQ_FIELDS_BoardHandle(LIES, cmwq_board)
+CMWQ_FIELDS_LinesHandle(LIES, cmwq_lines)
 #undef held
 
 static bool same_call(const struct cmwq_call *a, const struct cmwq_call *b)

@@ -56,7 +56,7 @@ who_stays w call.Freeze = refl
 who_stays w call.Thaw = refl
 who_stays w (call.Destroy q) = refl
 
-who_again : (who : Who) → who_of_numbers (who_numbers who) ≡ Some who
+pub who_again : (who : Who) → who_of_numbers (who_numbers who) ≡ Some who
 who_again (Caller c) = refl
 who_again (Worker w) = by_pool w.pool.high refl
   where

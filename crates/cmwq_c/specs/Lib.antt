@@ -5,3 +5,8 @@ pub mod Numbers
 pub mod Offsets
 pub mod Statuses
 pub mod Verdicts
+pub mod Wakes
+pub mod Items
+pub mod Lined
+pub mod BoardStatuses
+pub mod BoardCalls

@@ -5,6 +5,7 @@ use Rattle.std.specs.Prelude.{◌≡◌, ℕ, Bool, true, false, ◌==◌, if◌
 use Rattle.cmwq_model.specs.declared.id.CpuId.{CpuId}
 use Rattle.cmwq_model.specs.declared.id.ItemId.{ItemId}
 use Rattle.cmwq_model.specs.declared.id.QueueId.{QueueId}
+use Rattle.cmwq_model.specs.declared.id.WorkerId.{WorkerId}
 use Rattle.cmwq_model.specs.declared.shape.Counts.{Counts}
 use Rattle.cmwq_model.specs.declared.shape.QueueShape.{QueueShape}
 use Rattle.cmwq_model.specs.declared.call.Call.TheVariants as call
@@ -42,6 +43,14 @@ abbrev pub who_of_numbers : WhoNumbers → Option Who
 who_of_numbers n = if n.kind == 0 then Some (Caller (record { 0 = n.index }))
     else (if n.kind == 1 then Some (worker_of_numbers false n)
     else (if n.kind == 2 then Some (worker_of_numbers true n) else None))
+
+-- a worker's numbers alone
+abbrev pub worker_in : Option Who → Option WorkerId
+worker_in (Some (Worker w)) = Some w
+worker_in who = None
+
+abbrev pub worker_meant : WhoNumbers → Option WorkerId
+worker_meant n = worker_in (who_of_numbers n)
 
 abbrev item_of_call : CallNumbers → ItemId
 item_of_call n = record { 0 = n.item }

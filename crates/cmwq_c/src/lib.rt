@@ -1,7 +1,8 @@
-//! The Book for C: a runtime of one thread behind a handle, by numbers or by lines of text.
+//! The Book for C: a runtime of one thread behind a handle, by numbers or by lines of text. And a hub without threads,
+//! `cmwq_board`, behind a handle too.
 #![tactic(auto)]
 
-ghost use Rattle.std.specs.Prelude.{◌≡◌, ◌≢◌, ◌⊎◌, ◌+◌, ℕ, true, false, List, length, count_by, Some, None, Err};
+ghost use Rattle.std.specs.Prelude.{◌≡◌, ◌≢◌, ◌⊎◌, ◌<◌, ◌+◌, ℕ, true, false, List, length, count_by, Some, None, Err};
 ghost use Rattle.std.specs.Prelude.{IfSome, nat_lt};
 ghost use Rattle.cmwq_model.specs.declared.verdict.Illegal.{Illegal};
 ghost use Rattle.cmwq_model.specs.Prelude.{is_layout, still_open, is_active};
@@ -9,6 +10,7 @@ ghost use Rattle.cmwq_model.specs.Calls as calls;
 ghost use Rattle.cmwq_model.specs.Legal as legal;
 ghost use Rattle.cmwq_text.specs.CallText.{call_read};
 ghost use Rattle.cmwq_text.specs.EntryText.{entry_text};
+ghost use Rattle.cmwq_text.specs.HistoryText.{head_text};
 ghost use Rattle.cmwq_core.specs.History.{next_entry, past_in, is_ready};
 ghost use Rattle.cmwq_core.specs.Lasting.{lasting_at_first, with_made, with_none_kept, lasting_entry};
 ghost use Rattle.cmwq_c.specs.Numbers.{shape_of, who_of_numbers, asked_of, reply_numbers, entry_numbers};
@@ -19,15 +21,21 @@ ghost use Rattle.cmwq_c.specs.Statuses.{call_status, line_status, entry_status, 
 ghost use Rattle.cmwq_c.specs.Statuses.{serial_status, if_live, IsTextWritten};
 
 mod apart;
+mod board;
+mod board_lines;
+mod board_session;
 mod handle;
+mod head;
 mod held;
 mod judge;
 mod laws;
+mod lines;
 mod numbers;
 mod session;
 mod status;
 mod taken;
 mod told;
+mod wakes;
 
 use crate::handle::Handle;
 use crate::numbers::{
@@ -36,9 +44,12 @@ use crate::numbers::{
 use crate::status::{CLOSED, DONE, REFUSED};
 use crate::taken::{book_of, entry_of, foretell, line_of, line_step, number_step, serial_of};
 use cmwq_model::ItemId;
-pub use laws::{calls_read_again, fields_lie_as_told, replies_stand_apart};
+pub use laws::{calls_read_again, fields_lie_as_told, replies_stand_apart, wakes_are_told};
 use std::alloc::Global;
 use std::mem;
+
+/// What cmwq.h has as CMWQ_VERSION.
+const VERSION: u32 = 1_000_000;
 
 /// Opens a book with no entries. A book that the handle had is closed. 0 done, 1 a shape outside the limits, 4 no
 /// memory; then the handle is as it was.
@@ -409,4 +420,32 @@ pub extern "C" fn cmwq_check(alloc: Global, text: &[u8], out: &mut [u8], written
     ensures kept { result ≢ 0 → result ≢ 7 → (out.new ≡ out.old) × (written.new ≡ written.old) }
 {
     judge::judge(alloc, text, out, written)
+}
+
+/// Writes the lines that begin a history of this shape, of format 3. 0 done, 1 a shape outside the limits, 4 no memory,
+/// 5 the buffer doesn't hold them.
+#[unsafe(no_mangle)]
+pub extern "C" fn cmwq_head(
+    alloc: Global,
+    shape: &ShapeNumbers,
+    queues: &[QueueNumbers],
+    out: &mut [u8],
+    written: &mut usize,
+) -> u32
+    ensures text { result ≡ 0
+        → IsTextWritten (head_text 3 (shape_of shape.now queues.now)) written.new out.old out.new }
+    ensures inside { result ≡ 0 → is_layout (shape_of shape.now queues.now) ≡ true }
+    ensures status { (result ≡ 0) ⊎ ((result ≡ 1) × (is_layout (shape_of shape.now queues.now) ≡ false))
+        ⊎ (result ≡ 4) ⊎ ((result ≡ 5) × (length out.old < length (head_text 3 (shape_of shape.now queues.now)))) }
+    ensures kept { result ≢ 0 → (out.new ≡ out.old) × (written.new ≡ written.old) }
+{
+    head::head(alloc, shape, queues, out, written)
+}
+
+/// The version of the library: major * 1000000 + minor * 1000 + patch.
+#[unsafe(no_mangle)]
+pub extern "C" fn cmwq_version() -> u32
+    ensures { result ≡ 1000000 }
+{
+    VERSION
 }

@@ -1,7 +1,7 @@
 //! Shapes, callers, calls, replies and entries as C writes them.
 ghost use Rattle.std.specs.Prelude.{◌≡◌, map, IfOk};
 ghost use Rattle.cmwq_c.specs.Numbers.{counts_of_numbers, queue_of_numbers, worker_of_numbers, who_of_numbers};
-ghost use Rattle.cmwq_c.specs.Numbers.{call_of_numbers, asked_of};
+ghost use Rattle.cmwq_c.specs.Numbers.{call_of_numbers, asked_of, worker_meant};
 
 use cmwq_model::{
     Call, CallerId, Counts, CpuId, ItemId, NoMemory, PoolId, QueueId, QueueShape, Who, WorkerId,
@@ -72,6 +72,29 @@ pub struct EntryNumbers {
     pub reply: ReplyNumbers,
 }
 
+/// Whom to wake. Those that are named stand first, and the first that is nobody ends them.
+#[repr(C)]
+#[derive(Clone, Copy)]
+pub struct WakesNumbers {
+    pub workers: [WhoNumbers; 8],
+    pub callers: [u8; 8],
+    pub all_workers: u8,
+    pub all_callers: u8,
+}
+
+/// What an item does. What it doesn't have is 0.
+#[repr(C)]
+#[derive(Clone, Copy)]
+pub struct ItemNumbers {
+    pub number: u64,
+    pub run: u64,
+    pub pending: u8,
+    pub queue: u8,
+    pub cpu: u8,
+    pub runs: u8,
+    pub worker: WhoNumbers,
+}
+
 // the sizes that cmwq.h asserts too
 const _: () = prove!(size_of::<ShapeNumbers>() == 24);
 
@@ -84,6 +107,10 @@ const _: () = prove!(size_of::<CallNumbers>() == 24);
 const _: () = prove!(size_of::<ReplyNumbers>() == 24);
 
 const _: () = prove!(size_of::<EntryNumbers>() == 56);
+
+const _: () = prove!(size_of::<WakesNumbers>() == 34);
+
+const _: () = prove!(size_of::<ItemNumbers>() == 24);
 
 impl QueueNumbers {
     fn shape(&self) -> QueueShape
@@ -134,6 +161,16 @@ impl WhoNumbers {
             pool,
             index: self.index,
         })
+    }
+
+    /// The worker that these numbers mean, if they mean one.
+    pub fn worker_meant(&self) -> Option<WorkerId>
+        ensures { result ≡ worker_meant self.now }
+    {
+        match self.who() {
+            Some(Who::Worker(worker)) => Some(worker),
+            _ => None,
+        }
     }
 
     /// Who these numbers mean, if they mean one.

@@ -1,10 +1,12 @@
-//! Replies, calls and entries, written for C.
+//! Replies, calls, entries and what an item does, written for C.
 ghost use Rattle.std.specs.Prelude.{◌≡◌};
 ghost use Rattle.cmwq_c.specs.Numbers.{plain, with_number, with_two, reply_numbers, who_numbers, bare, numbers_of_item};
 ghost use Rattle.cmwq_c.specs.Numbers.{of_queue, of_place, call_numbers, entry_numbers};
+ghost use Rattle.cmwq_c.specs.Items.{item_numbers, not_pending, pending_at, pending_numbers};
 
-use crate::numbers::{CallNumbers, EntryNumbers, ReplyNumbers, WhoNumbers};
-use cmwq_model::{Call, CpuId, Entry, ItemId, QueueId, Reply, Who};
+use crate::numbers::{CallNumbers, EntryNumbers, ItemNumbers, ReplyNumbers, WhoNumbers};
+use cmwq_board::{ItemState, Pending};
+use cmwq_model::{Call, CpuId, Entry, ItemId, Place, QueueId, Reply, Who};
 
 fn plain(kind: u8) -> ReplyNumbers
     ensures { result ≡ plain kind }
@@ -202,5 +204,61 @@ pub fn entry_numbers(entry: &Entry) -> EntryNumbers
         serial: entry.serial,
         call: call_numbers(who_numbers(entry.who), entry.call),
         reply: reply_numbers(entry.reply),
+    }
+}
+
+fn not_pending() -> ItemNumbers
+    ensures { result ≡ not_pending }
+{
+    ItemNumbers {
+        number: 0,
+        run: 0,
+        pending: 0,
+        queue: 0,
+        cpu: 0,
+        runs: 0,
+        worker: WhoNumbers {
+            kind: 0,
+            index: 0,
+            cpu: 0,
+        },
+    }
+}
+
+fn pending_at(kind: u8, place: Place, number: u64) -> ItemNumbers
+    ensures { result ≡ pending_at kind place number }
+{
+    ItemNumbers {
+        number,
+        pending: kind,
+        queue: place.queue.0,
+        cpu: place.cpu.0,
+        ..not_pending()
+    }
+}
+
+fn pending_numbers(pending: Pending) -> ItemNumbers
+    ensures { result ≡ pending_numbers pending }
+{
+    match pending {
+        Pending::No => not_pending(),
+        Pending::Booked { place, due } => pending_at(1, place, due),
+        Pending::Queued { place, number } => pending_at(2, place, number),
+    }
+}
+
+/// The numbers of what an item does.
+pub fn item_numbers(state: &ItemState) -> ItemNumbers
+    ensures { result ≡ item_numbers state.now }
+{
+    let pending = pending_numbers(state.pending);
+    match state.run {
+        Some(run) => ItemNumbers {
+            run: run.number,
+            runs: 1,
+            worker: who_numbers(Who::Worker(run.worker)),
+            ..pending
+        },
+        None => pending,
     }
 }

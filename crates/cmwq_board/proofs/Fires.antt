@@ -1,0 +1,131 @@
+-- A caller that fires, time after time.
+use Rattle.std.specs.Prelude.{◌≡◌, ◌≤◌, ◌<◌, ◌+◌, ◌&&◌, ◌||◌, ◌==◌, ◌++◌, ◌∷◌, [], ℕ, Bool, true, false, not, suc, zero, nat_lt}
+use Rattle.std.specs.Prelude.{length, List, None, Some, Option}
+use Rattle.std.proofs.lemmas.Bool.Decides.{nat_tests}
+use Rattle.std.proofs.Common.{refl, sym, ap, ◌∙◌, subst, arith, add-one, length-append, true≢false}
+use Rattle.cmwq_core.specs.History.{History, next_entry, past_in, with_entry}
+use Rattle.cmwq_dispatch.specs.Asleep.{Asleep, SleepOn}
+use Rattle.cmwq_dispatch.specs.Dispatched.{Dispatched, MayEnter, is_over, past_now}
+use Rattle.cmwq_dispatch.specs.declared.wakes.Wakes.{Wakes}
+use Rattle.cmwq_dispatch.proofs.Steady.{newest}
+use Rattle.cmwq_model.specs.Prelude.{IsLegal, Layout, first_due, fired_answer, ends, gives_ticket, ticket_in}
+use Rattle.cmwq_model.specs.declared.call.Call.{Call}
+use Rattle.cmwq_model.specs.declared.call.Call.TheVariants as call
+use Rattle.cmwq_model.specs.declared.entry.Entry.{Entry}
+use Rattle.cmwq_model.specs.declared.id.CallerId.{CallerId}
+use Rattle.cmwq_model.specs.declared.id.Who.{Who}
+use Rattle.cmwq_model.specs.declared.id.Who.TheVariants.{Caller}
+use Rattle.cmwq_model.specs.declared.record.Booking.{Booking}
+use Rattle.cmwq_model.specs.declared.record.Ticket.{Ticket}
+use Rattle.cmwq_state.specs.Tails.{Tailed}
+use Rattle.cmwq_board.specs.Lent.{tickets_held}
+use Rattle.cmwq_board.specs.Steps.{Stays, after_call, after_fires, may_fire}
+use Rattle.cmwq_board.proofs.Sleepers.{sleep_on_more}
+use Rattle.cmwq_board.proofs.Tickets.{held_same}
+use Rattle.cmwq_dispatch.proofs.Cared.{sleep_same}
+use Rattle.cmwq_model.specs.Prelude.{answer}
+
+-- ---- whoever may fire may make an entry
+
+not_over : (f c a : Bool) (n : ℕ) → (not f && (not c || nat_lt 0 n)) ≡ true → (f || (c && a && (n == 0))) ≡ false
+not_over true c a n may = absurd (true≢false (sym may))
+not_over false false a n may = refl
+not_over false true a zero may = absurd (true≢false (sym may))
+not_over false true true (suc n) may = grind (arith, nat_tests)
+not_over false true false (suc n) may = refl
+
+pub fires_on : (d : Dispatched) → may_fire d ≡ true → is_over d ≡ false
+fires_on d may = not_over d.failed d.closed _ d.firing may
+
+lives : (f b : Bool) → (not f && b) ≡ true → f ≡ false
+lives false b may = refl
+lives true b may = absurd (true≢false (sym may))
+
+pub firing_lives : (d : Dispatched) → may_fire d ≡ true → d.failed ≡ false
+firing_lives d may = lives d.failed _ may
+
+pub firing_enters : (d : Dispatched) (e : Entry) → may_fire d ≡ true → MayEnter d e
+firing_enters d e may =
+    (firing_lives d may, λ c over who. absurd (true≢false (sym over ∙ fires_on d may)))
+
+-- ---- so far
+
+pub record HasFired (k : ℕ) (c : CallerId) (old now : Dispatched) (t u : Tailed Entry) (before after : Wakes)
+    : Type 0 where
+  pub fires : now ≡ record (after_fires k old c) { asleep = now.asleep }
+  pub stays : Stays old now
+  pub may : may_fire now ≡ true
+  pub many : length now.history.entries ≡ length old.history.entries + k
+  pub tail : u ≡ record t { all = now.history.entries }
+  pub named : SleepOn (Caller c) old.asleep now.asleep before after
+  pub tickets : (n : ℕ) → tickets_held (past_now now) n ≡ tickets_held (past_now old) n
+
+pub fired_none : (c : CallerId) (d : Dispatched) (t : Tailed Entry) (w : Wakes) → may_fire d ≡ true
+    → t.all ≡ d.history.entries → HasFired 0 c d d t t w w
+fired_none c d t w may kept = record {
+  fires = refl;
+  stays = record { layout = refl; room = refl; closed = refl; failed = refl; firing = refl };
+  may = may;
+  many = omega arith;
+  tail = rw (sym kept) refl;
+  named = sleep_same (Caller c) d.asleep w;
+  tickets = λ n. refl;
+}
+
+-- a fire neither ends nor gives a ticket
+gives_none : (o : Option Booking) (k : ℕ) → gives_ticket (fired_answer o k) ≡ false
+gives_none None k = refl
+gives_none (Some b) k = refl
+
+ends_none : (b c : Bool) → ((b && false) && c) ≡ false
+ends_none true c = refl
+ends_none false c = refl
+
+fire_gives : (h : History) (c : CallerId) (n : ℕ) → ticket_in (next_entry h (Caller c) call.Fire) n ≡ None
+unfolding answer
+fire_gives h c n = rw (gives_none (first_due (past_in h)) (length (past_in h))) refl
+
+held_on : (h : History) (c : CallerId) (n : ℕ)
+    → IsLegal h.layout (next_entry h (Caller c) call.Fire ∷ past_in h)
+    → tickets_held (next_entry h (Caller c) call.Fire ∷ past_in h) n ≡ tickets_held (past_in h) n
+held_on h c n legal =
+    held_same h.layout (past_in h) (next_entry h (Caller c) call.Fire) n legal (λ t. ends_none _ _)
+    (fire_gives h c (length (past_in h)))
+
+-- once more
+pub fired_more : (k : ℕ) (c : CallerId) (old now next : Dispatched) (t u v : Tailed Entry) (x y z : Wakes)
+    → HasFired k c old now t u x y
+    → next ≡ record (after_call now (Caller c) call.Fire) { asleep = next.asleep }
+    → v ≡ record u { all = next.history.entries }
+    → SleepOn (Caller c) now.asleep next.asleep y z → IsLegal next.history.layout (past_now next)
+    → HasFired (k + 1) c old next t v x z
+fired_more k c old now next t u v x y z so made tail named legal =
+    let e = next_entry now.history (Caller c) call.Fire in
+    let history : next.history ≡ with_entry now.history e = ap (λ (d : Dispatched). d.history) made in
+    let past : past_now next ≡ e ∷ past_now now = newest now.history next.history e history in
+    let layout : next.history.layout ≡ now.history.layout = ap (λ (h : History). h.layout) history in
+    let legal_e : IsLegal now.history.layout (e ∷ past_now now) =
+    subst (λ (s : Layout). IsLegal s (e ∷ past_now now)) layout (subst (IsLegal next.history.layout) past legal) in
+    let steps : after_fires (k + 1) old c ≡ after_call (after_fires k old c) (Caller c) call.Fire = rw (add-one k) refl in
+    record {
+      fires = made
+          ∙ ap (λ (d : Dispatched). record (after_call d (Caller c) call.Fire) { asleep = next.asleep }) so.fires
+          ∙ ap (λ (d : Dispatched). record d { asleep = next.asleep }) (sym steps);
+      stays = record {
+        layout = layout ∙ so.stays.layout;
+        room = ap (λ (h : History). h.room) history ∙ so.stays.room;
+        closed = ap (λ (d : Dispatched). d.closed) made ∙ so.stays.closed;
+        failed = ap (λ (d : Dispatched). d.failed) made ∙ so.stays.failed;
+        firing = ap (λ (d : Dispatched). d.firing) made ∙ so.stays.firing;
+      };
+      may = ap may_fire made ∙ so.may;
+      many = omega (
+        arith,
+        so.many,
+        ap (λ (h : History). length h.entries) history,
+        length-append now.history.entries (e ∷ []),
+      );
+      tail = tail ∙ ap (λ (r : Tailed Entry). record r { all = next.history.entries }) so.tail;
+      named = sleep_on_more (Caller c) old.asleep now.asleep next.asleep x y z so.named named;
+      tickets = λ n. ap (λ p. tickets_held p n) past ∙ held_on now.history c n legal_e ∙ so.tickets n;
+    }

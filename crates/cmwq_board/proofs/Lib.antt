@@ -1,0 +1,9 @@
+pub mod Tickets
+pub mod Sleepers
+pub mod Fires
+pub mod Places
+pub mod Runs
+pub mod Slept
+pub mod Begins
+pub mod Items
+pub mod Cleared

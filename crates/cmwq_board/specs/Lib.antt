@@ -1,0 +1,7 @@
+pub mod Asked
+pub mod Faults
+pub mod Lent
+pub mod Boarded
+pub mod Steps
+pub mod Waits
+pub mod Items

@@ -1,0 +1,182 @@
+-- What the calls of a board make of it, and why they make nothing.
+use Rattle.std.specs.Prelude.{◌≡◌, ◌⊎◌, ◌≤◌, ◌<◌, ◌+◌, ◌-◌, ◌&&◌, ◌||◌, ◌∷◌, ◌==◌, ℕ, Bool, true, false, not, zero, suc}
+use Rattle.std.specs.Prelude.{Option, Some, None, if◌then◌else◌, nat_lt, is_some, List, length, IfSome, slice_index_or}
+use Rattle.cmwq_core.specs.History.{IsItemOf, next_entry, takes, with_entry}
+use Rattle.cmwq_dispatch.specs.Asleep.{Asleep, Rests, SleepOn}
+use Rattle.cmwq_dispatch.specs.Dispatched.{Dispatched, is_over, past_now}
+use Rattle.cmwq_dispatch.specs.declared.wakes.Wakes.{Wakes}
+use Rattle.cmwq_model.specs.Prelude.{Layout, fits, has_run, number_started, runs_awake, first_due, number_finished}
+use Rattle.cmwq_model.specs.Prelude.{is_retired}
+use Rattle.cmwq_model.specs.declared.call.Call.{Call}
+use Rattle.cmwq_model.specs.declared.call.Call.TheVariants as call
+use Rattle.cmwq_model.specs.declared.reply.Reply.{Reply}
+use Rattle.cmwq_model.specs.declared.reply.Reply.TheVariants as reply
+use Rattle.cmwq_model.specs.declared.entry.Entry.{Entry}
+use Rattle.cmwq_model.specs.declared.id.CallerId.{CallerId}
+use Rattle.cmwq_model.specs.declared.id.Who.{Who}
+use Rattle.cmwq_model.specs.declared.id.Who.TheVariants.{Caller, Worker}
+use Rattle.cmwq_model.specs.declared.id.WorkerId.{WorkerId}
+use Rattle.cmwq_refinement.specs.Timers.{item_due}
+use Rattle.cmwq_theory_wakes.specs.Starting.{would_start}
+use Rattle.cmwq_waits.specs.Registered.{waits_after}
+use Rattle.cmwq_board.specs.Asked.{is_single}
+use Rattle.cmwq_board.specs.Boarded.{Boarded, has_space, is_own, layout_of, past_of_board, with_asleep}
+use Rattle.cmwq_board.specs.Boarded.{most_made}
+use Rattle.cmwq_board.specs.declared.board.Finish.{Finish}
+use Rattle.cmwq_board.specs.declared.board.Start.{Start}
+use Rattle.cmwq_board.specs.declared.board.Start.TheVariants.{Runs, Rests as Resting, Over}
+use Rattle.cmwq_board.specs.declared.fault.BoardFault.{BoardFault}
+use Rattle.cmwq_board.specs.declared.fault.BoardFault.TheVariants as fault
+
+-- ---- entries
+
+-- an entry is made; a run whose queueing or ticket it ends waits no more
+abbrev pub after_entry : Dispatched → Entry → Dispatched
+after_entry d e = record d { history = with_entry d.history e; waits = waits_after (past_now d) e d.waits }
+
+-- a call is made, with the one reply that it gets
+abbrev pub after_call : Dispatched → Who → Call → Dispatched
+after_call d who c = after_entry d (next_entry d.history who c)
+
+abbrev pub reply_now : Boarded → Who → Call → Reply
+reply_now b who c = (next_entry b.dispatch.history who c).reply
+
+abbrev pub with_dispatch : Boarded → Dispatched → Boarded
+with_dispatch b d = record b { dispatch = d }
+
+-- One call is made, and those who can go on after it are named. Nothing else changes.
+pub record Enters (who : Who) (c : Call) (old new : Dispatched) (before after : Wakes) : Type 0 where
+  pub made : new ≡ record (after_call old who c) { asleep = new.asleep }
+  pub named : SleepOn who old.asleep new.asleep before after
+
+abbrev pub Makes : Who → Call → Boarded → Boarded → Wakes → Wakes → Type 0
+Makes who c old new before after =
+    Enters who c old.dispatch new.dispatch before after × (new ≡ with_dispatch old new.dispatch)
+
+-- ---- a call of one entry
+
+abbrev pub is_caller : Who → Bool
+is_caller (Caller c) = true
+is_caller (Worker w) = false
+
+-- why it makes none
+abbrev pub call_fault : Boarded → Who → Call → Option BoardFault
+call_fault b who c = if not (is_single c && is_own b who && fits (layout_of b) who c) then Some fault.Refused
+    else if b.dispatch.failed then Some fault.Failed
+    else if b.dispatch.closed && is_caller who then Some fault.Closed
+    else if not (has_space b 1) then Some fault.Crowded
+    else if not (takes b.dispatch.history who c) then Some fault.Full
+    else None
+
+-- ---- a worker starts something
+
+abbrev pub has_worker : Layout → WorkerId → Bool
+has_worker s w = nat_lt w.pool.cpu.0 s.cpus && nat_lt w.index s.workers
+
+-- whether it would start something now
+abbrev pub starts_now : Boarded → WorkerId → Bool
+starts_now b w = would_start (layout_of b) (past_of_board b) w
+
+abbrev pub start_fault : Boarded → WorkerId → Option BoardFault
+start_fault b w = if not (has_worker (layout_of b) w) then Some fault.Refused
+    else if b.dispatch.failed then None
+    else if has_run (past_of_board b) w then Some fault.Misuse
+    else if starts_now b w && not (has_space b 1) then Some fault.Crowded
+    else None
+
+-- It runs the queueing of this number, which is of this item. Or it would start nothing: it rests from now on, or it is
+-- over.
+abbrev pub Starts : Boarded → WorkerId → Start → Boarded → Wakes → Wakes → Type 0
+Starts old w (Runs item n) new before after =
+    Makes (Worker w) call.Take old new before after × (number_started (reply_now old (Worker w) call.Take) ≡ Some n)
+    × IsItemOf (past_of_board old) n (Some item)
+Starts old w Resting new before after =
+    (starts_now old w ≡ false) × (is_over old.dispatch ≡ false) × (new ≡ with_asleep old new.dispatch.asleep)
+    × Rests w old.dispatch.asleep new.dispatch.asleep × (after ≡ before)
+Starts old w Over new before after = (is_over old.dispatch ≡ true) × (new ≡ old) × (after ≡ before)
+
+-- ---- a worker finishes
+
+abbrev pub finish_fault : Boarded → WorkerId → Option BoardFault
+finish_fault b w = if not (has_worker (layout_of b) w) then Some fault.Refused
+    else if b.dispatch.failed then Some fault.Failed
+    else if not (runs_awake (past_of_board b) w) then Some fault.Misuse
+    else if not (has_space b 2) then Some fault.Crowded
+    else if not (takes b.dispatch.history (Worker w) call.Finish) then Some fault.Full
+    else None
+
+abbrev pub is_retire_reply : Reply → Bool
+is_retire_reply reply.Retired = true
+is_retire_reply r = false
+
+-- it would be sent to the reserve now, and there is room for that
+abbrev pub retires_now : Dispatched → WorkerId → Bool
+retires_now d w =
+    is_retire_reply (next_entry d.history (Worker w) call.Retire).reply && takes d.history (Worker w) call.Retire
+
+-- it is sent to the reserve if it would be
+abbrev pub MayRetire : Dispatched → WorkerId → Bool → Dispatched → Wakes → Wakes → Type 0
+MayRetire old w true new before after =
+    (retires_now old w ≡ true) × Enters (Worker w) call.Retire old new before after
+MayRetire old w false new before after = (retires_now old w ≡ false) × (new ≡ old) × (after ≡ before)
+
+-- the run ends, and then the worker may be sent to the reserve
+pub record FinishesRun (w : WorkerId) (f : Finish) (old new : Dispatched) (before after : Wakes) : Type 0 where
+  pub mid : Dispatched
+  pub meanwhile : Wakes
+  pub number : number_finished (next_entry old.history (Worker w) call.Finish).reply ≡ Some f.number
+  pub finish : Enters (Worker w) call.Finish old mid before meanwhile
+  pub retire : MayRetire mid w f.retired new meanwhile after
+
+abbrev pub Finishes : WorkerId → Finish → Boarded → Boarded → Wakes → Wakes → Type 0
+Finishes w f old new before after =
+    FinishesRun w f old.dispatch new.dispatch before after × (new ≡ with_dispatch old new.dispatch)
+
+-- ---- timers fire
+
+-- it fires so many times
+abbrev pub after_fires : ℕ → Dispatched → CallerId → Dispatched
+after_fires zero d c = d
+after_fires (suc k) d c = after_call (after_fires k d c) (Caller c) call.Fire
+
+-- a caller fires until nothing is due, or there is no room, or it fired as often as there are items
+pub record FiresDue (c : CallerId) (old new : Dispatched) (before after : Wakes) : Type 0 where
+  pub times : ℕ
+  pub few : times ≤ old.history.layout.items
+  pub fires : new ≡ record (after_fires times old c) { asleep = new.asleep }
+  pub until : (item_due (past_now new) ≡ None) ⊎ (takes new.history (Caller c) call.Fire ≡ false)
+      ⊎ (times ≡ old.history.layout.items)
+  pub named : SleepOn (Caller c) old.asleep new.asleep before after
+
+-- what no entry changes
+pub record Stays (old new : Dispatched) : Type 0 where
+  pub layout : new.history.layout ≡ old.history.layout
+  pub room : new.history.room ≡ old.history.room
+  pub closed : new.closed ≡ old.closed
+  pub failed : new.failed ≡ old.failed
+  pub firing : new.firing ≡ old.firing
+
+-- whoever fires keeps it from being over
+abbrev pub may_fire : Dispatched → Bool
+may_fire d = not d.failed && (not d.closed || nat_lt 0 d.firing)
+
+-- ---- time
+
+abbrev pub advance_fault : Boarded → CallerId → ℕ → Option BoardFault
+advance_fault b c ticks = if not (is_own b (Caller c)) then Some fault.Refused
+    else if b.dispatch.failed then Some fault.Failed
+    else if b.dispatch.closed then Some fault.Closed
+    else if not (has_space b (most_made (layout_of b))) then Some fault.Crowded
+    else if not (takes b.dispatch.history (Caller c) (call.Tick ticks)) then Some fault.Full
+    else None
+
+-- so many ticks go by, and then what is due is fired
+pub record Ticks (c : CallerId) (ticks : ℕ) (old new : Dispatched) (before after : Wakes) : Type 0 where
+  pub mid : Dispatched
+  pub meanwhile : Wakes
+  pub tick : Enters (Caller c) (call.Tick ticks) old mid before meanwhile
+  pub fires : FiresDue c mid new meanwhile after
+
+abbrev pub Advances : CallerId → ℕ → Boarded → Boarded → Wakes → Wakes → Type 0
+Advances c ticks old new before after =
+    Ticks c ticks old.dispatch new.dispatch before after × (new ≡ with_dispatch old new.dispatch)

@@ -1,0 +1,332 @@
+-- Waits, by callers that are lent to them.
+use Rattle.std.specs.Prelude.{◌≡◌, ◌⊎◌, ◌<◌, ◌≤◌, ◌+◌, ◌&&◌, ◌||◌, ◌∷◌, ◌++◌, ℕ, Bool, true, false, not, zero, suc, [], List}
+use Rattle.std.specs.Prelude.{Option, Some, None, if◌then◌else◌, is_some, length, option_map, option_and_then}
+use Rattle.std.specs.Prelude.{slice_index_or, slice_set}
+use Rattle.std.specs.List.{list_any, position}
+use Rattle.std.specs.Option.{option_map_or}
+use Rattle.cmwq_core.specs.History.{is_done_waiting, next_entry, takes, takes_with}
+use Rattle.cmwq_dispatch.specs.Asleep.{Asleep, IsUpAgain, SleepOn}
+use Rattle.cmwq_dispatch.specs.Asleep.{Waits as SleepsFor}
+use Rattle.cmwq_dispatch.specs.Dispatched.{Dispatched, FallsAsleep, is_end, is_over, past_now}
+use Rattle.cmwq_dispatch.specs.declared.dispatch.Sleep.{Sleep}
+use Rattle.cmwq_dispatch.specs.declared.dispatch.Sleep.TheVariants as sleep
+use Rattle.cmwq_dispatch.specs.declared.wakes.Wakes.{Wakes}
+use Rattle.cmwq_model.specs.Prelude.{Layout, gives_ticket, has_numbers, has_run, is_done, runs_asleep, runs_awake}
+use Rattle.cmwq_model.specs.declared.call.Call.{Call}
+use Rattle.cmwq_model.specs.declared.call.Call.TheVariants as call
+use Rattle.cmwq_model.specs.declared.id.CallerId.{CallerId}
+use Rattle.cmwq_model.specs.declared.id.Who.{Who}
+use Rattle.cmwq_model.specs.declared.id.Who.TheVariants.{Caller, Worker}
+use Rattle.cmwq_model.specs.declared.id.WorkerId.{WorkerId}
+use Rattle.cmwq_model.specs.declared.record.Ticket.{Ticket}
+use Rattle.cmwq_model.specs.declared.reply.Reply.{Reply}
+use Rattle.cmwq_waits.specs.Registered.{refusal_of, registered, wait_of}
+use Rattle.cmwq_waits.specs.declared.run_wait.RunWait.{RunWait}
+use Rattle.cmwq_waits.specs.declared.waits.Stuck.{Stuck}
+use Rattle.cmwq_board.specs.Asked.{is_wait}
+use Rattle.cmwq_board.specs.Boarded.{Boarded, first_place, has_space, layout_of, most_made, past_of_board, with_asleep}
+use Rattle.cmwq_board.specs.Faults.{fault_of_stuck}
+use Rattle.cmwq_board.specs.Lent.{drains, first_lent, is_drain}
+use Rattle.cmwq_board.specs.Steps.{Enters, FiresDue, has_worker, reply_now, with_dispatch}
+use Rattle.cmwq_board.specs.declared.board.Begun.{Begun}
+use Rattle.cmwq_board.specs.declared.board.Begun.TheVariants as begun
+use Rattle.cmwq_board.specs.declared.board.Ended.{Ended}
+use Rattle.cmwq_board.specs.declared.board.Ended.TheVariants.{Done, Not}
+use Rattle.cmwq_board.specs.declared.fault.BoardFault.{BoardFault}
+use Rattle.cmwq_board.specs.declared.fault.BoardFault.TheVariants as fault
+use Rattle.cmwq_board.specs.declared.fault.WaitFault.{WaitFault}
+use Rattle.cmwq_board.specs.declared.fault.WaitFault.TheVariants as wait
+use Rattle.cmwq_board.specs.declared.lending.Lending.{Lending}
+use Rattle.cmwq_board.specs.declared.lending.Lending.TheVariants.{Free, Waits, Left}
+
+-- ---- which caller is lent
+
+abbrev pub is_free : Lending → Bool
+is_free Free = true
+is_free l = false
+
+-- the first place of a caller that may be lent
+abbrev pub first_free : List Lending → Option ℕ
+first_free lent = position is_free lent
+
+abbrev pub lending_at : Boarded → ℕ → Lending
+lending_at b place = slice_index_or b.lent place Free
+
+abbrev pub caller_at : Boarded → ℕ → CallerId
+caller_at b place = record { 0 = first_lent (layout_of b) b.lent + place }
+
+-- ---- why a wait does not begin
+
+-- the worker of the run that waits is there, and has a run
+abbrev pub is_there : Layout → Option WorkerId → Bool
+is_there s (Some w) = has_worker s w
+is_there s None = true
+
+abbrev pub has_its_run : Boarded → Option WorkerId → Bool
+has_its_run b (Some w) = has_run (past_of_board b) w
+has_its_run b None = true
+
+-- numbers, the board, the run, space
+abbrev pub early_fault : Boarded → Option WorkerId → Call → Option BoardFault
+early_fault b run c =
+    if not (is_wait c && has_numbers (layout_of b) c && is_there (layout_of b) run) then Some fault.Refused
+    else if b.dispatch.failed then Some fault.Failed
+    else if is_over b.dispatch || (not (is_some run) && b.dispatch.closed) then Some fault.Closed
+    else if not (has_its_run b run) then Some fault.Misuse
+    else if not (has_space b 3) then Some fault.Crowded
+    else None
+
+-- it would wait for its own run, or it could never end, as the runs stand that wait now
+abbrev pub stuck_now : Dispatched → Option WorkerId → Call → Option Stuck
+stuck_now d (Some w) c = refusal_of d.history.layout (past_now d) d.waits w c
+stuck_now d None c = None
+
+-- a run also makes a sleep and a wake
+abbrev pub more_made : Option WorkerId → ℕ
+more_made (Some w) = 2
+more_made None = 0
+
+-- the run goes to sleep, if it is awake
+abbrev pub sleeps_first : Dispatched → Option WorkerId → Bool
+sleeps_first d (Some w) = runs_awake (past_now d) w
+sleeps_first d None = false
+
+-- there is room for that
+abbrev pub may_sleep : Dispatched → Option WorkerId → Bool
+may_sleep d (Some w) = not (runs_awake (past_now d) w) || takes d.history (Worker w) call.Sleep
+may_sleep d None = true
+
+-- There is room for the call of this caller, and for what the run makes besides.
+abbrev pub has_room_for : Dispatched → Option WorkerId → CallerId → Call → Bool
+has_room_for d run caller c = takes_with d.history (Caller caller) c (more_made run) && may_sleep d run
+
+abbrev pub room_fault : Boarded → Option WorkerId → Call → Option ℕ → Option WaitFault
+room_fault b run c None = Some wait.NoCaller
+room_fault b run c (Some place) =
+    if has_room_for b.dispatch run (caller_at b place) c then None else Some (wait.Board fault.Full)
+
+abbrev pub lent_fault : Boarded → Option WorkerId → Call → Option Stuck → Option WaitFault
+lent_fault b run c (Some stuck) = Some (fault_of_stuck stuck)
+lent_fault b run c None = room_fault b run c (first_free b.lent)
+
+abbrev pub fault_or : Option BoardFault → Option WaitFault → Option WaitFault
+fault_or (Some f) later = Some (wait.Board f)
+fault_or None later = later
+
+-- in the order of the runs' own waits: numbers, the board, space, itself, a deadlock, no caller, no room
+abbrev pub begin_fault : Boarded → Option WorkerId → Call → Option WaitFault
+begin_fault b run c = fault_or (early_fault b run c) (lent_fault b run c (stuck_now b.dispatch run c))
+
+-- ---- a wait begins
+
+abbrev pub MayEnterOf : Option WorkerId → Call → Bool → Dispatched → Dispatched → Wakes → Wakes → Type 0
+MayEnterOf (Some w) c true old new before after = Enters (Worker w) c old new before after
+MayEnterOf o c does old new before after = (new ≡ old) × (after ≡ before)
+
+-- A run wakes if it sleeps. There is room for that, as it is owed.
+abbrev pub wakes_now : Dispatched → WorkerId → Bool
+wakes_now d w = has_worker d.history.layout w && runs_asleep (past_now d) w && takes d.history (Worker w) call.Wake
+
+abbrev pub IsWoken : Option WorkerId → Dispatched → Dispatched → Wakes → Wakes → Type 0
+IsWoken (Some w) old new before after =
+    MayEnterOf (Some w) call.Wake (wakes_now old w) old new before after
+IsWoken None old new before after = (new ≡ old) × (after ≡ before)
+
+-- Whoever may fire keeps it from being over: there is one while any drain has not ended. Nothing else changes.
+abbrev pub firing_for : List Lending → ℕ
+firing_for lent = if list_any drains lent then 1 else 0
+
+pub record Settles (lent : List Lending) (old new : Dispatched) (before after : Wakes) : Type 0 where
+  pub settled : new ≡ record old { firing = firing_for lent; asleep = new.asleep }
+  pub named : (who : Who) → SleepOn who old.asleep new.asleep before after
+
+-- What the run waits for is known from then on, if there is a place for that: there is one for each caller.
+abbrev pub IsTold : Option WorkerId → CallerId → ℕ → Dispatched → Dispatched → Type 0
+IsTold (Some w) c n old new = (told : Bool)
+    × (new ≡ record old { waits = if told then registered old.waits (wait_of (past_now old) w c n) else old.waits })
+IsTold None c n old new = new ≡ old
+
+-- the run of which this says that it went to sleep
+abbrev pub if_slept : Bool → Option WorkerId → Option WorkerId
+if_slept slept run = if slept then run else None
+
+-- after the call: with a ticket the run waits, and else it wakes
+abbrev pub ThenWaits : Bool → Option WorkerId → Bool → CallerId → ℕ → Dispatched → Dispatched → Wakes → Wakes → Type 0
+ThenWaits true run slept c n old new before after = IsTold run c n old new × (after ≡ before)
+ThenWaits false run slept c n old new before after = IsWoken (if_slept slept run) old new before after
+
+-- The run sleeps if it is awake, and then the caller makes the call, whose entry has this number.
+pub record BeginsWait (run : Option WorkerId) (caller : CallerId) (c : Call) (r : Reply) (n : ℕ) (old new : Dispatched)
+    (before after : Wakes) : Type 0 where
+  pub asleep : Dispatched
+  pub called : Dispatched
+  pub then_asleep : Wakes
+  pub then_called : Wakes
+  pub sleeps : MayEnterOf run call.Sleep (sleeps_first old run) old asleep before then_asleep
+  pub calls : Enters (Caller caller) c asleep called then_asleep then_called
+  pub reply : r ≡ (next_entry asleep.history (Caller caller) c).reply
+  pub number : n ≡ length asleep.history.entries
+  pub waits : ThenWaits (gives_ticket r) run (sleeps_first old run) caller n called new then_called after
+
+-- what the caller does from then on, and what the wait became
+abbrev pub lending_by : Option WorkerId → Bool → Ticket → Reply → Lending
+lending_by run slept t r = if gives_ticket r then Waits t run slept else Free
+
+abbrev pub begun_by : CallerId → Reply → Begun
+begun_by c r = if gives_ticket r then begun.Waits c r else begun.Ended r
+
+abbrev pub with_firing : Dispatched → Dispatched
+with_firing d = record d { firing = 1 }
+
+-- It is begun by the first caller that may be lent. Somebody may fire meanwhile, so that it is not over.
+pub record Begins (run : Option WorkerId) (c : Call) (answer : Begun) (old new : Boarded) (before after : Wakes)
+    : Type 0 where
+  pub place : ℕ
+  pub is_first : first_free old.lent ≡ Some place
+  pub reply : Reply
+  pub number : ℕ
+  pub called : Dispatched
+  pub then_called : Wakes
+  pub waits : BeginsWait run (caller_at old place) c reply number (with_firing old.dispatch) called before then_called
+  pub begun : answer ≡ begun_by (caller_at old place) reply
+  pub lent : new.lent ≡ slice_set old.lent place (lending_by run (sleeps_first old.dispatch run)
+      (record { caller = caller_at old place; call = c; number = number }) reply)
+  pub settles : Settles new.lent called new.dispatch then_called after
+  pub kept : (new.given ≡ old.given) × (new.keeps ≡ old.keeps)
+
+-- ---- a wait ends
+
+abbrev pub ticket_at : Lending → Option Ticket
+ticket_at Free = None
+ticket_at (Waits t run slept) = Some t
+ticket_at (Left t) = Some t
+
+abbrev pub is_waiting : Lending → Bool
+is_waiting (Waits t run slept) = true
+is_waiting l = false
+
+abbrev pub MayFire : Bool → CallerId → Dispatched → Dispatched → Wakes → Wakes → Type 0
+MayFire true c old new before after = FiresDue c old new before after
+MayFire false c old new before after = (new ≡ old) × (after ≡ before)
+
+-- The end of the ticket is done. After a drain what is due is fired, and then the run wakes.
+pub record EndsTicket (t : Ticket) (run : Option WorkerId) (old new : Dispatched) (before after : Wakes)
+    : Type 0 where
+  pub ended : Dispatched
+  pub fired : Dispatched
+  pub then_ended : Wakes
+  pub then_fired : Wakes
+  pub done : is_done (next_entry old.history (Caller t.caller) (call.End t.number)).reply ≡ true
+  pub ends : Enters (Caller t.caller) (call.End t.number) old ended before then_ended
+  pub fires : MayFire (is_drain t.call) t.caller ended fired then_ended then_fired
+  pub wakes : IsWoken run fired new then_fired after
+
+-- The caller of the place may be lent again.
+pub record EndsAt (place : ℕ) (t : Ticket) (run : Option WorkerId) (old new : Boarded) (before after : Wakes)
+    : Type 0 where
+  pub ended : Dispatched
+  pub then_ended : Wakes
+  pub ends : EndsTicket t run old.dispatch ended before then_ended
+  pub lent : new.lent ≡ slice_set old.lent place Free
+  pub settles : Settles new.lent ended new.dispatch then_ended after
+  pub kept : (new.given ≡ old.given) × (new.keeps ≡ old.keeps)
+
+-- the ticket that is to be ended: it was left and is ready, and there is space for its end
+abbrev pub left_ready : Boarded → Lending → Option Ticket
+left_ready b (Left t) =
+    if has_space b (most_made (layout_of b)) && is_done_waiting (past_of_board b) t then Some t else None
+left_ready b l = None
+
+abbrev pub ClearsAt : ℕ → Option Ticket → Boarded → Boarded → Wakes → Wakes → Type 0
+ClearsAt place (Some t) old new before after = EndsAt place t None old new before after
+ClearsAt place None old new before after = (new ≡ old) × (after ≡ before)
+
+-- so many places are gone through, one after another
+pub data Clears : ℕ → Boarded → Boarded → Wakes → Wakes → Type 0 where
+  nothing : (b : Boarded) (w : Wakes) → Clears 0 b b w w
+  more : (k : ℕ) (a b c : Boarded) (u v w : Wakes) → Clears k a b u v
+      → ClearsAt k (left_ready b (lending_at b k)) b c v w → Clears (k + 1) a c u w
+
+-- a step, after which at each place the ticket is ended that was left and is ready
+pub record ThenClears (Step : Boarded → Boarded → Wakes → Wakes → Type 0) (old new : Boarded) (before after : Wakes)
+    : Type 0 where
+  pub mid : Boarded
+  pub meanwhile : Wakes
+  pub step : Step old mid before meanwhile
+  pub clears : Clears (length mid.lent) mid new meanwhile after
+
+-- the place of a lent caller
+abbrev pub place_of : Boarded → CallerId → Option ℕ
+place_of b c = first_place (layout_of b) b.lent c.0
+
+abbrev pub waiting_at : Boarded → Option ℕ → Bool
+waiting_at b (Some place) = is_waiting (lending_at b place)
+waiting_at b None = false
+
+-- its ticket waits for nothing any more
+abbrev pub is_ready_at : Boarded → Option ℕ → Bool
+is_ready_at b (Some place) = option_map_or (is_done_waiting (past_of_board b)) (ticket_at (lending_at b place)) false
+is_ready_at b None = false
+
+abbrev pub end_fault : Boarded → CallerId → Option BoardFault
+end_fault b c = if not (is_some (place_of b c)) then Some fault.Refused
+    else if not (waiting_at b (place_of b c)) then Some fault.Misuse
+    else if b.dispatch.failed then Some fault.Failed
+    else if is_ready_at b (place_of b c) && not (has_space b (most_made (layout_of b))) then Some fault.Crowded
+    else None
+
+-- the caller is awake again, and nothing else changes
+pub record IsAwake (c : CallerId) (old new : Boarded) : Type 0 where
+  pub same : new ≡ with_asleep old new.dispatch.asleep
+  pub awake : IsUpAgain (Caller c) old.dispatch.asleep new.dispatch.asleep
+
+-- the caller is awake again, and then this is done
+pub record IsAwakeThen (c : CallerId) (Then : Boarded → Type 0) (old : Boarded) : Type 0 where
+  pub awake : Boarded
+  pub awakes : IsAwake c old awake
+  pub next : Then awake
+
+-- The caller begins to sleep until its ticket is ready, or has to look again, or it is over.
+abbrev pub WaitsOn : Ticket → Sleep → Boarded → Boarded → Type 0
+WaitsOn t instead awake new =
+    FallsAsleep (SleepsFor t) awake.dispatch instead new.dispatch × (new ≡ with_dispatch awake new.dispatch)
+
+-- it has ended, or it is not ready
+abbrev pub Ends : ℕ → Lending → Ended → Boarded → Wakes → Wakes → Boarded → Type 0
+Ends place (Waits t run slept) Done new before after awake =
+    ThenClears (EndsAt place t (if_slept slept run)) awake new before after
+Ends place (Waits t run slept) (Not instead) new before after awake = WaitsOn t instead awake new × (after ≡ before)
+Ends place l answer new before after awake = ⊥
+
+pub record EndsOrWaits (c : CallerId) (answer : Ended) (old new : Boarded) (before after : Wakes) : Type 0 where
+  pub place : ℕ
+  pub is_place : place_of old c ≡ Some place
+  pub ends : IsAwakeThen c (Ends place (lending_at old place) answer new before after) old
+
+-- ---- a wait is left
+
+abbrev pub may_leave : Lending → Bool
+may_leave (Waits t None slept) = true
+may_leave l = false
+
+abbrev pub leaves_at : Boarded → Option ℕ → Bool
+leaves_at b (Some place) = may_leave (lending_at b place)
+leaves_at b None = false
+
+abbrev pub leave_fault : Boarded → CallerId → Option BoardFault
+leave_fault b c = if not (is_some (place_of b c)) then Some fault.Refused
+    else if not (leaves_at b (place_of b c)) then Some fault.Misuse
+    else if b.dispatch.failed then Some fault.Failed
+    else None
+
+-- nobody waits for the ticket any more
+abbrev pub IsLeft : ℕ → Ticket → Boarded → Boarded → Type 0
+IsLeft place t new awake = new ≡ record awake { lent = slice_set awake.lent place (Left t) }
+
+pub record Leaves (c : CallerId) (old new : Boarded) (before after : Wakes) : Type 0 where
+  pub place : ℕ
+  pub is_place : place_of old c ≡ Some place
+  pub ticket : Ticket
+  pub has_ticket : ticket_at (lending_at old place) ≡ Some ticket
+  pub left : IsAwakeThen c (IsLeft place ticket new) old
+  pub nobody : after ≡ before

@@ -1,0 +1,362 @@
+//! A hub without threads: what its callers and workers are answered, who sleeps, and who is to be woken.
+
+ghost use Rattle.std.specs.Prelude.{◌≡◌, ◌≤◌, IfOk, IfErr, OnErr, IsTrue, None, Some, [], false, is_ok, length, min};
+ghost use Rattle.std.specs.Prelude.{max, replicate, vec_capacity};
+ghost use Rattle.cmwq_model.specs.Prelude.{IsLegal};
+ghost use Rattle.cmwq_dispatch.specs.Asleep.{NobodySleeps};
+ghost use Rattle.cmwq_dispatch.specs.Dispatched.{Stands, is_new, is_over};
+ghost use Rattle.cmwq_dispatch.specs.Naming.{NamesAll, NamesMore};
+ghost use Rattle.cmwq_board.specs.Boarded.{IsBoard, board_of, failed, handed_out, is_new_board, is_own, kept_in, layout_of};
+ghost use Rattle.cmwq_board.specs.Boarded.{most_made, past_of_board, stopped, with_asleep};
+ghost use Rattle.cmwq_board.specs.Lent.{drains, first_lent, is_left};
+ghost use Rattle.std.specs.List.{list_any};
+ghost use Rattle.cmwq_board.specs.Steps.{Finishes, Makes, Starts, call_fault, finish_fault};
+ghost use Rattle.cmwq_board.specs.Steps.{reply_now, start_fault};
+ghost use Rattle.cmwq_board.specs.Waits.{ThenClears};
+
+mod begin;
+mod items;
+mod time;
+mod waits;
+
+use crate::calls::is_single;
+use crate::entering::{Startable, enter, finish_run, has_worker, make, plan_of};
+use crate::fault::BoardFault;
+use crate::lending::Lending;
+use cmwq_core::Full;
+use cmwq_dispatch::{Dispatch, Firing, Sleep, Wakes};
+use cmwq_model::{Call, CallerId, Entry, ItemId, NoMemory, Number, Reply, Shape, Who, WorkerId};
+use cmwq_state::Tail;
+use std::alloc::{AllocError, Global};
+use std::marker::Model;
+
+/// What a worker does next.
+#[derive(Clone, Copy, Debug)]
+pub enum Start {
+    /// It runs this item, by the queueing of this number.
+    Runs { item: ItemId, number: Number },
+    /// There is nothing to start. It rests until it is named.
+    Rests,
+    /// There will be nothing to start any more. It may go.
+    Over,
+}
+
+/// What a worker finished.
+#[derive(Clone, Copy, Debug)]
+pub struct Finish {
+    /// The queueing that it ran.
+    pub number: Number,
+    /// Whether it was sent to the reserve.
+    pub retired: bool,
+}
+
+/// What became of a wait that is begun.
+#[derive(Clone, Copy, Debug)]
+pub enum Begun {
+    /// Nothing is waited for.
+    Ended { reply: Reply },
+    /// The wait goes on until its end is done, by the caller that is lent to it.
+    Waits { party: CallerId, reply: Reply },
+}
+
+/// What became of a wait that is to be ended.
+#[derive(Clone, Copy, Debug, PartialEq, Eq)]
+pub enum Ended {
+    /// It has ended, and its caller may be lent again.
+    Done,
+    /// It is not ready. What its caller does meanwhile.
+    Not(Sleep),
+}
+
+/// A hub without threads. Contracts see its history, who sleeps, how many entries were handed out, and what the callers
+/// do that are lent to waits.
+pub struct Board {
+    dispatch: Dispatch,
+    tail: Tail<Entry>,
+    /// What each of the last callers of the shape does.
+    lent: Vec<Lending>,
+    /// What whoever may still fire has: there is one while any drain has not ended.
+    firing: Option<Firing>,
+    /// Whether somebody may have left a wait that has not ended. If not, no ticket is looked at.
+    left: bool,
+}
+
+impl Model for Board {
+    ghost use Rattle.std.specs.Prelude.{◌≡◌, is_some, true};
+    ghost use Rattle.std.specs.List.{list_any};
+    ghost use Rattle.cmwq_board.specs.Boarded.{Boarded, IsBoard, board_of};
+    ghost use Rattle.cmwq_board.specs.Lent.{drains, is_left};
+
+    ghost Value = { Boarded };
+
+    ghost view = { λ b. board_of b.dispatch b.tail.given b.tail.room b.lent.items };
+
+    ghost invariant = { λ b. (b.tail.all ≡ b.dispatch.history.entries)
+        × (is_some b.firing ≡ list_any drains b.lent.items) × IsBoard b.dispatch b.tail.room b.lent.items
+        × (list_any is_left b.lent.items ≡ true → b.left ≡ true) };
+}
+
+/// How many entries one call makes at most: the end of a drain ends it, fires each item, and wakes the run that waited.
+fn most_made(shape: &Shape) -> u32
+    ensures { result ≡ most_made shape.now }
+{
+    u32::from(shape.counts().items) + 2
+}
+
+/// A dispatch with no entries, and the room of the shape.
+fn new_dispatch(alloc: Global, shape: &Shape) -> Result<Dispatch, NoMemory>
+    ensures new { IfOk result (λ dispatch. dispatch ≡ is_new shape.now shape.now.room dispatch.asleep) }
+    ensures nobody { IfOk result (λ dispatch. NobodySleeps dispatch.asleep) }
+{
+    Dispatch::new(alloc, shape, shape.counts().room)
+}
+
+/// No entries, of which so many are kept, or as many as one call may make if that is more.
+fn new_tail(alloc: Global, shape: &Shape, kept: u32) -> Result<Tail<Entry>, AllocError>
+    ensures { IfOk result
+        (λ tail. tail ≡ record { all = []; given = 0; room = max kept (most_made shape.now) }) }
+{
+    Tail::new(alloc, kept.max(most_made(shape)))
+}
+
+/// So many callers may be lent, or all if the shape has fewer.
+fn new_lent(alloc: Global, shape: &Shape, lent: u8) -> Result<Vec<Lending>, AllocError>
+    ensures { IfOk result (λ all. all.items ≡ replicate (min lent shape.now.callers) Lending.Free) }
+{
+    let lent = lent.min(shape.counts().callers);
+    Vec::from_elem(alloc, Lending::Free, usize::from(lent))
+}
+
+impl Board {
+    /// A board with no entries, which keeps so many entries at a time, or as many as one call may make if that is more.
+    /// The last `lent` callers of the shape, or all if it has fewer, are lent to waits, and the others are the user's
+    /// own. No later call takes memory; the error says that it ran out.
+    pub fn new(alloc: Global, shape: &Shape, kept: u32, lent: u8) -> Result<Board, NoMemory>
+        ensures new { IfOk result (λ board. board ≡ is_new_board shape.now kept (min lent shape.now.callers)
+            board.dispatch.asleep) }
+        ensures nobody { IfOk result (λ board. NobodySleeps board.dispatch.asleep) }
+    {
+        let dispatch = new_dispatch(alloc, shape)?;
+        let tail = new_tail(alloc, shape, kept)?;
+        let lent = new_lent(alloc, shape, lent)?;
+        Ok(Board::of_parts(dispatch, tail, lent))
+    }
+
+    /// The board of these parts, in which nobody waits.
+    fn of_parts(dispatch: Dispatch, tail: Tail<Entry>, lent: Vec<Lending>) -> Board
+        requires kept { tail.all ≡ dispatch.history.entries }
+        requires free { list_any drains lent.items ≡ false }
+        requires waited { list_any is_left lent.items ≡ false }
+        requires board { IsBoard dispatch tail.room lent.items }
+        ensures { result ≡ board_of dispatch tail.given tail.room lent.items }
+    {
+        Board {
+            dispatch,
+            tail,
+            lent,
+            firing: None,
+            left: false,
+        }
+    }
+
+    /// Lets the board go.
+    pub fn close(self) {
+        let Board {
+            mut dispatch,
+            tail: _tail,
+            lent: _lent,
+            firing,
+            left: _,
+        } = self;
+        if let Some(firing) = firing {
+            let mut wakes = Wakes::new();
+            dispatch.ends_firing(firing, &mut wakes);
+            let _named = wakes.into_named();
+        }
+        dispatch.end();
+    }
+
+    /// What holds of each board. Nothing runs.
+    pub fn stands(&self)
+        ensures stands { Stands self.now.dispatch }
+        ensures legal { IsLegal (layout_of self.now) (past_of_board self.now) }
+        ensures board { IsBoard self.now.dispatch self.now.keeps self.now.lent }
+    {
+        self.dispatch.stands();
+    }
+
+    /// The first of the callers that are lent.
+    fn first_lent(&self) -> u8
+        ensures first { result ≡ first_lent (layout_of self.now) self.now.lent }
+        ensures few { length self.now.lent ≤ (layout_of self.now).callers }
+        ensures small { (layout_of self.now).callers ≤ 255 }
+    {
+        let callers = self.dispatch.shape().counts().callers;
+        callers - self.lent.len() as u8
+    }
+
+    /// Whether it is a worker, or a caller of the user's own.
+    fn is_own(&self, who: Who) -> bool
+        ensures { result ≡ is_own self.now who }
+    {
+        match who {
+            Who::Caller(caller) => caller.0 < self.first_lent(),
+            Who::Worker(_) => true,
+        }
+    }
+
+    /// A call of one entry, by a caller of the user's own or in a run of this worker: queue, delay, modify, cancel,
+    /// set_max, freeze and thaw, and of workers sleep, wake and retire. Then the tickets are ended that were left and
+    /// are ready now.
+    pub fn call(&mut self, who: Who, call: Call, wakes: &mut Wakes) -> Result<Reply, BoardFault>
+        ensures reply { IfOk result (λ reply. reply ≡ reply_now self.old who call) }
+        ensures made { IfOk result (λ _. ThenClears (Makes who call) self.old self.new wakes.old wakes.new) }
+        ensures taken { IfOk result (λ _. call_fault self.old who call ≡ None) }
+        ensures refused { IfErr result (λ fault. call_fault self.old who call ≡ Some fault) }
+        ensures same { OnErr result ((self.new ≡ self.old) × (wakes.new ≡ wakes.old)) }
+    {
+        if !is_single(&call) || !self.is_own(who) || !self.dispatch.shape().fits(who, call) {
+            return Err(BoardFault::Refused);
+        }
+        if self.dispatch.has_failed() {
+            return Err(BoardFault::Failed);
+        }
+        if self.dispatch.is_closed() && matches!(who, Who::Caller(_)) {
+            return Err(BoardFault::Closed);
+        }
+        if self.tail.space() == 0 {
+            return Err(BoardFault::Crowded);
+        }
+        let entered = enter(&mut self.dispatch, &mut self.tail, who, call, wakes);
+        match entered {
+            Ok(reply) => {
+                self.clears(wakes);
+                Ok(reply)
+            }
+            Err(Full) => Err(BoardFault::Full),
+        }
+    }
+
+    /// The worker starts the next queueing of its pool. If it would start nothing it rests from now on, in the same
+    /// call, until it is named; or it may go.
+    pub fn start(&mut self, worker: WorkerId, wakes: &mut Wakes) -> Result<Start, BoardFault>
+        ensures starts { IfOk result (λ start. Starts self.old worker start self.new wakes.old wakes.new) }
+        ensures taken { IfOk result (λ _. start_fault self.old worker ≡ None) }
+        ensures refused { IfErr result (λ fault. start_fault self.old worker ≡ Some fault) }
+        ensures same { OnErr result ((self.new ≡ self.old) × (wakes.new ≡ wakes.old)) }
+    {
+        if !has_worker(self.dispatch.shape(), worker) {
+            return Err(BoardFault::Refused);
+        }
+        if self.dispatch.has_failed() {
+            return Ok(Start::Over);
+        }
+        if self.dispatch.execution().state().has_run(worker) {
+            return Err(BoardFault::Misuse);
+        }
+        let Some(startable) = plan_of(&self.dispatch, worker) else {
+            return match self.dispatch.idles(worker) {
+                Sleep::Sleeps => Ok(Start::Rests),
+                Sleep::Over => Ok(Start::Over),
+                Sleep::LooksAgain => unreachable!(),
+            };
+        };
+        if self.tail.space() == 0 {
+            return Err(BoardFault::Crowded);
+        }
+        let Startable { plan, item, number } = startable;
+        make(&mut self.dispatch, &mut self.tail, &plan, wakes);
+        Ok(Start::Runs { item, number })
+    }
+
+    /// The worker's run ends. The worker is sent to the reserve if it would be. Then the tickets are ended that were
+    /// left and are ready now.
+    pub fn finish(&mut self, worker: WorkerId, wakes: &mut Wakes) -> Result<Finish, BoardFault>
+        ensures made { IfOk result
+            (λ finish. ThenClears (Finishes worker finish) self.old self.new wakes.old wakes.new) }
+        ensures taken { IfOk result (λ _. finish_fault self.old worker ≡ None) }
+        ensures refused { IfErr result (λ fault. finish_fault self.old worker ≡ Some fault) }
+        ensures same { OnErr result ((self.new ≡ self.old) × (wakes.new ≡ wakes.old)) }
+    {
+        if !has_worker(self.dispatch.shape(), worker) {
+            return Err(BoardFault::Refused);
+        }
+        if self.dispatch.has_failed() {
+            return Err(BoardFault::Failed);
+        }
+        if !self.dispatch.execution().state().runs_awake(worker) {
+            return Err(BoardFault::Misuse);
+        }
+        if self.tail.space() < 2 {
+            return Err(BoardFault::Crowded);
+        }
+        let finished = finish_run(&mut self.dispatch, &mut self.tail, worker, wakes);
+        match finished {
+            Ok(finish) => {
+                self.clears(wakes);
+                Ok(finish)
+            }
+            Err(Full) => Err(BoardFault::Full),
+        }
+    }
+
+    /// Callers begin nothing from now on, and waits of runs go on. It is over once nothing active is open and no drain
+    /// may still fire. Everybody is named.
+    pub fn stop(&mut self, wakes: &mut Wakes)
+        ensures new { self.new ≡ with_asleep (stopped self.old) self.new.dispatch.asleep }
+        ensures nobody { NobodySleeps self.new.dispatch.asleep }
+        ensures all { NamesAll wakes.new }
+        ensures more { NamesMore wakes.old wakes.new }
+    {
+        self.dispatch.close(wakes);
+    }
+
+    /// Nobody makes an entry from now on. Everybody is named.
+    pub fn fail(&mut self, wakes: &mut Wakes)
+        ensures new { self.new ≡ with_asleep (failed self.old) self.new.dispatch.asleep }
+        ensures nobody { NobodySleeps self.new.dispatch.asleep }
+        ensures all { NamesAll wakes.new }
+        ensures more { NamesMore wakes.old wakes.new }
+    {
+        self.dispatch.fail(wakes);
+    }
+
+    /// Whether nobody will have anything to do any more.
+    pub fn is_over(&self) -> bool
+        ensures { result ≡ is_over self.now.dispatch }
+    {
+        self.dispatch.is_over()
+    }
+
+    /// How many entries there are, those that were handed out too.
+    pub fn len(&self) -> u64
+        ensures { result ≡ length self.now.dispatch.history.entries }
+    {
+        self.tail.len()
+    }
+
+    /// How many entries may be kept.
+    pub fn keeps(&self) -> u32
+        ensures { result ≡ self.now.keeps }
+    {
+        self.tail.room()
+    }
+
+    /// Hands out the entries that are kept, the oldest first: `out` has them then, and the board keeps its entries in
+    /// what `out` was. Nothing is copied, and no memory is taken. It refuses a buffer that is not empty, or that cannot
+    /// hold as many as may be kept.
+    pub fn hand_out(&mut self, out: &mut Vec<Entry>) -> Result<(), BoardFault>
+        ensures handed { IfOk result (λ _. out.new.items ≡ kept_in self.old) }
+        ensures large { IfOk result (λ _. self.old.keeps ≤ vec_capacity out.new) }
+        ensures new { IfOk result (λ _. self.new ≡ handed_out self.old) }
+        ensures takes { out.old.items ≡ [] → self.old.keeps ≤ vec_capacity out.old → IsTrue (is_ok result) }
+        ensures refused { IfErr result (λ fault. fault ≡ BoardFault.Refused) }
+        ensures same { OnErr result ((self.new ≡ self.old) × (out.new ≡ out.old)) }
+    {
+        if !out.is_empty() || out.capacity() < self.tail.room() as usize {
+            return Err(BoardFault::Refused);
+        }
+        self.tail.give(out);
+        Ok(())
+    }
+}

@@ -1,0 +1,235 @@
+//! Waits end, or are left.
+
+ghost use Rattle.std.specs.Prelude.{◌≡◌, ◌<◌, ◌∷◌, IfErr, IfOk, IfSome, None, OnErr, Some, [], false, is_some, length};
+ghost use Rattle.std.specs.Prelude.{true};
+ghost use Rattle.cmwq_core.specs.History.{is_done_waiting};
+ghost use Rattle.cmwq_core.specs.Plans.{IsPlan};
+ghost use Rattle.cmwq_dispatch.specs.Asleep.{IsUpAgain};
+ghost use Rattle.cmwq_dispatch.specs.Dispatched.{past_now};
+ghost use Rattle.cmwq_dispatch.specs.Waiting.{IsKnown};
+ghost use Rattle.cmwq_model.specs.declared.call.Call.TheVariants as calls;
+ghost use Rattle.cmwq_model.specs.declared.id.Who.TheVariants as who;
+ghost use Rattle.cmwq_model.specs.Prelude.{is_done};
+ghost use Rattle.cmwq_board.specs.Boarded.{has_space, layout_of, most_made, past_of_board, with_asleep};
+ghost use Rattle.cmwq_board.specs.Lent.{tickets_held};
+ghost use Rattle.cmwq_board.specs.Waits.{Clears, ClearsAt, EndsAt, EndsOrWaits, IsAwakeThen, IsLeft, Leaves};
+ghost use Rattle.cmwq_board.specs.Waits.{ThenClears, WaitsOn, end_fault, leave_fault, left_ready, lending_at, place_of};
+ghost use Rattle.cmwq_board.specs.Waits.{ticket_at};
+
+use crate::beginning::if_slept;
+use crate::board::{Board, Ended, most_made};
+use crate::entering::end_ticket;
+use crate::fault::BoardFault;
+use crate::firing::ends_firing;
+use crate::lending::{Lending, any_left};
+use cmwq_core::Plan;
+use cmwq_dispatch::{Dispatch, EndPlan, Sleep, Wakes};
+use cmwq_model::{CallerId, Ticket, Who, WorkerId};
+
+/// The end of this ticket, if it is ready.
+fn planned_end(dispatch: &Dispatch, ticket: Ticket) -> Option<Plan>
+    requires there { ticket.caller.0 < dispatch.now.history.layout.callers }
+    requires held { tickets_held (past_now dispatch.now) ticket.caller.0 ≡ ticket ∷ [] }
+    ensures ready { is_some result ≡ is_done_waiting (past_now dispatch.now) ticket }
+    ensures plan { IfSome result
+        (λ plan. IsPlan dispatch.now.history (who.Caller ticket.caller) (calls.End ticket.number) plan) }
+    ensures done { IfSome result (λ plan. is_done plan.mark.entry.reply ≡ true) }
+    ensures known { result ≡ None → IsKnown dispatch.now.history.layout (past_now dispatch.now) ticket }
+{
+    match dispatch.plan_end(ticket.caller, ticket.number) {
+        EndPlan::Done(plan) => Some(plan),
+        EndPlan::Waits(_) => None,
+        EndPlan::Unknown => unreachable!(),
+    }
+}
+
+impl Board {
+    /// The place of this caller, if it is one that is lent.
+    fn place_of(&self, party: CallerId) -> Option<usize>
+        ensures { result ≡ place_of self.now party }
+    {
+        let first = self.first_lent();
+        if party.0 < first {
+            return None;
+        }
+        let place = usize::from(party.0 - first);
+        if place < self.lent.len() {
+            Some(place)
+        } else {
+            None
+        }
+    }
+
+    /// Ends the wait of a lent caller if it is ready: after a drain what is due is fired, the run that slept for it
+    /// wakes, and the caller may be lent again. Otherwise the caller sleeps from now on, in the same call, until it is
+    /// named; or it is over, and the wait will never be ready.
+    pub fn end(&mut self, party: CallerId, wakes: &mut Wakes) -> Result<Ended, BoardFault>
+        ensures ends { IfOk result (λ ended. EndsOrWaits party ended self.old self.new wakes.old wakes.new) }
+        ensures taken { IfOk result (λ _. end_fault self.old party ≡ None) }
+        ensures refused { IfErr result (λ fault. end_fault self.old party ≡ Some fault) }
+        ensures same { OnErr result ((self.new ≡ self.old) × (wakes.new ≡ wakes.old)) }
+    {
+        let Some(place) = self.place_of(party) else {
+            return Err(BoardFault::Refused);
+        };
+        let Lending::Waits { ticket, run, slept } = self.lent[place] else {
+            return Err(BoardFault::Misuse);
+        };
+        if self.dispatch.has_failed() {
+            return Err(BoardFault::Failed);
+        }
+        let Some(plan) = planned_end(&self.dispatch, ticket) else {
+            return Ok(Ended::Not(self.waits_on(ticket)));
+        };
+        if self.tail.space() < most_made(self.dispatch.shape()) {
+            return Err(BoardFault::Crowded);
+        }
+        self.ends_wait(place, ticket, if_slept(slept, run), &plan, wakes);
+        Ok(Ended::Done)
+    }
+
+    /// The caller of this ticket is awake, and begins to sleep until it is ready.
+    fn waits_on(&mut self, ticket: Ticket) -> Sleep
+        requires known { IsKnown (layout_of self.old) (past_of_board self.old) ticket }
+        requires unready { is_done_waiting (past_of_board self.old) ticket ≡ false }
+        ensures { IsAwakeThen ticket.caller (λ awake. WaitsOn ticket result awake self.new) self.old }
+    {
+        self.dispatch.awakes(Who::Caller(ticket.caller));
+        self.dispatch.sleeps(ticket)
+    }
+
+    /// The caller of this ticket is awake, and its wait ends. Then the tickets are ended that were left and are ready
+    /// now.
+    fn ends_wait(
+        &mut self,
+        place: usize,
+        ticket: Ticket,
+        run: Option<WorkerId>,
+        plan: &Plan,
+        wakes: &mut Wakes,
+    )
+        requires place { place < length self.old.lent }
+        requires ticket { ticket_at (lending_at self.old place) ≡ Some ticket }
+        requires plan { IsPlan self.old.dispatch.history (who.Caller ticket.caller) (calls.End ticket.number) plan.now }
+        requires done { is_done plan.now.mark.entry.reply ≡ true }
+        requires lives { self.old.dispatch.failed ≡ false }
+        requires space { has_space self.old (most_made (layout_of self.old)) ≡ true }
+        ensures { IsAwakeThen ticket.caller
+            (λ awake. ThenClears (EndsAt place ticket run) awake self.new wakes.old wakes.new) self.old }
+    {
+        self.dispatch.awakes(Who::Caller(ticket.caller));
+        self.ends(place, ticket, run, plan, wakes);
+        self.clears(wakes);
+    }
+
+    /// Makes the end of a ticket that was planned, and what belongs to it.
+    fn ends(
+        &mut self,
+        place: usize,
+        ticket: Ticket,
+        run: Option<WorkerId>,
+        plan: &Plan,
+        wakes: &mut Wakes,
+    )
+        requires place { place < length self.old.lent }
+        requires ticket { ticket_at (lending_at self.old place) ≡ Some ticket }
+        requires plan { IsPlan self.old.dispatch.history (who.Caller ticket.caller) (calls.End ticket.number) plan.now }
+        requires done { is_done plan.now.mark.entry.reply ≡ true }
+        requires lives { self.old.dispatch.failed ≡ false }
+        requires space { has_space self.old (most_made (layout_of self.old)) ≡ true }
+        ensures ends { EndsAt place ticket run self.old self.new wakes.old wakes.new }
+        ensures lives { self.new.dispatch.failed ≡ false }
+    {
+        let _legal = self.dispatch.execution().len();
+        end_ticket(&mut self.dispatch, &mut self.tail, ticket, run, plan, wakes);
+        self.lent[place] = Lending::Free;
+        ends_firing(&mut self.dispatch, &mut self.firing, &self.lent, wakes);
+    }
+
+    /// Ends the tickets that were left and are ready.
+    pub(crate) fn clears(&mut self, wakes: &mut Wakes)
+        requires { self.old.dispatch.failed ≡ false }
+        ensures { Clears (length self.old.lent) self.old self.new wakes.old wakes.new }
+    {
+        if self.left {
+            self.clears_all(wakes);
+            self.left = any_left(&self.lent);
+        }
+    }
+
+    fn clears_all(&mut self, wakes: &mut Wakes)
+        requires { self.old.dispatch.failed ≡ false }
+        ensures { Clears (length self.old.lent) self.old self.new wakes.old wakes.new }
+    {
+        let places = self.lent.len();
+        for place in 0..places {
+            self.clears_at(place, wakes);
+        }
+    }
+
+    /// Ends the ticket of this place if it was left and is ready.
+    fn clears_at(&mut self, place: usize, wakes: &mut Wakes)
+        requires place { place < length self.old.lent }
+        requires lives { self.old.dispatch.failed ≡ false }
+        ensures clears { ClearsAt place (left_ready self.old (lending_at self.old place)) self.old self.new
+            wakes.old wakes.new }
+        ensures lives { self.new.dispatch.failed ≡ false }
+        ensures many { length self.new.lent ≡ length self.old.lent }
+    {
+        let Lending::Left { ticket } = self.lent[place] else {
+            return;
+        };
+        if self.tail.space() < most_made(self.dispatch.shape()) {
+            return;
+        }
+        if let Some(plan) = planned_end(&self.dispatch, ticket) {
+            self.ends(place, ticket, None, &plan, wakes);
+        }
+    }
+
+    /// A caller or a worker is awake again, also where nobody named it.
+    pub fn awakes(&mut self, who: Who)
+        ensures same { self.new ≡ with_asleep self.old self.new.dispatch.asleep }
+        ensures awake { IsUpAgain who self.old.dispatch.asleep self.new.dispatch.asleep }
+    {
+        self.dispatch.awakes(who);
+    }
+
+    /// Nobody waits by this caller any more. Its ticket is ended once it is ready, at the next call, finish, end or
+    /// leave, and then the caller may be lent again. Waits of runs cannot be left, since the run goes on to wait.
+    pub fn leaves(&mut self, party: CallerId, wakes: &mut Wakes) -> Result<(), BoardFault>
+        ensures leaves { IfOk result (λ _. ThenClears (Leaves party) self.old self.new wakes.old wakes.new) }
+        ensures taken { IfOk result (λ _. leave_fault self.old party ≡ None) }
+        ensures refused { IfErr result (λ fault. leave_fault self.old party ≡ Some fault) }
+        ensures same { OnErr result ((self.new ≡ self.old) × (wakes.new ≡ wakes.old)) }
+    {
+        let Some(place) = self.place_of(party) else {
+            return Err(BoardFault::Refused);
+        };
+        let Lending::Waits {
+            ticket,
+            run: None,
+            ..
+        } = self.lent[place]
+        else {
+            return Err(BoardFault::Misuse);
+        };
+        if self.dispatch.has_failed() {
+            return Err(BoardFault::Failed);
+        }
+        self.leaves_at(place, ticket);
+        self.clears(wakes);
+        Ok(())
+    }
+
+    /// The caller of this place is awake, and nobody waits for its ticket any more.
+    fn leaves_at(&mut self, place: usize, ticket: Ticket)
+        requires place { place < length self.old.lent }
+        requires ticket { ticket_at (lending_at self.old place) ≡ Some ticket }
+        ensures { IsAwakeThen ticket.caller (IsLeft place ticket self.new) self.old }
+    {
+        self.dispatch.awakes(Who::Caller(ticket.caller));
+        self.lent[place] = Lending::Left { ticket };
+        self.left = true;
+    }
+}

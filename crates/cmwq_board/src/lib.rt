@@ -1,0 +1,19 @@
+//! A hub without threads, as a shell in another language needs it. A shell locks, makes one call, unlocks, and wakes
+//! those who are named. It decides nothing.
+#![tactic(auto)]
+
+mod beginning;
+mod board;
+mod calls;
+mod entering;
+mod fault;
+mod firing;
+mod item_state;
+mod lending;
+#[cfg(test)]
+mod tests;
+
+pub use board::{Begun, Board, Ended, Finish, Start};
+pub use fault::{BoardFault, WaitFault};
+pub use item_state::{ItemState, Pending};
+pub use lending::Lending;
