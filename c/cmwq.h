@@ -18,18 +18,40 @@ extern "C" {
 #define CMWQ_ASSERT(holds) _Static_assert(holds, "cmwq.h")
 #endif
 
+/* One version for the program, the library, the crate and the package: major * 1000000 + minor * 1000 + patch. */
+#define CMWQ_VERSION 1000000
+
+/** cmwq_version() - the version of the library, which a shell compares with CMWQ_VERSION when it opens a board */
+uint32_t cmwq_version(void);
+
 /**
- * enum cmwq_status - what calls answer
+ * enum cmwq_status - what calls return
  * @CMWQ_OK: done. At every other status nothing has changed, neither the book nor what the pointers lead to.
  * @CMWQ_REFUSED: no such call, caller, worker, item or entry; or a shape outside the limits
  * @CMWQ_CLOSED: the handle has no book
  * @CMWQ_FULL: no room for the entry and for what would be owed then, or for its ticks
  * @CMWQ_NO_MEMORY: malloc gave none
  * @CMWQ_SHORT: the buffer doesn't hold the line (CMWQ_LINE bytes always do)
- * @CMWQ_CROWDED: as many entries are kept as may be: read them, and call cmwq_forget()
+ * @CMWQ_CROWDED: as many entries are kept as may be: read them, and call cmwq_forget(); of a board, hand them out
  * @CMWQ_ILLEGAL: of cmwq_check() alone: the history isn't legal, and the line says where. It is an answer, and so is written
+ *
+ * Those below are returned by the calls of a board alone. CMWQ_WAITS, CMWQ_RESTS, CMWQ_OVER and CMWQ_LOOK_AGAIN aren't faults.
+ * @CMWQ_STOPPED: the board was stopped: callers begin nothing
+ * @CMWQ_FAILED: the board has failed: nobody makes an entry
+ * @CMWQ_NOT_NOW: not possible at this point: the worker has no run that is awake, or has one, or nobody waits by this caller
+ * @CMWQ_ITSELF: the run would wait for its own end
+ * @CMWQ_DEADLOCK: the wait could never end, because of runs that wait
+ * @CMWQ_NO_CALLER: as many waits are under way as callers are lent
+ * @CMWQ_WAITS: the wait goes on
+ * @CMWQ_RESTS: the worker has nothing to start: it rests until it is named
+ * @CMWQ_OVER: there will be nothing to do any more
+ * @CMWQ_LOOK_AGAIN: nobody is asleep: make the same call again
  */
-enum cmwq_status { CMWQ_OK, CMWQ_REFUSED, CMWQ_CLOSED, CMWQ_FULL, CMWQ_NO_MEMORY, CMWQ_SHORT, CMWQ_CROWDED, CMWQ_ILLEGAL };
+enum cmwq_status {
+    CMWQ_OK, CMWQ_REFUSED, CMWQ_CLOSED, CMWQ_FULL, CMWQ_NO_MEMORY, CMWQ_SHORT, CMWQ_CROWDED, CMWQ_ILLEGAL,
+    CMWQ_STOPPED, CMWQ_FAILED, CMWQ_NOT_NOW, CMWQ_ITSELF, CMWQ_DEADLOCK, CMWQ_NO_CALLER,
+    CMWQ_WAITS, CMWQ_RESTS, CMWQ_OVER, CMWQ_LOOK_AGAIN
+};
 
 /* No line that the library writes is longer, with its line feed. */
 #define CMWQ_LINE 256
@@ -198,6 +220,146 @@ uint32_t cmwq_forget(struct cmwq_book *book);
  */
 uint32_t cmwq_check(const uint8_t *text, size_t len, uint8_t *out, size_t out_len, size_t *written);
 
+#define CMWQ_NAMED 8
+#define CMWQ_NOBODY 255
+
+/**
+ * struct cmwq_wakes - whom to wake once the lock is let go
+ * @workers: one by one; the first that is of kind CMWQ_NOBODY ends them
+ * @callers: lent callers that wait, by their numbers; the first CMWQ_NOBODY ends them
+ * @all_workers: not 0: all workers, in place of those
+ * @all_callers: not 0: all lent callers, in place of those
+ * Every call writes the whole of it where it is done, and leaves it as it was at any other status.
+ */
+struct cmwq_wakes { struct cmwq_who workers[CMWQ_NAMED]; uint8_t callers[CMWQ_NAMED]; uint8_t all_workers, all_callers; };
+
+/**
+ * struct cmwq_board - a hub without threads, or none (all zeros): all that a hub decides (docs/C.md, "Your own shell")
+ * struct cmwq_lines - entries that were handed out, until they are written as text; or none (all zeros)
+ *
+ * One call at a time on each. The calls of a board are made under one lock of the shell's; those on lines need it only at
+ * cmwq_board_hand_out() and cmwq_lines_open(). Never copy one, and change no field.
+ */
+struct cmwq_board { void *at; bool live; };
+struct cmwq_lines { void *at; bool live; };
+
+enum cmwq_pending { CMWQ_NOT_PENDING, CMWQ_PENDING_TIMER, CMWQ_PENDING_QUEUED };
+
+/**
+ * struct cmwq_item - what an item does
+ * @pending: enum cmwq_pending
+ * @queue, @cpu: where it is queued or booked (0 where it is not pending)
+ * @number: of its queueing that has not started; or the tick at which the timer is due; 0
+ * @runs: not 0: a worker runs it
+ * @worker, @run: that worker, and the number of the queueing that it runs; 0
+ */
+struct cmwq_item { uint64_t number, run; uint8_t pending, queue, cpu, runs; struct cmwq_who worker; };
+
+/**
+ * cmwq_board_open() - opens a board with no entries; one that the handle has is closed
+ * @shape: its keep is how many entries are kept, or as many as one call may make if that is more
+ * @lent: so many of the last callers of the shape are lent to waits. The others are the shell's own
+ * Return: CMWQ_OK; CMWQ_REFUSED: the shape, or more are lent than it has callers; CMWQ_NO_MEMORY
+ */
+uint32_t cmwq_board_open(struct cmwq_board *board, const struct cmwq_shape *shape, const struct cmwq_queue *queues, size_t len, uint8_t lent);
+
+/** cmwq_board_close() - gives up the board, if there is one */
+void cmwq_board_close(struct cmwq_board *board);
+
+/**
+ * cmwq_board_call() - one entry: queue, delay, modify, cancel, set_max, freeze, thaw; of a worker also sleep, wake, retire
+ * Return: CMWQ_OK and *@reply; CMWQ_REFUSED; CMWQ_CLOSED; CMWQ_FULL; CMWQ_CROWDED; CMWQ_STOPPED; CMWQ_FAILED
+ */
+uint32_t cmwq_board_call(struct cmwq_board *board, const struct cmwq_call *call, struct cmwq_reply *reply, struct cmwq_wakes *wakes);
+
+/**
+ * cmwq_board_start() - the worker starts the next queueing of its pool, if there is one
+ * Return: CMWQ_OK: it runs *@item, by the queueing *@number; CMWQ_RESTS: it rests from now on until it is named; CMWQ_OVER: the thread may
+ * end; CMWQ_REFUSED; CMWQ_CLOSED; CMWQ_CROWDED; CMWQ_NOT_NOW
+ */
+uint32_t cmwq_board_start(struct cmwq_board *board, const struct cmwq_who *worker, uint16_t *item, uint64_t *number, struct cmwq_wakes *wakes);
+
+/**
+ * cmwq_board_finish() - the worker's run ends, and the worker is sent to the reserve where it should be
+ * Return: CMWQ_OK; CMWQ_REFUSED; CMWQ_CLOSED; CMWQ_FULL; CMWQ_CROWDED; CMWQ_FAILED; CMWQ_NOT_NOW
+ */
+uint32_t cmwq_board_finish(struct cmwq_board *board, const struct cmwq_who *worker, struct cmwq_wakes *wakes);
+
+/**
+ * cmwq_board_begin() - a wait begins, by a lent caller: flush, drain, destroy, flush_item, flush_delayed, cancel_sync
+ * @call: its who is a worker: its run waits, and sleeps meanwhile if it is awake; or a caller: nobody's run waits (its index isn't read)
+ * Return: CMWQ_OK: it has ended, and *@reply says how; CMWQ_WAITS: *@party is the lent caller, and *@reply has the ticket: call
+ * cmwq_board_end() until it isn't CMWQ_WAITS; CMWQ_REFUSED; CMWQ_CLOSED; CMWQ_FULL; CMWQ_CROWDED; CMWQ_STOPPED; CMWQ_FAILED; CMWQ_NOT_NOW;
+ * CMWQ_ITSELF; CMWQ_DEADLOCK; CMWQ_NO_CALLER
+ */
+uint32_t cmwq_board_begin(struct cmwq_board *board, const struct cmwq_call *call, uint8_t *party, struct cmwq_reply *reply, struct cmwq_wakes *wakes);
+
+/**
+ * cmwq_board_end() - ends the wait of this lent caller, if it is ready
+ * Return: CMWQ_OK: it has ended: the run that slept is awake, and after a drain what is due was fired; CMWQ_WAITS: the party sleeps until it
+ * is named; CMWQ_LOOK_AGAIN; CMWQ_OVER: it will never end; CMWQ_REFUSED; CMWQ_CLOSED; CMWQ_CROWDED; CMWQ_FAILED; CMWQ_NOT_NOW
+ */
+uint32_t cmwq_board_end(struct cmwq_board *board, uint8_t party, struct cmwq_wakes *wakes);
+
+/**
+ * cmwq_board_leave() - nobody waits by this party any more: its ticket is ended by a later call once it is ready. Not of a run
+ * Return: CMWQ_OK; CMWQ_REFUSED; CMWQ_CLOSED; CMWQ_FAILED; CMWQ_NOT_NOW
+ */
+uint32_t cmwq_board_leave(struct cmwq_board *board, uint8_t party, struct cmwq_wakes *wakes);
+
+/**
+ * cmwq_board_advance() - so many ticks go by, and what is due is fired, by a caller of the shell's own
+ * Return: CMWQ_OK and *@now; CMWQ_REFUSED; CMWQ_CLOSED; CMWQ_FULL; CMWQ_CROWDED; CMWQ_STOPPED; CMWQ_FAILED
+ */
+uint32_t cmwq_board_advance(struct cmwq_board *board, uint8_t caller, uint32_t ticks, uint64_t *now, struct cmwq_wakes *wakes);
+
+/**
+ * cmwq_board_time() - the tick that it is; 0 of a closed handle
+ * cmwq_board_due() - the least tick at which a timer may fire; UINT64_MAX: none. It looks at each item
+ * cmwq_board_item() - what an item does. Return: CMWQ_OK and *@state; CMWQ_REFUSED: no such item; CMWQ_CLOSED
+ */
+uint64_t cmwq_board_time(struct cmwq_board *board);
+uint64_t cmwq_board_due(struct cmwq_board *board);
+uint32_t cmwq_board_item(struct cmwq_board *board, uint16_t item, struct cmwq_item *state);
+
+/**
+ * cmwq_board_stop() - callers begin nothing from now on; everybody is named. Return: CMWQ_OK; CMWQ_CLOSED
+ * cmwq_board_fail() - nobody makes an entry from now on; everybody is named. Return: CMWQ_OK; CMWQ_CLOSED
+ * cmwq_board_is_over() - whether nobody will have anything to do any more; true of a closed handle
+ * cmwq_board_len() - how many entries there are
+ */
+uint32_t cmwq_board_stop(struct cmwq_board *board, struct cmwq_wakes *wakes);
+uint32_t cmwq_board_fail(struct cmwq_board *board, struct cmwq_wakes *wakes);
+bool cmwq_board_is_over(struct cmwq_board *board);
+uint64_t cmwq_board_len(struct cmwq_board *board);
+
+/**
+ * cmwq_lines_open() - lines that can take what this board keeps. Lines that it had are closed
+ * Return: CMWQ_OK; CMWQ_CLOSED: the board; CMWQ_NO_MEMORY
+ */
+uint32_t cmwq_lines_open(struct cmwq_lines *lines, struct cmwq_board *board);
+void cmwq_lines_close(struct cmwq_lines *lines);
+
+/**
+ * cmwq_board_hand_out() - lines take all that the board keeps. Two buffers are exchanged, and nothing is copied
+ * Return: CMWQ_OK; CMWQ_CLOSED: either; CMWQ_REFUSED: the lines still have entries, or are too small for this board
+ */
+uint32_t cmwq_board_hand_out(struct cmwq_board *board, struct cmwq_lines *lines);
+
+/**
+ * cmwq_lines_write() - writes as many whole lines as the buffer holds, *@written bytes; 0: none are left
+ * cmwq_lines_forget() - forgets what they still have
+ * Return: CMWQ_OK; CMWQ_CLOSED; CMWQ_SHORT: not even one line (CMWQ_LINE bytes always hold one)
+ */
+uint32_t cmwq_lines_write(struct cmwq_lines *lines, uint8_t *out, size_t out_len, size_t *written);
+uint32_t cmwq_lines_forget(struct cmwq_lines *lines);
+
+/**
+ * cmwq_head() - the lines that begin a history of this shape (format 3), as `cmwq check` reads them
+ * Return: CMWQ_OK; CMWQ_REFUSED: the shape; CMWQ_NO_MEMORY; CMWQ_SHORT
+ */
+uint32_t cmwq_head(const struct cmwq_shape *shape, const struct cmwq_queue *queues, size_t len, uint8_t *out, size_t out_len, size_t *written);
+
 /* The layout: tools/c holds the sizes against those that the crate proves. */
 CMWQ_ASSERT(sizeof(struct cmwq_book) == 2 * sizeof(void *) && offsetof(struct cmwq_book, live) == sizeof(void *) && sizeof(size_t) == 8);
 CMWQ_ASSERT(sizeof(struct cmwq_shape) == 24 && offsetof(struct cmwq_shape, keep) == 8 && offsetof(struct cmwq_shape, items) == 12 &&
@@ -210,7 +372,11 @@ CMWQ_ASSERT(sizeof(struct cmwq_call) == 24 && offsetof(struct cmwq_call, number)
 CMWQ_ASSERT(sizeof(struct cmwq_reply) == 24 && offsetof(struct cmwq_reply, other) == 8 && offsetof(struct cmwq_reply, item) == 16 &&
             offsetof(struct cmwq_reply, kind) == 18);
 CMWQ_ASSERT(sizeof(struct cmwq_entry) == 56 && offsetof(struct cmwq_entry, call) == 8 && offsetof(struct cmwq_entry, reply) == 32);
-CMWQ_ASSERT(CMWQ_DESTROY == 20 && CMWQ_TIMERS == 34 && CMWQ_ILLEGAL == 7);
+CMWQ_ASSERT(sizeof(struct cmwq_wakes) == 34 && offsetof(struct cmwq_wakes, callers) == 24 && offsetof(struct cmwq_wakes, all_workers) == 32);
+CMWQ_ASSERT(sizeof(struct cmwq_board) == 2 * sizeof(void *) && sizeof(struct cmwq_lines) == 2 * sizeof(void *));
+CMWQ_ASSERT(sizeof(struct cmwq_item) == 24 && offsetof(struct cmwq_item, run) == 8 && offsetof(struct cmwq_item, pending) == 16 &&
+            offsetof(struct cmwq_item, worker) == 20);
+CMWQ_ASSERT(CMWQ_DESTROY == 20 && CMWQ_TIMERS == 34 && CMWQ_ILLEGAL == 7 && CMWQ_LOOK_AGAIN == 17);
 #undef CMWQ_ASSERT
 
 #ifdef __cplusplus
