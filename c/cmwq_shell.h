@@ -254,7 +254,8 @@ static inline void *cmwq_hub_write_(void *at)
     while (!hub->over || cmwq_board_len(&hub->board) > hub->handed || hub->busy) {
         if (!hub->busy && !hub->over)
             cmwq_hub_sleep_(hub, me, cmwq_hub_now_(hub) + 100000000);
-        cmwq_hub_space_(hub, 0);
+        if (!hub->busy)
+            cmwq_hub_space_(hub, 0);
         if (hub->busy) {
             bool takes = true;
 
