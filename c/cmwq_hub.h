@@ -28,7 +28,7 @@ enum cmwq_hub_status {
     CMWQ_NO_THREAD,                         /* a thread could not be started */
     CMWQ_NO_JOURNAL,                        /* the journal returned false, and what came after is forgotten */
     CMWQ_OTHER_VERSION,                     /* the library has another version than this header */
-    CMWQ_IS_FOREIGN = 64 + CMWQ_FOREIGN,    /* the item is pending, or runs, on another queue */
+    CMWQ_IS_FOREIGN = 64 + CMWQ_FOREIGN,    /* the item runs on another queue */
     CMWQ_IS_DRAINING = 64 + CMWQ_DRAINING,  /* the queue is drained */
     CMWQ_IS_MISUSE = 64 + CMWQ_MISUSE,      /* not at this point: a second sleep, for one */
     CMWQ_IS_GONE = 64 + CMWQ_GONE,          /* the queue was destroyed */
@@ -70,11 +70,9 @@ static inline int cmwq_hub_do_(struct cmwq_hub *hub, uint8_t kind, unsigned cpu,
     hub->inside++;
     if (hub->state != CMWQ_NONE_) {
         run = (struct cmwq_run *)pthread_getspecific(hub->key);
-        if (!run || run->hub)
-            cmwq_hub_space_(hub, hub->is.keep);
+        if (!run || run->hub) cmwq_hub_space_(hub, hub->is.keep);
     }
-    if (run && (waits || sleeps || (kind <= CMWQ_CANCEL && !run->asleep)))
-        call.who = run->who;
+    if (run && (waits || sleeps || (kind <= CMWQ_CANCEL && !run->asleep))) call.who = run->who;
     if (hub->state == CMWQ_NONE_)
         status = CMWQ_CLOSED;
     else if (run && !run->hub)
@@ -83,8 +81,7 @@ static inline int cmwq_hub_do_(struct cmwq_hub *hub, uint8_t kind, unsigned cpu,
         status = CMWQ_REFUSED;
     else
         status = waits ? cmwq_hub_wait_(hub, &call, &reply) : cmwq_hub_call_(hub, run, &call, &reply);
-    if (--hub->inside == 0)
-        pthread_cond_broadcast(&hub->changed);
+    if (--hub->inside == 0) pthread_cond_broadcast(&hub->changed);
     cmwq_hub_unlock_(hub);
     switch (status == CMWQ_OK ? reply.kind : (uint8_t)CMWQ_NOTHING) {
     case CMWQ_NOTHING:
@@ -137,8 +134,7 @@ static inline int cmwq_work_busy(struct cmwq_hub *hub, unsigned item)
     uint32_t status = CMWQ_REFUSED;
 
     pthread_mutex_lock(&hub->lock);
-    if (item <= UINT16_MAX)
-        status = cmwq_board_item(&hub->board, (uint16_t)item, &state);
+    if (item <= UINT16_MAX) status = cmwq_board_item(&hub->board, (uint16_t)item, &state);
     cmwq_hub_unlock_(hub);
     return status == CMWQ_OK ? (state.pending != CMWQ_NOT_PENDING) + 2 * (state.runs != 0) : -(int)status;
 }
@@ -150,12 +146,9 @@ static inline int cmwq_init_work(struct cmwq_hub *hub, unsigned item, struct cmw
     uint32_t status = CMWQ_REFUSED;
 
     pthread_mutex_lock(&hub->lock);
-    if (item <= UINT16_MAX)
-        status = cmwq_board_item(&hub->board, (uint16_t)item, &state);
-    if (status == CMWQ_OK && (state.pending || state.runs))
-        status = CMWQ_NOT_NOW;
-    if (status == CMWQ_OK)
-        hub->works[item] = work;
+    if (item <= UINT16_MAX) status = cmwq_board_item(&hub->board, (uint16_t)item, &state);
+    if (status == CMWQ_OK && (state.pending || state.runs)) status = CMWQ_NOT_NOW;
+    if (status == CMWQ_OK) hub->works[item] = work;
     cmwq_hub_unlock_(hub);
     return -(int)status;
 }
@@ -168,30 +161,23 @@ static inline int cmwq_hub_close(struct cmwq_hub *hub)
 
     pthread_mutex_lock(&hub->lock);
     status = hub->state != CMWQ_OPEN_ ? CMWQ_CLOSED : pthread_getspecific(hub->key) ? CMWQ_NOT_NOW : CMWQ_OK;
-    if (status == CMWQ_OK)
-        cmwq_hub_stop_(hub);
+    if (status == CMWQ_OK) cmwq_hub_stop_(hub);
     cmwq_hub_unlock_(hub);
-    if (status != CMWQ_OK)
-        return -status;
+    if (status != CMWQ_OK) return -status;
     for (struct cmwq_party_ *party = hub->parties; party <= hub->clock; party++)
-        if (party->started)
-            pthread_join(party->thread, NULL);
+        if (party->started) pthread_join(party->thread, NULL);
     pthread_mutex_lock(&hub->lock);
-    while (hub->inside)
-        pthread_cond_wait(&hub->changed, &hub->lock);
+    while (hub->inside) pthread_cond_wait(&hub->changed, &hub->lock);
     hub->over = true;
     cmwq_hub_name_(hub, hub->journal);
     cmwq_hub_unlock_(hub);
-    if (hub->journal->started)
-        pthread_join(hub->journal->thread, NULL);
+    if (hub->journal->started) pthread_join(hub->journal->thread, NULL);
     status = snprintf(last, sizeof last, "end %llu\n", (unsigned long long)cmwq_board_len(&hub->board));
     if (hub->is.journal && !hub->deaf)
         hub->deaf = !hub->is.journal(hub->is.journal_data, last, (size_t)status);
     pthread_mutex_lock(&hub->lock);
-    while (hub->inside)
-        pthread_cond_wait(&hub->changed, &hub->lock);
-    while (__atomic_load_n(&hub->signalling, __ATOMIC_ACQUIRE))
-        sched_yield();
+    while (hub->inside) pthread_cond_wait(&hub->changed, &hub->lock);
+    while (__atomic_load_n(&hub->signalling, __ATOMIC_ACQUIRE)) sched_yield();
     status = cmwq_hub_free_(hub, hub->deaf ? -CMWQ_NO_JOURNAL : CMWQ_OK);
     pthread_mutex_unlock(&hub->lock);
     return status;
@@ -206,8 +192,7 @@ static inline int cmwq_hub_open(struct cmwq_hub *hub, const struct cmwq_options 
     bool is_high = false;
     uint32_t status;
 
-    if (hub->state != CMWQ_NONE_)
-        return -CMWQ_NOT_NOW;
+    if (hub->state != CMWQ_NONE_) return -CMWQ_NOT_NOW;
     if (cmwq_version() != CMWQ_VERSION) {
         fprintf(stderr, "cmwq: cmwq_hub.h has version %u, and the library %u\n", CMWQ_VERSION, cmwq_version());
         return -CMWQ_OTHER_VERSION;
@@ -232,28 +217,22 @@ static inline int cmwq_hub_open(struct cmwq_hub *hub, const struct cmwq_options 
     hub->shape.callers = (uint8_t)(is.waits + 1);
     hub->workers = 2 * is.cpus * is.workers;
     hub->due = UINT64_MAX;
-    memset(&hub->wakes, CMWQ_NOBODY, sizeof hub->wakes);
-    hub->wakes.all_workers = hub->wakes.all_callers = 0;
+    hub->wakes.workers[0].kind = hub->wakes.callers[0] = CMWQ_NOBODY;
     status = cmwq_board_open(&hub->board, &hub->shape, is.queues, is.queue_count, (uint8_t)is.waits);
-    if (status == CMWQ_OK)
-        status = cmwq_lines_open(&hub->lines, &hub->board);
+    if (status == CMWQ_OK) status = cmwq_lines_open(&hub->lines, &hub->board);
     hub->works = (struct cmwq_work *)calloc(is.items, sizeof *hub->works);
     hub->parties = (struct cmwq_party_ *)calloc(hub->workers + is.waits + 2, sizeof *hub->parties);
     if (status == CMWQ_OK && (!hub->works || !hub->parties || pthread_key_create(&hub->key, NULL)))
         status = CMWQ_NO_MEMORY;
-    if (status != CMWQ_OK)
-        return cmwq_hub_free_(hub, -(int)status);
+    if (status != CMWQ_OK) return cmwq_hub_free_(hub, -(int)status);
     cmwq_hub_lay_(hub);
-    for (unsigned n = 0; n < is.items && is.works; n++)
-        hub->works[n] = is.works[n];
-    for (size_t n = 0; n < is.queue_count; n++)
-        is_high = is_high || is.queues[n].high;
+    for (unsigned n = 0; n < is.items && is.works; n++) hub->works[n] = is.works[n];
+    for (size_t n = 0; n < is.queue_count; n++) is_high = is_high || is.queues[n].high;
     status = cmwq_head(&hub->shape, is.queues, is.queue_count, head, sizeof head, &len);
     hub->deaf = is.journal && !is.journal(is.journal_data, (const char *)head, len);
     hub->begun = cmwq_hub_now_(hub);
     hub->state = CMWQ_OPEN_;
-    if (cmwq_hub_start_(hub, is_high))
-        return CMWQ_OK;
+    if (cmwq_hub_start_(hub, is_high)) return CMWQ_OK;
     cmwq_hub_close(hub);
     return -CMWQ_NO_THREAD;
 }

@@ -30,10 +30,8 @@ static inline uint64_t cmwq_hub_now_(const struct cmwq_hub *hub)
 static inline void cmwq_hub_name_(struct cmwq_hub *hub, struct cmwq_party_ *party)
 {
     __atomic_store_n(&party->named, true, __ATOMIC_RELEASE);
-    if (hub->names < 64)
-        hub->named[hub->names++] = party;
-    else
-        pthread_cond_signal(&party->wakes);
+    if (hub->names < 64) hub->named[hub->names++] = party;
+    else pthread_cond_signal(&party->wakes);
 }
 
 /* Notes whom a call of the board has named. */
@@ -49,7 +47,7 @@ static inline uint32_t cmwq_hub_note_(struct cmwq_hub *hub, uint32_t status)
         cmwq_hub_name_(hub, &hub->parties[k]);
     for (unsigned k = hub->workers; wakes->all_callers && &hub->parties[k] <= hub->journal; k++)
         cmwq_hub_name_(hub, &hub->parties[k]);
-    memset(wakes, CMWQ_NOBODY, sizeof *wakes);
+    wakes->workers[0].kind = wakes->callers[0] = CMWQ_NOBODY; /* as a call that isn't made leaves it so */
     wakes->all_workers = wakes->all_callers = 0;
     return status;
 }
@@ -62,13 +60,10 @@ static inline void cmwq_hub_unlock_(struct cmwq_hub *hub)
 
     memcpy(named, hub->named, names * sizeof *named);
     hub->names = 0;
-    if (names)
-        __atomic_add_fetch(&hub->signalling, 1, __ATOMIC_RELAXED); /* nothing is freed meanwhile */
+    if (names) __atomic_add_fetch(&hub->signalling, 1, __ATOMIC_RELAXED); /* nothing is freed meanwhile */
     pthread_mutex_unlock(&hub->lock);
-    for (unsigned k = 0; k < names; k++)
-        pthread_cond_signal(&named[k]->wakes);
-    if (names)
-        __atomic_sub_fetch(&hub->signalling, 1, __ATOMIC_RELEASE);
+    for (unsigned k = 0; k < names; k++) pthread_cond_signal(&named[k]->wakes);
+    if (names) __atomic_sub_fetch(&hub->signalling, 1, __ATOMIC_RELEASE);
 }
 
 /* Sleeps until the party is named, or until then; the board has it as asleep. Return: whether it was named */
@@ -80,8 +75,7 @@ static inline bool cmwq_hub_sleep_(struct cmwq_hub *hub, struct cmwq_party_ *par
 
     party->named = false;
     cmwq_hub_unlock_(hub);
-    while (spins-- && !__atomic_load_n(&party->named, __ATOMIC_ACQUIRE))
-        __builtin_ia32_pause();
+    while (spins-- && !__atomic_load_n(&party->named, __ATOMIC_ACQUIRE)) __builtin_ia32_pause();
     pthread_mutex_lock(&hub->lock);
     party->vain = party->named ? 0 : party->vain + 1;
     while (!party->named && !late)
@@ -101,10 +95,8 @@ static inline void cmwq_hub_space_(struct cmwq_hub *hub, uint64_t most)
         cmwq_board_hand_out(&hub->board, &hub->lines);
         hub->handed = cmwq_board_len(&hub->board);
         hub->busy = hub->is.journal && !hub->deaf;
-        if (hub->busy)
-            cmwq_hub_name_(hub, hub->journal);
-        else
-            cmwq_lines_forget(&hub->lines);
+        if (hub->busy) cmwq_hub_name_(hub, hub->journal);
+        else cmwq_lines_forget(&hub->lines);
     }
 }
 
@@ -128,24 +120,19 @@ static inline uint32_t cmwq_hub_call_(struct cmwq_hub *hub, struct cmwq_run *run
 {
     uint32_t status = CMWQ_OK;
 
-    if (call->kind <= CMWQ_MODIFY && hub->state == CMWQ_CLOSING_)
-        return CMWQ_STOPPED;
+    if (call->kind <= CMWQ_MODIFY && hub->state == CMWQ_CLOSING_) return CMWQ_STOPPED;
     if (call->number && (call->kind == CMWQ_DELAY || call->kind == CMWQ_MODIFY)) {
         uint64_t now = cmwq_hub_now_(hub), due = now / hub->is.tick_ns + call->number + (now % hub->is.tick_ns != 0);
 
         status = cmwq_hub_advance_(hub, now / hub->is.tick_ns);
         due -= due < cmwq_board_time(&hub->board) ? due : cmwq_board_time(&hub->board);
-        if (status != CMWQ_OK || due > UINT32_MAX)
-            return status == CMWQ_OK ? (uint32_t)CMWQ_REFUSED : status;
+        if (status != CMWQ_OK || due > UINT32_MAX) return status == CMWQ_OK ? (uint32_t)CMWQ_REFUSED : status;
         call->number = (uint32_t)due;
     }
     status = cmwq_hub_note_(hub, cmwq_board_call(&hub->board, call, reply, &hub->wakes));
-    if (status != CMWQ_OK)
-        return status;
-    if (reply->kind == CMWQ_SLEPT || reply->kind == CMWQ_WOKE)
-        run->asleep = reply->kind == CMWQ_SLEPT;
-    if (reply->kind == CMWQ_FROZEN || reply->kind == CMWQ_THAWED)
-        hub->frozen = reply->kind == CMWQ_FROZEN;
+    if (status != CMWQ_OK) return status;
+    if (reply->kind == CMWQ_SLEPT || reply->kind == CMWQ_WOKE) run->asleep = reply->kind == CMWQ_SLEPT;
+    if (reply->kind == CMWQ_FROZEN || reply->kind == CMWQ_THAWED) hub->frozen = reply->kind == CMWQ_FROZEN;
     if ((reply->kind == CMWQ_BOOKED || reply->kind == CMWQ_REBOOKED) && reply->number < hub->due)
         cmwq_hub_name_(hub, hub->clock);
     return status;
@@ -158,8 +145,7 @@ static inline uint32_t cmwq_hub_wait_(struct cmwq_hub *hub, struct cmwq_call *ca
     uint8_t by = 0;
     uint32_t status;
 
-    if (call->who.kind != CMWQ_CALLER && then != UINT64_MAX)
-        return CMWQ_NO_TIMEOUT;
+    if (call->who.kind != CMWQ_CALLER && then != UINT64_MAX) return CMWQ_NO_TIMEOUT;
     status = cmwq_hub_note_(hub, cmwq_board_begin(&hub->board, call, &by, reply, &hub->wakes));
     while (status == CMWQ_WAITS || status == CMWQ_LOOK_AGAIN) {
         cmwq_hub_space_(hub, hub->is.keep);
@@ -188,24 +174,20 @@ static inline void *cmwq_hub_work_(void *at)
     struct cmwq_reply reply;
     uint32_t status;
 
-    while (pthread_setspecific(hub->key, &run))
-        sched_yield(); /* until there is memory */
+    while (pthread_setspecific(hub->key, &run)) sched_yield(); /* until there is memory */
     pthread_mutex_lock(&hub->lock);
     do {
         cmwq_hub_space_(hub, hub->is.keep);
         status = cmwq_hub_note_(hub, cmwq_board_start(&hub->board, &me->who, &run.item, &run.number, &hub->wakes));
-        if (status == CMWQ_RESTS)
-            cmwq_hub_sleep_(hub, me, UINT64_MAX);
+        if (status == CMWQ_RESTS) cmwq_hub_sleep_(hub, me, UINT64_MAX);
         if (status == CMWQ_OK) {
             struct cmwq_work work = hub->works[run.item];
 
             cmwq_hub_unlock_(hub);
-            if (work.run)
-                work.run(&run, work.data);
+            if (work.run) work.run(&run, work.data);
             pthread_mutex_lock(&hub->lock);
             cmwq_hub_space_(hub, hub->is.keep);
-            if (run.asleep)
-                cmwq_hub_call_(hub, &run, &wake, &reply);
+            if (run.asleep) cmwq_hub_call_(hub, &run, &wake, &reply);
             cmwq_hub_note_(hub, cmwq_board_finish(&hub->board, &me->who, &hub->wakes));
         }
     } while (status == CMWQ_OK || status == CMWQ_RESTS);
@@ -248,14 +230,11 @@ static inline void *cmwq_hub_write_(void *at)
     uint8_t text[1 << 14];
     size_t len;
 
-    while (pthread_setspecific(hub->key, &nobody))
-        sched_yield();
+    while (pthread_setspecific(hub->key, &nobody)) sched_yield();
     pthread_mutex_lock(&hub->lock);
     while (!hub->over || cmwq_board_len(&hub->board) > hub->handed || hub->busy) {
-        if (!hub->busy && !hub->over)
-            cmwq_hub_sleep_(hub, me, cmwq_hub_now_(hub) + 100000000);
-        if (!hub->busy)
-            cmwq_hub_space_(hub, 0);
+        if (!hub->busy && !hub->over) cmwq_hub_sleep_(hub, me, cmwq_hub_now_(hub) + 100000000);
+        if (!hub->busy) cmwq_hub_space_(hub, 0);
         if (hub->busy) {
             bool takes = true;
 
@@ -282,8 +261,7 @@ static inline bool cmwq_hub_start_(struct cmwq_hub *hub, bool is_high)
                          || party == hub->clock || (party == hub->journal && hub->is.journal);
 
         party->started = is_thread && pthread_create(&party->thread, NULL, body, party) == 0;
-        if (is_thread && !party->started)
-            return false;
+        if (is_thread && !party->started) return false;
     }
     return true;
 }
@@ -320,8 +298,7 @@ static inline int cmwq_hub_free_(struct cmwq_hub *hub, int result)
 {
     for (struct cmwq_party_ *party = hub->parties; hub->journal && party <= hub->journal; party++)
         pthread_cond_destroy(&party->wakes);
-    if (hub->journal)
-        pthread_key_delete(hub->key);
+    if (hub->journal) pthread_key_delete(hub->key);
     cmwq_board_close(&hub->board);
     cmwq_lines_close(&hub->lines);
     free(hub->parties);
