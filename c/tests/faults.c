@@ -322,6 +322,7 @@ static void test_two_hubs(void)
     struct cmwq_options options = made(count);
 
     CHECK(cmwq_hub_open(&other, &options) == CMWQ_OK && cmwq_queue_work_on(&other, 0, 0, 0) == 1);
+    CHECK(cmwq_flush_workqueue(&other, 0, CMWQ_FOREVER) == 1);
     options = made(call_other);
     open_hub(options);
     CHECK(cmwq_queue_work_on(&hub, 0, 0, 0) == 1 && cmwq_flush_work(&hub, 0, CMWQ_FOREVER) >= 0);

@@ -1,12 +1,12 @@
 /*
- * A hub with threads: stress [ROUNDS [FIRST]]. Callers and runs make random calls and waits. Everything ends, no item is in two runs, each flush waits for
+ * A hub with threads: stress [ROUNDS [FIRST [SECONDS]]]. Callers and runs make random calls and waits. Everything ends, no item is in two runs, each flush waits for
  * what was queued before it, and each history is legal. A round that does not end in time ends the test.
  */
 #include "cmwq_hub.h"
 #include "check.h"
 #include <unistd.h>
 
-enum { ITEMS = 12, CALLERS = 4, CALLS = 60, QUEUES = 3, TEXT = 1 << 22, SECONDS = 20 };
+enum { ITEMS = 12, CALLERS = 4, CALLS = 60, QUEUES = 3, TEXT = 1 << 22 };
 
 static struct cmwq_hub hub;
 static struct cmwq_options options;
@@ -177,9 +177,10 @@ static void round_of(uint64_t state)
 int main(int argc, char **argv)
 {
     unsigned rounds = argc > 1 ? (unsigned)atoi(argv[1]) : 200, first = argc > 2 ? (unsigned)atoi(argv[2]) : 0;
+    unsigned seconds = argc > 3 ? (unsigned)atoi(argv[3]) : 60;
 
     for (seed = first; seed < first + rounds; seed++) {
-        alarm(SECONDS);
+        alarm(seconds);
         round_of((uint64_t)(seed + 1) * 0x9e3779b97f4a7c15);
     }
     printf("%u rounds, %u runs, %u waits refused, %u left\n", rounds, ran, refused, timed_out);
