@@ -33,11 +33,14 @@ static char text[TEXT];
 static size_t written;
 static bool gate_open, takes = true;
 static unsigned slow_us;
+static pthread_t main_thread;
 
 static bool keep(void *data, const char *part, size_t len)
 {
     (void)data;
     CHECK(written + len <= TEXT && part[len - 1] == '\n');
+    if (!pthread_equal(pthread_self(), main_thread)) /* it makes no call of its hub, or else it might wait for itself */
+        CHECK(cmwq_queue_work_on(&hub, 0, 0, 0) == -CMWQ_NOT_NOW && cmwq_flush_work(&hub, 0, CMWQ_FOREVER) == -CMWQ_NOT_NOW);
     usleep(slow_us);
     memcpy(text + written, part, len);
     __atomic_store_n(&written, written + len, __ATOMIC_RELEASE);
@@ -379,9 +382,41 @@ static void test_items(void)
     CHECK(least[1] < 10 * least[0]);
 }
 
+static void *wait_long(void *at)
+{
+    int result = cmwq_flush_workqueue(&hub, 0, CMWQ_FOREVER);
+
+    (void)at;
+    CHECK(result == 1 || result == -CMWQ_STOPPED || result == -CMWQ_CLOSED);
+    return NULL;
+}
+
+/* A hub is closed under calls that wait. */
+static void test_waiters(void)
+{
+    for (int round = 0; round < 20; round++) {
+        struct cmwq_options options = made(wait_at_gate);
+        pthread_t threads[8];
+
+        options.spins = 1;
+        options.journal = keep;
+        open_hub(options);
+        CHECK(cmwq_queue_work_on(&hub, 0, 0, 0) == 1);
+        for (int k = 0; k < 8; k++)
+            CHECK(pthread_create(&threads[k], NULL, wait_long, NULL) == 0);
+        usleep(3000);
+        __atomic_store_n(&gate_open, true, __ATOMIC_RELEASE);
+        CHECK(cmwq_hub_close(&hub) == CMWQ_OK);
+        for (int k = 0; k < 8; k++)
+            pthread_join(threads[k], NULL);
+        judge();
+    }
+}
+
 int main(void)
 {
     alarm(240);
+    main_thread = pthread_self();
     test_numbers();
     test_nothing_left();
     test_frozen();
@@ -390,6 +425,7 @@ int main(void)
     test_timeouts();
     test_delays();
     test_two_hubs();
+    test_waiters();
     test_signals();
     test_items();
     return 0;
