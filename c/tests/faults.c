@@ -2,6 +2,7 @@
 #define _GNU_SOURCE
 #include <pthread.h>
 #include <stdlib.h>
+#include <unistd.h>
 
 /* Each of these may fail, or is counted. */
 static unsigned allocations_left = ~0u, threads_left = ~0u, signals;
@@ -15,12 +16,19 @@ static int count_signal(pthread_cond_t *cond)
     __atomic_add_fetch(&signals, 1, __ATOMIC_RELAXED);
     return pthread_cond_signal(cond);
 }
+static __thread unsigned lock_after_us;
+static int lock_slowly(pthread_mutex_t *lock)
+{
+    if (lock_after_us)
+        usleep(lock_after_us);
+    return pthread_mutex_lock(lock);
+}
 #define calloc calloc_or_not
+#define pthread_mutex_lock lock_slowly
 #define pthread_create create_or_not
 #define pthread_cond_signal count_signal
 #include "cmwq_hub.h"
 #include "check.h"
-#include <unistd.h>
 
 enum { ITEMS = 4, TEXT = 1 << 20 };
 
@@ -189,11 +197,14 @@ static void test_frozen(void)
 
 static void sleep_often(struct cmwq_run *run, void *data)
 {
+    while (!__atomic_load_n(&gate_open, __ATOMIC_ACQUIRE))
+        usleep(100);
     for (int k = 0; k < 40; k++) {
         int slept = cmwq_worker_sleeping(run->hub);
 
         CHECK(slept == 1 || slept == -CMWQ_FULL);
-        results[0] = slept;
+        if (slept != 1)
+            __atomic_store_n(&results[0], slept, __ATOMIC_RELAXED);
         if (slept == 1)
             CHECK(cmwq_worker_running(run->hub) == 1);
     }
@@ -210,7 +221,9 @@ static void test_room(void)
     open_hub(options);
     for (unsigned item = 0; item < ITEMS; item++)
         CHECK(cmwq_queue_work_on(&hub, 0, 0, item) == 1);
-    CHECK(cmwq_flush_workqueue(&hub, 0, CMWQ_FOREVER) == 1);
+    __atomic_store_n(&gate_open, true, __ATOMIC_RELEASE);
+    while (__atomic_load_n(&ran, __ATOMIC_RELAXED) < ITEMS)
+        usleep(100);
     CHECK(cmwq_queue_work_on(&hub, 0, 0, 0) == -CMWQ_FULL && cmwq_flush_work(&hub, 0, 5) == -CMWQ_FULL);
     CHECK(cmwq_queue_delayed_work_on(&hub, 0, 0, 0, 5) == -CMWQ_FULL && cmwq_hub_close(&hub) == CMWQ_OK && ran == ITEMS && results[0] == -CMWQ_FULL);
     judge();
@@ -384,30 +397,32 @@ static void test_items(void)
 
 static void *wait_long(void *at)
 {
-    int result = cmwq_flush_workqueue(&hub, 0, CMWQ_FOREVER);
+    int result;
 
     (void)at;
+    lock_after_us = 2000;
+    result = cmwq_flush_workqueue(&hub, 0, CMWQ_FOREVER);
     CHECK(result == 1 || result == -CMWQ_STOPPED || result == -CMWQ_CLOSED);
     return NULL;
 }
 
-/* A hub is closed under calls that wait. */
+/* A hub is closed under calls that wait: they were named, and come back only when its threads have gone. */
 static void test_waiters(void)
 {
-    for (int round = 0; round < 20; round++) {
+    for (int round = 0; round < 10; round++) {
         struct cmwq_options options = made(wait_at_gate);
-        pthread_t threads[8];
+        pthread_t threads[3];
 
-        options.spins = 1;
+        options.spins = 1u << 31;
         options.journal = keep;
         open_hub(options);
         CHECK(cmwq_queue_work_on(&hub, 0, 0, 0) == 1);
-        for (int k = 0; k < 8; k++)
+        for (int k = 0; k < 3; k++)
             CHECK(pthread_create(&threads[k], NULL, wait_long, NULL) == 0);
-        usleep(3000);
+        usleep(6000);
         __atomic_store_n(&gate_open, true, __ATOMIC_RELEASE);
         CHECK(cmwq_hub_close(&hub) == CMWQ_OK);
-        for (int k = 0; k < 8; k++)
+        for (int k = 0; k < 3; k++)
             pthread_join(threads[k], NULL);
         judge();
     }
