@@ -58,9 +58,11 @@ static inline void cmwq_hub_unlock_(struct cmwq_hub *hub)
     struct cmwq_party_ *named[64];
     unsigned names = hub->names;
 
-    memcpy(named, hub->named, names * sizeof *named);
-    hub->names = 0;
-    if (names) __atomic_add_fetch(&hub->signalling, 1, __ATOMIC_RELAXED); /* nothing is freed meanwhile */
+    if (names) {
+        memcpy(named, hub->named, names * sizeof *named);
+        hub->names = 0;
+        __atomic_add_fetch(&hub->signalling, 1, __ATOMIC_RELAXED); /* nothing is freed meanwhile */
+    }
     pthread_mutex_unlock(&hub->lock);
     for (unsigned k = 0; k < names; k++) pthread_cond_signal(&named[k]->wakes);
     if (names) __atomic_sub_fetch(&hub->signalling, 1, __ATOMIC_RELEASE);
@@ -103,13 +105,14 @@ static inline void cmwq_hub_space_(struct cmwq_hub *hub, uint64_t most)
 /* Brings time up to this tick. */
 static inline uint32_t cmwq_hub_advance_(struct cmwq_hub *hub, uint64_t tick)
 {
-    uint64_t now = cmwq_board_time(&hub->board);
+    uint64_t now;
     uint32_t status = CMWQ_OK;
 
-    while (status == CMWQ_OK && now < tick) {
+    while (status == CMWQ_OK && (now = cmwq_board_time(&hub->board)) < tick) {
         uint32_t ticks = tick - now < UINT32_MAX ? (uint32_t)(tick - now) : UINT32_MAX;
 
         status = cmwq_hub_note_(hub, cmwq_board_advance(&hub->board, 0, ticks, &now, &hub->wakes));
+        if (ticks == UINT32_MAX) cmwq_hub_space_(hub, hub->is.keep);
     }
     return status;
 }

@@ -1,6 +1,6 @@
 /*
- * The loads of bench/pools on cmwq_hub.h: jobs LOAD ROUNDS WORKERS [ITEMS [plain|intensive [none|journal]]]
- * Prints how many runs there were in a second of the clock.
+ * The loads of bench/pools on cmwq_hub.h: jobs LOAD ROUNDS WORKERS ITEMS [journal|intensive]
+ * Prints how many runs there were in a second of the clock. Each of four callers has ITEMS items.
  */
 #include "cmwq_hub.h"
 
@@ -65,16 +65,14 @@ int main(int argc, char **argv)
     fanout = !strcmp(argv[1], "fanout");
     rounds = strtoul(argv[2], NULL, 10);
     options.workers = (unsigned)atoi(argv[3]);
-    options.items = argc > 4 ? (unsigned)atoi(argv[4]) : 256;
-    each = options.items / CALLERS;
+    each = argc > 4 ? (unsigned)atoi(argv[4]) : 64;
+    options.items = CALLERS * each;
     for (unsigned k = 0; k < CALLERS; k++)
         queues[k] = (struct cmwq_queue){.max_active = 512, .intensive = argc > 5 && !strcmp(argv[5], "intensive")};
-    if (argc > 6 && !strcmp(argv[6], "journal")) {
+    if (argc > 5 && !strcmp(argv[5], "journal")) {
         options.journal = forget;
         options.journal_data = fopen("/dev/null", "w");
     }
-    if (getenv("SPINS"))
-        options.spins = (unsigned)atoi(getenv("SPINS"));
     struct cmwq_work *works = calloc(options.items, sizeof *works);
     for (unsigned k = 0; k < options.items; k++)
         works[k].run = work;
