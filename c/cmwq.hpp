@@ -7,10 +7,10 @@
 //     write.queue_delayed(50ms);
 //     disk.flush();                                                       // what was queued has ended
 //     write.cancel_sync();                                                // it neither is pending nor runs
-//                                                                         // ~workqueues: lets what is queued end, joins
+//                                                                         // ~workqueues: the rest ends; joins
 //
-// What is refused is thrown as a cmwq::failure, whose code() is a status of cmwq.h or cmwq_hub.h. In a work function the
-// same calls, by whatever handle, are the run's. Handles may outlive the workqueues: their calls are refused then.
+// What is refused is thrown as a cmwq::failure, whose code() is a status of cmwq.h or cmwq_hub.h. In a work function
+// the same calls, by whatever handle, are the run's. Handles may outlive the workqueues: their calls are refused then.
 #ifndef CMWQ_HPP
 #define CMWQ_HPP
 #include "cmwq_hub.h"
@@ -118,7 +118,7 @@ public:
         uint64_t ticks = delay.count() > 0 ? (uint64_t(delay.count()) + tick_ - 1) / tick_ : 0;
         return done(cmwq_queue_delayed_work_on(run_->hub, cpu_, queue_, run_->item, ticks));
     }
-    // Does what blocks. Others of the pool may run meanwhile. Where there is no room for that in the history, they don't.
+    // Does what blocks. Others of the pool may run meanwhile, if the history has room for the sleep.
     template <class Blocks> auto block(Blocks blocks)
     {
         struct wakes { cmwq_run *run; bool slept; ~wakes() { if (slept) cmwq_worker_running(run->hub); } };
@@ -211,7 +211,8 @@ inline bool in_time(int result) { return result == -CMWQ_TIMED_OUT ? false : (do
 struct own {
     std::shared_ptr<hub> of;
     unsigned number, queue, cpu;
-    own(std::shared_ptr<hub> hub, unsigned item, unsigned on, unsigned at) : of(std::move(hub)), number(item), queue(on), cpu(at) {}
+    own(std::shared_ptr<hub> hub, unsigned item, unsigned on, unsigned at)
+        : of(std::move(hub)), number(item), queue(on), cpu(at) {}
     own(const own &) = delete;
     ~own()
     {

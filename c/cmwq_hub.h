@@ -59,7 +59,7 @@ struct cmwq_hub;
 static inline int cmwq_hub_do_(struct cmwq_hub *hub, uint8_t kind, unsigned cpu, unsigned queue, unsigned item,
                                uint64_t number)
 {
-    struct cmwq_call call = {0, (uint32_t)number, (uint16_t)item, kind, (uint8_t)queue, (uint8_t)cpu, {CMWQ_CALLER, 0, 0}};
+    struct cmwq_call call = {0, (uint32_t)number, (uint16_t)item, kind, (uint8_t)queue, (uint8_t)cpu, {0, 0, 0}};
     bool waits = (kind >= CMWQ_FLUSH && kind <= CMWQ_CANCEL_SYNC) || kind == CMWQ_DESTROY;
     bool sleeps = kind == CMWQ_SLEEP || kind == CMWQ_WAKE;
     struct cmwq_reply reply = {0, 0, 0, 0};
@@ -81,6 +81,7 @@ static inline int cmwq_hub_do_(struct cmwq_hub *hub, uint8_t kind, unsigned cpu,
         status = CMWQ_REFUSED;
     else
         status = waits ? cmwq_hub_wait_(hub, &call, &reply) : cmwq_hub_call_(hub, run, &call, &reply);
+    if (status == CMWQ_OVER || status == CMWQ_FAILED) status = CMWQ_STOPPED;
     if (--hub->inside == 0) pthread_cond_broadcast(&hub->changed);
     cmwq_hub_unlock_(hub);
     switch (status == CMWQ_OK ? reply.kind : (uint8_t)CMWQ_NOTHING) {
@@ -137,20 +138,6 @@ static inline int cmwq_work_busy(struct cmwq_hub *hub, unsigned item)
     if (item <= UINT16_MAX) status = cmwq_board_item(&hub->board, (uint16_t)item, &state);
     cmwq_hub_unlock_(hub);
     return status == CMWQ_OK ? (state.pending != CMWQ_NOT_PENDING) + 2 * (state.runs != 0) : -(int)status;
-}
-
-/* Binds another function to an item that neither is pending nor runs, as INIT_WORK() does. */
-static inline int cmwq_init_work(struct cmwq_hub *hub, unsigned item, struct cmwq_work work)
-{
-    struct cmwq_item state;
-    uint32_t status = CMWQ_REFUSED;
-
-    pthread_mutex_lock(&hub->lock);
-    if (item <= UINT16_MAX) status = cmwq_board_item(&hub->board, (uint16_t)item, &state);
-    if (status == CMWQ_OK && (state.pending || state.runs)) status = CMWQ_NOT_NOW;
-    if (status == CMWQ_OK) hub->works[item] = work;
-    cmwq_hub_unlock_(hub);
-    return -(int)status;
 }
 
 /* Lets what is queued end, and gives all up. Calls that wait return -CMWQ_STOPPED. Not in a work function. */
@@ -225,7 +212,8 @@ static inline int cmwq_hub_open(struct cmwq_hub *hub, const struct cmwq_options 
     if (status == CMWQ_OK && (!hub->works || !hub->parties || pthread_key_create(&hub->key, NULL)))
         status = CMWQ_NO_MEMORY;
     if (status != CMWQ_OK) return cmwq_hub_free_(hub, -(int)status);
-    cmwq_hub_lay_(hub);
+    hub->clock = hub->parties + hub->workers + is.waits;
+    hub->journal = hub->clock + 1;
     for (unsigned n = 0; n < is.items && is.works; n++) hub->works[n] = is.works[n];
     for (size_t n = 0; n < is.queue_count; n++) is_high = is_high || is.queues[n].high;
     status = cmwq_head(&hub->shape, is.queues, is.queue_count, head, sizeof head, &len);

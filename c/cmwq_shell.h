@@ -1,12 +1,13 @@
 /*
  * The shell of a hub, which cmwq_hub.h includes: a lock, a condition variable for each party, threads, a clock and a
- * journal. Each hold of the lock is: calls of the board, noting whom they name; then the lock is let go, and these are woken.
- * No proof covers it. c/tests has what it is tested by.
+ * journal. In each hold of the lock it makes calls of the board, and notes whom they name. Then it lets the lock go,
+ * and wakes them. No proof covers it; c/tests has its tests.
  */
 
 /* A thread that sleeps until it is named: a worker, a call that waits, the clock or the journal. */
 struct cmwq_party_ {
-    pthread_cond_t wakes; pthread_t thread; struct cmwq_hub *hub; struct cmwq_who who; bool named, started; unsigned vain;
+    pthread_cond_t wakes; pthread_t thread; struct cmwq_hub *hub; struct cmwq_who who; bool named, started;
+    unsigned vain; /* how often it has looked in vain */
 };
 enum cmwq_hub_state_ { CMWQ_NONE_, CMWQ_OPEN_, CMWQ_CLOSING_ };
 struct cmwq_hub {                           /* all zeros: none. It is never copied */
@@ -154,8 +155,7 @@ static inline uint32_t cmwq_hub_wait_(struct cmwq_hub *hub, struct cmwq_call *ca
         cmwq_hub_space_(hub, hub->is.keep);
         status = cmwq_hub_note_(hub, cmwq_board_end(&hub->board, by, &hub->wakes));
         if (status == CMWQ_LOOK_AGAIN) {
-            cmwq_hub_unlock_(hub);
-            sched_yield();
+            cmwq_hub_unlock_(hub); /* and calls again */
             pthread_mutex_lock(&hub->lock);
         } else if (status == CMWQ_WAITS && !cmwq_hub_sleep_(hub, &hub->parties[hub->workers + by - 1u], then)) {
             status = cmwq_hub_note_(hub, cmwq_board_leave(&hub->board, by, &hub->wakes));
@@ -163,9 +163,8 @@ static inline uint32_t cmwq_hub_wait_(struct cmwq_hub *hub, struct cmwq_call *ca
             hub->left = hub->left || call->kind == CMWQ_DRAIN;
         }
     }
-    if (call->kind == CMWQ_DRAIN)
-        cmwq_hub_name_(hub, hub->clock); /* which looks for the timers that were held back */
-    return status == CMWQ_OVER ? (uint32_t)CMWQ_STOPPED : status;
+    if (call->kind == CMWQ_DRAIN) cmwq_hub_name_(hub, hub->clock); /* there may be timers that were held back */
+    return status;
 }
 
 static inline void *cmwq_hub_work_(void *at)
@@ -254,46 +253,35 @@ static inline void *cmwq_hub_write_(void *at)
     return NULL;
 }
 
-/* Starts the threads: a worker for each of the shape, but none of a high pool where no queue is high; clock and journal. */
+/* Starts the threads: the workers, but those of high pools only where a queue is high; the clock; the journal. */
 static inline bool cmwq_hub_start_(struct cmwq_hub *hub, bool is_high)
 {
-    for (struct cmwq_party_ *party = hub->parties; party <= hub->journal; party++) {
-        void *(*body)(void *) = party < hub->parties + hub->workers ? cmwq_hub_work_
-                                : party == hub->clock               ? cmwq_hub_tick_ : cmwq_hub_write_;
-        bool is_thread = party->who.kind == CMWQ_WORKER || (party->who.kind == CMWQ_HIGH_WORKER && is_high)
-                         || party == hub->clock || (party == hub->journal && hub->is.journal);
-
-        party->started = is_thread && pthread_create(&party->thread, NULL, body, party) == 0;
-        if (is_thread && !party->started) return false;
-    }
-    return true;
-}
-
-/* The parties of a hub, with their condition variables and the lock. */
-static inline void cmwq_hub_lay_(struct cmwq_hub *hub)
-{
-    pthread_mutexattr_t adaptive;
     pthread_condattr_t monotonic;
+    bool started = true;
 
-    pthread_mutexattr_init(&adaptive);
-    pthread_mutexattr_settype(&adaptive, PTHREAD_MUTEX_ADAPTIVE_NP);
-    pthread_mutex_init(&hub->lock, &adaptive);
     pthread_condattr_init(&monotonic);
     pthread_condattr_setclock(&monotonic, CLOCK_MONOTONIC);
+    pthread_mutex_init(&hub->lock, NULL);
     pthread_cond_init(&hub->changed, NULL);
-    hub->clock = hub->parties + hub->workers + hub->is.waits;
-    hub->journal = hub->clock + 1;
     for (struct cmwq_party_ *party = hub->parties; party <= hub->journal; party++) {
-        unsigned k = (unsigned)(party - hub->parties), pool = k / hub->shape.workers;
-
-        pthread_cond_init(&party->wakes, &monotonic);
         party->hub = hub;
-        if (k < hub->workers) {
-            party->who.kind = pool % 2 ? CMWQ_HIGH_WORKER : CMWQ_WORKER;
-            party->who.index = (uint8_t)(k % hub->shape.workers);
-            party->who.cpu = (uint8_t)(pool / 2);
-        }
+        pthread_cond_init(&party->wakes, &monotonic);
     }
+    hub->state = CMWQ_OPEN_;
+    for (unsigned k = 0; k < hub->workers && started; k++) {
+        struct cmwq_party_ *party = &hub->parties[k];
+        unsigned pool = k / hub->shape.workers;
+
+        party->who.kind = pool % 2 ? CMWQ_HIGH_WORKER : CMWQ_WORKER;
+        party->who.index = (uint8_t)(k % hub->shape.workers);
+        party->who.cpu = (uint8_t)(pool / 2);
+        if (pool % 2 && !is_high) continue;
+        started = party->started = !pthread_create(&party->thread, NULL, cmwq_hub_work_, party);
+    }
+    if (started) hub->clock->started = !pthread_create(&hub->clock->thread, NULL, cmwq_hub_tick_, hub->clock);
+    if (hub->clock->started && hub->is.journal)
+        hub->journal->started = !pthread_create(&hub->journal->thread, NULL, cmwq_hub_write_, hub->journal);
+    return hub->is.journal ? hub->journal->started : hub->clock->started;
 }
 
 /* Gives up what there is of a hub, which nobody is in. Its lock stays, so that later calls are refused. */
