@@ -32,35 +32,11 @@ namespace cmwq {
 using std::chrono::milliseconds;
 using std::chrono::nanoseconds;
 
-inline std::string why(int code)
-{
-    switch (code) {
-    case CMWQ_REFUSED: return "no such item, queue or CPU, or a number outside its limits";
-    case CMWQ_CLOSED: return "the workqueues were shut down";
-    case CMWQ_FULL: return "the history has no room for more";
-    case CMWQ_NO_MEMORY: return "there is no memory";
-    case CMWQ_STOPPED: return "the workqueues are being shut down";
-    case CMWQ_NOT_NOW: return "not in a work function, or not at this point";
-    case CMWQ_ITSELF: return "the run would wait for its own end";
-    case CMWQ_DEADLOCK: return "the wait could never end, because of runs that wait";
-    case CMWQ_NO_CALLER: return "too many calls wait";
-    case CMWQ_NO_TIMEOUT: return "a wait in a work function has no timeout";
-    case CMWQ_NO_THREAD: return "a thread could not be started";
-    case CMWQ_NO_JOURNAL: return "the history could not be written";
-    case CMWQ_OTHER_VERSION: return "the library has another version than the header";
-    case CMWQ_IS_FOREIGN: return "the item runs on another queue";
-    case CMWQ_IS_DRAINING: return "the queue is drained";
-    case CMWQ_IS_GONE: return "the queue was destroyed";
-    case CMWQ_HAS_TIMERS: return "an item is delayed on the queue";
-    default: return "status " + std::to_string(code);
-    }
-}
-
 class failure : public std::runtime_error {
     int code_;
 
 public:
-    explicit failure(int code) : std::runtime_error("cmwq: " + why(code)), code_(code) {}
+    explicit failure(int code) : std::runtime_error(std::string("cmwq: ") + cmwq_why(-code)), code_(code) {}
     int code() const noexcept { return code_; }
 };
 

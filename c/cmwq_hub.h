@@ -36,6 +36,25 @@ enum cmwq_hub_status {
 };
 #define CMWQ_FOREVER UINT_MAX               /* a timeout; others are milliseconds */
 
+/* What a call returned, in words. */
+static inline const char *cmwq_why(int result)
+{
+    static const char *const of_board[] = {"done", "no such number, or outside its limits", "the hub is not open",
+        "the history has no room for more", "no memory", "too short", "crowded", "not legal", "the hub is being closed",
+        "the hub has failed", "not in a work function or a journal, or not at this point",
+        "the run would wait for its own end", "the wait could never end", "too many calls wait"};
+    static const char *const of_hub[] = {"the time is over", "a wait in a work function has no timeout",
+        "a thread could not be started", "the journal takes no more", "the library has another version"};
+    int status = result < 0 ? -result : CMWQ_OK;
+
+    if (status < 14) return of_board[status];
+    if (status >= CMWQ_TIMED_OUT && status <= CMWQ_OTHER_VERSION) return of_hub[status - CMWQ_TIMED_OUT];
+    return status == CMWQ_IS_FOREIGN    ? "the item runs on another queue"
+           : status == CMWQ_IS_DRAINING ? "the queue is drained"
+           : status == CMWQ_IS_GONE     ? "the queue was destroyed"
+           : status == CMWQ_HAS_TIMERS  ? "an item is delayed on the queue" : "not possible at this point";
+}
+
 /* What a work function gets, and a work function as INIT_WORK() binds it. No item is in two runs at once. */
 struct cmwq_run { struct cmwq_hub *hub; uint64_t number; uint16_t item; struct cmwq_who who; bool asleep; };
 struct cmwq_work { void (*run)(struct cmwq_run *run, void *data); void *data; };

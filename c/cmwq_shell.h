@@ -46,7 +46,7 @@ static inline uint32_t cmwq_hub_note_(struct cmwq_hub *hub, uint32_t status)
         cmwq_hub_name_(hub, &hub->parties[hub->workers + wakes->callers[k] - 1u]);
     for (unsigned k = wakes->all_workers ? 0 : hub->workers; wakes->all_workers && k < hub->workers; k++)
         cmwq_hub_name_(hub, &hub->parties[k]);
-    for (unsigned k = hub->workers; wakes->all_callers && &hub->parties[k] <= hub->journal; k++)
+    for (unsigned k = hub->workers; wakes->all_callers && k < hub->workers + hub->is.waits; k++)
         cmwq_hub_name_(hub, &hub->parties[k]);
     wakes->workers[0].kind = wakes->callers[0] = CMWQ_NOBODY; /* as a call that isn't made leaves it so */
     wakes->all_workers = wakes->all_callers = 0;
