@@ -16,10 +16,10 @@ static int count_signal(pthread_cond_t *cond)
     __atomic_add_fetch(&signals, 1, __ATOMIC_RELAXED);
     return pthread_cond_signal(cond);
 }
-static __thread unsigned lock_after_us;
+static __thread unsigned lock_after_us, locks;
 static int lock_slowly(pthread_mutex_t *lock)
 {
-    if (lock_after_us)
+    if (locks++ && lock_after_us) /* not at first */
         usleep(lock_after_us);
     return pthread_mutex_lock(lock);
 }
@@ -400,7 +400,7 @@ static void *wait_long(void *at)
     int result;
 
     (void)at;
-    lock_after_us = 2000;
+    lock_after_us = 60000;
     result = cmwq_flush_workqueue(&hub, 0, CMWQ_FOREVER);
     CHECK(result == 1 || result == -CMWQ_STOPPED || result == -CMWQ_CLOSED);
     return NULL;
@@ -409,7 +409,7 @@ static void *wait_long(void *at)
 /* A hub is closed under calls that wait: they were named, and come back only when its threads have gone. */
 static void test_waiters(void)
 {
-    for (int round = 0; round < 10; round++) {
+    for (int round = 0; round < 5; round++) {
         struct cmwq_options options = made(wait_at_gate);
         pthread_t threads[3];
 

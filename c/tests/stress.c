@@ -2,9 +2,33 @@
  * A hub with threads: stress [ROUNDS [FIRST [SECONDS]]]. Callers and runs make random calls and waits. Everything ends, no item is in two runs, each flush waits for
  * what was queued before it, and each history is legal. A round that does not end in time ends the test.
  */
+#define _GNU_SOURCE
+#include <pthread.h>
+#include <sched.h>
+#include <unistd.h>
+
+/* In some rounds who sleeps wakes for nothing, and signals come late. */
+static unsigned restless, calls;
+static int wait_restlessly(pthread_cond_t *cond, pthread_mutex_t *lock)
+{
+    if (!restless || __atomic_add_fetch(&calls, 1, __ATOMIC_RELAXED) % 4)
+        return pthread_cond_wait(cond, lock);
+    pthread_mutex_unlock(lock);
+    sched_yield();
+    return pthread_mutex_lock(lock);
+}
+static int signal_late(pthread_cond_t *cond)
+{
+    unsigned now = restless ? __atomic_add_fetch(&calls, 1, __ATOMIC_RELAXED) : 1;
+
+    if (now % 8 == 0)
+        usleep(now % 64);
+    return pthread_cond_signal(cond);
+}
+#define pthread_cond_wait wait_restlessly
+#define pthread_cond_signal signal_late
 #include "cmwq_hub.h"
 #include "check.h"
-#include <unistd.h>
 
 enum { ITEMS = 12, CALLERS = 4, CALLS = 60, QUEUES = 3, TEXT = 1 << 22 };
 
@@ -155,6 +179,7 @@ static void round_of(uint64_t state)
     options.tick_ns = 100000;
     options.spins = 1 + below(&state, 2) * 2000;
     closes = below(&state, 4) == 0;
+    restless = below(&state, 3) == 0;
     written = 0;
     CHECK(cmwq_hub_open(&hub, &options) == CMWQ_OK);
     for (unsigned k = 0; k < CALLERS; k++) {
