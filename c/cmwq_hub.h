@@ -101,7 +101,7 @@ static inline int cmwq_hub_do_(struct cmwq_hub *hub, uint8_t kind, unsigned cpu,
     else
         status = waits ? cmwq_hub_wait_(hub, &call, &reply) : cmwq_hub_call_(hub, run, &call, &reply);
     if (status == CMWQ_OVER || status == CMWQ_FAILED) status = CMWQ_STOPPED;
-    if (--hub->inside == 0) pthread_cond_broadcast(&hub->changed);
+    if (--hub->inside == 0 && hub->state == CMWQ_CLOSING_) pthread_cond_broadcast(&hub->changed);
     cmwq_hub_unlock_(hub);
     switch (status == CMWQ_OK ? reply.kind : (uint8_t)CMWQ_NOTHING) {
     case CMWQ_NOTHING:
