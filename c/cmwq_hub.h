@@ -1,575 +1,247 @@
 /*
- * A hub over the Book by pthreads, for who wants threads at once: worker threads that run work functions, and calls that wait.
+ * A hub: workqueues with threads. The board of cmwq.h decides (what runs, who is woken, what is refused), and that is
+ * proved. The shell (cmwq_shell.h) only locks, makes a call of the board, unlocks, and wakes whom the call has named.
  *
- * The Book's answers are proved; this file is not: that a lock is held at each of its calls, that a work function runs once for each start,
- * that a sleeper is woken and that the hub ends are only tested (c/tests). One mutex guards all; one condition variable wakes callers, and one workers.
- *
- * Context: every call but cmwq_hub_open() and cmwq_hub_close() may come from any thread, also from a work function, as long as no two threads
- * call as one who at the same time. A work function calls as its run's who. It waits by cmwq_wait_item() and cmwq_wait_for_queue(), for which
- * cmwq_hub_lend() lends callers to the hub. A wait that could never end is refused.
+ * Any thread may make any call, also in a work function: there it is the run's. Each returns what the kernel's call
+ * returns (1: true, 0: false), or minus a status of cmwq.h or below. docs/C.md has examples and a table of the calls.
  */
 #ifndef CMWQ_HUB_H
 #define CMWQ_HUB_H
-
+#if defined __STRICT_ANSI__ && !defined _POSIX_C_SOURCE && !defined _GNU_SOURCE
+#define _POSIX_C_SOURCE 200809L
+#endif
 #include "cmwq.h"
+#include <limits.h>
 #include <pthread.h>
+#include <sched.h>
+#include <stdio.h>
 #include <stdlib.h>
 #include <string.h>
+#include <time.h>
+#ifndef CLOCK_MONOTONIC
+#error "cmwq_hub.h needs POSIX: compile with -std=gnu11, or include it first"
+#endif
 
-struct cmwq_hub;
-
-/* struct cmwq_run - what a work function is given: its hub, its item, and the worker as which it calls. The rest is the hub's. */
-struct cmwq_run { struct cmwq_hub *hub; uint16_t item; struct cmwq_who who; uint8_t queue, cpu; uint64_t number; };
-
-/* Why a wait of a run is refused, beside the statuses of cmwq.h. No entry was made then. */
-enum cmwq_refusal {
-    CMWQ_ITSELF = 32,    /* it would wait for its own run */
-    CMWQ_DEADLOCK = 33,  /* it could never end, because of runs that wait */
-    CMWQ_NO_CALLER = 34, /* as many runs wait as callers are lent */
-    CMWQ_ASLEEP = 35,    /* the run is asleep: wake it first */
+enum cmwq_hub_status {
+    CMWQ_TIMED_OUT = 32,                    /* the time is over; a drain, destroy or cancel goes on all the same */
+    CMWQ_NO_TIMEOUT,                        /* the wait of a run can't be left: it takes CMWQ_FOREVER alone */
+    CMWQ_NO_THREAD,                         /* a thread could not be started */
+    CMWQ_NO_JOURNAL,                        /* the journal returned false, and what came after is forgotten */
+    CMWQ_OTHER_VERSION,                     /* the library has another version than this header */
+    CMWQ_IS_FOREIGN = 64 + CMWQ_FOREIGN,    /* the item runs on another queue */
+    CMWQ_IS_DRAINING = 64 + CMWQ_DRAINING,  /* the queue is drained */
+    CMWQ_IS_MISUSE = 64 + CMWQ_MISUSE,      /* not at this point: a second sleep, for one */
+    CMWQ_IS_GONE = 64 + CMWQ_GONE,          /* the queue was destroyed */
+    CMWQ_HAS_TIMERS = 64 + CMWQ_TIMERS      /* the queue can't be destroyed while an item is delayed on it */
 };
+#define CMWQ_FOREVER UINT_MAX               /* a timeout; others are milliseconds */
 
-/* struct cmwq_work - the function of an item, as INIT_WORK() binds it, and what is handed to it */
+/* What a call returned, in words. */
+static inline const char *cmwq_why(int result)
+{
+    static const char *const of_board[] = {"done", "no such number, or outside its limits", "the hub is not open",
+        "the history has no room for more", "no memory", "too short", "crowded", "not legal", "the hub is being closed",
+        "the hub has failed", "not in a work function or a journal, or not at this point",
+        "the run would wait for its own end", "the wait could never end", "too many calls wait"};
+    static const char *const of_hub[] = {"the time is over", "a wait in a work function has no timeout",
+        "a thread could not be started", "the journal takes no more", "the library has another version"};
+    int status = result < 0 ? -result : CMWQ_OK;
+
+    if (status < 14) return of_board[status];
+    if (status >= CMWQ_TIMED_OUT && status <= CMWQ_OTHER_VERSION) return of_hub[status - CMWQ_TIMED_OUT];
+    return status == CMWQ_IS_FOREIGN    ? "the item runs on another queue"
+           : status == CMWQ_IS_DRAINING ? "the queue is drained"
+           : status == CMWQ_IS_GONE     ? "the queue was destroyed"
+           : status == CMWQ_HAS_TIMERS  ? "an item is delayed on the queue" : "not possible at this point";
+}
+
+/* What a work function gets, and a work function as INIT_WORK() binds it. No item is in two runs at once. */
+struct cmwq_run { struct cmwq_hub *hub; uint64_t number; uint16_t item; struct cmwq_who who; bool asleep; };
 struct cmwq_work { void (*run)(struct cmwq_run *run, void *data); void *data; };
 
-/* cmwq_spill_t - takes the line of an entry before it is forgotten. Called under the lock: it may make no call of the hub. */
-typedef void (*cmwq_spill_t)(void *data, const uint8_t *line, size_t len);
-
-struct cmwq_seat { struct cmwq_hub *hub; struct cmwq_who who; pthread_t thread; };
-
-/* The number of an item's last queueing, where it is or is booked, and the CPU of its run. An item that runs is queued where it runs. */
-struct cmwq_place_ { uint64_t number; uint8_t queue, cpu, booked, runs, run_cpu; };
-
-/* A run that waits by a lent caller, and for what. The last two are of a search. */
-struct cmwq_wait_ { struct cmwq_run *run; struct cmwq_call call; uint64_t ticket; bool stuck; };
-
-struct cmwq_hub {
-    pthread_mutex_t lock;
-    pthread_cond_t callers, workers;
-    struct cmwq_book book;
-    struct cmwq_shape shape;
-    struct cmwq_work *works; /* one for each item */
-    struct cmwq_place_ *places; /* one for each item */
-    uint32_t *widths;           /* one for each queue */
-    uint8_t *high;              /* one for each queue */
-    struct cmwq_seat *seats;    /* one for each worker */
-    struct cmwq_wait_ *waits;   /* one for each lent caller; no run: it is free */
-    unsigned threads, waiting, idle, first_lent, lent;
-    bool closing;
-    uint32_t failed; /* why the hub makes no more entries */
-    cmwq_spill_t spill;
-    void *spill_data;
+struct cmwq_options {                                       /* in brackets: what 0 means */
+    const struct cmwq_queue *queues; size_t queue_count;    /* 1 to 255 */
+    const struct cmwq_work *works; unsigned items;          /* one for each item [they do nothing]; 1 to 65,535 */
+    unsigned cpus, workers;                                 /* 1 to 64 [1]; in each of a CPU's two pools 1 to 64 [4] */
+    unsigned waits;                                         /* so many calls may wait at a time: 1 to 254 [32] */
+    unsigned keep; uint64_t room;                           /* entries kept at a time [1,024], and in all [2^62] */
+    uint64_t tick_ns; unsigned spins;                       /* [1,000,000]; looks before a thread sleeps [1,000] */
+    /* Gets the text of whole lines within 100 ms, from one thread at a time and without the lock [nobody does].
+       False: it wants no more. It makes no call of the hub. */
+    bool (*journal)(void *data, const char *text, size_t len); void *journal_data;
 };
 
-/* Hands out the kept entries, and forgets them. Under the lock. */
-static inline void cmwq_hub_spill_(struct cmwq_hub *hub)
+struct cmwq_hub;
+#include "cmwq_shell.h"
+
+/* Every call. @number: ticks, a width, or a timeout */
+static inline int cmwq_hub_do_(struct cmwq_hub *hub, uint8_t kind, unsigned cpu, unsigned queue, unsigned item,
+                               uint64_t number)
 {
-    uint8_t line[CMWQ_LINE];
-    uint64_t end = cmwq_len(&hub->book);
-    size_t len;
+    struct cmwq_call call = {0, (uint32_t)number, (uint16_t)item, kind, (uint8_t)queue, (uint8_t)cpu, {0, 0, 0}};
+    bool waits = (kind >= CMWQ_FLUSH && kind <= CMWQ_CANCEL_SYNC) || kind == CMWQ_DESTROY;
+    bool sleeps = kind == CMWQ_SLEEP || kind == CMWQ_WAKE;
+    struct cmwq_reply reply = {0, 0, 0, 0};
+    struct cmwq_run *run = NULL;
+    uint32_t status;
 
-    if (hub->spill)
-        for (uint64_t n = cmwq_first(&hub->book); n < end; n++)
-            if (cmwq_entry_line(&hub->book, n, line, sizeof line, &len) == CMWQ_OK)
-                hub->spill(hub->spill_data, line, len);
-    cmwq_forget(&hub->book);
-}
-
-static inline void cmwq_hub_note_(struct cmwq_hub *hub, const struct cmwq_call *call, const struct cmwq_reply *reply)
-{
-    struct cmwq_place_ *place = &hub->places[reply->kind == CMWQ_FIRED ? reply->item : call->item];
-
-    switch (reply->kind) {
-    case CMWQ_YES:
-    case CMWQ_AGAIN:
-    case CMWQ_TICKET_QUEUED:
-    case CMWQ_FIRED:
-        place->number = reply->number;
-        place->booked = 0;
-        break;
-    case CMWQ_BOOKED:
-    case CMWQ_REBOOKED:
-        place->booked = 1;
-        break;
+    pthread_mutex_lock(&hub->lock);
+    hub->inside++;
+    if (hub->state != CMWQ_NONE_) {
+        run = (struct cmwq_run *)pthread_getspecific(hub->key);
+        if (!run || run->hub) cmwq_hub_space_(hub, hub->is.keep);
+    }
+    if (run && (waits || sleeps || (kind <= CMWQ_CANCEL && !run->asleep))) call.who = run->who;
+    if (hub->state == CMWQ_NONE_)
+        status = CMWQ_CLOSED;
+    else if (run && !run->hub)
+        status = CMWQ_NOT_NOW;
+    else if (call.cpu != cpu || call.queue != queue || call.item != item || call.number != number)
+        status = CMWQ_REFUSED;
+    else
+        status = waits ? cmwq_hub_wait_(hub, &call, &reply) : cmwq_hub_call_(hub, run, &call, &reply);
+    if (status == CMWQ_OVER || status == CMWQ_FAILED) status = CMWQ_STOPPED;
+    if (--hub->inside == 0 && hub->state == CMWQ_CLOSING_) pthread_cond_broadcast(&hub->changed);
+    cmwq_hub_unlock_(hub);
+    switch (status == CMWQ_OK ? reply.kind : (uint8_t)CMWQ_NOTHING) {
+    case CMWQ_NOTHING:
+        return -(int)status;
+    case CMWQ_FOREIGN: case CMWQ_DRAINING: case CMWQ_MISUSE: case CMWQ_GONE: case CMWQ_TIMERS:
+        return -64 - reply.kind;
+    case CMWQ_NO: case CMWQ_IDLE: case CMWQ_TICKET_NO:
+        return 0;
+    case CMWQ_YES: case CMWQ_BOOKED:
+        return kind != CMWQ_MODIFY;
     default:
-        break;
+        return kind == CMWQ_SET_MAX ? (int)reply.number : 1;
     }
-    if (reply->kind == CMWQ_YES || reply->kind == CMWQ_AGAIN || reply->kind == CMWQ_BOOKED || reply->kind == CMWQ_REBOOKED) {
-        place->queue = call->queue;
-        place->cpu = call->cpu;
-    }
-    if (!place->booked && place->runs)
-        place->cpu = place->run_cpu;
-    if (call->kind == CMWQ_SET_MAX && reply->kind == CMWQ_WIDTH)
-        hub->widths[call->queue] = call->number;
 }
 
-/* Makes a call, and wakes whom it may concern. Under the lock. */
-static inline uint32_t cmwq_hub_step_(struct cmwq_hub *hub, const struct cmwq_call *call, struct cmwq_reply *reply)
-{
-    uint32_t status = cmwq_step(&hub->book, call, reply);
+static inline int cmwq_queue_work_on(struct cmwq_hub *hub, unsigned cpu, unsigned queue, unsigned item)
+{ return cmwq_hub_do_(hub, CMWQ_QUEUE, cpu, queue, item, 0); }
+static inline int cmwq_queue_delayed_work_on(struct cmwq_hub *hub, unsigned cpu, unsigned queue, unsigned item,
+                                             uint64_t ticks)
+{ return cmwq_hub_do_(hub, CMWQ_DELAY, cpu, queue, item, ticks); }
+static inline int cmwq_mod_delayed_work_on(struct cmwq_hub *hub, unsigned cpu, unsigned queue, unsigned item,
+                                           uint64_t ticks)
+{ return cmwq_hub_do_(hub, CMWQ_MODIFY, cpu, queue, item, ticks); }
+static inline int cmwq_cancel_work(struct cmwq_hub *hub, unsigned item)
+{ return cmwq_hub_do_(hub, CMWQ_CANCEL, 0, 0, item, 0); }
+static inline int cmwq_cancel_work_sync(struct cmwq_hub *hub, unsigned item, unsigned timeout)
+{ return cmwq_hub_do_(hub, CMWQ_CANCEL_SYNC, 0, 0, item, timeout); }
+static inline int cmwq_flush_work(struct cmwq_hub *hub, unsigned item, unsigned timeout)
+{ return cmwq_hub_do_(hub, CMWQ_FLUSH_ITEM, 0, 0, item, timeout); }
+static inline int cmwq_flush_delayed_work(struct cmwq_hub *hub, unsigned item, unsigned timeout)
+{ return cmwq_hub_do_(hub, CMWQ_FLUSH_DELAYED, 0, 0, item, timeout); }
+static inline int cmwq_flush_workqueue(struct cmwq_hub *hub, unsigned queue, unsigned timeout)
+{ return cmwq_hub_do_(hub, CMWQ_FLUSH, 0, queue, 0, timeout); }
+static inline int cmwq_drain_workqueue(struct cmwq_hub *hub, unsigned queue, unsigned timeout)
+{ return cmwq_hub_do_(hub, CMWQ_DRAIN, 0, queue, 0, timeout); }
+static inline int cmwq_destroy_workqueue(struct cmwq_hub *hub, unsigned queue, unsigned timeout)
+{ return cmwq_hub_do_(hub, CMWQ_DESTROY, 0, queue, 0, timeout); }
+static inline int cmwq_workqueue_set_max_active(struct cmwq_hub *hub, unsigned queue, unsigned max_active)
+{ return cmwq_hub_do_(hub, CMWQ_SET_MAX, 0, queue, 0, max_active); }
+static inline int cmwq_freeze_workqueues(struct cmwq_hub *hub) { return cmwq_hub_do_(hub, CMWQ_FREEZE, 0, 0, 0, 0); }
+static inline int cmwq_thaw_workqueues(struct cmwq_hub *hub) { return cmwq_hub_do_(hub, CMWQ_THAW, 0, 0, 0, 0); }
+/* Of a run, around what blocks: others of its pool may start meanwhile. */
+static inline int cmwq_worker_sleeping(struct cmwq_hub *hub) { return cmwq_hub_do_(hub, CMWQ_SLEEP, 0, 0, 0, 0); }
+static inline int cmwq_worker_running(struct cmwq_hub *hub) { return cmwq_hub_do_(hub, CMWQ_WAKE, 0, 0, 0, 0); }
 
-    if (status == CMWQ_CROWDED) {
-        cmwq_hub_spill_(hub);
-        status = cmwq_step(&hub->book, call, reply);
-    }
-    if (status == CMWQ_FULL && call->who.kind != CMWQ_CALLER && call->kind >= CMWQ_TAKE)
-        hub->failed = status; /* a worker that can't go on */
-    if (status != CMWQ_OK && !hub->failed)
-        return status;
-    if (status == CMWQ_OK)
-        cmwq_hub_note_(hub, call, reply);
-    if (hub->waiting)
-        pthread_cond_broadcast(&hub->callers);
-    if (hub->idle)
-        pthread_cond_broadcast(&hub->workers);
-    return status;
-}
-
-/**
- * cmwq_hub_call() - makes one call that doesn't wait: queue, delay, modify, cancel, set_max, freeze, thaw, sleep, wake
- * Return: as cmwq_step()
- */
-static inline uint32_t cmwq_hub_call(struct cmwq_hub *hub, const struct cmwq_call *call, struct cmwq_reply *reply)
+/* Whether an item is pending (1), or runs (2), or both. */
+static inline int cmwq_work_busy(struct cmwq_hub *hub, unsigned item)
 {
-    uint32_t status;
+    struct cmwq_item state;
+    uint32_t status = CMWQ_REFUSED;
 
     pthread_mutex_lock(&hub->lock);
-    status = cmwq_hub_step_(hub, call, reply);
+    if (item <= UINT16_MAX) status = cmwq_board_item(&hub->board, (uint16_t)item, &state);
+    cmwq_hub_unlock_(hub);
+    return status == CMWQ_OK ? (state.pending != CMWQ_NOT_PENDING) + 2 * (state.runs != 0) : -(int)status;
+}
+
+/* Lets what is queued end, and gives all up. Calls that wait return -CMWQ_STOPPED. Not in a work function. */
+static inline int cmwq_hub_close(struct cmwq_hub *hub)
+{
+    char last[32];
+    int status;
+
+    pthread_mutex_lock(&hub->lock);
+    status = hub->state != CMWQ_OPEN_ ? CMWQ_CLOSED : pthread_getspecific(hub->key) ? CMWQ_NOT_NOW : CMWQ_OK;
+    if (status == CMWQ_OK) cmwq_hub_stop_(hub);
+    cmwq_hub_unlock_(hub);
+    if (status != CMWQ_OK) return -status;
+    for (struct cmwq_party_ *party = hub->parties; party <= hub->clock; party++)
+        if (party->started) pthread_join(party->thread, NULL);
+    pthread_mutex_lock(&hub->lock);
+    while (hub->inside) pthread_cond_wait(&hub->changed, &hub->lock);
+    hub->over = true;
+    cmwq_hub_name_(hub, hub->journal);
+    cmwq_hub_unlock_(hub);
+    if (hub->journal->started) pthread_join(hub->journal->thread, NULL);
+    status = snprintf(last, sizeof last, "end %llu\n", (unsigned long long)cmwq_board_len(&hub->board));
+    if (hub->is.journal && !hub->deaf)
+        hub->deaf = !hub->is.journal(hub->is.journal_data, last, (size_t)status);
+    pthread_mutex_lock(&hub->lock);
+    while (hub->inside) pthread_cond_wait(&hub->changed, &hub->lock);
+    while (__atomic_load_n(&hub->signalling, __ATOMIC_ACQUIRE)) sched_yield();
+    status = cmwq_hub_free_(hub, hub->deaf ? -CMWQ_NO_JOURNAL : CMWQ_OK);
     pthread_mutex_unlock(&hub->lock);
     return status;
 }
 
-/**
- * cmwq_hub_wait() - makes a call that may wait (flush, drain, flush_item, flush_delayed, cancel_sync, destroy), waits, and ends it
- * @reply: what it was answered at first; for @ended, if not NULL, what the end was: CMWQ_DONE or, of destroy, CMWQ_GONE
- * Return: as cmwq_step(); CMWQ_FULL too where a worker has stopped for want of room, and the wait wouldn't end
- */
-static inline uint32_t cmwq_hub_wait(struct cmwq_hub *hub, const struct cmwq_call *call, struct cmwq_reply *reply, struct cmwq_reply *ended)
+/* Opens a hub, which is all zeros or was closed, and starts its threads. At less than 0 there is nothing to close. */
+static inline int cmwq_hub_open(struct cmwq_hub *hub, const struct cmwq_options *options)
 {
-    struct cmwq_call end = {0};
-    struct cmwq_reply done;
+    struct cmwq_options is = *options;
+    uint8_t head[1 << 13];
+    size_t len = 0;
+    bool is_high = false;
     uint32_t status;
 
-    pthread_mutex_lock(&hub->lock);
-    status = cmwq_hub_step_(hub, call, reply);
-    if (status == CMWQ_OK && reply->kind >= CMWQ_TICKET && reply->kind <= CMWQ_TICKET_NO) {
-        end.kind = CMWQ_END;
-        end.ticket = reply->number;
-        end.who = call->who;
-        hub->waiting++;
-        while (!cmwq_ready(&hub->book, end.ticket) && !hub->failed)
-            pthread_cond_wait(&hub->callers, &hub->lock);
-        hub->waiting--;
-        status = hub->failed ? hub->failed : cmwq_hub_step_(hub, &end, ended ? ended : &done);
+    if (hub->state != CMWQ_NONE_) return -CMWQ_NOT_NOW;
+    if (cmwq_version() != CMWQ_VERSION) {
+        fprintf(stderr, "cmwq: cmwq_hub.h has version %u, and the library %u\n", CMWQ_VERSION, cmwq_version());
+        return -CMWQ_OTHER_VERSION;
     }
-    pthread_mutex_unlock(&hub->lock);
-    return status;
-}
-
-/* Whether an item is queued, or booked, and has not started. Under the lock. */
-static inline bool cmwq_hub_is_pending_(struct cmwq_hub *hub, uint16_t item)
-{
-    uint8_t bits = 0;
-
-    return cmwq_bits(&hub->book, item, &bits) == CMWQ_OK && bits & 1;
-}
-
-static inline bool cmwq_hub_is_queued_(struct cmwq_hub *hub, uint16_t item)
-{
-    return !hub->places[item].booked && cmwq_hub_is_pending_(hub, item);
-}
-
-/*
- * Whether the queueing of an item with this number can never start, because of the runs that are stuck: the item's own run is, or all workers of
- * its pool have such runs, or all places of its queue on its CPU are held by such runs, and by what is queued of their items. Under the lock.
- */
-static inline bool cmwq_hub_start_stuck_(struct cmwq_hub *hub, uint16_t item, uint64_t number)
-{
-    uint8_t queue = hub->places[item].queue, cpu = hub->places[item].runs ? hub->places[item].run_cpu : hub->places[item].cpu;
-    unsigned held = 0, in_pool = 0;
-
-    for (unsigned k = 0; k <= hub->lent; k++) {
-        struct cmwq_run *run = hub->waits[k].stuck ? hub->waits[k].run : NULL;
-
-        if (!run)
-            continue;
-        if (run->item == item)
-            return true;
-        in_pool += run->cpu == cpu && (run->who.kind == CMWQ_HIGH_WORKER) == (hub->high[queue] != 0);
-        held += run->queue == queue && run->cpu == cpu && run->number < number;
-        held += cmwq_hub_is_queued_(hub, run->item) && hub->places[run->item].queue == queue && run->cpu == cpu && hub->places[run->item].number < number;
-    }
-    return held >= hub->widths[queue] || in_pool >= hub->shape.workers;
-}
-
-/* Whether what a wait for an item waits for can never start. */
-static inline bool cmwq_hub_item_stuck_(struct cmwq_hub *hub, const struct cmwq_call *call)
-{
-    if (call->kind == CMWQ_CANCEL_SYNC)
-        return false;
-    if (call->kind == CMWQ_FLUSH_DELAYED && hub->places[call->item].booked)
-        return cmwq_hub_is_pending_(hub, call->item) && cmwq_hub_start_stuck_(hub, call->item, UINT64_MAX);
-    return cmwq_hub_is_queued_(hub, call->item) && cmwq_hub_start_stuck_(hub, call->item, hub->places[call->item].number);
-}
-
-/* Whether a wait can never end, because of the runs that are stuck. Under the lock. */
-static inline bool cmwq_hub_wait_stuck_(struct cmwq_hub *hub, const struct cmwq_wait_ *wait)
-{
-    const struct cmwq_call *call = &wait->call;
-    bool of_item = call->kind == CMWQ_FLUSH_ITEM || call->kind == CMWQ_FLUSH_DELAYED || call->kind == CMWQ_CANCEL_SYNC;
-    uint64_t before = call->kind == CMWQ_FLUSH ? wait->ticket : UINT64_MAX;
-
-    for (unsigned k = 0; k <= hub->lent; k++) {
-        struct cmwq_run *run = hub->waits[k].stuck ? hub->waits[k].run : NULL;
-
-        if (run && (of_item ? run->item == call->item : run->queue == call->queue && run->number < before))
-            return true;
-    }
-    if (of_item)
-        return cmwq_hub_item_stuck_(hub, call);
-    for (unsigned item = 0; item < hub->shape.items; item++)
-        if (hub->places[item].queue == call->queue && hub->places[item].number < before && cmwq_hub_is_queued_(hub, (uint16_t)item) &&
-            cmwq_hub_start_stuck_(hub, (uint16_t)item, hub->places[item].number))
-            return true;
-    return false;
-}
-
-/* Why a run may not wait so: the last place of @waits is for this question. Runs that are stuck are the most of which each waits for another. */
-static inline uint32_t cmwq_hub_refusal_(struct cmwq_hub *hub, struct cmwq_run *run, const struct cmwq_call *call)
-{
-    struct cmwq_wait_ *own = &hub->waits[hub->lent];
-    bool goes_on = true;
-    uint32_t why;
-
-    if (call->kind == CMWQ_FLUSH || call->kind == CMWQ_DRAIN ? call->queue == run->queue : call->item == run->item)
-        return CMWQ_ITSELF;
-    own->run = run;
-    own->call = *call;
-    own->ticket = UINT64_MAX;
-    own->stuck = true;
-    for (unsigned k = 0; k < hub->lent; k++)
-        hub->waits[k].stuck = hub->waits[k].run && !cmwq_ready(&hub->book, hub->waits[k].ticket);
-    while (goes_on) {
-        goes_on = false;
-        for (unsigned k = 0; k <= hub->lent; k++)
-            if (hub->waits[k].stuck && !cmwq_hub_wait_stuck_(hub, &hub->waits[k])) {
-                hub->waits[k].stuck = false;
-                goes_on = true;
-            }
-    }
-    why = own->stuck ? (uint32_t)CMWQ_DEADLOCK : (uint32_t)CMWQ_OK;
-    own->stuck = false;
-    return why;
-}
-
-/* A lent caller that no run waits by, or NULL. */
-static inline struct cmwq_wait_ *cmwq_hub_free_wait_(struct cmwq_hub *hub)
-{
-    for (unsigned k = 0; k < hub->lent; k++)
-        if (!hub->waits[k].run)
-            return &hub->waits[k];
-    return NULL;
-}
-
-/**
- * cmwq_wait_in_run() - a work function waits: flush_item, flush_delayed, cancel_sync, flush, drain, of another item or queue
- * @call: its kind, and its item or queue; who makes it is a lent caller
- * @reply: what it was answered at first
- *
- * The run sleeps meanwhile, so that others of its pool may start. The history has it as the worker's sleep, the lent caller's call and end, and
- * the worker's wake.
- *
- * Return: as cmwq_hub_wait(), or a cmwq_refusal: then the run goes on, and may do something else
- */
-static inline uint32_t cmwq_wait_in_run(struct cmwq_run *run, const struct cmwq_call *call, struct cmwq_reply *reply)
-{
-    struct cmwq_hub *hub = run->hub;
-    struct cmwq_call sleep = {0}, end = {0}, own = *call;
-    struct cmwq_reply other;
-    struct cmwq_wait_ *wait;
-    uint32_t status, woke;
-
-    sleep.kind = CMWQ_SLEEP;
-    sleep.who = run->who;
-    pthread_mutex_lock(&hub->lock);
-    wait = cmwq_hub_free_wait_(hub);
-    status = cmwq_hub_refusal_(hub, run, call);
-    if (status == CMWQ_OK && !wait)
-        status = CMWQ_NO_CALLER;
-    if (status == CMWQ_OK && cmwq_would(&hub->book, &sleep, &other) == CMWQ_OK && other.kind != CMWQ_SLEPT)
-        status = CMWQ_ASLEEP;
-    if (status == CMWQ_OK)
-        status = cmwq_hub_step_(hub, &sleep, &other);
-    if (status != CMWQ_OK) {
-        pthread_mutex_unlock(&hub->lock);
-        return status;
-    }
-    own.who.kind = CMWQ_CALLER;
-    own.who.index = (uint8_t)(hub->first_lent + (unsigned)(wait - hub->waits));
-    own.who.cpu = 0;
-    status = cmwq_hub_step_(hub, &own, reply);
-    if (status == CMWQ_OK && reply->kind >= CMWQ_TICKET && reply->kind <= CMWQ_TICKET_NO) {
-        wait->run = run;
-        wait->call = own;
-        wait->ticket = reply->number;
-        end.kind = CMWQ_END;
-        end.ticket = reply->number;
-        end.who = own.who;
-        hub->waiting++;
-        while (!cmwq_ready(&hub->book, end.ticket) && !hub->failed)
-            pthread_cond_wait(&hub->callers, &hub->lock);
-        hub->waiting--;
-        status = hub->failed ? hub->failed : cmwq_hub_step_(hub, &end, &other);
-        wait->run = NULL;
-    }
-    sleep.kind = CMWQ_WAKE;
-    woke = cmwq_hub_step_(hub, &sleep, &other);
-    pthread_mutex_unlock(&hub->lock);
-    return status == CMWQ_OK ? woke : status;
-}
-
-/** cmwq_wait_item() - cmwq_wait_in_run() of an item: CMWQ_FLUSH_ITEM, CMWQ_FLUSH_DELAYED or CMWQ_CANCEL_SYNC */
-static inline uint32_t cmwq_wait_item(struct cmwq_run *run, enum cmwq_kind kind, uint16_t item)
-{
-    struct cmwq_call call = {0};
-    struct cmwq_reply reply;
-
-    call.kind = (uint8_t)kind;
-    call.item = item;
-    return cmwq_wait_in_run(run, &call, &reply);
-}
-
-/** cmwq_wait_for_queue() - cmwq_wait_in_run() of a queue: CMWQ_FLUSH or CMWQ_DRAIN */
-static inline uint32_t cmwq_wait_for_queue(struct cmwq_run *run, enum cmwq_kind kind, uint8_t queue)
-{
-    struct cmwq_call call = {0};
-    struct cmwq_reply reply;
-
-    call.kind = (uint8_t)kind;
-    call.queue = queue;
-    return cmwq_wait_in_run(run, &call, &reply);
-}
-
-/** cmwq_hub_tick() - lets ticks go by, and fires all that is due then. Return: as cmwq_step() */
-static inline uint32_t cmwq_hub_tick(struct cmwq_hub *hub, uint8_t caller, uint32_t ticks)
-{
-    struct cmwq_call call = {0};
-    struct cmwq_reply reply;
-    uint32_t status;
-
-    call.kind = CMWQ_TICK;
-    call.number = ticks;
-    call.who.index = caller;
-    pthread_mutex_lock(&hub->lock);
-    status = cmwq_hub_step_(hub, &call, &reply);
-    call.kind = CMWQ_FIRE;
-    while (status == CMWQ_OK && (cmwq_would(&hub->book, &call, &reply) != CMWQ_OK || reply.kind != CMWQ_NOTHING))
-        status = cmwq_hub_step_(hub, &call, &reply);
-    pthread_mutex_unlock(&hub->lock);
-    return status;
-}
-
-/* The calls of a caller by the kernel's names, and what these return. False too where the call isn't made. */
-static inline struct cmwq_call cmwq_call_of(enum cmwq_kind kind, struct cmwq_who who, uint16_t item, uint8_t queue, uint8_t cpu, uint32_t ticks)
-{
-    struct cmwq_call call = {0};
-
-    call.kind = (uint8_t)kind;
-    call.who = who;
-    call.item = item;
-    call.queue = queue;
-    call.cpu = cpu;
-    call.number = ticks;
-    return call;
-}
-
-static inline bool cmwq_queue_work_on(struct cmwq_hub *hub, struct cmwq_who who, uint8_t cpu, uint8_t queue, uint16_t item)
-{
-    struct cmwq_call call = cmwq_call_of(CMWQ_QUEUE, who, item, queue, cpu, 0);
-    struct cmwq_reply reply;
-
-    return cmwq_hub_call(hub, &call, &reply) == CMWQ_OK && reply.kind == CMWQ_YES;
-}
-
-static inline bool cmwq_mod_delayed_work_on(struct cmwq_hub *hub, struct cmwq_who who, uint8_t cpu, uint8_t queue, uint16_t item, uint32_t ticks)
-{
-    struct cmwq_call call = cmwq_call_of(CMWQ_MODIFY, who, item, queue, cpu, ticks);
-    struct cmwq_reply reply;
-
-    return cmwq_hub_call(hub, &call, &reply) == CMWQ_OK && (reply.kind == CMWQ_AGAIN || reply.kind == CMWQ_REBOOKED);
-}
-
-static inline bool cmwq_cancel_work_sync(struct cmwq_hub *hub, uint8_t caller, uint16_t item)
-{
-    struct cmwq_who who = {CMWQ_CALLER, caller, 0};
-    struct cmwq_call call = cmwq_call_of(CMWQ_CANCEL_SYNC, who, item, 0, 0, 0);
-    struct cmwq_reply reply;
-
-    return cmwq_hub_wait(hub, &call, &reply, NULL) == CMWQ_OK && (reply.kind == CMWQ_TICKET_CANCELLED || reply.kind == CMWQ_TICKET_UNBOOKED);
-}
-
-/* flush_workqueue(), drain_workqueue(), destroy_workqueue() by @kind. Return: true where the wait is over */
-static inline bool cmwq_wait_queue(struct cmwq_hub *hub, enum cmwq_kind kind, uint8_t caller, uint8_t queue)
-{
-    struct cmwq_who who = {CMWQ_CALLER, caller, 0};
-    struct cmwq_call call = cmwq_call_of(kind, who, 0, queue, 0, 0);
-    struct cmwq_reply reply;
-
-    return cmwq_hub_wait(hub, &call, &reply, NULL) == CMWQ_OK && ((reply.kind >= CMWQ_TICKET && reply.kind <= CMWQ_TICKET_NO) || reply.kind == CMWQ_IDLE);
-}
-
-/* Takes and runs, until nothing is left and the hub closes. Asks first, so that an idle worker makes no entry. */
-static inline void *cmwq_hub_work_(void *at)
-{
-    struct cmwq_seat *seat = (struct cmwq_seat *)at;
-    struct cmwq_hub *hub = seat->hub;
-    struct cmwq_call take = cmwq_call_of(CMWQ_TAKE, seat->who, 0, 0, 0, 0), finish = cmwq_call_of(CMWQ_FINISH, seat->who, 0, 0, 0, 0);
-    struct cmwq_reply reply;
-
-    pthread_mutex_lock(&hub->lock);
-    while (!hub->failed) {
-        uint32_t status = cmwq_would(&hub->book, &take, &reply);
-
-        if (status == CMWQ_CROWDED) {
-            cmwq_hub_spill_(hub);
-        } else if (status == CMWQ_OK && (reply.kind == CMWQ_STARTED || reply.kind == CMWQ_STARTED_ENLIST)) {
-            struct cmwq_run run = {hub, 0, seat->who, 0, 0, 0};
-
-            if (cmwq_hub_step_(hub, &take, &reply) != CMWQ_OK)
-                break;
-            while (run.item < hub->shape.items && hub->places[run.item].number != reply.number)
-                run.item++;
-            run.number = reply.number;
-            run.queue = hub->places[run.item].queue;
-            run.cpu = hub->places[run.item].run_cpu = seat->who.cpu;
-            hub->places[run.item].runs = 1;
-            pthread_mutex_unlock(&hub->lock);
-            hub->works[run.item].run(&run, hub->works[run.item].data);
-            pthread_mutex_lock(&hub->lock);
-            hub->places[run.item].runs = 0;
-            cmwq_hub_step_(hub, &finish, &reply);
-        } else if (hub->closing && cmwq_open_count(&hub->book) == 0) {
-            break;
-        } else {
-            hub->idle++;
-            pthread_cond_wait(&hub->workers, &hub->lock);
-            hub->idle--;
-        }
-    }
-    pthread_cond_broadcast(&hub->callers);
-    pthread_cond_broadcast(&hub->workers);
-    pthread_mutex_unlock(&hub->lock);
-    return NULL;
-}
-
-/* Gives back what is kept of each item and each worker. */
-static inline void cmwq_hub_free_(struct cmwq_hub *hub)
-{
-    free(hub->works);
-    free(hub->places);
-    free(hub->widths);
-    free(hub->high);
-    free(hub->seats);
-    free(hub->waits);
-}
-
-/* Takes memory for what is kept of each item, queue, worker and lent caller. */
-static inline bool cmwq_hub_take_(struct cmwq_hub *hub, const struct cmwq_shape *shape, const struct cmwq_queue *queues, size_t len, const struct cmwq_work *works)
-{
-    size_t items = shape->items, seats = (size_t)2 * shape->cpus * shape->workers;
-
-    hub->works = (struct cmwq_work *)malloc(items * sizeof *works);
-    hub->places = (struct cmwq_place_ *)malloc(items * sizeof *hub->places);
-    hub->widths = (uint32_t *)malloc(len * sizeof *hub->widths);
-    hub->high = (uint8_t *)malloc(len * sizeof *hub->high);
-    hub->seats = (struct cmwq_seat *)calloc(seats, sizeof *hub->seats);
-    hub->waits = (struct cmwq_wait_ *)calloc((size_t)shape->callers + 1, sizeof *hub->waits);
-    if (!hub->works || !hub->places || !hub->widths || !hub->high || !hub->seats || !hub->waits)
-        return false;
-    memcpy(hub->works, works, items * sizeof *works);
-    memset(hub->places, 0, items * sizeof *hub->places);
-    for (size_t i = 0; i < items; i++)
-        hub->places[i].number = UINT64_MAX;
-    for (size_t q = 0; q < len; q++) {
-        hub->widths[q] = queues[q].max_active;
-        hub->high[q] = queues[q].high;
-    }
-    return true;
-}
-
-/**
- * cmwq_hub_lend() - lends @count callers of the shape, from @first on, to work functions that wait; as many may wait at the same time
- * Before the first call, and once. Nobody else calls as one of them.
- */
-static inline void cmwq_hub_lend(struct cmwq_hub *hub, uint8_t first, uint8_t count)
-{
-    pthread_mutex_lock(&hub->lock);
-    hub->first_lent = first;
-    hub->lent = count;
-    pthread_mutex_unlock(&hub->lock);
-}
-
-/**
- * cmwq_hub_close() - lets what is queued run, joins the workers, and gives all up. All callers are done, no queue is frozen
- * Entries that are kept are handed to the hub's spill.
- */
-static inline void cmwq_hub_close(struct cmwq_hub *hub)
-{
-    pthread_mutex_lock(&hub->lock);
-    hub->closing = true;
-    pthread_cond_broadcast(&hub->workers);
-    pthread_mutex_unlock(&hub->lock);
-    while (hub->threads)
-        pthread_join(hub->seats[--hub->threads].thread, NULL);
-    cmwq_hub_spill_(hub);
-    cmwq_close(&hub->book);
-    cmwq_hub_free_(hub);
-    pthread_cond_destroy(&hub->workers);
-    pthread_cond_destroy(&hub->callers);
-    pthread_mutex_destroy(&hub->lock);
-}
-
-/**
- * cmwq_hub_open() - opens a book, and starts a thread for each of its workers
- * @works: one for each item of the shape
- * @spill: takes the lines of entries that are forgotten; NULL: nobody does
- * Return: as cmwq_open(); CMWQ_NO_MEMORY too where memory for the hub is missing or a thread doesn't start. At another status than CMWQ_OK there is nothing to close
- */
-static inline uint32_t cmwq_hub_open(struct cmwq_hub *hub, const struct cmwq_shape *shape, const struct cmwq_queue *queues, size_t len,
-                                     const struct cmwq_work *works, cmwq_spill_t spill, void *spill_data)
-{
-    uint32_t status;
-
+    is.cpus = is.cpus ? is.cpus : 1;
+    is.workers = is.workers ? is.workers : 4;
+    is.waits = is.waits ? is.waits : 32;
+    is.keep = is.keep ? is.keep : 1024;
+    is.room = is.room ? is.room : UINT64_C(1) << 62;
+    is.tick_ns = is.tick_ns ? is.tick_ns : 1000000;
+    is.spins = is.spins ? is.spins : 1000;
+    if (is.items > UINT16_MAX || is.cpus > 64 || is.workers > 64 || is.waits > 254 || is.keep > 1u << 30)
+        return -CMWQ_REFUSED;
     memset(hub, 0, sizeof *hub);
-    status = cmwq_open(&hub->book, shape, queues, len);
-    if (status != CMWQ_OK)
-        return status;
-    hub->shape = *shape;
-    if (!cmwq_hub_take_(hub, shape, queues, len, works)) {
-        cmwq_hub_free_(hub);
-        cmwq_close(&hub->book);
-        return CMWQ_NO_MEMORY;
-    }
-    hub->spill = spill;
-    hub->spill_data = spill_data;
-    pthread_mutex_init(&hub->lock, NULL);
-    pthread_cond_init(&hub->callers, NULL);
-    pthread_cond_init(&hub->workers, NULL);
-    for (unsigned place = 0; place < 2u * shape->cpus * shape->workers; place++) {
-        struct cmwq_seat *seat = &hub->seats[place];
-
-        seat->hub = hub;
-        seat->who.index = (uint8_t)(place % shape->workers);
-        seat->who.cpu = (uint8_t)(place / shape->workers / 2);
-        seat->who.kind = place / shape->workers % 2 ? CMWQ_HIGH_WORKER : CMWQ_WORKER;
-        if (pthread_create(&seat->thread, NULL, cmwq_hub_work_, seat)) {
-            cmwq_hub_close(hub);
-            return CMWQ_NO_MEMORY;
-        }
-        hub->threads++;
-    }
-    return CMWQ_OK;
+    hub->is = is;
+    /* one hold makes at most so many entries: those of time, of the call, and of the waits that were left */
+    hub->shape.keep = is.keep + 3 * is.items + is.waits + 16;
+    hub->shape.room = is.room;
+    hub->shape.items = (uint16_t)is.items;
+    hub->shape.cpus = (uint8_t)is.cpus;
+    hub->shape.workers = (uint8_t)is.workers;
+    hub->shape.callers = (uint8_t)(is.waits + 1);
+    hub->workers = 2 * is.cpus * is.workers;
+    hub->due = UINT64_MAX;
+    hub->wakes.workers[0].kind = hub->wakes.callers[0] = CMWQ_NOBODY;
+    status = cmwq_board_open(&hub->board, &hub->shape, is.queues, is.queue_count, (uint8_t)is.waits);
+    if (status == CMWQ_OK) status = cmwq_lines_open(&hub->lines, &hub->board);
+    hub->works = (struct cmwq_work *)calloc(is.items, sizeof *hub->works);
+    hub->parties = (struct cmwq_party_ *)calloc(hub->workers + is.waits + 2, sizeof *hub->parties);
+    if (status == CMWQ_OK && (!hub->works || !hub->parties || pthread_key_create(&hub->key, NULL)))
+        status = CMWQ_NO_MEMORY;
+    if (status != CMWQ_OK) return cmwq_hub_free_(hub, -(int)status);
+    hub->clock = hub->parties + hub->workers + is.waits;
+    hub->journal = hub->clock + 1;
+    for (unsigned n = 0; n < is.items && is.works; n++) hub->works[n] = is.works[n];
+    for (size_t n = 0; n < is.queue_count; n++) is_high = is_high || is.queues[n].high;
+    status = cmwq_head(&hub->shape, is.queues, is.queue_count, head, sizeof head, &len);
+    hub->deaf = is.journal && !is.journal(is.journal_data, (const char *)head, len);
+    hub->begun = cmwq_hub_now_(hub);
+    hub->state = CMWQ_OPEN_;
+    if (cmwq_hub_start_(hub, is_high)) return CMWQ_OK;
+    cmwq_hub_close(hub);
+    return -CMWQ_NO_THREAD;
 }
 
 #endif

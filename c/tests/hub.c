@@ -1,6 +1,7 @@
 /* Callers and workers at once on the hub: each queueing runs once, one item is never in two runs, each flush waits for what was queued before it. */
 #include "cmwq_hub.h"
 #include "check.h"
+#include <unistd.h>
 
 enum { CALLERS = 4, ROUNDS = 500, MINE = 3, ITEMS = CALLERS * MINE };
 
@@ -9,13 +10,15 @@ static struct cmwq_hub hub;
 struct item { pthread_mutex_t lock; unsigned queued, ran; bool runs; };
 
 static struct item items[ITEMS];
-static unsigned spilled;
+static size_t lines;
 
-static void count_line(void *data, const uint8_t *line, size_t len)
+static bool count_lines(void *data, const char *text, size_t len)
 {
     (void)data;
-    CHECK(len > 0 && line[len - 1] == '\n');
-    spilled++;
+    CHECK(len > 0 && text[len - 1] == '\n');
+    for (size_t k = 0; k < len; k++)
+        lines += text[k] == '\n';
+    return true;
 }
 
 static void work(struct cmwq_run *run, void *data)
@@ -27,14 +30,8 @@ static void work(struct cmwq_run *run, void *data)
     CHECK(!item->runs);
     item->runs = true;
     pthread_mutex_unlock(&item->lock);
-    if (run->item % MINE == 0) { /* this one sleeps while it runs */
-        struct cmwq_call call = cmwq_call_of(CMWQ_SLEEP, run->who, 0, 0, 0, 0);
-        struct cmwq_reply reply;
-
-        CHECK(cmwq_hub_call(run->hub, &call, &reply) == CMWQ_OK && reply.kind == CMWQ_SLEPT);
-        call.kind = CMWQ_WAKE;
-        CHECK(cmwq_hub_call(run->hub, &call, &reply) == CMWQ_OK && reply.kind == CMWQ_WOKE);
-    }
+    if (run->item % MINE == 0) /* this one sleeps while it runs */
+        CHECK(cmwq_worker_sleeping(run->hub) == 1 && cmwq_worker_running(run->hub) == 1);
     pthread_mutex_lock(&item->lock);
     item->runs = false;
     item->ran++;
@@ -43,59 +40,56 @@ static void work(struct cmwq_run *run, void *data)
 
 static void *caller(void *at)
 {
-    struct cmwq_who me = {CMWQ_CALLER, *(uint8_t *)at, 0};
+    unsigned me = *(unsigned *)at;
 
     for (unsigned round = 1; round <= ROUNDS; round++) {
-        for (uint16_t mine = 0; mine < MINE; mine++) {
-            struct item *item = &items[me.index * MINE + mine];
-
-            if (mine == 2 && round % 2) {
-                cmwq_mod_delayed_work_on(&hub, me, 0, 0, (uint16_t)(me.index * MINE + mine), 1);
-                CHECK(cmwq_hub_tick(&hub, me.index, 1) == CMWQ_OK);
-            } else {
-                CHECK(cmwq_queue_work_on(&hub, me, 0, mine == 1, (uint16_t)(me.index * MINE + mine)));
-            }
-            item->queued++;
-        }
-        CHECK(cmwq_wait_queue(&hub, CMWQ_FLUSH, me.index, 0) && cmwq_wait_queue(&hub, CMWQ_FLUSH, me.index, 1));
         for (unsigned mine = 0; mine < MINE; mine++) {
-            struct item *item = &items[me.index * MINE + mine];
+            unsigned item = me * MINE + mine;
+
+            if (mine == 2 && round % 2)
+                CHECK(cmwq_mod_delayed_work_on(&hub, 0, 0, item, round % 4 / 2) == 0);
+            else
+                CHECK(cmwq_queue_work_on(&hub, 0, mine == 1, item) == 1);
+            items[item].queued++;
+        }
+        CHECK(cmwq_flush_delayed_work(&hub, me * MINE + 2, CMWQ_FOREVER) >= 0);
+        CHECK(cmwq_flush_workqueue(&hub, 0, CMWQ_FOREVER) >= 0 && cmwq_flush_workqueue(&hub, 1, CMWQ_FOREVER) >= 0);
+        for (unsigned mine = 0; mine < MINE; mine++) {
+            struct item *item = &items[me * MINE + mine];
 
             pthread_mutex_lock(&item->lock);
             CHECK(item->ran == item->queued && !item->runs);
             pthread_mutex_unlock(&item->lock);
         }
-        cmwq_cancel_work_sync(&hub, me.index, (uint16_t)(me.index * MINE));
+        CHECK(cmwq_cancel_work_sync(&hub, me * MINE, CMWQ_FOREVER) == 0);
     }
     return NULL;
 }
 
 int main(void)
 {
-    struct cmwq_shape shape = {.room = (uint64_t)1 << 40, .keep = 256, .items = ITEMS, .cpus = 1, .workers = 4, .callers = CALLERS};
     struct cmwq_queue queues[2] = {{.max_active = 3}, {.max_active = 2, .high = 1, .intensive = 1}};
     struct cmwq_work works[ITEMS];
+    struct cmwq_options options = {.queues = queues, .queue_count = 2, .works = works, .items = ITEMS, .keep = 256, .journal = count_lines};
     pthread_t threads[CALLERS];
-    uint8_t names[CALLERS];
-    struct cmwq_shape wrong = shape;
+    unsigned names[CALLERS];
 
+    alarm(240);
     for (int i = 0; i < ITEMS; i++) {
         pthread_mutex_init(&items[i].lock, NULL);
         works[i] = (struct cmwq_work){work, &items[i]};
     }
-    wrong.workers = 65;
-    CHECK(cmwq_hub_open(&hub, &wrong, queues, 2, works, NULL, NULL) == CMWQ_REFUSED);
-    CHECK(cmwq_hub_open(&hub, &shape, queues, 2, works, count_line, NULL) == CMWQ_OK);
-    for (int i = 0; i < CALLERS; i++) {
-        names[i] = (uint8_t)i;
+    CHECK(cmwq_hub_open(&hub, &options) == CMWQ_OK);
+    for (unsigned i = 0; i < CALLERS; i++) {
+        names[i] = i;
         CHECK(pthread_create(&threads[i], NULL, caller, &names[i]) == 0);
     }
     for (int i = 0; i < CALLERS; i++)
         pthread_join(threads[i], NULL);
-    CHECK(cmwq_wait_queue(&hub, CMWQ_DRAIN, 0, 0) && cmwq_wait_queue(&hub, CMWQ_DESTROY, 0, 0));
-    cmwq_hub_close(&hub);
+    CHECK(cmwq_drain_workqueue(&hub, 0, CMWQ_FOREVER) >= 0 && cmwq_destroy_workqueue(&hub, 0, CMWQ_FOREVER) >= 0);
+    CHECK(cmwq_queue_work_on(&hub, 0, 0, 0) == -CMWQ_IS_GONE && cmwq_hub_close(&hub) == CMWQ_OK);
     for (int i = 0; i < ITEMS; i++)
         CHECK(items[i].ran == ROUNDS && items[i].queued == ROUNDS && !items[i].runs);
-    CHECK(spilled > CALLERS * ROUNDS * MINE * 3);
+    CHECK(lines > CALLERS * ROUNDS * MINE * 3);
     return 0;
 }

@@ -1,4 +1,4 @@
-// The header in C++: a book that closes itself, and the hub.
+// The headers in C++11: a book that closes itself, and the hub.
 #include "cmwq_hub.h"
 #include <cstdio>
 #include <string>
@@ -43,11 +43,13 @@ int main()
     static cmwq_hub hub;
     int ran = 0;
     cmwq_work work = {add_one, &ran};
-    cmwq_who me = {CMWQ_CALLER, 0, 0};
-    if (cmwq_hub_open(&hub, &shape, &queue, 1, &work, nullptr, nullptr) != CMWQ_OK)
+    cmwq_options options = {};
+    options.queues = &queue;
+    options.queue_count = options.items = 1;
+    options.works = &work;
+    if (cmwq_hub_open(&hub, &options) != CMWQ_OK)
         return 1;
-    bool queued = cmwq_queue_work_on(&hub, me, 0, 0, 0), flushed = cmwq_wait_queue(&hub, CMWQ_FLUSH, 0, 0);
-    cmwq_hub_close(&hub);
-    std::printf("queued %d, flushed %d, ran %d\n", queued, flushed, ran);
-    return queued && flushed && ran == 1 ? 0 : 1;
+    int queued = cmwq_queue_work_on(&hub, 0, 0, 0), flushed = cmwq_flush_workqueue(&hub, 0, CMWQ_FOREVER), closed = cmwq_hub_close(&hub);
+    std::printf("queued %d, flushed %d, closed %d, ran %d\n", queued, flushed, closed, ran);
+    return queued == 1 && flushed == 1 && closed == CMWQ_OK && ran == 1 ? 0 : 1;
 }

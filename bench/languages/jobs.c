@@ -1,0 +1,97 @@
+/*
+ * The loads of bench/pools on cmwq_hub.h: jobs LOAD ROUNDS WORKERS ITEMS [journal|intensive]
+ * Prints how many runs there were in a second of the clock. Each of four callers has ITEMS items.
+ */
+#include "cmwq_hub.h"
+
+enum { CALLERS = 4 };
+
+static struct cmwq_hub hub;
+static unsigned long runs, rounds;
+static unsigned each;
+static bool fanout, itself;
+
+static void work(struct cmwq_run *run, void *data)
+{
+    unsigned long before = __atomic_fetch_add(&runs, 1, __ATOMIC_RELAXED);
+
+    (void)data;
+    if (itself) {
+        if (before + 1 < rounds)
+            cmwq_queue_work_on(&hub, 0, 0, run->item);
+    } else if (fanout && run->item % each == 0) {
+        for (unsigned k = 1; k < each; k++)
+            cmwq_queue_work_on(&hub, 0, run->item / each, run->item + k);
+    }
+}
+
+static void *call(void *at)
+{
+    unsigned me = *(unsigned *)at;
+
+    for (unsigned long round = 0; round < rounds; round++) {
+        for (unsigned k = 0; k < (fanout ? 1 : each); k++)
+            cmwq_queue_work_on(&hub, 0, me, me * each + k);
+        if ((fanout ? cmwq_drain_workqueue(&hub, me, CMWQ_FOREVER) : cmwq_flush_workqueue(&hub, me, CMWQ_FOREVER)) < 0)
+            exit(1);
+    }
+    return NULL;
+}
+
+static bool forget(void *data, const char *text, size_t len)
+{
+    return fwrite(text, 1, len, (FILE *)data) == len;
+}
+
+static double now(void)
+{
+    struct timespec at;
+
+    clock_gettime(CLOCK_MONOTONIC, &at);
+    return (double)at.tv_sec + (double)at.tv_nsec * 1e-9;
+}
+
+int main(int argc, char **argv)
+{
+    struct cmwq_queue queues[CALLERS];
+    struct cmwq_options options = {.queues = queues, .queue_count = CALLERS, .waits = CALLERS};
+    pthread_t threads[CALLERS];
+    unsigned names[CALLERS];
+    double begun;
+
+    if (argc < 4)
+        return 2;
+    itself = !strcmp(argv[1], "self");
+    fanout = !strcmp(argv[1], "fanout");
+    rounds = strtoul(argv[2], NULL, 10);
+    options.workers = (unsigned)atoi(argv[3]);
+    each = argc > 4 ? (unsigned)atoi(argv[4]) : 64;
+    options.items = CALLERS * each;
+    for (unsigned k = 0; k < CALLERS; k++)
+        queues[k] = (struct cmwq_queue){.max_active = 512, .intensive = argc > 5 && !strcmp(argv[5], "intensive")};
+    if (argc > 5 && !strcmp(argv[5], "journal")) {
+        options.journal = forget;
+        options.journal_data = fopen("/dev/null", "w");
+    }
+    struct cmwq_work *works = calloc(options.items, sizeof *works);
+    for (unsigned k = 0; k < options.items; k++)
+        works[k].run = work;
+    options.works = works;
+    if (cmwq_hub_open(&hub, &options) < 0)
+        return 1;
+    begun = now();
+    if (itself) {
+        cmwq_queue_work_on(&hub, 0, 0, options.items - 1);
+        cmwq_drain_workqueue(&hub, 0, CMWQ_FOREVER);
+    } else {
+        for (unsigned k = 0; k < CALLERS; k++) {
+            names[k] = k;
+            pthread_create(&threads[k], NULL, call, &names[k]);
+        }
+        for (unsigned k = 0; k < CALLERS; k++)
+            pthread_join(threads[k], NULL);
+    }
+    printf("%.0f\n", (double)runs / (now() - begun));
+    free(works);
+    return cmwq_hub_close(&hub) < 0;
+}

@@ -1,0 +1,320 @@
+/*
+ * The shell of a hub, which cmwq_hub.h includes: a lock, a condition variable for each party, threads, a clock and a
+ * journal. In each hold of the lock it makes calls of the board, and notes whom they name. Then it lets the lock go,
+ * and wakes them. No proof covers it; c/tests has its tests.
+ */
+
+/* A thread that sleeps until it is named: a worker, a call that waits, the clock or the journal. */
+struct cmwq_party_ {
+    pthread_cond_t wakes; pthread_t thread; struct cmwq_hub *hub; struct cmwq_who who; bool named, started;
+    unsigned vain; /* how often it has looked in vain */
+};
+enum cmwq_hub_state_ { CMWQ_NONE_, CMWQ_OPEN_, CMWQ_CLOSING_ };
+struct cmwq_hub {                           /* all zeros: none. It is never copied */
+    pthread_mutex_t lock; pthread_cond_t changed; pthread_key_t key; enum cmwq_hub_state_ state;
+    struct cmwq_board board; struct cmwq_lines lines; struct cmwq_shape shape; struct cmwq_options is;
+    struct cmwq_work *works; struct cmwq_party_ *parties, *clock, *journal; /* workers, lent callers, clock, journal */
+    struct cmwq_wakes wakes; struct cmwq_party_ *named[64]; unsigned names; /* who is woken when the lock is let go */
+    unsigned workers, inside, signalling;   /* calls that hold the lock or sleep; threads that wake others without it */
+    uint64_t begun, handed, due;            /* the clock at tick 0; entries handed out; the tick the clock sleeps for */
+    bool frozen, left, busy, deaf, over;    /* left: a drain was; busy: the journal has lines; deaf: it wants no more */
+};
+
+static inline uint64_t cmwq_hub_now_(const struct cmwq_hub *hub)
+{
+    struct timespec now;
+
+    clock_gettime(CLOCK_MONOTONIC, &now);
+    return (uint64_t)now.tv_sec * 1000000000u + (uint64_t)now.tv_nsec - hub->begun;
+}
+
+static inline void cmwq_hub_name_(struct cmwq_hub *hub, struct cmwq_party_ *party)
+{
+    __atomic_store_n(&party->named, true, __ATOMIC_RELEASE);
+    if (hub->names < 64) hub->named[hub->names++] = party;
+    else pthread_cond_signal(&party->wakes);
+}
+
+/* Notes whom a call of the board has named. */
+static inline uint32_t cmwq_hub_note_(struct cmwq_hub *hub, uint32_t status)
+{
+    struct cmwq_wakes *wakes = &hub->wakes;
+
+    for (struct cmwq_who *who = wakes->workers; who < wakes->workers + CMWQ_NAMED && who->kind != CMWQ_NOBODY; who++)
+        cmwq_hub_name_(hub, &hub->parties[(2u * who->cpu + who->kind - 1u) * hub->shape.workers + who->index]);
+    for (unsigned k = 0; k < CMWQ_NAMED && wakes->callers[k] != CMWQ_NOBODY; k++)
+        cmwq_hub_name_(hub, &hub->parties[hub->workers + wakes->callers[k] - 1u]);
+    for (unsigned k = wakes->all_workers ? 0 : hub->workers; wakes->all_workers && k < hub->workers; k++)
+        cmwq_hub_name_(hub, &hub->parties[k]);
+    for (unsigned k = hub->workers; wakes->all_callers && k < hub->workers + hub->is.waits; k++)
+        cmwq_hub_name_(hub, &hub->parties[k]);
+    wakes->workers[0].kind = wakes->callers[0] = CMWQ_NOBODY; /* as a call that isn't made leaves it so */
+    wakes->all_workers = wakes->all_callers = 0;
+    return status;
+}
+
+/* Lets the lock go, and wakes them. */
+static inline void cmwq_hub_unlock_(struct cmwq_hub *hub)
+{
+    struct cmwq_party_ *named[64];
+    unsigned names = hub->names;
+
+    if (names) {
+        memcpy(named, hub->named, names * sizeof *named);
+        hub->names = 0;
+        __atomic_add_fetch(&hub->signalling, 1, __ATOMIC_RELAXED); /* nothing is freed meanwhile */
+    }
+    pthread_mutex_unlock(&hub->lock);
+    for (unsigned k = 0; k < names; k++) pthread_cond_signal(&named[k]->wakes);
+    if (names) __atomic_sub_fetch(&hub->signalling, 1, __ATOMIC_RELEASE);
+}
+
+/* Sleeps until the party is named, or until then; the board has it as asleep. Return: whether it was named */
+static inline bool cmwq_hub_sleep_(struct cmwq_hub *hub, struct cmwq_party_ *party, uint64_t then)
+{
+    struct timespec at = {(time_t)((then + hub->begun) / 1000000000u), (long)((then + hub->begun) % 1000000000u)};
+    unsigned spins = party->vain < 4 || party->vain % 64 == 0 ? hub->is.spins : 0;
+    int late = 0;
+
+    party->named = false;
+    cmwq_hub_unlock_(hub);
+    while (spins-- && !__atomic_load_n(&party->named, __ATOMIC_ACQUIRE)) __builtin_ia32_pause();
+    pthread_mutex_lock(&hub->lock);
+    party->vain = party->named ? 0 : party->vain + 1;
+    while (!party->named && !late)
+        late = then == UINT64_MAX ? pthread_cond_wait(&party->wakes, &hub->lock)
+                                  : pthread_cond_timedwait(&party->wakes, &hub->lock, &at);
+    return party->named;
+}
+
+/* Hands out what is kept, if that is more than so much, once the journal has written what it was handed before. */
+static inline void cmwq_hub_space_(struct cmwq_hub *hub, uint64_t most)
+{
+    while (cmwq_board_len(&hub->board) - hub->handed > most) {
+        if (hub->busy) {
+            pthread_cond_wait(&hub->changed, &hub->lock);
+            continue;
+        }
+        cmwq_board_hand_out(&hub->board, &hub->lines);
+        hub->handed = cmwq_board_len(&hub->board);
+        hub->busy = hub->is.journal && !hub->deaf;
+        if (hub->busy) cmwq_hub_name_(hub, hub->journal);
+        else cmwq_lines_forget(&hub->lines);
+    }
+}
+
+/* Brings time up to this tick. */
+static inline uint32_t cmwq_hub_advance_(struct cmwq_hub *hub, uint64_t tick)
+{
+    uint64_t now;
+    uint32_t status = CMWQ_OK;
+
+    while (status == CMWQ_OK && (now = cmwq_board_time(&hub->board)) < tick) {
+        uint32_t ticks = tick - now < UINT32_MAX ? (uint32_t)(tick - now) : UINT32_MAX;
+
+        status = cmwq_hub_note_(hub, cmwq_board_advance(&hub->board, 0, ticks, &now, &hub->wakes));
+        if (ticks == UINT32_MAX) cmwq_hub_space_(hub, hub->is.keep);
+    }
+    return status;
+}
+
+/* A call of one entry. */
+static inline uint32_t cmwq_hub_call_(struct cmwq_hub *hub, struct cmwq_run *run, struct cmwq_call *call,
+                                      struct cmwq_reply *reply)
+{
+    uint32_t status = CMWQ_OK;
+
+    if (call->kind <= CMWQ_MODIFY && hub->state == CMWQ_CLOSING_) return CMWQ_STOPPED;
+    if (call->number && (call->kind == CMWQ_DELAY || call->kind == CMWQ_MODIFY)) {
+        uint64_t now = cmwq_hub_now_(hub), due = now / hub->is.tick_ns + call->number + (now % hub->is.tick_ns != 0);
+
+        status = cmwq_hub_advance_(hub, now / hub->is.tick_ns);
+        due -= due < cmwq_board_time(&hub->board) ? due : cmwq_board_time(&hub->board);
+        if (status != CMWQ_OK || due > UINT32_MAX) return status == CMWQ_OK ? (uint32_t)CMWQ_REFUSED : status;
+        call->number = (uint32_t)due;
+    }
+    status = cmwq_hub_note_(hub, cmwq_board_call(&hub->board, call, reply, &hub->wakes));
+    if (status != CMWQ_OK) return status;
+    if (reply->kind == CMWQ_SLEPT || reply->kind == CMWQ_WOKE) run->asleep = reply->kind == CMWQ_SLEPT;
+    if (reply->kind == CMWQ_FROZEN || reply->kind == CMWQ_THAWED) hub->frozen = reply->kind == CMWQ_FROZEN;
+    if ((reply->kind == CMWQ_BOOKED || reply->kind == CMWQ_REBOOKED) && reply->number < hub->due)
+        cmwq_hub_name_(hub, hub->clock);
+    return status;
+}
+
+/* A call that waits. */
+static inline uint32_t cmwq_hub_wait_(struct cmwq_hub *hub, struct cmwq_call *call, struct cmwq_reply *reply)
+{
+    uint64_t then = call->number == CMWQ_FOREVER ? UINT64_MAX : cmwq_hub_now_(hub) + call->number * UINT64_C(1000000);
+    uint8_t by = 0;
+    uint32_t status;
+
+    if (call->who.kind != CMWQ_CALLER && then != UINT64_MAX) return CMWQ_NO_TIMEOUT;
+    status = cmwq_hub_note_(hub, cmwq_board_begin(&hub->board, call, &by, reply, &hub->wakes));
+    while (status == CMWQ_WAITS || status == CMWQ_LOOK_AGAIN) {
+        cmwq_hub_space_(hub, hub->is.keep);
+        status = cmwq_hub_note_(hub, cmwq_board_end(&hub->board, by, &hub->wakes));
+        if (status == CMWQ_LOOK_AGAIN) {
+            cmwq_hub_unlock_(hub); /* and calls again */
+            pthread_mutex_lock(&hub->lock);
+        } else if (status == CMWQ_WAITS && !cmwq_hub_sleep_(hub, &hub->parties[hub->workers + by - 1u], then)) {
+            status = cmwq_hub_note_(hub, cmwq_board_leave(&hub->board, by, &hub->wakes));
+            status = status == CMWQ_OK ? (uint32_t)CMWQ_TIMED_OUT : status;
+            hub->left = hub->left || call->kind == CMWQ_DRAIN;
+        }
+    }
+    if (call->kind == CMWQ_DRAIN) cmwq_hub_name_(hub, hub->clock); /* there may be timers that were held back */
+    return status;
+}
+
+static inline void *cmwq_hub_work_(void *at)
+{
+    struct cmwq_party_ *me = (struct cmwq_party_ *)at;
+    struct cmwq_hub *hub = me->hub;
+    struct cmwq_run run = {hub, 0, 0, me->who, false};
+    struct cmwq_call wake = {0, 0, 0, CMWQ_WAKE, 0, 0, me->who};
+    struct cmwq_reply reply;
+    uint32_t status;
+
+    while (pthread_setspecific(hub->key, &run)) sched_yield(); /* until there is memory */
+    pthread_mutex_lock(&hub->lock);
+    do {
+        cmwq_hub_space_(hub, hub->is.keep);
+        status = cmwq_hub_note_(hub, cmwq_board_start(&hub->board, &me->who, &run.item, &run.number, &hub->wakes));
+        if (status == CMWQ_RESTS) cmwq_hub_sleep_(hub, me, UINT64_MAX);
+        if (status == CMWQ_OK) {
+            struct cmwq_work work = hub->works[run.item];
+
+            cmwq_hub_unlock_(hub);
+            if (work.run) work.run(&run, work.data);
+            pthread_mutex_lock(&hub->lock);
+            cmwq_hub_space_(hub, hub->is.keep);
+            if (run.asleep) cmwq_hub_call_(hub, &run, &wake, &reply);
+            cmwq_hub_note_(hub, cmwq_board_finish(&hub->board, &me->who, &hub->wakes));
+        }
+    } while (status == CMWQ_OK || status == CMWQ_RESTS);
+    cmwq_hub_unlock_(hub);
+    return NULL;
+}
+
+/* The clock's thread: sleeps until a timer is due. */
+static inline void *cmwq_hub_tick_(void *at)
+{
+    struct cmwq_party_ *me = (struct cmwq_party_ *)at;
+    struct cmwq_hub *hub = me->hub;
+    uint64_t now, then, tick = hub->is.tick_ns;
+    uint32_t status = CMWQ_OK;
+
+    pthread_mutex_lock(&hub->lock);
+    while (hub->state == CMWQ_OPEN_ && status == CMWQ_OK) {
+        now = cmwq_hub_now_(hub);
+        hub->due = cmwq_board_due(&hub->board);
+        then = hub->due < UINT64_MAX / 2 / tick ? hub->due * tick : UINT64_MAX;
+        if (hub->left && then > now + 100000000)
+            then = now + 100000000; /* the end of a drain that was left isn't told */
+        if (hub->due > now / tick) {
+            cmwq_hub_sleep_(hub, me, then);
+        } else {
+            cmwq_hub_space_(hub, hub->is.keep);
+            status = cmwq_hub_advance_(hub, now / tick);
+        }
+    }
+    cmwq_hub_unlock_(hub);
+    return NULL;
+}
+
+/* The journal's thread. */
+static inline void *cmwq_hub_write_(void *at)
+{
+    struct cmwq_party_ *me = (struct cmwq_party_ *)at;
+    struct cmwq_hub *hub = me->hub;
+    struct cmwq_run nobody = {NULL, 0, 0, me->who, false}; /* its calls of the hub are refused */
+    uint8_t text[1 << 14];
+    size_t len;
+
+    while (pthread_setspecific(hub->key, &nobody)) sched_yield();
+    pthread_mutex_lock(&hub->lock);
+    while (!hub->over || cmwq_board_len(&hub->board) > hub->handed || hub->busy) {
+        if (!hub->busy && !hub->over) cmwq_hub_sleep_(hub, me, cmwq_hub_now_(hub) + 100000000);
+        if (!hub->busy) cmwq_hub_space_(hub, 0);
+        if (hub->busy) {
+            bool takes = true;
+
+            cmwq_hub_unlock_(hub);
+            while (cmwq_lines_write(&hub->lines, text, sizeof text, &len) == CMWQ_OK && len > 0)
+                takes = takes && hub->is.journal(hub->is.journal_data, (const char *)text, len);
+            pthread_mutex_lock(&hub->lock);
+            hub->busy = false;
+            hub->deaf = !takes;
+            pthread_cond_broadcast(&hub->changed);
+        }
+    }
+    cmwq_hub_unlock_(hub);
+    return NULL;
+}
+
+/* Starts the threads: the workers, but those of high pools only where a queue is high; the clock; the journal. */
+static inline bool cmwq_hub_start_(struct cmwq_hub *hub, bool is_high)
+{
+    pthread_condattr_t monotonic;
+    bool started = true;
+
+    pthread_condattr_init(&monotonic);
+    pthread_condattr_setclock(&monotonic, CLOCK_MONOTONIC);
+    pthread_mutex_init(&hub->lock, NULL);
+    pthread_cond_init(&hub->changed, NULL);
+    for (struct cmwq_party_ *party = hub->parties; party <= hub->journal; party++) {
+        party->hub = hub;
+        pthread_cond_init(&party->wakes, &monotonic);
+    }
+    hub->state = CMWQ_OPEN_;
+    for (unsigned k = 0; k < hub->workers && started; k++) {
+        struct cmwq_party_ *party = &hub->parties[k];
+        unsigned pool = k / hub->shape.workers;
+
+        party->who.kind = pool % 2 ? CMWQ_HIGH_WORKER : CMWQ_WORKER;
+        party->who.index = (uint8_t)(k % hub->shape.workers);
+        party->who.cpu = (uint8_t)(pool / 2);
+        if (pool % 2 && !is_high) continue;
+        started = party->started = !pthread_create(&party->thread, NULL, cmwq_hub_work_, party);
+    }
+    if (started) hub->clock->started = !pthread_create(&hub->clock->thread, NULL, cmwq_hub_tick_, hub->clock);
+    if (hub->clock->started && hub->is.journal)
+        hub->journal->started = !pthread_create(&hub->journal->thread, NULL, cmwq_hub_write_, hub->journal);
+    return hub->is.journal ? hub->journal->started : hub->clock->started;
+}
+
+/* Gives up what there is of a hub, which nobody is in. Its lock stays, so that later calls are refused. */
+static inline int cmwq_hub_free_(struct cmwq_hub *hub, int result)
+{
+    for (struct cmwq_party_ *party = hub->parties; hub->journal && party <= hub->journal; party++)
+        pthread_cond_destroy(&party->wakes);
+    if (hub->journal) pthread_key_delete(hub->key);
+    cmwq_board_close(&hub->board);
+    cmwq_lines_close(&hub->lines);
+    free(hub->parties);
+    free(hub->works);
+    hub->state = CMWQ_NONE_;
+    return result;
+}
+
+/* Takes back the timers, thaws, stops: nothing new begins, and what is queued ends. */
+static inline void cmwq_hub_stop_(struct cmwq_hub *hub)
+{
+    struct cmwq_call call = {0, 0, 0, CMWQ_CANCEL, 0, 0, {CMWQ_CALLER, 0, 0}};
+    struct cmwq_reply reply;
+    struct cmwq_item item;
+
+    hub->state = CMWQ_CLOSING_;
+    for (unsigned n = 0; n < hub->shape.items; n++) {
+        call.item = (uint16_t)n;
+        cmwq_hub_space_(hub, hub->is.keep);
+        if (cmwq_board_item(&hub->board, call.item, &item) == CMWQ_OK && item.pending == CMWQ_PENDING_TIMER)
+            cmwq_hub_note_(hub, cmwq_board_call(&hub->board, &call, &reply, &hub->wakes));
+    }
+    call.kind = CMWQ_THAW;
+    if (hub->frozen && cmwq_hub_note_(hub, cmwq_board_call(&hub->board, &call, &reply, &hub->wakes)) != CMWQ_OK)
+        cmwq_hub_note_(hub, cmwq_board_fail(&hub->board, &hub->wakes)); /* no room: what is frozen would never start */
+    cmwq_hub_note_(hub, cmwq_board_stop(&hub->board, &hub->wakes));
+    cmwq_hub_name_(hub, hub->clock);
+}

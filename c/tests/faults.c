@@ -1,0 +1,447 @@
+/* What a hub must survive: numbers out of bounds, no memory and no threads, two closes, no room, no space, a frozen queue, waits that can't end. */
+#define _GNU_SOURCE
+#include <pthread.h>
+#include <stdlib.h>
+#include <unistd.h>
+
+/* Each of these may fail, or is counted. */
+static unsigned allocations_left = ~0u, threads_left = ~0u, signals;
+static void *calloc_or_not(size_t many, size_t size) { return allocations_left-- ? calloc(many, size) : NULL; }
+static int create_or_not(pthread_t *thread, const pthread_attr_t *attr, void *(*body)(void *), void *at)
+{
+    return threads_left-- ? pthread_create(thread, attr, body, at) : 11;
+}
+static int count_signal(pthread_cond_t *cond)
+{
+    __atomic_add_fetch(&signals, 1, __ATOMIC_RELAXED);
+    return pthread_cond_signal(cond);
+}
+static __thread unsigned lock_after_us, locks;
+static int lock_slowly(pthread_mutex_t *lock)
+{
+    if (locks++ && lock_after_us) /* not at first */
+        usleep(lock_after_us);
+    return pthread_mutex_lock(lock);
+}
+#define calloc calloc_or_not
+#define pthread_mutex_lock lock_slowly
+#define pthread_create create_or_not
+#define pthread_cond_signal count_signal
+#include "cmwq_hub.h"
+#include "check.h"
+
+enum { ITEMS = 4, TEXT = 1 << 20 };
+
+static struct cmwq_hub hub, other;
+static struct cmwq_queue queues[2] = {{.max_active = 4}, {.max_active = 1, .high = 1, .freezable = 1}};
+static struct cmwq_work works[ITEMS];
+static unsigned ran;
+static int results[8];
+static char text[TEXT];
+static size_t written;
+static bool gate_open, takes = true;
+static unsigned slow_us;
+static pthread_t main_thread;
+
+static bool keep(void *data, const char *part, size_t len)
+{
+    (void)data;
+    CHECK(written + len <= TEXT && part[len - 1] == '\n');
+    if (!pthread_equal(pthread_self(), main_thread)) /* it makes no call of its hub, or else it might wait for itself */
+        CHECK(cmwq_queue_work_on(&hub, 0, 0, 0) == -CMWQ_NOT_NOW && cmwq_flush_work(&hub, 0, CMWQ_FOREVER) == -CMWQ_NOT_NOW);
+    usleep(slow_us);
+    memcpy(text + written, part, len);
+    __atomic_store_n(&written, written + len, __ATOMIC_RELEASE);
+    return takes;
+}
+
+static void count(struct cmwq_run *run, void *data)
+{
+    (void)run;
+    (void)data;
+    __atomic_add_fetch(&ran, 1, __ATOMIC_RELAXED);
+}
+
+static void wait_at_gate(struct cmwq_run *run, void *data)
+{
+    while (!__atomic_load_n(&gate_open, __ATOMIC_ACQUIRE))
+        usleep(100);
+    count(run, data);
+}
+
+static struct cmwq_options made(void (*work)(struct cmwq_run *run, void *data))
+{
+    struct cmwq_options options = {.queues = queues, .queue_count = 2, .works = works, .items = ITEMS, .workers = 2};
+
+    for (int k = 0; k < ITEMS; k++)
+        works[k] = (struct cmwq_work){work, NULL};
+    ran = 0;
+    written = 0;
+    gate_open = false;
+    takes = true;
+    slow_us = 0;
+    return options;
+}
+
+static void open_hub(struct cmwq_options options) { CHECK(cmwq_hub_open(&hub, &options) == CMWQ_OK); }
+
+static void judge(void)
+{
+    uint8_t line[CMWQ_LINE];
+    size_t len = 0;
+
+    if (cmwq_check((const uint8_t *)text, written, line, sizeof line, &len) != CMWQ_OK)
+        fprintf(stderr, "%.*s%.*s", (int)written, text, (int)len, (char *)line);
+    CHECK(cmwq_check((const uint8_t *)text, written, line, sizeof line, &len) == CMWQ_OK);
+}
+
+static void refuse_numbers(struct cmwq_hub *of)
+{
+    static const unsigned items[] = {ITEMS, 255, 256, 60000, 65535, 65536, 65537, ~0u}, places[] = {2, 3, 64, 255, 256, 257, 65536, ~0u};
+
+    for (int k = 0; k < 8; k++) {
+        unsigned item = items[k], place = places[k];
+
+        CHECK(cmwq_queue_work_on(of, 0, 0, item) == -CMWQ_REFUSED && cmwq_queue_work_on(of, 0, place, 0) == -CMWQ_REFUSED);
+        CHECK(cmwq_queue_work_on(of, place, 0, 0) == -CMWQ_REFUSED && cmwq_queue_delayed_work_on(of, 0, 0, item, 1) == -CMWQ_REFUSED);
+        CHECK(cmwq_mod_delayed_work_on(of, 0, place, 0, 1) == -CMWQ_REFUSED && cmwq_cancel_work(of, item) == -CMWQ_REFUSED);
+        CHECK(cmwq_cancel_work_sync(of, item, CMWQ_FOREVER) == -CMWQ_REFUSED && cmwq_flush_work(of, item, CMWQ_FOREVER) == -CMWQ_REFUSED);
+        CHECK(cmwq_flush_delayed_work(of, item, CMWQ_FOREVER) == -CMWQ_REFUSED && cmwq_work_busy(of, item) == -CMWQ_REFUSED);
+        CHECK(cmwq_flush_workqueue(of, place, CMWQ_FOREVER) == -CMWQ_REFUSED && cmwq_drain_workqueue(of, place, CMWQ_FOREVER) == -CMWQ_REFUSED);
+        CHECK(cmwq_destroy_workqueue(of, place, CMWQ_FOREVER) == -CMWQ_REFUSED && cmwq_workqueue_set_max_active(of, place, 1) == -CMWQ_REFUSED);
+    }
+    CHECK(cmwq_workqueue_set_max_active(of, 0, 0) == -CMWQ_REFUSED && cmwq_workqueue_set_max_active(of, 0, 1000) == 512);
+    CHECK(cmwq_queue_delayed_work_on(of, 0, 0, 0, UINT64_MAX) == -CMWQ_REFUSED && cmwq_queue_delayed_work_on(of, 0, 0, 0, UINT32_MAX + 1ull) == -CMWQ_REFUSED);
+}
+
+static void refuse_in_run(struct cmwq_run *run, void *data)
+{
+    refuse_numbers(run->hub);
+    results[0] = cmwq_hub_close(run->hub);
+    results[1] = cmwq_flush_work(run->hub, run->item, CMWQ_FOREVER);
+    results[2] = cmwq_destroy_workqueue(run->hub, 0, CMWQ_FOREVER);
+    results[3] = cmwq_drain_workqueue(run->hub, 0, CMWQ_FOREVER);
+    results[4] = cmwq_flush_work(run->hub, 3, 10);
+    results[5] = cmwq_worker_running(run->hub);
+    count(run, data);
+}
+
+static void test_numbers(void)
+{
+    struct cmwq_options options = made(refuse_in_run), wrong;
+
+    open_hub(options);
+    refuse_numbers(&hub);
+    CHECK(cmwq_worker_sleeping(&hub) == -CMWQ_REFUSED && cmwq_hub_open(&hub, &options) == -CMWQ_NOT_NOW);
+    CHECK(cmwq_queue_work_on(&hub, 0, 0, 1) == 1 && cmwq_flush_workqueue(&hub, 0, CMWQ_FOREVER) == 1 && ran == 1);
+    CHECK(results[0] == -CMWQ_NOT_NOW && results[1] == -CMWQ_ITSELF && results[2] == -CMWQ_ITSELF && results[3] == -CMWQ_ITSELF);
+    CHECK(results[4] == -CMWQ_NO_TIMEOUT && results[5] == -CMWQ_IS_MISUSE);
+    CHECK(cmwq_hub_close(&hub) == CMWQ_OK && cmwq_hub_close(&hub) == -CMWQ_CLOSED);
+    CHECK(cmwq_queue_work_on(&hub, 0, 0, 0) == -CMWQ_CLOSED && cmwq_flush_work(&hub, 0, 1) == -CMWQ_CLOSED && cmwq_work_busy(&hub, 0) == -CMWQ_CLOSED);
+    CHECK(cmwq_hub_close(&other) == -CMWQ_CLOSED && cmwq_queue_work_on(&other, 0, 0, 0) == -CMWQ_CLOSED);
+    for (int k = 0; k < 9; k++) {
+        static const unsigned numbers[9][5] = {{65, 1, 1, 1, 2}, {1, 65, 1, 1, 2}, {257, 1, 1, 1, 2}, {1, 257, 1, 1, 2}, {1, 1, 0, 1, 2}, {1, 1, 65536, 1, 2},
+                                               {1, 1, 65537, 1, 2}, {1, 1, 1, 255, 2}, {1, 1, 1, 1, 0}};
+
+        wrong = options;
+        wrong.cpus = numbers[k][0];
+        wrong.workers = numbers[k][1];
+        wrong.items = numbers[k][2];
+        wrong.waits = numbers[k][3];
+        wrong.queue_count = numbers[k][4];
+        CHECK(cmwq_hub_open(&hub, &wrong) == -CMWQ_REFUSED && cmwq_hub_close(&hub) == -CMWQ_CLOSED);
+    }
+}
+
+static void test_nothing_left(void)
+{
+    struct cmwq_options options = made(count);
+
+    options.journal = keep;
+    for (unsigned k = 0; k < 2; k++) {
+        allocations_left = k;
+        CHECK(cmwq_hub_open(&hub, &options) == -CMWQ_NO_MEMORY && cmwq_hub_close(&hub) == -CMWQ_CLOSED);
+    }
+    allocations_left = ~0u;
+    for (unsigned k = 0; k < 6; k++) {
+        threads_left = k;
+        CHECK(cmwq_hub_open(&hub, &options) == -CMWQ_NO_THREAD && cmwq_hub_close(&hub) == -CMWQ_CLOSED);
+    }
+    threads_left = 6; /* two workers in each pool, the clock and the journal */
+    written = 0;
+    open_hub(options);
+    threads_left = ~0u;
+    CHECK(cmwq_hub_close(&hub) == CMWQ_OK);
+    judge();
+}
+
+/* A frozen queue has an item, a queue a timer: both end with the hub. Then it is opened again. */
+static void test_frozen(void)
+{
+    struct cmwq_options options = made(count);
+
+    options.journal = keep;
+    for (int k = 0; k < 3; k++) {
+        ran = 0;
+        written = 0;
+        open_hub(options);
+        CHECK(cmwq_freeze_workqueues(&hub) == 1 && cmwq_freeze_workqueues(&hub) == 0 && cmwq_queue_work_on(&hub, 0, 1, 0) == 1);
+        CHECK(cmwq_queue_delayed_work_on(&hub, 0, 0, 1, 1000000) == 1 && cmwq_work_busy(&hub, 0) == 1 && cmwq_work_busy(&hub, 1) == 1);
+        CHECK(cmwq_flush_work(&hub, 0, 20) == -CMWQ_TIMED_OUT && cmwq_flush_workqueue(&hub, 1, 0) == -CMWQ_TIMED_OUT);
+        CHECK(cmwq_drain_workqueue(&hub, 1, 0) == -CMWQ_TIMED_OUT && cmwq_queue_work_on(&hub, 0, 1, 2) == -CMWQ_IS_DRAINING);
+        CHECK(cmwq_destroy_workqueue(&hub, 0, CMWQ_FOREVER) == -CMWQ_HAS_TIMERS && cmwq_queue_work_on(&hub, 0, 0, 0) == 0);
+        CHECK(cmwq_hub_close(&hub) == CMWQ_OK && ran == 1);
+        judge();
+    }
+}
+
+static void sleep_often(struct cmwq_run *run, void *data)
+{
+    while (!__atomic_load_n(&gate_open, __ATOMIC_ACQUIRE))
+        usleep(100);
+    for (int k = 0; k < 40; k++) {
+        int slept = cmwq_worker_sleeping(run->hub);
+
+        CHECK(slept == 1 || slept == -CMWQ_FULL);
+        if (slept != 1)
+            __atomic_store_n(&results[0], slept, __ATOMIC_RELAXED);
+        if (slept == 1)
+            CHECK(cmwq_worker_running(run->hub) == 1);
+    }
+    count(run, data);
+}
+
+/* No room for a sleep: the run goes on, and all that was queued runs. */
+static void test_room(void)
+{
+    struct cmwq_options options = made(sleep_often);
+
+    options.room = 60;
+    options.journal = keep;
+    open_hub(options);
+    for (unsigned item = 0; item < ITEMS; item++)
+        CHECK(cmwq_queue_work_on(&hub, 0, 0, item) == 1);
+    __atomic_store_n(&gate_open, true, __ATOMIC_RELEASE);
+    while (__atomic_load_n(&ran, __ATOMIC_RELAXED) < ITEMS)
+        usleep(100);
+    CHECK(cmwq_queue_work_on(&hub, 0, 0, 0) == -CMWQ_FULL && cmwq_flush_work(&hub, 0, 5) == -CMWQ_FULL);
+    CHECK(cmwq_queue_delayed_work_on(&hub, 0, 0, 0, 5) == -CMWQ_FULL && cmwq_hub_close(&hub) == CMWQ_OK && ran == ITEMS && results[0] == -CMWQ_FULL);
+    judge();
+    /* nothing thaws it: the hub ends all the same */
+    options = made(count);
+    options.room = 10;
+    open_hub(options);
+    CHECK(cmwq_freeze_workqueues(&hub) == 1 && cmwq_queue_work_on(&hub, 0, 1, 0) == 1);
+    while (cmwq_cancel_work(&hub, 2) == 0)
+        ;
+    CHECK(cmwq_hub_close(&hub) == CMWQ_OK);
+}
+
+/* Within a time also of a hub that is quiet, with a slow journal and hardly any space, and until it wants no more. */
+static void test_journal(void)
+{
+    struct cmwq_options options = made(count);
+    size_t before;
+
+    options.journal = keep;
+    open_hub(options);
+    CHECK(cmwq_queue_work_on(&hub, 0, 0, 0) == 1 && cmwq_flush_work(&hub, 0, CMWQ_FOREVER) >= 0);
+    for (int k = 0; k < 1000 && !memmem(text, __atomic_load_n(&written, __ATOMIC_ACQUIRE), "finish", 6); k++)
+        usleep(5000);
+    CHECK(memmem(text, __atomic_load_n(&written, __ATOMIC_ACQUIRE), "finish", 6));
+    CHECK(cmwq_hub_close(&hub) == CMWQ_OK);
+    judge();
+
+    written = 0;
+    options.keep = 1;
+    slow_us = 1000;
+    open_hub(options);
+    for (unsigned k = 0; k < 100; k++)
+        CHECK(cmwq_queue_work_on(&hub, 0, 0, k % ITEMS) >= 0);
+    CHECK(cmwq_hub_close(&hub) == CMWQ_OK && ran <= 101);
+    judge();
+
+    slow_us = 0;
+    takes = false;
+    open_hub(options);
+    before = written;
+    for (unsigned k = 0; k < 3000; k++)
+        CHECK(cmwq_queue_work_on(&hub, 0, 0, k % ITEMS) >= 0);
+    CHECK(cmwq_hub_close(&hub) == -CMWQ_NO_JOURNAL && written == before);
+}
+
+static void test_timeouts(void)
+{
+    struct cmwq_options options = made(wait_at_gate);
+    uint64_t begun;
+
+    options.waits = 2;
+    options.journal = keep;
+    open_hub(options);
+    begun = cmwq_hub_now_(&hub);
+    CHECK(cmwq_queue_work_on(&hub, 0, 0, 0) == 1 && cmwq_flush_work(&hub, 0, 30) == -CMWQ_TIMED_OUT);
+    CHECK(cmwq_hub_now_(&hub) - begun >= 30000000);
+    CHECK(cmwq_cancel_work_sync(&hub, 0, 0) == -CMWQ_TIMED_OUT && cmwq_flush_work(&hub, 0, 0) == -CMWQ_NO_CALLER);
+    __atomic_store_n(&gate_open, true, __ATOMIC_RELEASE);
+    /* both tickets are ended by the hub then */
+    while (cmwq_flush_workqueue(&hub, 0, CMWQ_FOREVER) == -CMWQ_NO_CALLER)
+        usleep(100);
+    CHECK(cmwq_flush_work(&hub, 0, 5) == 0);
+    CHECK(cmwq_hub_close(&hub) == CMWQ_OK && ran == 1);
+    judge();
+}
+
+static uint64_t began;
+
+static void note_time(struct cmwq_run *run, void *data)
+{
+    began = cmwq_hub_now_(run->hub);
+    count(run, data);
+}
+
+static void test_delays(void)
+{
+    struct cmwq_options options = made(note_time);
+
+    options.tick_ns = 3000000;
+    options.journal = keep;
+    open_hub(options);
+    for (unsigned ticks = 1; ticks < 6; ticks++) {
+        uint64_t before;
+
+        usleep(1700 * ticks);
+        before = cmwq_hub_now_(&hub);
+        CHECK(cmwq_queue_delayed_work_on(&hub, 0, 0, 0, ticks) == 1);
+        while (cmwq_work_busy(&hub, 0))
+            usleep(100);
+        CHECK(began - before >= ticks * options.tick_ns);
+    }
+    /* timers that a drain has held back, of one that was left too */
+    CHECK(cmwq_queue_delayed_work_on(&hub, 0, 0, 0, 2) == 1 && cmwq_mod_delayed_work_on(&hub, 0, 0, 0, 1) == 1);
+    CHECK(cmwq_drain_workqueue(&hub, 0, CMWQ_FOREVER) == 1);
+    while (cmwq_work_busy(&hub, 0))
+        usleep(100);
+    CHECK(cmwq_hub_close(&hub) == CMWQ_OK && ran == 6);
+    judge();
+}
+
+static void call_other(struct cmwq_run *run, void *data)
+{
+    /* an outsider there: it may wait with a timeout, and for an item of this number */
+    results[0] = cmwq_flush_work(&other, run->item, 1000);
+    results[1] = cmwq_hub_close(&other);
+    count(run, data);
+}
+
+static void test_two_hubs(void)
+{
+    struct cmwq_options options = made(count);
+
+    CHECK(cmwq_hub_open(&other, &options) == CMWQ_OK && cmwq_queue_work_on(&other, 0, 0, 0) == 1);
+    CHECK(cmwq_flush_workqueue(&other, 0, CMWQ_FOREVER) == 1);
+    options = made(call_other);
+    open_hub(options);
+    CHECK(cmwq_queue_work_on(&hub, 0, 0, 0) == 1 && cmwq_flush_work(&hub, 0, CMWQ_FOREVER) >= 0);
+    CHECK(results[0] >= 0 && results[1] == CMWQ_OK && cmwq_hub_close(&hub) == CMWQ_OK);
+}
+
+/* One queueing wakes one worker. */
+static void test_signals(void)
+{
+    struct cmwq_options options = made(count);
+    unsigned before;
+
+    options.workers = 32;
+    options.spins = 1;
+    open_hub(options);
+    usleep(20000);
+    before = __atomic_load_n(&signals, __ATOMIC_RELAXED);
+    for (unsigned k = 0; k < 100; k++)
+        CHECK(cmwq_queue_work_on(&hub, 0, 0, 0) >= 0 && cmwq_flush_work(&hub, 0, CMWQ_FOREVER) >= 0);
+    CHECK(__atomic_load_n(&signals, __ATOMIC_RELAXED) - before <= 200);
+    CHECK(cmwq_hub_close(&hub) == CMWQ_OK);
+}
+
+static void again(struct cmwq_run *run, void *data)
+{
+    count(run, data);
+    if (ran < 20000)
+        cmwq_queue_work_on(run->hub, 0, 0, run->item);
+}
+
+/* A start costs the same with many items. */
+static void test_items(void)
+{
+    struct cmwq_options options = made(again);
+    static struct cmwq_work many[65535];
+    uint64_t least[2] = {UINT64_MAX, UINT64_MAX};
+
+    for (unsigned k = 0; k < 65535; k++)
+        many[k] = works[0];
+    options.works = many;
+    options.workers = 1;
+    for (int k = 0; k < 6; k++) {
+        uint64_t took;
+
+        options.items = k % 2 ? 65535 : 16;
+        ran = 0;
+        open_hub(options);
+        took = cmwq_hub_now_(&hub);
+        CHECK(cmwq_queue_work_on(&hub, 0, 0, options.items - 1) == 1 && cmwq_drain_workqueue(&hub, 0, CMWQ_FOREVER) == 1);
+        took = cmwq_hub_now_(&hub) - took;
+        least[k % 2] = took < least[k % 2] ? took : least[k % 2];
+        CHECK(cmwq_hub_close(&hub) == CMWQ_OK && ran == 20000);
+    }
+    CHECK(least[1] < 10 * least[0]);
+}
+
+static void *wait_long(void *at)
+{
+    int result;
+
+    (void)at;
+    lock_after_us = 60000;
+    result = cmwq_flush_workqueue(&hub, 0, CMWQ_FOREVER);
+    CHECK(result == 1 || result == -CMWQ_STOPPED || result == -CMWQ_CLOSED);
+    return NULL;
+}
+
+/* A hub is closed under calls that wait: they were named, and come back only when its threads have gone. */
+static void test_waiters(void)
+{
+    for (int round = 0; round < 5; round++) {
+        struct cmwq_options options = made(wait_at_gate);
+        pthread_t threads[3];
+
+        options.spins = 1u << 31;
+        options.journal = keep;
+        open_hub(options);
+        CHECK(cmwq_queue_work_on(&hub, 0, 0, 0) == 1);
+        for (int k = 0; k < 3; k++)
+            CHECK(pthread_create(&threads[k], NULL, wait_long, NULL) == 0);
+        usleep(6000);
+        __atomic_store_n(&gate_open, true, __ATOMIC_RELEASE);
+        CHECK(cmwq_hub_close(&hub) == CMWQ_OK);
+        for (int k = 0; k < 3; k++)
+            pthread_join(threads[k], NULL);
+        judge();
+    }
+}
+
+int main(void)
+{
+    alarm(240);
+    main_thread = pthread_self();
+    test_numbers();
+    test_nothing_left();
+    test_frozen();
+    test_room();
+    test_journal();
+    test_timeouts();
+    test_delays();
+    test_two_hubs();
+    test_waiters();
+    test_signals();
+    test_items();
+    return 0;
+}

@@ -1,0 +1,239 @@
+#!/usr/bin/env python3
+"""Wrong shells, each of which a test must find: wrong.py LIBRARY [NAME..]
+
+A wrong shell is an edit of cmwq_shell.h or cmwq_hub.h. Each is built with the tests `stress` and `faults`, in a folder
+of its own. The first that fails, or does not end in time, has found it. CC names the compiler. The last line is
+`N passed, M failed`.
+"""
+import concurrent.futures
+import os
+import shutil
+import subprocess
+import sys
+import tempfile
+
+C = os.path.join(os.path.dirname(os.path.realpath(__file__)), "..")
+
+# How many are tried at a time, and the seconds after which a test doesn't end.
+AT_ONCE, SECONDS = 2, 15
+
+# The tests, with their arguments: 60 rounds, from the first on, of at most 4 seconds each.
+TESTS = (("stress", ["60", "0", "4"]), ("faults", []))
+
+# Names, headers, what stands there, and what stands there instead. A sanitizer where one is needed to see it.
+EDITS = (
+    (
+        "a wake is dropped",
+        "shell",
+        "for (unsigned k = 0; k < names; k++) pthread_cond_signal(",
+        "for (unsigned k = 1; k < names; k++) pthread_cond_signal(",
+    ),
+    (
+        "nobody is marked as named",
+        "shell",
+        "__atomic_store_n(&party->named, true, __ATOMIC_RELEASE);",
+        "",
+    ),
+    (
+        "the wakes of a finish are dropped",
+        "shell",
+        "cmwq_hub_note_(hub, cmwq_board_finish(&hub->board, &me->who, &hub->wakes));",
+        "cmwq_board_finish(&hub->board, &me->who, &hub->wakes);",
+    ),
+    (
+        "the wakes of a call are noted in a second hold",
+        "shell",
+        "status = cmwq_hub_note_(hub, cmwq_board_call(&hub->board, call, reply, &hub->wakes));",
+        "status = cmwq_board_call(&hub->board, call, reply, &hub->wakes); cmwq_hub_unlock_(hub); "
+        "sched_yield(); pthread_mutex_lock(&hub->lock); cmwq_hub_note_(hub, status);",
+    ),
+    (
+        "a sleeper does not look before it sleeps",
+        "shell",
+        "while (!party->named && !late)\n",
+        "if (!late)\n",
+    ),
+    (
+        "the lock is let go too early",
+        "shell",
+        "        memcpy(named, hub->named, names * sizeof *named);\n"
+        "        hub->names = 0;\n",
+        "        pthread_mutex_unlock(&hub->lock);\n"
+        "        sched_yield();\n"
+        "        memcpy(named, hub->named, names * sizeof *named);\n"
+        "        hub->names = 0;\n"
+        "        pthread_mutex_lock(&hub->lock);\n",
+    ),
+    (
+        "a call without the lock",
+        "hub",
+        "    pthread_mutex_lock(&hub->lock);\n"
+        "    hub->inside++;\n",
+        "    hub->inside++;\n"
+        "    pthread_mutex_lock(&hub->lock);\n",
+        "-fsanitize=thread",
+    ),
+    (
+        "all that wait for a drain are named late",
+        "shell",
+        "cmwq_hub_name_(hub, &hub->parties[hub->workers + wakes->callers[k] - 1u]);",
+        "cmwq_hub_name_(hub, &hub->parties[hub->workers]);",
+    ),
+    (
+        "everybody is woken, but for the callers",
+        "shell",
+        "for (unsigned k = hub->workers; wakes->all_callers",
+        "for (unsigned k = hub->workers; 0 && wakes->all_callers",
+    ),
+    (
+        "a run is an outsider",
+        "hub",
+        "run = (struct cmwq_run *)pthread_getspecific(hub->key);",
+        "run = NULL;",
+    ),
+    (
+        "a run that sleeps is not woken before it finishes",
+        "shell",
+        "if (run.asleep) cmwq_hub_call_(hub, &run, &wake, &reply);",
+        "",
+    ),
+    (
+        "the clock is not told of a delay",
+        "shell",
+        "reply->number < hub->due)\n"
+        "        cmwq_hub_name_(hub, hub->clock);",
+        "0)\n"
+        "        cmwq_hub_name_(hub, hub->clock);",
+    ),
+    (
+        "time is not brought up before a delay",
+        "shell",
+        "        status = cmwq_hub_advance_(hub, now / hub->is.tick_ns);\n"
+        "        due -=",
+        "        due -= now / hub->is.tick_ns - cmwq_board_time(&hub->board); due -=",
+    ),
+    (
+        "a delay begins at the tick before",
+        "shell",
+        " + (now % hub->is.tick_ns != 0)",
+        "",
+    ),
+    (
+        "nothing is thawed at the end",
+        "shell",
+        "if (hub->frozen && cmwq_hub_note_",
+        "if (0 && cmwq_hub_note_",
+    ),
+    (
+        "no stop at the end",
+        "shell",
+        "    cmwq_hub_note_(hub, cmwq_board_stop(&hub->board, &hub->wakes));\n",
+        "",
+    ),
+    (
+        "the hub is freed under who is in it",
+        "hub",
+        "while (hub->inside) pthread_cond_wait(&hub->changed, &hub->lock);",
+        "",
+        "-fsanitize=address",
+    ),
+    (
+        "the journal's lines are handed out twice",
+        "shell",
+        "        if (hub->busy) {\n"
+        "            pthread_cond_wait(&hub->changed, &hub->lock);\n"
+        "            continue;\n"
+        "        }\n",
+        "",
+    ),
+    (
+        "a wait is not left",
+        "shell",
+        "status = cmwq_hub_note_(hub, cmwq_board_leave(&hub->board, by, &hub->wakes));",
+        "status = CMWQ_OK;",
+    ),
+    (
+        "a journal that calls the hub",
+        "hub",
+        "else if (run && !run->hub)\n"
+        "        status = CMWQ_NOT_NOW;\n"
+        "    ",
+        "",
+    ),
+    (
+        "space is not looked for",
+        "hub",
+        "if (!run || run->hub) cmwq_hub_space_(hub, hub->is.keep);",
+        "",
+    ),
+    (
+        "numbers are cut off",
+        "hub",
+        "call.cpu != cpu || call.queue != queue || call.item != item || call.number != number",
+        "0",
+    ),
+    (
+        "a hub is closed in a run",
+        "hub",
+        "pthread_getspecific(hub->key) ? CMWQ_NOT_NOW : CMWQ_OK",
+        "CMWQ_OK",
+    ),
+    (
+        "a hub is closed twice",
+        "hub",
+        "hub->state != CMWQ_OPEN_ ? CMWQ_CLOSED :",
+        "hub->state == CMWQ_CLOSING_ ? CMWQ_CLOSED :",
+    ),
+    (
+        "threads are left where one does not start",
+        "hub",
+        "    cmwq_hub_close(hub);\n"
+        "    return -CMWQ_NO_THREAD;",
+        "    return cmwq_hub_free_(hub, -CMWQ_NO_THREAD);",
+        "-fsanitize=address",
+    ),
+)
+
+
+def fails(program, words):
+    quiet = {"stdin": subprocess.DEVNULL, "stdout": subprocess.DEVNULL, "stderr": subprocess.DEVNULL}
+    try:
+        return subprocess.run([program, *words], timeout=SECONDS, check=False, **quiet).returncode != 0
+    except subprocess.TimeoutExpired:
+        return True
+
+
+def found_by(library, name, header, old, new, sanitizer=None):
+    """The test that finds it, or None."""
+    with tempfile.TemporaryDirectory() as folder:
+        for it in ("cmwq.h", "cmwq_hub.h", "cmwq_shell.h"):
+            shutil.copy(f"{C}/{it}", folder)
+        path = f"{folder}/cmwq_{header}.h"
+        with open(path, encoding="utf-8") as it:
+            text = it.read()
+        if old not in text:
+            sys.exit(f"{name}: the edit does not apply")
+        with open(path, "w", encoding="utf-8") as it:
+            it.write(text.replace(old, new))
+        for test, words in TESTS:
+            flags = ["-std=gnu11", "-O1", "-w", *([sanitizer] if sanitizer else []), f"-I{folder}", f"-I{C}/tests"]
+            sources = [f"{C}/tests/{test}.c", library, "-lpthread"]
+            subprocess.run([os.environ.get("CC", "cc"), *flags, *sources, "-o", f"{folder}/{test}"], check=True)
+            if fails(f"{folder}/{test}", words):
+                return test
+    return None
+
+
+def main():
+    library, names, failed = sys.argv[1], sys.argv[2:], 0
+    edits = [it for it in EDITS if not names or it[0] in names]
+    with concurrent.futures.ThreadPoolExecutor(AT_ONCE) as pool:
+        for edit, test in zip(edits, pool.map(lambda it: found_by(library, *it), edits)):
+            failed += not test
+            print(f"{edit[0]}: {test or 'NOT FOUND'}", flush=True)
+    print(f"{len(edits) - failed} passed, {failed} failed")
+    sys.exit(1 if failed else 0)
+
+
+if __name__ == "__main__":
+    main()
