@@ -74,13 +74,10 @@ struct Journal {
     full: VecDeque<Lines>,
 }
 
-/// How many entries a board of this shape keeps: at least three times as many as one call makes at most.
-pub(crate) fn keep(shape: &Shape) -> u32 {
-    shape.keep.max(3 * most_made(shape))
-}
-
-fn most_made(shape: &Shape) -> u32 {
-    u32::from(shape.items) + 2
+/// How many entries a board keeps at most of which so many are handed out at a time. There is space for those of the
+/// next call, and for the ends of waits that were left.
+pub(crate) fn kept(most: u32, items: u16) -> u32 {
+    most.saturating_add(2 * (u32::from(items) + 2))
 }
 
 impl State {
@@ -329,9 +326,8 @@ fn told(reply: Reply) -> Result<Reply> {
 }
 
 impl Hub {
-    pub(crate) fn new(board: Board, shape: Shape, writes: bool, tick: Duration, spins: u32) -> Hub {
+    pub(crate) fn new(board: Board, shape: Shape, most: u32, writes: bool, tick: Duration, spins: u32) -> Hub {
         let parties = 2 * usize::from(shape.cpus) * usize::from(shape.workers) + usize::from(shape.callers);
-        let most = u64::from(shape.keep - 2 * most_made(&shape));
         let state = State {
             board,
             slots: (0..shape.items).map(|_| Slot::default()).collect(),
@@ -345,8 +341,8 @@ impl Hub {
                 writes,
                 armed: !writes,
                 over: false,
-                most,
-                next: most,
+                most: u64::from(most),
+                next: u64::from(most),
                 spare: Vec::new(),
                 full: VecDeque::new(),
             },

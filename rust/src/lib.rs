@@ -205,8 +205,7 @@ impl Builder {
         self
     }
 
-    /// How many entries are kept before they are written or dropped, or three for each item if that is more. By
-    /// default 1024.
+    /// How many entries are kept before they are written or dropped. By default 1024.
     pub fn keep(mut self, keep: u32) -> Self {
         self.shape.keep = keep;
         self
@@ -235,14 +234,15 @@ impl Builder {
             return Err(Error::Invalid("two queues of one name"));
         }
         self.shape.callers = 1 + self.waits;
-        self.shape.keep = hub::keep(&self.shape);
+        let most = self.shape.keep.max(1);
+        self.shape.keep = hub::kept(most, self.shape.items);
         let invalid = |fault| match fault {
             status::REFUSED => Error::Invalid("a count of the builder"),
             fault => Error::of(fault),
         };
         let head = ffi::head(&self.shape, &self.queues).map_err(invalid)?;
         let board = Board::open(&self.shape, &self.queues, self.waits).map_err(invalid)?;
-        let hub = Arc::new(Hub::new(board, self.shape, self.history.is_some(), self.tick, self.spins));
+        let hub = Arc::new(Hub::new(board, self.shape, most, self.history.is_some(), self.tick, self.spins));
         let mut made = Workqueues { hub, names: self.names, workers: Vec::new(), clock: None, journal: None };
         if let Some(mut writer) = self.history {
             let hub = made.hub.clone();
@@ -694,3 +694,9 @@ impl<'a> Run<'a> {
 }
 
 const _: () = assert!(CALLER == 0);
+
+#[test]
+fn versions_are_numbers() {
+    assert_eq!(number_of("1.2.34"), 1_002_034);
+    assert_eq!(number_of(VERSION), ffi::version());
+}

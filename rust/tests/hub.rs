@@ -267,3 +267,219 @@ fn room_that_ends() -> Result<()> {
     text.judge();
     Ok(())
 }
+
+/// A work function that runs until it is let go.
+fn gate() -> (mpsc::Sender<()>, impl FnMut(&mut cmwq::Run<'_>) + Send) {
+    let (send, receive) = mpsc::channel();
+    (send, move |run: &mut cmwq::Run<'_>| run.block(|| receive.recv().unwrap()))
+}
+
+#[test]
+fn waits_with_a_time_limit() -> Result<()> {
+    let _dog = watchdog();
+    let (text, soon, long) = (Text::default(), Duration::from_millis(5), Duration::from_secs(60));
+    let all = Workqueues::builder().queue("a", max_active(4)).history(text.clone()).build()?;
+    let queue = all.queue("a")?;
+    let (go, work) = gate();
+    let item = queue.item(work)?;
+    item.queue()?;
+    for _ in 0..3 {
+        assert!(matches!(queue.flush_timeout(soon), Err(Error::TimedOut)));
+        assert!(matches!(item.flush_timeout(soon), Err(Error::TimedOut)));
+    }
+    assert!(matches!(item.cancel_sync_timeout(soon), Err(Error::TimedOut)));
+    while !item.is_running() {
+        thread::yield_now();
+    }
+    assert!(!item.queue()?); // it is still being cancelled
+    go.send(()).unwrap();
+    queue.flush_timeout(long)?;
+    assert!(item.queue()?);
+    assert!(matches!(queue.drain_timeout(soon), Err(Error::TimedOut)));
+    let delayed = queue.item(|_| {})?;
+    assert!(matches!(delayed.queue_delayed(soon), Err(Error::Draining)));
+    go.send(()).unwrap();
+    item.flush_timeout(long)?;
+    assert!(delayed.queue_delayed(soon)?);
+    while delayed.is_pending() {
+        thread::yield_now();
+    }
+    let own = queue.clone();
+    let (send, receive) = mpsc::channel();
+    let inside = queue.item(move |_| send.send(own.flush_timeout(soon)).unwrap())?;
+    inside.queue()?;
+    assert!(matches!(receive.recv().unwrap(), Err(Error::TimeoutInRun)));
+    all.shutdown()?;
+    text.judge();
+    Ok(())
+}
+
+#[test]
+fn timers_go_on_after_a_drain_that_was_left() -> Result<()> {
+    let _dog = watchdog();
+    let (text, soon) = (Text::default(), Duration::from_millis(20));
+    let all = Workqueues::builder().queue("a", max_active(4)).history(text.clone()).build()?;
+    let queue = all.queue("a")?;
+    let (go, work) = gate();
+    let (item, (send, receive)) = (queue.item(work)?, mpsc::channel());
+    let delayed = queue.item(move |_| send.send(()).unwrap())?;
+    delayed.queue_delayed(soon)?;
+    item.queue()?;
+    assert!(matches!(queue.drain_timeout(2 * soon), Err(Error::TimedOut)));
+    assert!(delayed.is_pending());
+    delayed.cancel()?;
+    let other = queue.item(|_| {})?;
+    assert!(matches!(other.queue(), Err(Error::Draining)));
+    go.send(()).unwrap();
+    while !matches!(delayed.queue_delayed(soon), Ok(true)) {
+        thread::yield_now();
+    }
+    receive.recv().unwrap();
+    all.shutdown()?;
+    text.judge();
+    Ok(())
+}
+
+#[test]
+fn the_history_is_written_within_a_time() -> Result<()> {
+    let _dog = watchdog();
+    let text = Text::default();
+    let all = Workqueues::builder().queue("a", max_active(1)).history(text.clone()).build()?;
+    let queue = all.queue("a")?;
+    let item = queue.item(|_| {})?;
+    for count in 1..4 {
+        item.queue()?;
+        queue.flush()?;
+        let begun = Instant::now();
+        let is_written = |text: &Text| String::from_utf8_lossy(&text.0.lock().unwrap()).matches("= done").count() == count;
+        while !is_written(&text) {
+            assert!(begun.elapsed() < Duration::from_secs(5));
+            thread::sleep(Duration::from_millis(1));
+        }
+    }
+    all.shutdown()
+}
+
+#[test]
+fn calls_that_wait_end_at_the_shutdown() -> Result<()> {
+    let _dog = watchdog();
+    for round in 0..50 {
+        let all = Workqueues::builder().queue("a", max_active(1)).spins(round % 2 * 1000).build()?;
+        let queue = all.queue("a")?;
+        let (go, work) = gate();
+        let item = queue.item(work)?;
+        item.queue()?;
+        let waits: Vec<_> = (0..4).map(|_| queue.clone()).map(|queue| thread::spawn(move || queue.flush())).collect();
+        thread::sleep(Duration::from_micros(u64::from(round) * 20));
+        let ends = thread::spawn(move || all.shutdown());
+        go.send(()).unwrap();
+        for wait in waits {
+            let waited = wait.join().unwrap();
+            assert!(matches!(waited, Ok(()) | Err(Error::Closed)), "{waited:?}");
+        }
+        ends.join().unwrap()?;
+        assert!(matches!(item.queue(), Err(Error::Closed)));
+        assert!(matches!(queue.flush(), Err(Error::Closed)));
+        assert!(!item.is_pending());
+    }
+    Ok(())
+}
+
+#[test]
+fn what_is_outside_the_limits() -> Result<()> {
+    let one = || Workqueues::builder().queue("a", max_active(1));
+    for builder in [
+        Workqueues::builder(),
+        one().queue("a", max_active(1)),
+        one().queue("b", max_active(0)),
+        one().queue("b", max_active(513)),
+        one().cpus(0),
+        one().cpus(65),
+        one().workers(0),
+        one().workers(65),
+        one().items(0),
+        one().waits(0),
+        one().waits(255),
+        one().tick(Duration::ZERO),
+    ] {
+        assert!(matches!(builder.build(), Err(Error::Invalid(_))));
+    }
+    let all = one().items(65_535).keep(0).build()?;
+    let queue = all.queue("a")?;
+    assert!(matches!(all.queue("b"), Err(Error::NoQueue(name)) if name == "b"));
+    assert!(matches!(queue.item_on(1, |_| {}), Err(Error::Invalid(_))));
+    let item = queue.item(|_| {})?;
+    assert!(matches!(item.queue_on(&queue, 1), Err(Error::Invalid(_))));
+    assert!(matches!(queue.set_max_active(0), Err(Error::Invalid(_))));
+    assert!(matches!(item.queue_delayed(Duration::from_secs(1 << 32)), Err(Error::Invalid(_))));
+    assert!(item.queue_delayed(Duration::from_secs(1 << 22))?);
+    all.shutdown()
+}
+
+#[test]
+fn frozen_queues_are_thawed_at_the_end() -> Result<()> {
+    let _dog = watchdog();
+    let all = Workqueues::builder().queue("a", max_active(1).freezable()).build()?;
+    let (send, receive) = mpsc::channel();
+    let item = all.queue("a")?.item(move |_| send.send(()).unwrap())?;
+    all.freeze()?;
+    item.queue()?;
+    drop(all);
+    assert!(receive.recv().is_ok());
+    Ok(())
+}
+
+#[test]
+fn handles_are_dropped_anywhere() -> Result<()> {
+    let _dog = watchdog();
+    let all = Workqueues::builder().items(4).workers(2).queue("a", max_active(4)).build()?;
+    let queue = all.queue("a")?;
+    let ran = Arc::new(AtomicUsize::new(0));
+    for _ in 0..100 {
+        let (own, inner) = (ran.clone(), queue.item(|_| {})?);
+        // the handle of another item, and one that makes an item, are dropped with the work function
+        let mut inner = Some(inner);
+        let outer = queue.item(move |_| {
+            inner.take().unwrap().queue().unwrap();
+            own.fetch_add(1, SeqCst);
+        })?;
+        outer.queue()?;
+        drop(outer);
+        queue.flush()?;
+        queue.flush()?;
+    }
+    assert_eq!(ran.load(SeqCst), 100);
+    all.shutdown()
+}
+
+#[test]
+fn a_run_of_other_workqueues_is_a_caller() -> Result<()> {
+    let _dog = watchdog();
+    let make = || Workqueues::builder().queue("a", max_active(1)).build();
+    let (one, other) = (make()?, make()?);
+    let (ours, theirs) = (one.queue("a")?, other.queue("a")?);
+    let (send, receive) = mpsc::channel();
+    let item = ours.item(move |_| {
+        let inner = theirs.item(|_| {}).unwrap();
+        inner.queue().unwrap();
+        send.send(theirs.flush_timeout(Duration::from_secs(60))).unwrap();
+    })?;
+    item.queue()?;
+    receive.recv().unwrap()?;
+    one.shutdown()?;
+    other.shutdown()
+}
+
+#[test]
+fn handles_go_to_other_threads() {
+    fn is_send<T: Send>() {}
+    fn is_sync<T: Sync>() {}
+    is_send::<Workqueues>();
+    is_send::<cmwq::book::Book>();
+    is_send::<cmwq::Builder>();
+    is_send::<cmwq::Queue>();
+    is_send::<cmwq::Item>();
+    is_sync::<cmwq::Queue>();
+    is_sync::<cmwq::Item>();
+    is_send::<Error>();
+}
