@@ -1,8 +1,8 @@
 """Workqueues with threads, as Linux has them: items of work that run one at a time each, queues that limit how many are
 active, delays, and flushes and cancellations that wait.
 
-A CPU's pool runs one awake run of a plain queue at a time. So `workers=4` runs four items at once only if their queue is
-CPU intensive, if they are on several CPUs, or if runs sleep, which they do in calls that wait and in `Run.block`.
+A CPU's pool runs one awake run of a plain queue at a time. So `workers=4` runs four items at once only if their queue
+is CPU intensive, if they are on several CPUs, or if runs sleep, which they do in calls that wait and in `Run.block`.
 
     import cmwq
     with cmwq.Hub(workers=4) as hub:

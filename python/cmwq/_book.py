@@ -23,8 +23,8 @@ def _done(status: int) -> None:
 
 
 class Book:
-    """A workqueue runtime of one thread, for simulators. It has no threads, locks or clock. Each call makes one entry of
-    a history, and returns a reply that is proved to be the right one. `with` closes it."""
+    """A workqueue runtime of one thread, for simulators. It has no threads, locks or clock. Each call makes one entry
+    of a history, and returns a reply that is proved to be the right one. `with` closes it."""
 
     def __init__(self, shape: Shape, queues: Sequence[QueueOptions]) -> None:
         self._handle = library.Handle()

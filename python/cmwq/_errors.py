@@ -2,7 +2,8 @@
 
 
 class Error(Exception):
-    """The base class of all exceptions of this package. A call that raises changes nothing, unless it says otherwise."""
+    """The base class of all exceptions of this package. A call that raises changes nothing, unless its exception says
+    otherwise."""
 
 
 class Invalid(Error, ValueError):

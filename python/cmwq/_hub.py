@@ -62,7 +62,8 @@ class Shell:
         self.free: List[int] = list(range(shape.items))[::-1]
         self.orphans: "set[int]" = set()
         self.dropped: Deque[int] = collections.deque()
-        self.due, self.left_drain, self.closing, self.waits = library.NEVER, False, False, 0
+        self.due, self.has_timers, self.left_drain = library.NEVER, False, False
+        self.closing, self.waits = False, 0
         self.raised, self.first_raised = 0, None  # type: int, Optional[BaseException]
         # the journal
         self.history, self.armed, self.over = history, history is None, False
@@ -148,9 +149,11 @@ class Shell:
     def put(self, kind: int, item: int, queue: int, cpu: int, number: int = 0) -> int:
         """A call that may make an item pending."""
         reply, due = self.step(kind, item, queue, cpu, number)
-        if reply in (library.BOOKED, library.REBOOKED) and due < self.due:
-            self.due = due
-            self.clock.notify()
+        if reply in (library.BOOKED, library.REBOOKED):
+            self.has_timers = True
+            if due < self.due:
+                self.due = due
+                self.clock.notify()
         if reply != library.NO:
             self.queues_of[item] = queue
         return reply
@@ -163,7 +166,7 @@ class Shell:
 
     def look(self) -> None:
         """The clock looks at the timers now."""
-        if self.due != library.NEVER or self.left_drain:
+        if self.has_timers:
             self.due = 0
             self.clock.notify()
 
@@ -485,8 +488,8 @@ class Item:
         return reply not in (library.TICKET_NO, library.IDLE)
 
     def cancel_sync(self, timeout: Optional[float] = None) -> bool:
-        """Cancels the item if it is pending, which is returned, and waits until it is not running. Meanwhile it can't be
-        queued. (cancel_delayed_work_sync())"""
+        """Cancels the item if it is pending, which is returned, and waits until it is not running. Meanwhile it can't
+        be queued. (cancel_delayed_work_sync())"""
         return self._wait(library.CANCEL_SYNC, timeout)
 
     def flush(self, timeout: Optional[float] = None) -> bool:
@@ -659,8 +662,8 @@ class Hub:
             return self._shell.step(library.THAW)[0] == library.THAWED
 
     def shutdown(self) -> None:
-        """Takes no more work, thaws, cancels what is delayed, lets what is queued run, and joins all threads. What a run
-        queues is run too. What it delays is refused. The second time it does nothing.
+        """Takes no more work, thaws, cancels what is delayed, lets what is queued run, and joins all threads. What a
+        run queues is run too. What it delays is refused. The second time it does nothing.
 
         Raises WorkError from the first exception of a work function, and HistoryError. In a work function it raises
         Itself, and another thread shuts down."""

@@ -119,6 +119,33 @@ class Hubs(Case):
             self.assertGreaterEqual(end - begun, 0.01 + 0.003 * number)
         judged(self.text)
 
+    def test_timers_go_on_after_a_drain(self):
+        with self.hub(queues={"a": cmwq.max_active(4), "b": cmwq.max_active(4)}) as hub:
+            gate, told = Gate(), []
+            a, b = hub.queue("a"), hub.queue("b")
+            item = a.item(gate)
+            item.queue()
+            held, other = a.item(lambda run: told.append("held")), a.item(lambda run: None)
+            held.queue_delayed(0.1)
+            drain = threading.Thread(target=a.drain)
+            drain.start()
+            with self.assertRaises(cmwq.Draining):
+                while True:
+                    other.queue()
+                    other.cancel_sync()
+            free = b.item(lambda run: told.append("free"))
+            free.queue_delayed(0.001)
+            while told != ["free"]:  # then the clock knows of no other timer
+                time.sleep(0.001)
+            time.sleep(0.005)
+            gate.go.release()
+            drain.join()
+            end = time.monotonic() + 20
+            while told != ["free", "held"] and time.monotonic() < end:
+                time.sleep(0.001)
+            self.assertEqual(told, ["free", "held"])
+        judged(self.text)
+
     def test_waits_with_a_time_limit(self):
         with self.hub() as hub:
             gate, told = Gate(), []

@@ -1,7 +1,8 @@
 //! Prints how many runs there are in a second: `jobs LOAD ROUNDS WORKERS [ITEMS] [WORD..]`
 //!
 //! - `self`: an item queues itself, ROUNDS times.
-//! - `fanout`: four callers, each of which queues an item and drains its queue, in each round. The item queues 63 others.
+//! - `fanout`: four callers, each of which queues an item and drains its queue, in each round. The item queues 63
+//!   others.
 //! - `stream`: four callers, each of which queues 64 items and flushes its queue, in each round.
 //!
 //! With fewer than 256 items the callers have fewer each, and with more each round has the next ones. The words are

@@ -1,5 +1,5 @@
-//! Prints how long an item waits from its queueing to its start, where nothing else goes on: the median and the 99th of a
-//! hundred, in microseconds. `latency [SPINS]`
+//! Prints how long an item waits from its queueing to its start, where nothing else goes on: the median and the 99th
+//! of a hundred, in microseconds. `latency [SPINS]`
 use cmwq::{max_active, Result, Workqueues};
 use std::sync::mpsc;
 use std::time::{Duration, Instant};

@@ -184,7 +184,14 @@ impl Call {
             Call::Flush { queue } | Call::Drain { queue } | Call::Destroy { queue } => raw.queue = queue,
             Call::End { ticket } => raw.ticket = ticket,
             Call::SetMax { queue, max_active } => (raw.queue, raw.number) = (queue, max_active),
-            Call::Fire | Call::Take | Call::Finish | Call::Sleep | Call::Wake | Call::Retire | Call::Freeze | Call::Thaw => {}
+            Call::Fire
+            | Call::Take
+            | Call::Finish
+            | Call::Sleep
+            | Call::Wake
+            | Call::Retire
+            | Call::Freeze
+            | Call::Thaw => {}
         }
         raw
     }

@@ -224,7 +224,8 @@ extern "C" {
     fn cmwq_lines_close(lines: *mut Handle);
     fn cmwq_lines_write(lines: *mut Handle, out: *mut u8, out_len: usize, written: *mut usize) -> u32;
     fn cmwq_lines_forget(lines: *mut Handle) -> u32;
-    fn cmwq_head(s: *const Shape, q: *const QueueShape, len: usize, out: *mut u8, out_len: usize, w: *mut usize) -> u32;
+    fn cmwq_head(s: *const Shape, q: *const QueueShape, len: usize, out: *mut u8, out_len: usize, w: *mut usize)
+        -> u32;
 }
 
 /// `Ok` of a value where the status is that the call was made.
@@ -543,9 +544,8 @@ impl RawBook {
     pub fn step_line(&mut self, line: &str) -> Result<String, Fault> {
         let (mut out, mut written) = ([0; LINE], 0);
         // SAFETY: the lengths are those of the slices
-        let status = unsafe {
-            cmwq_step_line(&mut self.0, line.as_ptr(), line.len(), out.as_mut_ptr(), LINE, &mut written)
-        };
+        let status =
+            unsafe { cmwq_step_line(&mut self.0, line.as_ptr(), line.len(), out.as_mut_ptr(), LINE, &mut written) };
         made(status, ()).map(|()| text(&out[..written]))
     }
 

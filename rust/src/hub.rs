@@ -54,6 +54,8 @@ pub(crate) struct State {
     free: Vec<u16>,
     /// The tick at which the clock looks next.
     due: u64,
+    /// Whether an item was ever delayed.
+    has_timers: bool,
     left_drain: bool,
     closing: bool,
     /// How many calls wait.
@@ -262,7 +264,7 @@ impl<'a> Hold<'a> {
 
     /// The clock looks at the timers now.
     fn look(&mut self) {
-        if self.state.due != u64::MAX || self.state.left_drain {
+        if self.state.has_timers {
             self.state.due = 0;
             self.woken.clock = true;
         }
@@ -276,6 +278,7 @@ impl<'a> Hold<'a> {
         }
         let reply = self.make(|board, wakes| board.call(call, wakes))?;
         if let reply::BOOKED | reply::REBOOKED = reply.kind {
+            self.state.has_timers = true;
             if reply.number < self.state.due {
                 self.state.due = reply.number;
                 self.woken.clock = true;
@@ -333,6 +336,7 @@ impl Hub {
             slots: (0..shape.items).map(|_| Slot::default()).collect(),
             free: (0..shape.items).rev().collect(),
             due: u64::MAX,
+            has_timers: false,
             left_drain: false,
             closing: false,
             waits: 0,

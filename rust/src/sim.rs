@@ -1,7 +1,7 @@
 //! Schedules of the board in one thread: parties move in an order that follows from a seed, each for one hold of the
 //! lock. After each move each entry is the one that a Book makes of its call, and nobody sleeps who could go on. In the
 //! end everything has ended, and the history is legal. CMWQ_SEEDS says how many seeds there are, CMWQ_FIRST the first.
-use crate::ffi::{call, reply, status, Call, Fault, Lines, QueueShape, RawBook, Reply, Shape, Who, Wakes};
+use crate::ffi::{call, reply, status, Call, Fault, Lines, QueueShape, RawBook, Reply, Shape, Wakes, Who};
 use crate::ffi::{Begun, Board, Ended, Start, HIGH_WORKER, PENDING_TIMER, WORKER};
 
 struct Random(u64);
@@ -26,9 +26,16 @@ enum State {
     /// A worker that rests.
     Rests,
     /// A worker in a run, with so many moves to come, which sleeps or is awake.
-    Runs { left: usize, sleeps: bool },
+    Runs {
+        left: usize,
+        sleeps: bool,
+    },
     /// A wait by this caller, with the run that it belongs to.
-    Waits { party: u8, ticket: u64, run: Option<(usize, bool)> },
+    Waits {
+        party: u8,
+        ticket: u64,
+        run: Option<(usize, bool)>,
+    },
     Gone,
 }
 
@@ -438,20 +445,36 @@ fn number(name: &str, otherwise: u64) -> u64 {
     std::env::var(name).ok().and_then(|word| word.parse().ok()).unwrap_or(otherwise)
 }
 
-#[test]
-fn nobody_is_forgotten_in_any_order() {
-    let (first, seeds) = (number("CMWQ_FIRST", 0), number("CMWQ_SEEDS", 10_000));
-    let (mut entries, mut waited, mut refused, mut departed) = (0, 0, 0, 0);
-    for seed in first..first + seeds {
+/// Plays the schedules of these seeds. Returns how many entries and waits there were, and how many waits were refused,
+/// and left.
+fn play(seeds: impl Iterator<Item = u64>) -> [u64; 4] {
+    let mut sums = [0; 4];
+    for seed in seeds {
         let mut sim = Sim::new(seed);
         sim.run(seed);
         sim.take_out();
         let len = sim.board.len();
         sim.history.extend_from_slice(format!("end {len}\n").as_bytes());
         assert_eq!(crate::check(&sim.history).unwrap(), crate::Verdict::Legal { entries: len }, "seed {seed}");
-        (entries, waited, refused, departed) =
-            (entries + len, waited + sim.waited, refused + sim.refused, departed + sim.departed);
+        let counts = [len, sim.waited as u64, sim.refused as u64, sim.departed as u64];
+        (0..4).for_each(|at| sums[at] += counts[at]);
     }
-    println!("{seeds} schedules, {entries} entries, {waited} waits, {refused} refused, {departed} left");
+    sums
 }
 
+#[test]
+fn nobody_is_forgotten_in_any_order() {
+    let (first, seeds) = (number("CMWQ_FIRST", 0), number("CMWQ_SEEDS", 10_000));
+    let threads = std::thread::available_parallelism().map_or(1, |count| count.get());
+    let mut sums = [0; 4];
+    std::thread::scope(|scope| {
+        let own = |at: usize| (first..first + seeds).skip(at).step_by(threads);
+        let players: Vec<_> = (0..threads).map(|at| scope.spawn(move || play(own(at)))).collect();
+        for player in players {
+            let counts = player.join().expect("no schedule fails");
+            (0..4).for_each(|at| sums[at] += counts[at]);
+        }
+    });
+    let [entries, waited, refused, departed] = sums;
+    println!("{seeds} schedules, {entries} entries, {waited} waits, {refused} refused, {departed} left");
+}

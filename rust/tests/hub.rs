@@ -106,7 +106,12 @@ fn circles_are_refused() -> Result<()> {
 fn waits_of_runs_end() -> Result<()> {
     let _dog = watchdog();
     let text = Text::default();
-    let all = Workqueues::builder().workers(2).queue("a", max_active(2)).queue("b", max_active(1)).history(text.clone()).build()?;
+    let all = Workqueues::builder()
+        .workers(2)
+        .queue("a", max_active(2))
+        .queue("b", max_active(1))
+        .history(text.clone())
+        .build()?;
     let (a, b) = (all.queue("a")?, all.queue("b")?);
     let done = Arc::new(AtomicUsize::new(0));
     let own = done.clone();
@@ -132,7 +137,11 @@ fn waits_of_runs_end() -> Result<()> {
 fn a_drain_a_freeze_and_a_width() -> Result<()> {
     let _dog = watchdog();
     let text = Text::default();
-    let all = Workqueues::builder().workers(3).queue("a", max_active(1).freezable().cpu_intensive()).history(text.clone()).build()?;
+    let all = Workqueues::builder()
+        .workers(3)
+        .queue("a", max_active(1).freezable().cpu_intensive())
+        .history(text.clone())
+        .build()?;
     let queue = all.queue("a")?;
     let mut left = 10;
     let chain = queue.item(move |run| {
@@ -341,6 +350,34 @@ fn timers_go_on_after_a_drain_that_was_left() -> Result<()> {
 }
 
 #[test]
+fn timers_go_on_after_a_drain() -> Result<()> {
+    let _dog = watchdog();
+    let all = Workqueues::builder().queue("a", max_active(4)).queue("b", max_active(4)).build()?;
+    let (a, b) = (all.queue("a")?, all.queue("b")?);
+    let (go, work) = gate();
+    let item = a.item(work)?;
+    item.queue()?;
+    let (send, receive) = mpsc::channel();
+    let own = send.clone();
+    let held = a.item(move |_| own.send("held").unwrap())?;
+    held.queue_delayed(Duration::from_millis(100))?;
+    let drained = a.clone();
+    let drain = thread::spawn(move || drained.drain());
+    let other = a.item(|_| {})?;
+    while !matches!(other.queue(), Err(Error::Draining)) {
+        other.cancel_sync()?;
+    }
+    let free = b.item(move |_| send.send("free").unwrap())?;
+    free.queue_delayed(Duration::from_millis(1))?;
+    assert_eq!(receive.recv().unwrap(), "free"); // now the clock knows of no other timer
+    thread::sleep(Duration::from_millis(5));
+    go.send(()).unwrap();
+    drain.join().unwrap()?;
+    assert_eq!(receive.recv_timeout(Duration::from_secs(20)), Ok("held"));
+    all.shutdown()
+}
+
+#[test]
 fn the_history_is_written_within_a_time() -> Result<()> {
     let _dog = watchdog();
     let text = Text::default();
@@ -351,7 +388,8 @@ fn the_history_is_written_within_a_time() -> Result<()> {
         item.queue()?;
         queue.flush()?;
         let begun = Instant::now();
-        let is_written = |text: &Text| String::from_utf8_lossy(&text.0.lock().unwrap()).matches("= done").count() == count;
+        let is_written =
+            |text: &Text| String::from_utf8_lossy(&text.0.lock().unwrap()).matches("= done").count() == count;
         while !is_written(&text) {
             assert!(begun.elapsed() < Duration::from_secs(5));
             thread::sleep(Duration::from_millis(1));
@@ -437,10 +475,9 @@ fn handles_are_dropped_anywhere() -> Result<()> {
     let ran = Arc::new(AtomicUsize::new(0));
     for _ in 0..100 {
         let (own, inner) = (ran.clone(), queue.item(|_| {})?);
-        // the handle of another item, and one that makes an item, are dropped with the work function
-        let mut inner = Some(inner);
+        // the last handle of another item is dropped with the work function
         let outer = queue.item(move |_| {
-            inner.take().unwrap().queue().unwrap();
+            inner.queue().unwrap();
             own.fetch_add(1, SeqCst);
         })?;
         outer.queue()?;

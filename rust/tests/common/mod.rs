@@ -52,7 +52,7 @@ pub fn watch(steps: Arc<AtomicUsize>, seconds: u32) {
 /// Ends the process if a test takes longer.
 pub fn watchdog() -> Arc<AtomicUsize> {
     let steps = Arc::new(AtomicUsize::new(0));
-    watch(steps.clone(), 60);
+    watch(steps.clone(), number("CMWQ_SECONDS", 60) as u32);
     steps
 }
 
