@@ -7,7 +7,7 @@ use std::{env, path::PathBuf, process::exit};
 
 fn main() {
     let home = PathBuf::from(env::var_os("CARGO_MANIFEST_DIR").expect("cargo sets it"));
-    let folders = match env::var_os("CMWQ_LIB") {
+    let folders = match env::var_os("CMWQ_LIB").filter(|folder| !folder.is_empty()) {
         Some(folder) => vec![PathBuf::from(folder)],
         None => vec![home.join("lib"), home.join("../dist/x86_64-linux-gnu")],
     };

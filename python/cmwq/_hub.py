@@ -47,8 +47,8 @@ class Shell:
         self.shape, self.tick, self.begun = shape, tick, time.monotonic()
         self._handle, self._lines = library.Handle(), []  # type: library.Handle, List[library.Handle]
         self.board = ctypes.addressof(self._handle)
-        # there is space for the entries of a call, and for the ends of waits that were left
-        shape.keep = min(keep + 2 * (shape.items + 2), 2 ** 32 - 1)
+        # there is space for the entries of a call, and for the ends of all waits that were left
+        shape.keep = min(keep + 2 * (shape.items + 2) + 256, 2 ** 32 - 1)
         library.done(lib.cmwq_board_open(self.board, ctypes.byref(shape), queues, len(queues), shape.callers - 1))
         self.call, self.reply, self.wakes = library.call_buffer(), library.reply_buffer(), library.wakes_buffer()
         self.number, self.state = ctypes.c_uint64(), library.ItemState()
@@ -209,6 +209,8 @@ class Shell:
             return self.queue(kind, item, queue, cpu)
         now, due = self.ticks(seconds)
         with self.lock_once():
+            if self.closing:
+                raise errors.Closed("the hub is shut down")
             if now > lib.cmwq_board_time(self.board):
                 self.advance(now)
             ticks = max(due - lib.cmwq_board_time(self.board), 1)
@@ -375,17 +377,19 @@ class Shell:
 
     def stop(self) -> None:
         """Takes no more work, lets frozen queues go on, and takes back what is delayed."""
+        with self.lock:
+            self.closing = True
+            self.clock.notify()
+        for item in range(self.shape.items):
+            with self.lock_once():
+                if self.state_of(item).pending == library.PENDING_TIMER:
+                    self.step(library.CANCEL, item)
         with self.lock_once():
             try:
                 self.step(library.THAW)
-                for item in range(self.shape.items):
-                    if self.state_of(item).pending == library.PENDING_TIMER:
-                        self.step(library.CANCEL, item)
-            except errors.Error:
+            except errors.Full:
                 pass
             self.make(lib.cmwq_board_stop)
-            self.closing = True
-            self.clock.notify()
 
     def finish(self) -> None:
         """Nobody makes an entry any more, once all workers have ended."""

@@ -1,26 +1,23 @@
 //! The shell: a lock, a condition variable for each party, threads, a clock and a journal. It locks, makes calls of the
 //! board, unlocks, and wakes those whom the board has named. What is to be done is decided by the board.
+mod clock;
+mod items;
+mod journal;
+
+pub(crate) use journal::kept;
+
 use crate::error::{Error, Result};
 use crate::ffi::{call, reply, PENDING_TIMER};
-use crate::ffi::{Begun, Board, Call, Ended, Fault, ItemState, Lines, Reply, Shape, Start, Wakes, Who};
+use crate::ffi::{Begun, Board, Call, Ended, Fault, Reply, Shape, Start, Wakes, Who};
 use crate::ffi::{CALLER, HIGH_WORKER};
+use items::{told, Slot};
+use journal::{Journal, MOST_FULL};
 use std::cell::Cell;
-use std::collections::VecDeque;
 use std::hint::spin_loop;
-use std::io::{self, Write};
 use std::panic::{catch_unwind, AssertUnwindSafe};
 use std::sync::atomic::{AtomicBool, AtomicU32, Ordering::Acquire, Ordering::Relaxed, Ordering::Release};
 use std::sync::{Arc, Condvar, Mutex, MutexGuard, PoisonError};
 use std::time::{Duration, Instant};
-
-/// How long entries are kept at most before they are written.
-const QUIET: Duration = Duration::from_millis(50);
-
-/// How many full buffers of entries may wait to be written before calls wait for the journal.
-const MOST_FULL: usize = 4;
-
-/// How often the clock looks at the timers after a drain was left, since nobody is told when that drain ends.
-const LOOKS: Duration = Duration::from_millis(10);
 
 pub(crate) type Work = Box<dyn FnMut(&mut crate::Run<'_>) + Send>;
 
@@ -32,18 +29,6 @@ struct Place {
     /// How often it has blocked since a spin last helped.
     in_vain: AtomicU32,
     condvar: Condvar,
-}
-
-/// What is known of an item beside what the board knows.
-#[derive(Default)]
-struct Slot {
-    /// None while it runs: the worker has it then.
-    work: Option<Work>,
-    /// The queue on which it was queued last.
-    queue: u8,
-    poisoned: bool,
-    /// It has no handle any more.
-    orphan: bool,
 }
 
 /// What the lock guards.
@@ -62,55 +47,6 @@ pub(crate) struct State {
     waits: usize,
     panics: usize,
     journal: Journal,
-}
-
-struct Journal {
-    writes: bool,
-    /// Whether an entry was made since the last look.
-    armed: bool,
-    over: bool,
-    /// How many entries are handed out at a time, and how many there are at the next time.
-    most: u64,
-    next: u64,
-    spare: Vec<Lines>,
-    full: VecDeque<Lines>,
-}
-
-/// How many entries a board keeps at most of which so many are handed out at a time. There is space for those of the
-/// next call, and for the ends of waits that were left.
-pub(crate) fn kept(most: u32, items: u16) -> u32 {
-    most.saturating_add(2 * (u32::from(items) + 2))
-}
-
-impl State {
-    fn hand_out(&mut self) {
-        let spare = self.journal.spare.pop().map_or_else(|| Lines::open(&mut self.board), Ok);
-        let Ok(mut lines) = spare else {
-            panic!("out of memory");
-        };
-        let handed = self.board.hand_out(&mut lines);
-        debug_assert!(handed.is_ok());
-        self.journal.next = self.board.len() + self.journal.most;
-        if self.journal.writes {
-            self.journal.full.push_back(lines);
-        } else {
-            lines.forget();
-            self.journal.spare.push(lines);
-        }
-    }
-
-    /// Takes back the number of an item that nobody has, once it is neither pending nor running. Returns its work
-    /// function, which is to be dropped without the lock.
-    fn release(&mut self, item: u16) -> Option<Work> {
-        let slot = &mut self.slots[usize::from(item)];
-        let state = self.board.item(item);
-        if !slot.orphan || state.pending != 0 || state.runs != 0 {
-            return None;
-        }
-        slot.orphan = false;
-        self.free.push(item);
-        slot.work.take()
-    }
 }
 
 /// The shell of a board.
@@ -254,78 +190,11 @@ impl<'a> Hold<'a> {
         place.blocked.store(false, Relaxed);
         hub.hold_of(state)
     }
-
-    /// Brings the board's time up to this tick, and fires what is due.
-    fn advance(&mut self, now: u64) -> Result<u64> {
-        let ticks = now.saturating_sub(self.state.board.time());
-        let ticks = u32::try_from(ticks).unwrap_or(u32::MAX);
-        self.make(|board, wakes| board.advance(0, ticks, wakes))
-    }
-
-    /// The clock looks at the timers now.
-    fn look(&mut self) {
-        if self.state.has_timers {
-            self.state.due = 0;
-            self.woken.clock = true;
-        }
-    }
-
-    /// The call of an item that may make it pending.
-    pub(crate) fn queue(&mut self, call: &Call) -> Result<Reply> {
-        let slot = &self.state.slots[usize::from(call.item)];
-        if slot.poisoned {
-            return Err(Error::Poisoned);
-        }
-        let reply = self.make(|board, wakes| board.call(call, wakes))?;
-        if let reply::BOOKED | reply::REBOOKED = reply.kind {
-            self.state.has_timers = true;
-            if reply.number < self.state.due {
-                self.state.due = reply.number;
-                self.woken.clock = true;
-            }
-        }
-        if let reply::YES | reply::BOOKED | reply::AGAIN | reply::REBOOKED = reply.kind {
-            self.state.slots[usize::from(call.item)].queue = call.queue;
-        }
-        told(reply)
-    }
-
-    /// An item with this work function. Returns the work function if there is no number for it.
-    pub(crate) fn add(&mut self, queue: u8, work: Work) -> std::result::Result<u16, Work> {
-        let Some(item) = self.state.free.pop() else {
-            return Err(work);
-        };
-        self.state.slots[usize::from(item)] = Slot { work: Some(work), queue, ..Slot::default() };
-        Ok(item)
-    }
-
-    /// The last handle of the item was dropped.
-    pub(crate) fn orphan(&mut self, item: u16) -> Option<Work> {
-        self.state.slots[usize::from(item)].orphan = true;
-        self.state.release(item)
-    }
-
-    pub(crate) fn item(&mut self, item: u16) -> ItemState {
-        self.state.board.item(item)
-    }
 }
 
 /// Drops what users made, which may panic. The lock is not held.
 pub(crate) fn discard<T>(value: T) {
     let _ = catch_unwind(AssertUnwindSafe(|| drop(value)));
-}
-
-/// The error of a reply that says that nothing was done.
-fn told(reply: Reply) -> Result<Reply> {
-    Err(match reply.kind {
-        reply::FOREIGN => Error::Foreign,
-        reply::DRAINING => Error::Draining,
-        reply::GONE => Error::Gone,
-        reply::TIMERS => Error::Timers,
-        reply::CROWD => Error::TooManyWaits,
-        reply::MISUSE => Error::Invalid("a call of a run that sleeps"),
-        _ => return Ok(reply),
-    })
 }
 
 impl Hub {
@@ -341,15 +210,7 @@ impl Hub {
             closing: false,
             waits: 0,
             panics: 0,
-            journal: Journal {
-                writes,
-                armed: !writes,
-                over: false,
-                most: u64::from(most),
-                next: u64::from(most),
-                spare: Vec::new(),
-                full: VecDeque::new(),
-            },
+            journal: Journal::new(writes, most),
         };
         Hub {
             state: Mutex::new(state),
@@ -407,35 +268,6 @@ impl Hub {
 
     pub(crate) fn is_in_run(&self) -> bool {
         self.who(true).kind != CALLER
-    }
-
-    /// A call of one entry that no item needs.
-    pub(crate) fn call(&self, kind: u8, queue: u8, number: u32) -> Result<Reply> {
-        let call = Call { kind, queue, number, ..Call::default() };
-        let reply = self.hold().make(|board, wakes| board.call(&call, wakes))?;
-        told(reply)
-    }
-
-    pub(crate) fn cancel(&self, item: u16) -> Result<bool> {
-        let call = Call { kind: call::CANCEL, item, who: self.who(false), ..Call::default() };
-        let reply = self.hold().make(|board, wakes| board.call(&call, wakes))?;
-        told(reply).map(|reply| reply.kind != reply::NO)
-    }
-
-    /// Delays an item until this time has passed. The board's time is brought up before.
-    pub(crate) fn delay(&self, kind: u8, item: u16, queue: u8, cpu: u8, delay: Duration) -> Result<Reply> {
-        let mut call = Call { kind, item, queue, cpu, who: self.who(false), ..Call::default() };
-        let (now, due) = self.ticks(delay);
-        let mut hold = self.hold();
-        if !delay.is_zero() {
-            let mut time = hold.state.board.time();
-            if now > time {
-                time = hold.advance(now)?;
-            }
-            let ticks = due.saturating_sub(time).max(1);
-            call.number = u32::try_from(ticks).map_err(|_| Error::Invalid("the delay"))?;
-        }
-        hold.queue(&call)
     }
 
     /// A call that waits. Returns the reply with which it began.
@@ -550,115 +382,24 @@ impl Hub {
         blocks()
     }
 
-    // ---- time ----
-
-    /// The tick that has begun last, and the first that begins after this time.
-    fn ticks(&self, later: Duration) -> (u64, u64) {
-        let (now, tick) = (self.begun.elapsed(), self.tick.as_nanos());
-        let due = now.saturating_add(later).as_nanos().div_ceil(tick);
-        ((now.as_nanos() / tick) as u64, u64::try_from(due).unwrap_or(u64::MAX))
-    }
-
-    /// What the clock's thread does.
-    pub(crate) fn keep_time(&self) {
-        loop {
-            let mut hold = self.hold();
-            if hold.state.closing {
-                return;
-            }
-            if hold.state.due == 0 {
-                hold.state.due = hold.state.board.due();
-            }
-            let (due, looks) = (hold.state.due, hold.state.left_drain);
-            let at = Duration::from_nanos(u64::try_from(u128::from(due) * self.tick.as_nanos()).unwrap_or(u64::MAX));
-            let left = at.saturating_sub(self.begun.elapsed());
-            if left.is_zero() {
-                hold.state.due = 0;
-                if hold.advance(self.ticks(Duration::ZERO).0.max(due)).is_err() {
-                    return; // there is no room for more time
-                }
-                continue;
-            }
-            let Hold { state, woken } = hold;
-            debug_assert!(woken.is_empty());
-            if due == u64::MAX && !looks {
-                drop(self.clock.wait(state));
-            } else {
-                let left = if looks { left.min(LOOKS) } else { left };
-                let waited = self.clock.wait_timeout(state, left).unwrap_or_else(PoisonError::into_inner);
-                let (mut state, _) = waited;
-                state.due = if looks { 0 } else { state.due };
-            }
-        }
-    }
-
-    // ---- the history ----
-
-    /// What the journal's thread does. After a fault of the writer the history is dropped.
-    pub(crate) fn keep_journal(&self, head: &[u8], writer: &mut dyn Write) -> io::Result<()> {
-        let written = self.write_all(head, writer);
-        let mut state = self.lock();
-        state.journal.writes = false;
-        state.journal.armed = true;
-        state.journal.full.clear();
-        self.space.notify_all();
-        written
-    }
-
-    fn write_all(&self, head: &[u8], writer: &mut dyn Write) -> io::Result<()> {
-        writer.write_all(head)?;
-        let mut text = vec![0; 1 << 16];
-        loop {
-            let mut state = self.lock();
-            while state.journal.full.is_empty() && !state.journal.over {
-                if !state.journal.armed {
-                    state = self.journal.wait(state).unwrap_or_else(PoisonError::into_inner);
-                    continue;
-                }
-                let waited = self.journal.wait_timeout(state, QUIET).unwrap_or_else(PoisonError::into_inner);
-                state = waited.0;
-                if waited.1.timed_out() && state.journal.full.is_empty() {
-                    state.hand_out();
-                    state.journal.armed = false;
-                }
-            }
-            let Some(mut lines) = state.journal.full.pop_front() else {
-                writeln!(writer, "end {}", state.board.len())?;
-                return writer.flush();
-            };
-            let is_last = state.journal.full.is_empty();
-            drop(state);
-            loop {
-                match lines.write(&mut text) {
-                    Ok(len) if len > 0 => writer.write_all(&text[..len])?,
-                    _ => break,
-                }
-            }
-            if is_last {
-                writer.flush()?;
-            }
-            self.lock().journal.spare.push(lines);
-            self.space.notify_all();
-        }
-    }
-
     // ---- the end ----
 
     /// Takes no more work, lets frozen queues go on, and takes back what is delayed.
     pub(crate) fn stop(&self) {
         let mut hold = self.hold();
-        let mut cancel = Call { kind: call::CANCEL, ..Call::default() };
-        let thaw = Call { kind: call::THAW, ..Call::default() };
-        let _ = hold.make(|board, wakes| board.call(&thaw, wakes));
-        for item in 0..self.shape.items {
-            if hold.state.board.item(item).pending == PENDING_TIMER {
-                cancel.item = item;
-                let _ = hold.make(|board, wakes| board.call(&cancel, wakes));
-            }
-        }
-        let _ = hold.make(Board::stop);
         hold.state.closing = true;
         hold.woken.clock = true;
+        for item in 0..self.shape.items {
+            if hold.state.board.item(item).pending == PENDING_TIMER {
+                let cancel = Call { kind: call::CANCEL, item, ..Call::default() };
+                let _ = hold.make(|board, wakes| board.call(&cancel, wakes));
+                drop(hold);
+                hold = self.hold();
+            }
+        }
+        let thaw = Call { kind: call::THAW, ..Call::default() };
+        let _ = hold.make(|board, wakes| board.call(&thaw, wakes));
+        let _ = hold.make(Board::stop);
     }
 
     /// Nobody makes an entry any more, once all workers have ended. Returns the work functions, and how many have

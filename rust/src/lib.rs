@@ -12,8 +12,8 @@
 //! # fn main() -> cmwq::Result<()> {
 //! let workqueues = Workqueues::builder().cpus(2).workers(4).queue("disk", max_active(2)).build()?;
 //! let disk = workqueues.queue("disk")?;
-//! let mut lines = 0;
-//! let write = disk.item(move |_run| lines += 1)?; // FnMut: at most one run at a time
+//! let mut lines = Vec::new();
+//! let write = disk.item(move |_run| lines.push("a line"))?; // FnMut: at most one run at a time
 //! write.queue()?;
 //! disk.flush()?; // what was queued has ended
 //! write.queue_delayed(Duration::from_secs(60))?;
