@@ -4,6 +4,7 @@ import glob
 import io
 import os
 import random
+import signal
 import sys
 import threading
 import time
@@ -169,6 +170,29 @@ class Hubs(Case):
             self.assertTrue(delayed.queue_delayed(0.01))
             while delayed.pending:
                 time.sleep(0.001)
+        judged(self.text)
+
+    def test_a_wait_that_is_interrupted(self):
+        class Interrupt(Exception):
+            pass
+
+        def interrupt(*_):
+            raise Interrupt
+
+        before = signal.signal(signal.SIGALRM, interrupt)
+        try:
+            with self.hub(waits=3) as hub:
+                gate = Gate()
+                item = hub.item(gate)
+                item.queue()
+                for call in (hub.flush, item.flush):
+                    signal.setitimer(signal.ITIMER_REAL, 0.02)
+                    self.assertRaises(Interrupt, call)
+                gate.go.release()
+                item.flush(timeout=10)
+                hub.drain(timeout=10)
+        finally:
+            signal.signal(signal.SIGALRM, before)
         judged(self.text)
 
     def test_waits_of_runs(self):

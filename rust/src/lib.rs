@@ -52,6 +52,7 @@ use hub::{discard, Hub, Work};
 use std::fmt;
 use std::io::{self, Write};
 use std::marker::PhantomData;
+use std::mem::ManuallyDrop;
 use std::sync::Arc;
 use std::thread::{self, JoinHandle};
 use std::time::Duration;
@@ -143,6 +144,7 @@ impl QueueOptions {
 }
 
 /// Makes [`Workqueues`].
+#[must_use]
 pub struct Builder {
     shape: Shape,
     waits: u8,
@@ -356,14 +358,15 @@ impl Drop for Workqueues {
             return;
         }
         self.hub.stop();
-        let mut rest = Workqueues {
+        // where no thread can be started for it, the threads are never joined
+        let rest = ManuallyDrop::new(Workqueues {
             hub: self.hub.clone(),
             names: Vec::new(),
             workers: std::mem::take(&mut self.workers),
             clock: self.clock.take(),
             journal: self.journal.take(),
-        };
-        let _ = spawn("cmwq end", move || rest.end());
+        });
+        let _ = spawn("cmwq end", move || ManuallyDrop::into_inner(rest).end());
     }
 }
 

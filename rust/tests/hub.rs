@@ -255,6 +255,29 @@ fn a_writer_that_fails() -> Result<()> {
 }
 
 #[test]
+fn a_writer_that_panics() -> Result<()> {
+    let _dog = watchdog();
+    struct Bad;
+    impl Write for Bad {
+        fn write(&mut self, _: &[u8]) -> io::Result<usize> {
+            panic!("on purpose")
+        }
+        fn flush(&mut self) -> io::Result<()> {
+            Ok(())
+        }
+    }
+    let all = Workqueues::builder().queue("a", max_active(1)).keep(16).history(Bad).build()?;
+    let queue = all.queue("a")?;
+    let item = queue.item(|_| {})?;
+    for _ in 0..1000 {
+        item.queue()?;
+        queue.flush()?;
+    }
+    assert!(matches!(all.shutdown(), Err(Error::History(_))));
+    Ok(())
+}
+
+#[test]
 fn room_that_ends() -> Result<()> {
     let _dog = watchdog();
     let text = Text::default();

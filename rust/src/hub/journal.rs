@@ -3,6 +3,7 @@ use super::{Hub, State};
 use crate::ffi::Lines;
 use std::collections::VecDeque;
 use std::io::{self, Write};
+use std::panic::{catch_unwind, AssertUnwindSafe};
 use std::sync::PoisonError;
 use std::time::Duration;
 
@@ -59,13 +60,13 @@ impl State {
 impl Hub {
     /// What the journal's thread does. After a fault of the writer the history is dropped.
     pub(crate) fn keep_journal(&self, head: &[u8], writer: &mut dyn Write) -> io::Result<()> {
-        let written = self.write_all(head, writer);
+        let written = catch_unwind(AssertUnwindSafe(|| self.write_all(head, writer)));
         let mut state = self.lock();
         state.journal.writes = false;
         state.journal.armed = true;
         state.journal.full.clear();
         self.space.notify_all();
-        written
+        written.unwrap_or_else(|_| Err(io::Error::other("the writer has panicked")))
     }
 
     fn write_all(&self, head: &[u8], writer: &mut dyn Write) -> io::Result<()> {
