@@ -624,6 +624,14 @@ impl Item {
         self.wait(call::FLUSH_DELAYED, None)
     }
 
+    /// As [`flush_delayed`](Item::flush_delayed), for at most this time.
+    ///
+    /// # Errors
+    /// Also [`Error::TimedOut`]. In a work function [`Error::TimeoutInRun`].
+    pub fn flush_delayed_timeout(&self, timeout: Duration) -> Result<bool> {
+        self.wait(call::FLUSH_DELAYED, Some(timeout))
+    }
+
     /// Whether the item is delayed, or queued and not started. (`work_pending()`)
     pub fn is_pending(&self) -> bool {
         self.0.hub.hold().item(self.0.number).pending != 0
