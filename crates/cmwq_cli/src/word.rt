@@ -379,7 +379,7 @@ fn program<'a>(alloc: Global) -> Command<'a>
     ensures { app_of result ≡ without_words }
 {
     Command::new(alloc, "cmwq")
-        .version("0.1.0")
+        .version("1.0.0")
         .about("A concurrency managed workqueue runtime")
         .subcommand_required(true)
 }

@@ -227,5 +227,5 @@ fn help_and_the_version_are_shown(rt: HostRuntime) {
         assert!(rt; all.as_str().contains(listed.as_str()), "{all}");
     }
     let (version, is_error) = said(&rt, &["cmwq", "--version"]);
-    assert_eq!(rt; (version.as_str(), is_error), ("cmwq 0.1.0\n", false));
+    assert_eq!(rt; (version.as_str(), is_error), ("cmwq 1.0.0\n", false));
 }

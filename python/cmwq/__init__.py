@@ -1,0 +1,27 @@
+"""Workqueues with threads, as Linux has them: items of work that run one at a time each, queues that limit how many are
+active, delays, and flushes and cancellations that wait.
+
+A CPU's pool runs one awake run of a plain queue at a time. So `workers=4` runs four items at once only if their queue
+is CPU intensive, if they are on several CPUs, or if runs sleep, which they do in calls that wait and in `Run.block`.
+
+    import cmwq
+    with cmwq.Hub(workers=4) as hub:
+        item = hub.item(lambda run: print("runs"))  # at most one run at a time
+        item.queue()
+        hub.flush(timeout=1)                        # what was queued has ended
+        item.queue_delayed(60)
+        item.cancel_sync()                          # neither pending nor running
+
+Calls in a work function are calls of its run, by whatever handle. A run that waits sleeps meanwhile. A wait of a run
+that could never end raises Itself or Deadlock. Every exception of this package is an Error.
+"""
+from ._book import Book, Refused, Shape, check
+from ._errors import (Closed, Deadlock, Draining, Error, Foreign, Full, Gone, HistoryError, Invalid, Itself, NoItem,
+                      NoMemory, NotAHistory, TimedOut, TimeoutInRun, Timers, TooManyWaits, VersionMismatch, WorkError)
+from ._hub import Block, Hub, Item, Queue, QueueOptions, Run, max_active
+from ._library import VERSION as __version__
+
+__all__ = ["Block", "Book", "Closed", "Deadlock", "Draining", "Error", "Foreign", "Full", "Gone", "HistoryError", "Hub",
+           "Invalid", "Item", "Itself", "NoItem", "NoMemory", "NotAHistory", "Queue", "QueueOptions", "Refused", "Run",
+           "Shape", "TimedOut", "TimeoutInRun", "Timers", "TooManyWaits", "VersionMismatch", "WorkError", "__version__",
+           "check", "max_active"]

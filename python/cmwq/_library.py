@@ -1,0 +1,149 @@
+"""The calls of cmwq.h, by ctypes."""
+import ctypes
+import os
+import struct
+from typing import Any, Tuple
+
+from . import _errors as errors
+
+VERSION = "1.0.0"
+
+# the numbers of cmwq.h
+OK, REFUSED, CLOSED, FULL, NO_MEMORY, SHORT, CROWDED, ILLEGAL, STOPPED, FAILED, NOT_NOW = range(11)
+ITSELF, DEADLOCK, NO_CALLER, WAITS, RESTS, OVER, LOOK_AGAIN = range(11, 18)
+(QUEUE, DELAY, MODIFY, CANCEL, TICK, FIRE, FLUSH, DRAIN, FLUSH_ITEM, FLUSH_DELAYED, CANCEL_SYNC, END, TAKE, FINISH,
+ SLEEP, WAKE, RETIRE, SET_MAX, FREEZE, THAW, DESTROY) = range(21)
+(YES, BOOKED, AGAIN, REBOOKED, NO, FOREIGN, DRAINING, MISUSE, CANCELLED, UNBOOKED, NOW, FIRED, NOTHING, TICKET,
+ TICKET_QUEUED, TICKET_CANCELLED, TICKET_UNBOOKED, TICKET_NO, IDLE, CROWD, DONE, WAITING, STARTED, STARTED_ENLIST, HELD,
+ FINISHED, SLEPT, WOKE, RETIRED, KEPT, WIDTH, FROZEN, THAWED, GONE, TIMERS) = range(35)
+CALLER, WORKER, HIGH_WORKER = range(3)
+PENDING_TIMER, NOBODY, LINE, NEVER = 1, 255, 256, 2 ** 64 - 1
+
+FAULTS = {FULL: errors.Full, NO_MEMORY: errors.NoMemory, STOPPED: errors.Closed, FAILED: errors.Closed,
+          OVER: errors.Closed, ITSELF: errors.Itself, DEADLOCK: errors.Deadlock, NO_CALLER: errors.TooManyWaits}
+
+REFUSALS = {FOREIGN: errors.Foreign, DRAINING: errors.Draining, GONE: errors.Gone, TIMERS: errors.Timers,
+            CROWD: errors.TooManyWaits, MISUSE: errors.Invalid}
+
+
+class Handle(ctypes.Structure):
+    _fields_ = [("at", ctypes.c_void_p), ("live", ctypes.c_bool)]
+
+
+class Shape(ctypes.Structure):
+    """The counts of a `Book`: `room` entries at most of which `keep` are kept, `items`, `cpus`, `workers` in each of a
+    CPU's two pools, and `callers`."""
+    _fields_ = [("room", ctypes.c_uint64), ("keep", ctypes.c_uint32), ("items", ctypes.c_uint16),
+                ("cpus", ctypes.c_uint8), ("workers", ctypes.c_uint8), ("callers", ctypes.c_uint8)]
+
+
+class QueueShape(ctypes.Structure):
+    _fields_ = [("max_active", ctypes.c_uint16), ("high", ctypes.c_uint8), ("intensive", ctypes.c_uint8),
+                ("freezable", ctypes.c_uint8)]
+
+
+class ItemState(ctypes.Structure):
+    _fields_ = [("number", ctypes.c_uint64), ("run", ctypes.c_uint64), ("pending", ctypes.c_uint8),
+                ("queue", ctypes.c_uint8), ("cpu", ctypes.c_uint8), ("runs", ctypes.c_uint8),
+                ("worker", ctypes.c_uint8 * 3)]
+
+
+class Buffer:
+    """A struct of C, by its format."""
+
+    def __init__(self, form: str, size: int) -> None:
+        self.bytes = ctypes.create_string_buffer(b"\xff" * size, size)
+        self.at = ctypes.addressof(self.bytes)
+        self._struct = struct.Struct(form)
+
+    def set(self, *values: int) -> int:
+        self._struct.pack_into(self.bytes, 0, *values)
+        return self.at
+
+    def get(self) -> Tuple[Any, ...]:
+        return self._struct.unpack_from(self.bytes, 0)
+
+
+def call_buffer() -> Buffer:
+    """ticket, number, item, kind, queue, cpu, and who: kind, index, cpu"""
+    return Buffer("<QIHBBBBBBxxxx", 24)
+
+
+def reply_buffer() -> Buffer:
+    """number, other, item, kind"""
+    return Buffer("<QQHB", 24)
+
+
+def wakes_buffer() -> Buffer:
+    return Buffer("<34B", 34)
+
+
+def _path() -> str:
+    here = os.path.dirname(os.path.abspath(__file__))
+    repository = os.path.dirname(os.path.dirname(here))
+    given = os.environ.get("CMWQ_LIB")
+    folders = [given] if given else [here, f"{repository}/dist/x86_64-linux-gnu", f"{repository}/build/c"]
+    return next((it for it in (f"{folder}/libcmwq.so" for folder in folders) if os.path.exists(it)),
+                f"{folders[0]}/libcmwq.so")
+
+
+# Its calls are short and never wait, so they keep the interpreter's lock. To let it go would take longer.
+lib = ctypes.PyDLL(_path())
+
+# That of a long history lets it go.
+judging = ctypes.CDLL(_path())
+
+_AT, _U8, _U16, _U32, _U64, _SIZE = (ctypes.c_void_p, ctypes.c_uint8, ctypes.c_uint16, ctypes.c_uint32, ctypes.c_uint64,
+                                     ctypes.c_size_t)
+
+_CALLS = {
+    "version": (_U32,),
+    "open": (_U32, _AT, _AT, _AT, _SIZE), "close": (None, _AT), "ready": (ctypes.c_bool, _AT, _U64),
+    "step_line": (_U32, _AT, ctypes.c_char_p, _SIZE, _AT, _SIZE, _AT), "len": (_U64, _AT), "forget": (_U32, _AT),
+    "head": (_U32, _AT, _AT, _SIZE, _AT, _SIZE, _AT),
+    "board_open": (_U32, _AT, _AT, _AT, _SIZE, _U8), "board_close": (None, _AT),
+    "board_call": (_U32, _AT, _AT, _AT, _AT), "board_start": (_U32, _AT, _AT, _AT, _AT, _AT),
+    "board_finish": (_U32, _AT, _AT, _AT), "board_begin": (_U32, _AT, _AT, _AT, _AT, _AT),
+    "board_end": (_U32, _AT, _U8, _AT), "board_leave": (_U32, _AT, _U8, _AT),
+    "board_advance": (_U32, _AT, _U8, _U32, _AT, _AT), "board_time": (_U64, _AT), "board_due": (_U64, _AT),
+    "board_item": (_U32, _AT, _U16, _AT), "board_stop": (_U32, _AT, _AT), "board_fail": (_U32, _AT, _AT),
+    "board_len": (_U64, _AT), "board_hand_out": (_U32, _AT, _AT),
+    "lines_open": (_U32, _AT, _AT), "lines_close": (None, _AT), "lines_write": (_U32, _AT, _AT, _SIZE, _AT),
+    "lines_forget": (_U32, _AT),
+}
+
+for _name, (_result, *_arguments) in _CALLS.items():
+    if not hasattr(lib, f"cmwq_{_name}"):
+        raise ImportError(f"{_path()} has no cmwq_{_name}(): it has another version than this package, {VERSION}")
+    _call = getattr(lib, f"cmwq_{_name}")
+    _call.restype, _call.argtypes = _result, _arguments
+judging.cmwq_check.restype = ctypes.c_uint32
+judging.cmwq_check.argtypes = [ctypes.c_char_p, _SIZE, _AT, _SIZE, _AT]
+
+
+def check_version() -> None:
+    """Raises unless the library is that of this package."""
+    major, minor, patch = map(int, VERSION.split("."))
+    number = lib.cmwq_version()
+    if number != major * 1000000 + minor * 1000 + patch:
+        found = f"{number // 1000000}.{number // 1000 % 1000}.{number % 1000}"
+        raise errors.VersionMismatch(f"libcmwq.so has version {found}, and this package needs {VERSION}")
+
+
+def done(status: int) -> None:
+    """Raises the exception of a status."""
+    if status:
+        raise FAULTS.get(status, errors.Invalid)(_text(FAULTS.get(status)))
+
+
+def told(kind: int) -> int:
+    """Raises the exception of a reply that says that nothing was done."""
+    if kind in REFUSALS:
+        raise REFUSALS[kind](_text(REFUSALS[kind]))
+    return kind
+
+
+def _text(kind: Any) -> str:
+    if kind is None or kind is errors.Invalid:
+        return "an argument is outside its limits"
+    return " ".join((kind.__doc__ or "").split()).split(". ")[0].rstrip(".")

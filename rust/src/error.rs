@@ -1,0 +1,114 @@
+use crate::ffi::{status, Fault};
+use std::{fmt, io};
+
+/// Why a call failed. A call that fails changes nothing, unless the error says otherwise.
+#[derive(Debug)]
+#[non_exhaustive]
+pub enum Error {
+    /// An argument is outside its limits. The text says which.
+    Invalid(&'static str),
+    /// There is no queue of this name.
+    NoQueue(String),
+    /// All items of the builder are in use.
+    NoItem,
+    /// There is no memory.
+    NoMemory,
+    /// A thread could not be started.
+    Thread(io::Error),
+    /// The linked library has another version than this crate.
+    Version {
+        /// The version of the library.
+        library: String,
+        /// The version of this crate.
+        expected: String,
+    },
+    /// The workqueues are shut down.
+    Closed,
+    /// The room for entries is used up.
+    Full,
+    /// The item runs on another queue.
+    Foreign,
+    /// The queue is being drained or destroyed.
+    Draining,
+    /// The queue is destroyed.
+    Gone,
+    /// An item is delayed on the queue, so the queue can't be destroyed.
+    Timers,
+    /// A work function would wait for its own run.
+    Itself,
+    /// A work function would wait for something that can't end before the work function itself.
+    Deadlock,
+    /// As many calls wait as may ([`Builder::waits`](crate::Builder::waits)).
+    TooManyWaits,
+    /// The time limit has passed. The wait has begun, and the library ends it later: until then a queue that is being
+    /// drained takes no work, and an item that is being cancelled can't be queued.
+    TimedOut,
+    /// A call in a work function can't have a time limit.
+    TimeoutInRun,
+    /// The item's work function has panicked.
+    Poisoned,
+    /// So many work functions have panicked. [`Workqueues::shutdown`](crate::Workqueues::shutdown) returns it.
+    Panicked(usize),
+    /// The history could not be written, and ends where that happened.
+    /// [`Workqueues::shutdown`](crate::Workqueues::shutdown) returns it.
+    History(io::Error),
+    /// The text is not a history.
+    NoHistory,
+}
+
+/// The result of a call.
+pub type Result<T> = std::result::Result<T, Error>;
+
+impl fmt::Display for Error {
+    fn fmt(&self, f: &mut fmt::Formatter<'_>) -> fmt::Result {
+        match self {
+            Error::Invalid(what) => write!(f, "outside its limits: {what}"),
+            Error::NoQueue(name) => write!(f, "there is no queue {name:?}"),
+            Error::NoItem => f.write_str("all items are in use"),
+            Error::NoMemory => f.write_str("out of memory"),
+            Error::Thread(why) => write!(f, "a thread could not be started: {why}"),
+            Error::Version { library, expected } => {
+                write!(f, "libcmwq_c.a has version {library}, and this crate needs {expected}")
+            }
+            Error::Closed => f.write_str("the workqueues are shut down"),
+            Error::Full => f.write_str("the room for entries is used up"),
+            Error::Foreign => f.write_str("the item runs on another queue"),
+            Error::Draining => f.write_str("the queue is being drained or destroyed"),
+            Error::Gone => f.write_str("the queue is destroyed"),
+            Error::Timers => f.write_str("an item is delayed on the queue"),
+            Error::Itself => f.write_str("a work function would wait for itself"),
+            Error::Deadlock => f.write_str("the wait could never end"),
+            Error::TooManyWaits => f.write_str("too many calls wait"),
+            Error::TimedOut => f.write_str("the time limit has passed"),
+            Error::TimeoutInRun => f.write_str("a wait in a work function can't have a time limit"),
+            Error::Poisoned => f.write_str("the item's work function has panicked"),
+            Error::Panicked(count) => write!(f, "work functions have panicked: {count}"),
+            Error::History(why) => write!(f, "the history could not be written: {why}"),
+            Error::NoHistory => f.write_str("the text is not a history"),
+        }
+    }
+}
+
+impl std::error::Error for Error {
+    fn source(&self) -> Option<&(dyn std::error::Error + 'static)> {
+        match self {
+            Error::Thread(why) | Error::History(why) => Some(why),
+            _ => None,
+        }
+    }
+}
+
+impl Error {
+    /// The error of a status of the library.
+    pub(crate) fn of(fault: Fault) -> Error {
+        match fault {
+            status::STOPPED | status::FAILED | status::OVER | status::CLOSED => Error::Closed,
+            status::FULL => Error::Full,
+            status::NO_MEMORY => Error::NoMemory,
+            status::ITSELF => Error::Itself,
+            status::DEADLOCK => Error::Deadlock,
+            status::NO_CALLER => Error::TooManyWaits,
+            _ => Error::Invalid("a number"),
+        }
+    }
+}
