@@ -5,3 +5,4 @@ pub mod StandIn
 pub mod Shown
 pub mod Meant
 pub mod Numbered
+pub mod AtEdges
