@@ -6,3 +6,6 @@ pub mod Shown
 pub mod Meant
 pub mod Numbered
 pub mod AtEdges
+pub mod ChartRows
+pub mod Once
+pub mod Charted

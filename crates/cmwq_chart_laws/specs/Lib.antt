@@ -1,3 +1,4 @@
 pub mod Drawn
 pub mod Standing
 pub mod Edges
+pub mod Charts

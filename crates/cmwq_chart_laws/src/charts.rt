@@ -1,0 +1,24 @@
+//! What `chart` draws of a legal history.
+
+ghost use Rattle.cmwq_chart_laws.specs.Charts.{ChartsAreOfParts, ChartsAreOfRows, SignsAreDrawn, StartsAreDrawn};
+
+/// The text of a chart is that of the picture of its figures.
+pub fn charts_are_of_parts()
+    ensures { ChartsAreOfParts }
+{}
+
+/// The rows of these figures have numbers in the ranges of their types, so the laws of pictures hold of charts.
+pub fn charts_are_of_rows()
+    ensures { ChartsAreOfRows }
+{}
+
+/// Each entry that starts a queueing has exactly one bar, in its worker's row, in each band that shows an entry from this
+/// one to that by which the worker finishes the queueing, or to the end, and in no other.
+pub fn starts_are_drawn()
+    ensures { StartsAreDrawn }
+{}
+
+/// Each entry that is shown, and whose reply has a kind of sign, has exactly one sign, in the row of who made it.
+pub fn signs_are_drawn()
+    ensures { SignsAreDrawn }
+{}
