@@ -9,3 +9,4 @@ pub mod AtEdges
 pub mod ChartRows
 pub mod Once
 pub mod Charted
+pub mod Causing

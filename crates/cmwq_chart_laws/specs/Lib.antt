@@ -2,3 +2,4 @@ pub mod Drawn
 pub mod Standing
 pub mod Edges
 pub mod Charts
+pub mod Causes

@@ -1,5 +1,6 @@
 //! What `chart` draws of a legal history.
 
+ghost use Rattle.cmwq_chart_laws.specs.Causes.{NothingElseIsCharted};
 ghost use Rattle.cmwq_chart_laws.specs.Charts.{ChartsAreOfParts, ChartsAreOfRows, SignsAreDrawn, StartsAreDrawn};
 
 /// The text of a chart is that of the picture of its figures.
@@ -21,4 +22,10 @@ pub fn starts_are_drawn()
 /// Each entry that is shown, and whose reply has a kind of sign, has exactly one sign, in the row of who made it.
 pub fn signs_are_drawn()
     ensures { SignsAreDrawn }
+{}
+
+/// Each figure of a chart is of entries of its history, at its places and by who its row names: a bar of a start and a
+/// finish, a sleep, a wait or a mark of theirs, and a level is true after each entry that it covers.
+pub fn nothing_else_is_charted()
+    ensures { NothingElseIsCharted }
 {}
