@@ -188,10 +188,10 @@ sleeps_caused past w =
 
 -- ---- waits
 
-abbrev GivesTicket : Entry → Type 0
+abbrev pub GivesTicket : Entry → Type 0
 GivesTicket e = gives_ticket e.reply ≡ true
 
-abbrev EndsIt : ℕ → Entry → Type 0
+abbrev pub EndsIt : ℕ → Entry → Type 0
 EndsIt from e = (e.call ≡ call.End from) × (e.reply ≡ reply.Done)
 
 -- a ticket that waits in a row was given to the caller
@@ -246,14 +246,14 @@ rows_caused (e ∷ past) c =
     by all false is = all
 
 -- the ticket in a row is one that waits there, and in the row of a ticket it is that ticket
-in_row : (P : Option ℕ → Type 0) (rows : List (Option ℕ)) (row : ℕ) → AllByRecursion P rows
+pub in_row : (P : Option ℕ → Type 0) (rows : List (Option ℕ)) (row : ℕ) → AllByRecursion P rows
     → IfSome (ticket_in_row rows row) (λ t. P (Some t))
 in_row P [] row all = tt
 in_row P (None ∷ rows) zero all = tt
 in_row P (Some t ∷ rows) zero all = all.0
 in_row P (r ∷ rows) (suc row) all = in_row P rows row all.1
 
-its_row : (rows : List (Option ℕ)) (t : ℕ) → IfSome (ticket_in_row rows (ticket_row rows t)) (λ u. u ≡ t)
+pub its_row : (rows : List (Option ℕ)) (t : ℕ) → IfSome (ticket_in_row rows (ticket_row rows t)) (λ u. u ≡ t)
 unfolding ticket_row
 its_row [] t = tt
 its_row (r ∷ rows) t = by r (is_at r t) refl (its_row rows t)
@@ -283,7 +283,7 @@ is_ended e t h = by (is_done e.reply) refl h
     by true is k = (asked_is e.call t k, done_is e.reply is)
     by false is k = cc
 
-abbrev IsWaitOf : List Entry → CallerWait → Type 0
+abbrev pub IsWaitOf : List Entry → CallerWait → Type 0
 IsWaitOf past x = HasEntryBy past x.from (Caller x.caller) GivesTicket
     × IfSome x.to (λ last. HasEntryBy past last (Caller x.caller) (EndsIt x.from))
 
@@ -325,7 +325,7 @@ waits_ended_caused (e ∷ past) c =
         (in_row (IsRowOf past c) (wait_rows past c) (ticket_row (wait_rows past c) t) (rows_caused past c))
     by false is o done = tt
 
-waits_caused : (past : List Entry) (c : CallerId) → AllByRecursion (IsWaitOf past) (waits_by past c)
+pub waits_caused : (past : List Entry) (c : CallerId) → AllByRecursion (IsWaitOf past) (waits_by past c)
 unfolding waits_by
 waits_caused past c =
     All_append (IsWaitOf past) (waits_ended past c) (waits_left (wait_rows past c) c) (waits_ended_caused past c)

@@ -69,6 +69,44 @@ limits s h =
       queues = at_most 1 255 (length s.queues) d;
     }
 
+-- ---- what holds of a caller holds of the caller of each of its waits
+
+waits_ended_rows : (P : CallerId → Type 0) (past : List Entry) (c : CallerId) → P c
+    → AllByRecursion (λ (x : CallerWait). P x.caller) (waits_ended past c)
+unfolding waits_ended
+waits_ended_rows P [] c is = tt
+waits_ended_rows P (e ∷ past) c is =
+    All_append (λ (x : CallerWait). P x.caller) (waits_ended past c) (option_to_list (wait_ended past e c))
+    (waits_ended_rows P past c is) (here (is_by (Caller c) e) (number_done e))
+  where
+    over : (row : ℕ) (o : Option ℕ) → AllByRecursion (λ (x : CallerWait). P x.caller)
+        (option_to_list (option_map (wait_in c row (Some (length past))) o))
+    over row None = tt
+    over row (Some from) = (is, tt)
+
+    here : (b : Bool) (o : Option ℕ) → AllByRecursion (λ (x : CallerWait). P x.caller)
+        (option_to_list (if b then option_and_then
+        (λ t. wait_over (wait_rows past c) c (length past) (ticket_row (wait_rows past c) t)) o else None))
+    here true None = tt
+    here true (Some t) =
+        over (ticket_row (wait_rows past c) t)
+        (ticket_in_row (wait_rows past c) (ticket_row (wait_rows past c) t))
+    here false o = tt
+
+pub waits_rows : (P : CallerId → Type 0) (past : List Entry) (c : CallerId) → P c
+    → AllByRecursion (λ (x : CallerWait). P x.caller) (waits_by past c)
+unfolding waits_by
+waits_rows P past c is =
+    All_append (λ (x : CallerWait). P x.caller) (waits_ended past c) (waits_left (wait_rows past c) c)
+    (waits_ended_rows P past c is)
+    (All_flat (λ (x : CallerWait). P x.caller) (wait_left (wait_rows past c) c)
+    (range_with_len 0 (length (wait_rows past c))) (λ row. left row (ticket_in_row (wait_rows past c) row)))
+  where
+    left : (row : ℕ) (o : Option ℕ) → AllByRecursion (λ (x : CallerWait). P x.caller)
+        (option_to_list (option_map (wait_in c row None) o))
+    left row None = tt
+    left row (Some from) = (is, tt)
+
 module _ (s : Layout) (few : Limits s) where
   -- ---- who made an entry
 
@@ -191,42 +229,6 @@ module _ (s : Layout) (few : Limits s) where
       (All_map (λ i. (0 ≤ i) × (i < 0 + s.callers)) (λ i. IsCallerRow (caller_of_number i)) (range_with_len 0 s.callers)
       (λ i h. let less = h.1 in let most = few.callers in omega arith) (range_in_it 0 s.callers)))
 
-  waits_ended_rows : (past : List Entry) (c : CallerId) → IsCallerRow c
-      → AllByRecursion (λ (x : CallerWait). IsCallerRow x.caller) (waits_ended past c)
-  unfolding waits_ended
-  waits_ended_rows [] c is = tt
-  waits_ended_rows (e ∷ past) c is =
-      All_append (λ (x : CallerWait). IsCallerRow x.caller) (waits_ended past c) (option_to_list (wait_ended past e c))
-      (waits_ended_rows past c is) (here (is_by (Caller c) e) (number_done e))
-    where
-      over : (row : ℕ) (o : Option ℕ) → AllByRecursion (λ (x : CallerWait). IsCallerRow x.caller)
-          (option_to_list (option_map (wait_in c row (Some (length past))) o))
-      over row None = tt
-      over row (Some from) = (is, tt)
-
-      here : (b : Bool) (o : Option ℕ) → AllByRecursion (λ (x : CallerWait). IsCallerRow x.caller)
-          (option_to_list (if b then option_and_then
-          (λ t. wait_over (wait_rows past c) c (length past) (ticket_row (wait_rows past c) t)) o else None))
-      here true None = tt
-      here true (Some t) =
-          over (ticket_row (wait_rows past c) t)
-          (ticket_in_row (wait_rows past c) (ticket_row (wait_rows past c) t))
-      here false o = tt
-
-  waits_rows : (past : List Entry) (c : CallerId) → IsCallerRow c
-      → AllByRecursion (λ (x : CallerWait). IsCallerRow x.caller) (waits_by past c)
-  unfolding waits_by
-  waits_rows past c is =
-      All_append (λ (x : CallerWait). IsCallerRow x.caller) (waits_ended past c) (waits_left (wait_rows past c) c)
-      (waits_ended_rows past c is)
-      (All_flat (λ (x : CallerWait). IsCallerRow x.caller) (wait_left (wait_rows past c) c)
-      (range_with_len 0 (length (wait_rows past c))) (λ row. left row (ticket_in_row (wait_rows past c) row)))
-    where
-      left : (row : ℕ) (o : Option ℕ) → AllByRecursion (λ (x : CallerWait). IsCallerRow x.caller)
-          (option_to_list (option_map (wait_in c row None) o))
-      left row None = tt
-      left row (Some from) = (is, tt)
-
   wait_signs_rows : (past : List Entry) (c : CallerId) → IsCallerRow c
       → AllByRecursion (λ (x : WaitSign). IsCallerRow x.caller) (wait_signs_by past c)
   unfolding wait_signs_by
@@ -319,7 +321,7 @@ module _ (s : Layout) (few : Limits s) where
       (All_append P (map figure.Wait ws ++ map figure.WaitSign wss) (map figure.Bar bs)
       (All_append P (map figure.Wait ws) (map figure.WaitSign wss)
       (all_mapped figure.Wait P ws
-      (of_callers (λ (x : CallerWait). IsCallerRow x.caller) (waits_by past) entries (waits_rows past)))
+      (of_callers (λ (x : CallerWait). IsCallerRow x.caller) (waits_by past) entries (waits_rows IsCallerRow past)))
       (all_mapped figure.WaitSign P wss
       (of_callers (λ (x : WaitSign). IsCallerRow x.caller) (wait_signs_by past) entries (wait_signs_rows past))))
       (all_mapped figure.Bar P bs (bars_rows past past legal)))

@@ -10,3 +10,5 @@ pub mod ChartRows
 pub mod Once
 pub mod Charted
 pub mod Causing
+pub mod Tickets
+pub mod WaitsDrawn

@@ -3,3 +3,4 @@ pub mod Standing
 pub mod Edges
 pub mod Charts
 pub mod Causes
+pub mod Waits

@@ -2,6 +2,7 @@
 
 ghost use Rattle.cmwq_chart_laws.specs.Causes.{NothingElseIsCharted};
 ghost use Rattle.cmwq_chart_laws.specs.Charts.{ChartsAreOfParts, ChartsAreOfRows, SignsAreDrawn, StartsAreDrawn};
+ghost use Rattle.cmwq_chart_laws.specs.Waits.{TicketsAreDrawn};
 
 /// The text of a chart is that of the picture of its figures.
 pub fn charts_are_of_parts()
@@ -28,4 +29,10 @@ pub fn signs_are_drawn()
 /// finish, a sleep, a wait or a mark of theirs, and a level is true after each entry that it covers.
 pub fn nothing_else_is_charted()
     ensures { NothingElseIsCharted }
+{}
+
+/// Each entry that gives a ticket has exactly one wait, in its caller's row, in each band that shows an entry from this
+/// one to that by which the wait is done, or to the end if none is, and in no other.
+pub fn tickets_are_drawn()
+    ensures { TicketsAreDrawn }
 {}
