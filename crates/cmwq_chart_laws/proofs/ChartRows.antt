@@ -47,16 +47,16 @@ use Rattle.cmwq_chart_laws.proofs.Rows.{All_flat_map}
 
 -- ---- the numbers of a shape
 
-record Limits (s : Layout) : Type 0 where
-  cpus : s.cpus ≤ 64
-  workers : s.workers ≤ 64
-  callers : s.callers ≤ 255
-  queues : length s.queues ≤ 255
+pub record Limits (s : Layout) : Type 0 where
+  pub cpus : s.cpus ≤ 64
+  pub workers : s.workers ≤ 64
+  pub callers : s.callers ≤ 255
+  pub queues : length s.queues ≤ 255
 
 at_most : (low high n : ℕ) → is_between low high n ≡ true → n ≤ high
 at_most low high n h = leb-true n high (and_parts (nat_le low n) (nat_le n high) h).1
 
-limits : (s : Layout) → IsTrue (is_layout s) → Limits s
+pub limits : (s : Layout) → IsTrue (is_layout s) → Limits s
 limits s h =
     let a : is_between 1 64 s.cpus ≡ true = grind (arith, h) in
     let b : is_between 1 64 s.workers ≡ true = grind (arith, h) in
@@ -262,10 +262,10 @@ module _ (s : Layout) (few : Limits s) where
 
   -- ---- places
 
-  abbrev IsPlaceRow : Place → Type 0
+  abbrev pub IsPlaceRow : Place → Type 0
   IsPlaceRow p = (p.queue.0 < 256) × (p.cpu.0 < 256)
 
-  places_rows : (entries : List Entry) → AllByRecursion IsPlaceRow (places_in s entries)
+  pub places_rows : (entries : List Entry) → AllByRecursion IsPlaceRow (places_in s entries)
   unfolding places_of
   places_rows entries =
       all_kept IsPlaceRow (has_queueings (queueings (past_of entries))) (all_places s)
@@ -294,7 +294,7 @@ module _ (s : Layout) (few : Limits s) where
       here p is true = (is, tt)
       here p is false = tt
 
-  levels_rows : (past : List Entry) (places : List Place) → AllByRecursion IsPlaceRow places
+  pub levels_rows : (past : List Entry) (places : List Place) → AllByRecursion IsPlaceRow places
       → AllByRecursion (λ (l : Level). IsPlaceRow l.place) (levels_of s past places)
   levels_rows past places are =
       All_append (λ (l : Level). IsPlaceRow l.place) (levels_ended s past places) (levels_left s past places)

@@ -12,3 +12,4 @@ pub mod Charted
 pub mod Causing
 pub mod Tickets
 pub mod WaitsDrawn
+pub mod LevelsDrawn

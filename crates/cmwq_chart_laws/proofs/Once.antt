@@ -190,3 +190,11 @@ module _ (test : Figure → Bool) (ws : List CallerWait) (wss : List WaitSign) (
       → filter test (figures_of ws wss bs ss gs ls) ≡ figure.Sleep x ∷ []
   one_sleep x is a b c e f =
       kinds [] [] [] (x ∷ []) [] [] (no_waits a) (no_wait_signs b) (no_bars c) is (no_signs e) (no_levels f)
+
+  pub only_levels : ((y : CallerWait) → test (figure.Wait y) ≡ false)
+      → ((y : WaitSign) → test (figure.WaitSign y) ≡ false) → ((y : Bar) → test (figure.Bar y) ≡ false)
+      → ((y : Sleep) → test (figure.Sleep y) ≡ false) → ((y : Sign) → test (figure.Sign y) ≡ false)
+      → filter test (figures_of ws wss bs ss gs ls) ≡ map figure.Level (filter (λ y. test (figure.Level y)) ls)
+  only_levels a b c d e =
+      kinds [] [] [] [] [] (filter (λ y. test (figure.Level y)) ls) (no_waits a) (no_wait_signs b) (no_bars c)
+      (no_sleeps d) (no_signs e) refl

@@ -5,7 +5,7 @@ use Rattle.std.proofs.Common.{arith, suc-mul, add-one, le-leb, lt-ltb, leb-true,
 use Rattle.std.proofs.Common.{eq-eqb}
 use Rattle.std.specs.Prelude.{if◌then◌else◌}
 use Rattle.std.specs.Option.{option_map_or}
-use Rattle.std.proofs.lemmas.Bool.{and_parts, or_cases}
+use Rattle.std.proofs.lemmas.Bool.{and_parts, cases_eq, or_cases}
 use Rattle.std.proofs.lemmas.Nat.{le-div}
 use Rattle.cmwq_lemmas.proofs.Truth.{or_true}
 use Rattle.std.proofs.Math.Nat.{div-mul-le_self, lt-div-mul-add, div-eq_of_lt-le, le-div_iff_mul-le}
@@ -239,6 +239,46 @@ module _ (p : Page) (f : Figure) where
       let h = has_entry (bands_behind p f - 1) (omega arith) (omega arith) in
       let k = last (bands_behind p f - 1) h in
       inr (omega arith)
+
+  -- where it is flat and stands in a band between others, it has all entries of the band
+  pub between_ends : (band at : ℕ) → is_flat f ≡ true → stands_in p band f ≡ false → HasEntryIn p f band
+      → IsShownIn p band at → (figure_from f ≤ at) × IfSome (figure_to f) (λ last. at ≤ last)
+  between_ends band at flat none h is =
+      let k = entry_between band h in
+      let later : first_band p f < band = by_order (first_band p f) band k.0
+      (λ same. clash (flat_stands band flat k.0 k.1 (inl (sym same)))) in
+      let earlier : band + 1 < bands_behind p f = by_order (band + 1) (bands_behind p f) (let m = k.1 in omega arith)
+      (λ same. clash (flat_stands band flat k.0 k.1 (inr same))) in
+      let here : band_of p at ≡ band = is.in_band in
+      let first = first_is p (figure_from f) in
+      let before : at < end_shown p (figure_to f) = within (nat_lt at e) refl earlier here in
+      (begun (nat_le (figure_from f) at) refl later here, (shown_end p (figure_to f) at before).1)
+    where
+      clash : stands_in p band f ≡ true → ⊥
+      clash there = let both : true ≡ false = sym there ∙ none in cc
+
+      by_order : (x y : ℕ) → x ≤ y → (x ≡ y → ⊥) → x < y
+      by_order x y less differs = ⊎_elim (λ same. absurd (differs same)) (λ other. omega arith) (cases_eq x y)
+
+      begun : (b : Bool) → nat_le (figure_from f) at ≡ b → first_band p f < band → band_of p at ≡ band
+          → figure_from f ≤ at
+      begun true k later here = leb-true (figure_from f) at k
+      begun false k later here =
+          let less : at < figure_from f = leb-false (figure_from f) at k in
+          let first = first_is p (figure_from f) in
+          let rises = band_rises p at a (omega arith) in
+          let same = first_band_is in
+          absurd (omega arith)
+
+      within : (b : Bool) → nat_lt at e ≡ b → band + 1 < bands_behind p f → band_of p at ≡ band → at < e
+      within true k earlier here = ltb-true at e k
+      within false k earlier here =
+          let over : e ≤ at = ltb-false at e k in
+          let same = behind_is in
+          let some : a < e = bands_end_some p a e (omega arith) in
+          let last = bands_end_is p a e some in
+          let rises = band_rises p (e - 1) at (omega arith) in
+          absurd (omega arith)
 
 pub figures_stand_with_entries : FiguresStandWithEntries
 figures_stand_with_entries p f band is =

@@ -455,7 +455,7 @@ of_callers test f has (i ∷ is) = by (of_callers test f has is) (has (caller_of
         ∙ ap (λ l. filter test (f (caller_of_number i)) ++ l) rest
     by rest false = rest
 
-same_flat : {X : Type 0} (f g : ℕ → List X) (is : List ℕ) → ((i : ℕ) → f i ≡ g i) → flat_map f is ≡ flat_map g is
+pub same_flat : {X : Type 0} (f g : ℕ → List X) (is : List ℕ) → ((i : ℕ) → f i ≡ g i) → flat_map f is ≡ flat_map g is
 same_flat f g [] same = refl
 same_flat f g (i ∷ is) same = ap₂ (λ k l. k ++ l) (same i) (same_flat f g is same)
 

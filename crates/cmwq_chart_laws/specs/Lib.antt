@@ -4,3 +4,4 @@ pub mod Edges
 pub mod Charts
 pub mod Causes
 pub mod Waits
+pub mod Levels

@@ -2,6 +2,7 @@
 
 ghost use Rattle.cmwq_chart_laws.specs.Causes.{NothingElseIsCharted};
 ghost use Rattle.cmwq_chart_laws.specs.Charts.{ChartsAreOfParts, ChartsAreOfRows, SignsAreDrawn, StartsAreDrawn};
+ghost use Rattle.cmwq_chart_laws.specs.Levels.{LevelsAreDrawn};
 ghost use Rattle.cmwq_chart_laws.specs.Waits.{TicketsAreDrawn};
 
 /// The text of a chart is that of the picture of its figures.
@@ -35,4 +36,10 @@ pub fn nothing_else_is_charted()
 /// one to that by which the wait is done, or to the end if none is, and in no other.
 pub fn tickets_are_drawn()
     ensures { TicketsAreDrawn }
+{}
+
+/// Of each queue on a CPU that had a queueing exactly one level, in its row, covers each entry that a band shows, and says
+/// what is open and active and how wide the queue is after it; a band leaves the row out only where nothing is open.
+pub fn levels_are_drawn()
+    ensures { LevelsAreDrawn }
 {}
