@@ -1,12 +1,9 @@
 -- Where the edges of a figure stand.
-use Rattle.std.proofs.Common.{◌≡◌, ℕ, ◌+◌, ◌-◌, ◌*◌, ◌/◌, ◌<◌, ◌≤◌, Bool, true, false, List, Option, Some, None, max, min}
-use Rattle.std.proofs.Common.{IfSome, add-mul, suc, refl, sym, ap, ap₂, ◌∙◌, subst, arith, suc-mul, add-one, nat_le, mul-le-mul_right}
+use Rattle.std.proofs.Common.{◌≡◌, ℕ, ◌+◌, ◌-◌, ◌*◌, ◌/◌, ◌<◌, ◌≤◌, Bool, true, false, Option, Some, None, max, min}
+use Rattle.std.proofs.Common.{IfSome, add-mul, suc, refl, ap, ◌∙◌, subst, arith, suc-mul, add-one, nat_le, mul-le-mul_right}
 use Rattle.std.specs.Prelude.{if◌then◌else◌}
-use Rattle.std.specs.Option.{option_map_or}
 use Rattle.std.specs.List.{AllByRecursion}
 use Rattle.cmwq_lemmas.proofs.Lists.{All_map}
-use Rattle.cmwq_model.specs.declared.entry.Entry.{Entry}
-use Rattle.cmwq_model.specs.Prelude.{Layout, IsLegal}
 use Rattle.cmwq_chart.specs.declared.bars.Bar.{Bar}
 use Rattle.cmwq_chart.specs.Bars.{bars_of}
 use Rattle.cmwq_chart_text.specs.declared.figures.Figure.TheVariants as figure
@@ -19,7 +16,7 @@ use Rattle.cmwq_output_laws.specs.BarLaws.{AreApart, EndsBefore}
 use Rattle.cmwq_output_laws.proofs.OneBar.{lanes_are_apart}
 use Rattle.cmwq_chart_laws.specs.Drawn.{IsShownIn}
 use Rattle.cmwq_chart_laws.specs.Edges.{AreBeside, BarsDoNotOverlap, ColumnsAreApart, FiguresHaveEdges, GoesOnBehind}
-use Rattle.cmwq_chart_laws.specs.Edges.{HasEdges, IsInside, MarksAreInside, band_left, band_right, span_right}
+use Rattle.cmwq_chart_laws.specs.Edges.{MarksAreInside, span_right}
 use Rattle.cmwq_chart_laws.specs.Standing.{HasEntryIn}
 use Rattle.cmwq_chart_laws.proofs.StandIn.{band_parts, entry_of}
 

@@ -1,13 +1,13 @@
 -- Each shape of a history is of entries of it.
-use Rattle.std.proofs.Common.{◌≡◌, ℕ, zero, suc, ◌+◌, ◌-◌, ◌<◌, ◌≤◌, ◌==◌, Bool, true, false, ◌&&◌, List, [], ◌∷◌, ◌++◌}
-use Rattle.std.proofs.Common.{length, map, filter, flat_map, Option, Some, None, option_map, option_to_list, IfSome, refl}
-use Rattle.std.proofs.Common.{sym, ap, ap₂, ◌∙◌, subst, arith, nat_lt, eq-eqb, eqb-true, ⊎_elim, inl, inr}
-use Rattle.std.specs.Prelude.{if◌then◌else◌, IsTrue, option_and_then, slice_get, slice_set}
+use Rattle.std.proofs.Common.{◌≡◌, ℕ, zero, suc, ◌+◌, Bool, true, false, ◌&&◌, List, [], ◌∷◌, ◌++◌}
+use Rattle.std.proofs.Common.{length, map, Option, Some, None, option_map, option_to_list, IfSome, refl}
+use Rattle.std.proofs.Common.{sym, ap, ◌∙◌, subst, arith, nat_lt, eq-eqb, eqb-true, ⊎_elim}
+use Rattle.std.specs.Prelude.{if◌then◌else◌, option_and_then, slice_set}
 use Rattle.std.specs.Option.{option_map_or}
 use Rattle.std.specs.List.{AllByRecursion, range_with_len}
 use Rattle.std.proofs.lemmas.Bool.{and_parts}
 use Rattle.std.proofs.lemmas.Option.{same_Some}
-use Rattle.cmwq_lemmas.proofs.Lists.{All_append, All_flat, All_map, All_each, all_mapped}
+use Rattle.cmwq_lemmas.proofs.Lists.{All_append, All_flat, All_map, all_mapped}
 use Rattle.cmwq_lemmas.proofs.Members.{In, all_in, contained_in, filter_in, of_in}
 use Rattle.cmwq_model.specs.declared.call.Call.{Call}
 use Rattle.cmwq_model.specs.declared.call.Call.TheVariants as call
@@ -20,7 +20,7 @@ use Rattle.cmwq_model.specs.declared.record.Start.{Start}
 use Rattle.cmwq_model.specs.declared.reply.Reply.{Reply}
 use Rattle.cmwq_model.specs.declared.reply.Reply.TheVariants as reply
 use Rattle.cmwq_model.specs.Prelude.{IsLegal, Layout, gives_ticket, is_at, is_by, is_done, item_of, number_finished}
-use Rattle.cmwq_model.specs.Prelude.{number_started, past_of, same_who, worker_of}
+use Rattle.cmwq_model.specs.Prelude.{number_started, past_of, worker_of}
 use Rattle.cmwq_theory_laws.proofs.OneEntry.{same_who-true}
 use Rattle.cmwq_chart.specs.declared.bars.Bar.{Bar}
 use Rattle.cmwq_chart.specs.declared.levels.Level.{Level}
@@ -43,15 +43,14 @@ use Rattle.cmwq_chart.specs.Sleeps.{sleeps_ended, sleeps_of}
 use Rattle.cmwq_chart_text.specs.declared.figures.Figure.{Figure}
 use Rattle.cmwq_chart_text.specs.declared.figures.Figure.TheVariants as figure
 use Rattle.cmwq_chart_text.specs.declared.page.Page.{Page}
-use Rattle.cmwq_chart_text.specs.declared.part.Part.{Part}
 use Rattle.cmwq_chart_text.specs.declared.part.What.{What}
 use Rattle.cmwq_chart_text.specs.declared.part.What.TheVariants as what
-use Rattle.cmwq_output_laws.specs.BarLaws.{EndsWell, FinishesAt, HasOneBar, IsOfStart, StandsIn, begins_at}
+use Rattle.cmwq_output_laws.specs.BarLaws.{EndsWell, HasOneBar, IsOfStart, begins_at}
 use Rattle.cmwq_output_laws.proofs.LevelsStand.{levels_are_true}
 use Rattle.cmwq_output_laws.proofs.OneBar.{bars_are_of_starts, starts_have_one_bar}
 use Rattle.cmwq_chart_laws.specs.Causes.{HasEntryBy, IsCharted, IsFigureOf, NothingElseIsCharted}
 use Rattle.cmwq_chart_laws.specs.Charts.{chart_figures, chart_page, chart_parts}
-use Rattle.cmwq_chart_laws.specs.Drawn.{IsMeant, Stands}
+use Rattle.cmwq_chart_laws.specs.Drawn.{IsMeant}
 use Rattle.cmwq_chart_laws.proofs.ChartRows.{charts_are_of_rows}
 use Rattle.cmwq_chart_laws.proofs.Meant.{nothing_else_is_drawn}
 

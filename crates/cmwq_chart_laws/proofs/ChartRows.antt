@@ -1,9 +1,9 @@
 -- The figures of a legal history are of rows whose numbers are in the ranges of their types.
-use Rattle.std.proofs.Common.{◌≡◌, ℕ, zero, suc, ◌+◌, ◌-◌, ◌<◌, ◌≤◌, Bool, true, false, ◌&&◌, List, [], ◌∷◌, ◌++◌, length, map}
-use Rattle.std.proofs.Common.{filter, flat_map, Option, Some, None, option_map, option_to_list, refl, sym, ap, ◌∙◌, subst}
+use Rattle.std.proofs.Common.{◌≡◌, ℕ, ◌+◌, ◌-◌, ◌<◌, ◌≤◌, Bool, true, false, ◌&&◌, List, [], ◌∷◌, ◌++◌, length, map}
+use Rattle.std.proofs.Common.{filter, flat_map, Option, Some, None, option_map, option_to_list}
 use Rattle.std.proofs.Common.{arith, nat_le, nat_lt, leb-true, ltb-true}
 use Rattle.std.specs.Prelude.{if◌then◌else◌, IsTrue, option_and_then}
-use Rattle.std.specs.List.{AllByRecursion, list_all, range_with_len}
+use Rattle.std.specs.List.{AllByRecursion, range_with_len}
 use Rattle.std.proofs.lemmas.Bool.{and_parts}
 use Rattle.cmwq_lemmas.proofs.Lists.{All_append, All_flat, All_map, all_mapped}
 use Rattle.cmwq_lemmas.proofs.Passing.{all_kept}
@@ -16,9 +16,9 @@ use Rattle.cmwq_model.specs.declared.id.WorkerId.{WorkerId}
 use Rattle.cmwq_model.specs.declared.call.Call.{Call}
 use Rattle.cmwq_model.specs.declared.record.Place.{Place}
 use Rattle.cmwq_model.specs.declared.record.Start.{Start}
-use Rattle.cmwq_model.specs.Prelude.{IsLegal, Layout, are_queues, cpu_workers, fits, has_numbers, indices, is_between}
-use Rattle.cmwq_model.specs.Prelude.{is_by, is_callers, is_done, is_layout, is_queue, is_workers, item_at, may_make, number_started}
-use Rattle.cmwq_model.specs.Prelude.{past_of, pool_workers, queueings, start_in, worker_at, worker_of, workers}
+use Rattle.cmwq_model.specs.Prelude.{IsLegal, Layout, cpu_workers, fits, has_numbers, indices, is_between}
+use Rattle.cmwq_model.specs.Prelude.{is_by, is_callers, is_done, is_layout, is_workers, item_at, number_started}
+use Rattle.cmwq_model.specs.Prelude.{past_of, pool_workers, queueings, worker_at, worker_of, workers}
 use Rattle.cmwq_chart.specs.declared.bars.Bar.{Bar}
 use Rattle.cmwq_chart.specs.declared.levels.Level.{Level}
 use Rattle.cmwq_chart.specs.declared.signs.Sign.{Sign}
@@ -39,7 +39,7 @@ use Rattle.cmwq_chart.specs.Signs.{sign_at, sign_kind, sign_of, signs_of}
 use Rattle.cmwq_chart.specs.Sleeps.{asleep_since, ends_sleep, sleep_ended, sleep_from, sleeps_by, sleeps_ended, sleeps_of}
 use Rattle.cmwq_chart_text.specs.declared.figures.Figure.{Figure}
 use Rattle.cmwq_chart_text.specs.declared.figures.Figure.TheVariants as figure
-use Rattle.cmwq_chart_text.specs.Figures.{figure_row, figures_of, who_row}
+use Rattle.cmwq_chart_text.specs.Figures.{figure_row, who_row}
 use Rattle.cmwq_chart_laws.specs.Charts.{ChartsAreOfRows, chart_figures}
 use Rattle.cmwq_chart_laws.specs.Drawn.{AreOfRows, IsRow}
 use Rattle.cmwq_chart_laws.proofs.Meant.{range_in_it}

@@ -1,14 +1,12 @@
 -- What a chart has of each entry: the bar of a start, and the sign of a call that has one.
-use Rattle.std.proofs.Common.{◌≡◌, ℕ, ◌+◌, ◌<◌, ◌≤◌, ◌==◌, Bool, true, false, List, [], ◌∷◌, ◌++◌, length, filter, cond}
+use Rattle.std.proofs.Common.{◌≡◌, ℕ, ◌<◌, ◌≤◌, ◌==◌, Bool, false, List, [], ◌∷◌, ◌++◌, length, filter, cond}
 use Rattle.std.proofs.Common.{◌⊎◌, inl, inr, Option, Some, None, option_map, option_to_list, refl, sym, ap, ap₂, ◌∙◌}
 use Rattle.std.proofs.Common.{subst, arith, eq-eqb, eqb-true, length-append}
-use Rattle.std.specs.Prelude.{if◌then◌else◌, IsTrue}
 use Rattle.std.proofs.lemmas.Bool.Decides.{nat_tests}
 use Rattle.std.proofs.lemmas.List.Elements.{filter-append}
 use Rattle.cmwq_lemmas.proofs.Members.{In, in_filter}
 use Rattle.cmwq_model.specs.declared.entry.Entry.{Entry}
-use Rattle.cmwq_model.specs.Prelude.{IsLegal, Layout, number_started, past_of}
-use Rattle.cmwq_chart.specs.declared.bars.Bar.{Bar}
+use Rattle.cmwq_model.specs.Prelude.{past_of}
 use Rattle.cmwq_chart.specs.declared.signs.Sign.{Sign}
 use Rattle.cmwq_chart.specs.declared.signs.SignKind.{SignKind}
 use Rattle.cmwq_chart.specs.Bars.{bars_of}
@@ -18,14 +16,12 @@ use Rattle.cmwq_chart.specs.Levels.{levels_of}
 use Rattle.cmwq_chart.specs.Shapes.{places_in}
 use Rattle.cmwq_chart.specs.Signs.{sign_at, sign_kind, sign_of, signs_of}
 use Rattle.cmwq_chart.specs.Sleeps.{sleeps_of}
-use Rattle.cmwq_chart_text.specs.declared.figures.Figure.{Figure}
 use Rattle.cmwq_chart_text.specs.declared.figures.Figure.TheVariants as figure
-use Rattle.cmwq_chart_text.specs.declared.page.Window.{Window}
 use Rattle.cmwq_views.specs.Chart.{chart_text}
-use Rattle.cmwq_output_laws.specs.BarLaws.{HasOneBar, StandsIn, begins_at}
+use Rattle.cmwq_output_laws.specs.BarLaws.{HasOneBar, begins_at}
 use Rattle.cmwq_output_laws.proofs.OneBar.{starts_have_one_bar}
-use Rattle.cmwq_chart_laws.specs.Charts.{ChartsAreOfParts, IsDrawnOnce, SignsAreDrawn, StartsAreDrawn, chart_figures}
-use Rattle.cmwq_chart_laws.specs.Charts.{chart_page, chart_parts, is_bar_from, is_sign_at}
+use Rattle.cmwq_chart_laws.specs.Charts.{ChartsAreOfParts, SignsAreDrawn, StartsAreDrawn, chart_figures}
+use Rattle.cmwq_chart_laws.specs.Charts.{chart_page, is_bar_from, is_sign_at}
 use Rattle.cmwq_chart_laws.proofs.ChartRows.{charts_are_of_rows}
 use Rattle.cmwq_chart_laws.proofs.Once.{is_drawn_once, one_bar, one_sign}
 

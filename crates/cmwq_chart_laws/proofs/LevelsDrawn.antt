@@ -1,15 +1,14 @@
 -- Of each place one level covers an entry, and is drawn where its row shows something.
-use Rattle.std.proofs.Common.{◌≡◌, ℕ, zero, suc, ◌+◌, ◌-◌, ◌*◌, ◌<◌, ◌≤◌, ◌==◌, Bool, true, false, ◌&&◌, ◌||◌, not, List, []}
-use Rattle.std.proofs.Common.{◌∷◌, ◌++◌, cond, length, map, filter, flat_map, Option, Some, None, option_map}
+use Rattle.std.proofs.Common.{◌≡◌, ℕ, ◌+◌, ◌-◌, ◌<◌, ◌≤◌, ◌==◌, Bool, true, false, ◌&&◌, not, List, []}
+use Rattle.std.proofs.Common.{◌∷◌, ◌++◌, cond, length, map, filter, flat_map, Option, Some, None}
 use Rattle.std.proofs.Common.{option_to_list, IfSome, refl, sym, ap, ap₂, ◌∙◌, subst, arith, nat_lt, nat_le, eq-eqb}
-use Rattle.std.proofs.Common.{eqb-true, ne_eqb, leb-true, leb-false, le-leb, lt-ltb, le-ltb, ltb-true, ltb-false, append-nil}
-use Rattle.std.proofs.Common.{◌⊎◌, ⊎_elim, inl, inr, max, min}
-use Rattle.std.specs.Prelude.{if◌then◌else◌, IsTrue, Contains}
+use Rattle.std.proofs.Common.{eqb-true, leb-true, le-leb, ltb-true, ltb-false, append-nil}
+use Rattle.std.proofs.Common.{◌⊎◌, ⊎_elim, inl, inr}
+use Rattle.std.specs.Prelude.{if◌then◌else◌, IsTrue}
 use Rattle.std.specs.Option.{option_map_or}
 use Rattle.std.specs.List.{AllByRecursion, range_with_len}
-use Rattle.std.proofs.lemmas.Bool.{and_parts, cases_eq}
+use Rattle.std.proofs.lemmas.Bool.{and_parts}
 use Rattle.std.proofs.lemmas.List.Elements.{filter-append}
-use Rattle.cmwq_lemmas.proofs.Filters.{filter_none, filter_same}
 use Rattle.cmwq_lemmas.proofs.Lists.{All_each, All_map, all_mapped}
 use Rattle.cmwq_lemmas.proofs.Members.{In, any_in, contained_in, in_any, in_filter, filter_in, of_in}
 use Rattle.cmwq_lemmas.proofs.Truth.{and_false, same_bools}
@@ -38,7 +37,7 @@ use Rattle.cmwq_chart.specs.Lanes.{lanes_of}
 use Rattle.cmwq_chart.specs.Signs.{signs_of}
 use Rattle.cmwq_chart.specs.Sleeps.{sleeps_of}
 use Rattle.cmwq_chart_laws.specs.Charts.{chart_figures, chart_page, chart_parts}
-use Rattle.cmwq_chart_laws.specs.Drawn.{AreOfRows, IsRow, IsShownIn, drawn_in, is_of_row, parts_of, standing_in}
+use Rattle.cmwq_chart_laws.specs.Drawn.{AreOfRows, IsRow, IsShownIn, drawn_in, is_of_row, standing_in}
 use Rattle.cmwq_chart_laws.specs.Standing.{HasEntryIn}
 use Rattle.cmwq_chart_laws.proofs.ChartRows.{charts_are_of_rows, levels_rows, limits, places_rows}
 use Rattle.cmwq_chart_laws.proofs.RowNumbers.{rows_are_told_apart}

@@ -1,12 +1,12 @@
 -- Each part of a picture is a name, a number, a shape or an item; and what belongs to a row stands below its name.
-use Rattle.std.proofs.Common.{zero, suc, ◌≡◌, ℕ, ◌+◌, ◌-◌, ◌<◌, ◌≤◌, ◌==◌, Bool, true, false, ◌&&◌, not, List, [], ◌∷◌, ◌++◌, map}
+use Rattle.std.proofs.Common.{zero, suc, ◌≡◌, ℕ, ◌+◌, ◌-◌, ◌<◌, ◌≤◌, Bool, true, false, not, List, [], ◌∷◌, ◌++◌, map}
 use Rattle.std.proofs.Common.{filter, flat_map, Option, Some, None, option_map, option_to_list, IfSome, refl, sym, ap}
-use Rattle.std.proofs.Common.{◌∙◌, subst, arith, eqb-true, min}
-use Rattle.std.specs.Prelude.{if◌then◌else◌, Contains}
+use Rattle.std.proofs.Common.{◌∙◌, subst, arith, eqb-true}
+use Rattle.std.specs.Prelude.{if◌then◌else◌}
 use Rattle.std.specs.List.{AllByRecursion, range_with_len}
 use Rattle.std.proofs.lemmas.Option.{same_Some}
-use Rattle.cmwq_lemmas.proofs.Lists.{All_append, All_map, of_option}
-use Rattle.cmwq_lemmas.proofs.Members.{In, all_in, in_any, in_contained, in_filter, of_in}
+use Rattle.cmwq_lemmas.proofs.Lists.{All_append, All_map}
+use Rattle.cmwq_lemmas.proofs.Members.{all_in, in_any, in_contained, in_filter, of_in}
 use Rattle.cmwq_chart_text.specs.declared.figures.Figure.{Figure}
 use Rattle.cmwq_chart_text.specs.declared.figures.Figure.TheVariants as figure
 use Rattle.cmwq_chart_text.specs.declared.figures.Row.{Row}
@@ -18,7 +18,7 @@ use Rattle.cmwq_chart_text.specs.Bands.{stands_in}
 use Rattle.cmwq_chart_text.specs.Drawings.{figure_part, is_in_row, note_parts, number_parts, numbers_of, part_at, shows}
 use Rattle.cmwq_chart_text.specs.Figures.{figure_number, figure_row, is_flat}
 use Rattle.cmwq_chart_text.specs.Notes.{has_caption, has_label, has_number, note_of}
-use Rattle.cmwq_chart_text.specs.Pages.{band_of, band_start, columns, end_in}
+use Rattle.cmwq_chart_text.specs.Pages.{band_start, end_in}
 use Rattle.cmwq_chart_laws.specs.Drawn.{AreBelow, AreOfRows, FiguresAreBelowNames, IsBelow, IsMeant, IsRow, IsShownIn}
 use Rattle.cmwq_chart_laws.specs.Drawn.{NothingElseIsDrawn, Stands, is_name, last_name, parts_of, row_of}
 use Rattle.cmwq_chart_laws.proofs.RowNumbers.{rows_are_told_apart}

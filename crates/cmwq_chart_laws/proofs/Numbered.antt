@@ -1,7 +1,7 @@
 -- Each entry that is shown and is to have a number has it once.
-use Rattle.std.proofs.Common.{cond, ◌≡◌, ℕ, zero, suc, ◌+◌, ◌-◌, ◌<◌, ◌≤◌, ◌==◌, Bool, true, false, ◌&&◌, List, [], ◌∷◌, ◌++◌, map}
-use Rattle.std.proofs.Common.{count_by, filter, flat_map, fold, length, Option, Some, None, option_map, option_to_list}
-use Rattle.std.proofs.Common.{refl, sym, ap, ap₂, ◌∙◌, subst, arith, append-nil, eq-eqb, eqb-true, ne_eqb, nat_le, nat_lt}
+use Rattle.std.proofs.Common.{cond, ◌≡◌, ℕ, ◌+◌, ◌-◌, ◌<◌, ◌≤◌, ◌==◌, Bool, true, false, ◌&&◌, List, [], ◌∷◌, ◌++◌, map}
+use Rattle.std.proofs.Common.{count_by, filter, flat_map, fold, length, Some, None, option_map, option_to_list}
+use Rattle.std.proofs.Common.{refl, sym, ap, ap₂, ◌∙◌, arith, append-nil, eq-eqb, eqb-true, ne_eqb, nat_le, nat_lt}
 use Rattle.std.proofs.Common.{le-leb, lt-ltb, leb-true, ltb-true, leb-false, ltb-false, ⊎_elim}
 use Rattle.std.specs.Prelude.{if◌then◌else◌}
 use Rattle.std.specs.List.{AllByRecursion, range_with_len}
@@ -20,10 +20,10 @@ use Rattle.cmwq_chart_text.specs.declared.part.What.{What}
 use Rattle.cmwq_chart_text.specs.declared.part.What.TheVariants as what
 use Rattle.cmwq_chart_text.specs.Bands.{stands_in}
 use Rattle.cmwq_chart_text.specs.Drawings.{Drawing, below, number_parts, numbers_of, page_drawn, part_at, with_band_of}
-use Rattle.cmwq_chart_text.specs.Drawings.{with_rows, with_row_of}
+use Rattle.cmwq_chart_text.specs.Drawings.{with_rows}
 use Rattle.cmwq_chart_text.specs.Notes.{has_caption, has_label, has_number, note_of}
 use Rattle.cmwq_chart_text.specs.Figures.{figure_row}
-use Rattle.cmwq_chart_text.specs.Pages.{band_of, band_start, bands, columns, end_in}
+use Rattle.cmwq_chart_text.specs.Pages.{band_of, band_start, bands, end_in}
 use Rattle.cmwq_chart_laws.specs.Drawn.{IsShownIn, NumbersAreDrawn, is_number, is_number_in, is_shown_in, parts_of}
 use Rattle.cmwq_chart_laws.proofs.Folded.{none_below, none_picked, only, picked, sees_all}
 use Rattle.cmwq_chart_laws.proofs.Meant.{of_numbers, shown_there}

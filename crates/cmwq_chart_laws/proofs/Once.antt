@@ -1,16 +1,13 @@
 -- A figure that is the only one to pass a test is drawn once, where it stands.
-use Rattle.std.proofs.Common.{◌≡◌, ℕ, ◌+◌, ◌<◌, ◌≤◌, ◌==◌, Bool, true, false, ◌&&◌, ◌||◌, not, List, [], ◌∷◌, ◌++◌, length}
-use Rattle.std.proofs.Common.{map, filter, flat_map, cond, Option, Some, None, option_map, option_to_list, refl, sym}
-use Rattle.std.proofs.Common.{ap, ap₂, ◌∙◌, subst, arith, eq-eqb, append-nil, inl, inr, ⊎_elim}
-use Rattle.std.specs.Prelude.{if◌then◌else◌, IsTrue}
-use Rattle.std.specs.List.{AllByRecursion, list_any}
+use Rattle.std.proofs.Common.{◌≡◌, ℕ, Bool, true, false, not, List, [], ◌∷◌, ◌++◌}
+use Rattle.std.proofs.Common.{map, filter, cond, refl, sym}
+use Rattle.std.proofs.Common.{ap, ap₂, ◌∙◌, subst, arith, eq-eqb, inl}
+use Rattle.std.specs.Prelude.{if◌then◌else◌}
 use Rattle.std.proofs.lemmas.List.Elements.{filter-append}
 use Rattle.cmwq_lemmas.proofs.Filters.{filter_none}
 use Rattle.cmwq_lemmas.proofs.Lists.{All_each, all_mapped}
 use Rattle.cmwq_lemmas.proofs.Members.{In, any_in, filter_in, in_filter, of_in}
 use Rattle.cmwq_lemmas.proofs.Passing.{filter_mapped}
-use Rattle.cmwq_model.specs.declared.entry.Entry.{Entry}
-use Rattle.cmwq_model.specs.Prelude.{IsLegal, Layout, past_of}
 use Rattle.cmwq_chart.specs.declared.bars.Bar.{Bar}
 use Rattle.cmwq_chart.specs.declared.levels.Level.{Level}
 use Rattle.cmwq_chart.specs.declared.signs.Sign.{Sign}
@@ -19,13 +16,12 @@ use Rattle.cmwq_chart.specs.declared.waits.CallerWait.{CallerWait}
 use Rattle.cmwq_chart.specs.declared.waits.WaitSign.{WaitSign}
 use Rattle.cmwq_chart_text.specs.declared.figures.Figure.{Figure}
 use Rattle.cmwq_chart_text.specs.declared.figures.Figure.TheVariants as figure
-use Rattle.cmwq_chart_text.specs.declared.figures.Row.{Row}
 use Rattle.cmwq_chart_text.specs.declared.page.Page.{Page}
 use Rattle.cmwq_chart_text.specs.Bands.{stands_in}
 use Rattle.cmwq_chart_text.specs.Drawings.{shows}
 use Rattle.cmwq_chart_text.specs.Figures.{figure_row, figures_of, is_flat, row_number}
 use Rattle.cmwq_chart_laws.specs.Charts.{IsDrawnOnce}
-use Rattle.cmwq_chart_laws.specs.Drawn.{AreOfRows, IsRow, drawn_in, is_of_row, is_row, parts_of, standing_in}
+use Rattle.cmwq_chart_laws.specs.Drawn.{AreOfRows, IsRow, drawn_in, is_of_row, parts_of, standing_in}
 use Rattle.cmwq_chart_laws.specs.Standing.{HasEntryIn}
 use Rattle.cmwq_chart_laws.proofs.Shown.{figures_are_drawn}
 use Rattle.cmwq_chart_laws.proofs.StandIn.{entry_of, figures_stand_with_entries}

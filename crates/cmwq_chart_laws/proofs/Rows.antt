@@ -1,15 +1,11 @@
 -- What is drawn of the shapes of one row, and that what holds of each of its parts holds of what a page draws.
-use Rattle.std.proofs.Common.{◌⊎◌, inl, inr, ⊎_elim, ◌-◌, ◌≡◌, ℕ, ◌+◌, ◌<◌, ◌==◌, Bool, true, false, ◌&&◌, not, List, [], ◌∷◌, ◌++◌, map, filter}
-use Rattle.std.proofs.Common.{flat_map, fold, length, Option, Some, None, option_map, option_to_list, refl, sym, ap, ap₂}
-use Rattle.std.proofs.Common.{◌∙◌, subst, min, arith, nat_lt, nat_le, eqb-true, leb-true, ltb-true, eq-eqb, append-nil, append_assoc}
-use Rattle.std.specs.Prelude.{if◌then◌else◌, Contains}
-use Rattle.std.specs.Option.{option_map_or}
+use Rattle.std.proofs.Common.{◌⊎◌, inl, inr, ⊎_elim, ◌-◌, ◌≡◌, ℕ, Bool, true, false, List, [], ◌∷◌, ◌++◌, map, filter}
+use Rattle.std.proofs.Common.{flat_map, fold, Option, Some, None, option_map, option_to_list, refl, sym, ap}
+use Rattle.std.proofs.Common.{◌∙◌, subst, arith, eqb-true, append_assoc}
+use Rattle.std.specs.Prelude.{if◌then◌else◌}
 use Rattle.std.specs.List.{AllByRecursion, range_with_len}
-use Rattle.std.proofs.lemmas.List.{map-append}
-use Rattle.std.proofs.lemmas.List.Elements.{filter-append}
 use Rattle.std.proofs.lemmas.Option.{same_Some}
-use Rattle.cmwq_lemmas.proofs.Lists.{All_append, All_filter, All_map, all_mapped, of_option}
-use Rattle.cmwq_lemmas.proofs.Passing.{all_kept}
+use Rattle.cmwq_lemmas.proofs.Lists.{All_append, All_map, all_mapped}
 use Rattle.cmwq_chart_text.specs.declared.figures.Figure.{Figure}
 use Rattle.cmwq_chart_text.specs.declared.figures.Figure.TheVariants as figure
 use Rattle.cmwq_chart_text.specs.declared.figures.Row.{Row}
@@ -21,10 +17,10 @@ use Rattle.cmwq_chart_text.specs.declared.part.What.TheVariants as what
 use Rattle.cmwq_chart_text.specs.Bands.{stands_in}
 use Rattle.cmwq_chart_text.specs.Drawings.{Drawing, below, figure_part, is_in_row, note_parts, numbers_of, part_at, row_drawn}
 use Rattle.cmwq_chart_text.specs.Drawings.{shows, with_band_of, with_row, with_row_of, with_rows, page_drawn}
-use Rattle.cmwq_chart_text.specs.Figures.{figure_number, figure_row, most_rows, row_number}
+use Rattle.cmwq_chart_text.specs.Figures.{figure_number, figure_row, most_rows}
 use Rattle.cmwq_chart_text.specs.Notes.{has_caption, has_label, note_of}
 use Rattle.cmwq_chart_text.specs.Pages.{bands}
-use Rattle.cmwq_chart_laws.specs.Drawn.{AreOfRows, IsRow, row_of, parts_of}
+use Rattle.cmwq_chart_laws.specs.Drawn.{row_of, parts_of}
 use Rattle.cmwq_chart_laws.proofs.Folded.{keeps_all}
 
 -- ---- the parts of a row, with this name

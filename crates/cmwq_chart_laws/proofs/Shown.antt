@@ -1,7 +1,7 @@
 -- Each row shows its name, the shapes that stand there, and their items.
-use Rattle.std.proofs.Common.{◌≡◌, ℕ, ◌+◌, ◌-◌, ◌<◌, ◌≤◌, ◌==◌, Bool, true, false, ◌&&◌, List, [], ◌∷◌, ◌++◌, map, filter}
-use Rattle.std.proofs.Common.{filter_map, flat_map, fold, Option, Some, None, option_map, option_to_list, ◌⊎◌, ⊎_elim}
-use Rattle.std.proofs.Common.{nat_lt, ltb-true, ltb-false, refl, sym, ap, ap₂, ◌∙◌, subst, arith, append-nil, append_assoc, eq-eqb, eqb-true}
+use Rattle.std.proofs.Common.{◌≡◌, ℕ, ◌-◌, ◌<◌, ◌≤◌, ◌==◌, Bool, true, false, ◌&&◌, List, [], ◌∷◌, ◌++◌, map, filter}
+use Rattle.std.proofs.Common.{filter_map, flat_map, fold, Option, Some, None, option_map, option_to_list, ⊎_elim}
+use Rattle.std.proofs.Common.{nat_lt, ltb-true, ltb-false, refl, sym, ap, ap₂, ◌∙◌, subst, arith, append-nil, eqb-true}
 use Rattle.std.specs.Prelude.{if◌then◌else◌}
 use Rattle.std.specs.Option.{option_map_or}
 use Rattle.std.specs.List.{AllByRecursion, range_with_len}
@@ -9,7 +9,7 @@ use Rattle.std.proofs.lemmas.Bool.{and_parts}
 use Rattle.std.proofs.lemmas.List.{map-append}
 use Rattle.std.proofs.lemmas.List.Elements.{filter-append, filter_map-append}
 use Rattle.cmwq_lemmas.proofs.Filters.{filter_none}
-use Rattle.cmwq_lemmas.proofs.Lists.{All_append, All_flat, All_map, All_each, filter_all, of_option}
+use Rattle.cmwq_lemmas.proofs.Lists.{All_flat, All_map, All_each, filter_all}
 use Rattle.cmwq_lemmas.proofs.Passing.{all_kept}
 use Rattle.cmwq_lemmas.proofs.Truth.{and_false}
 use Rattle.cmwq_chart_text.specs.declared.figures.Figure.{Figure}
@@ -20,13 +20,13 @@ use Rattle.cmwq_chart_text.specs.declared.part.Part.{Part}
 use Rattle.cmwq_chart_text.specs.declared.part.What.{What}
 use Rattle.cmwq_chart_text.specs.declared.part.What.TheVariants as what
 use Rattle.cmwq_chart_text.specs.Bands.{stands_in}
-use Rattle.cmwq_chart_text.specs.Drawings.{Drawing, below, figure_part, is_in_row, note_parts, number_of, number_parts}
+use Rattle.cmwq_chart_text.specs.Drawings.{Drawing, below, figure_part, is_in_row, note_parts, number_parts}
 use Rattle.cmwq_chart_text.specs.Drawings.{numbers_of, page_drawn, part_at, shows, with_band_of, with_row, with_row_of}
 use Rattle.cmwq_chart_text.specs.Drawings.{with_rows}
 use Rattle.cmwq_chart_text.specs.Figures.{figure_number, figure_row, most_rows, row_number}
 use Rattle.cmwq_chart_text.specs.Notes.{has_caption, has_label, has_number, note_of}
 use Rattle.cmwq_chart_text.specs.Pages.{bands, band_start, end_in}
-use Rattle.cmwq_chart_laws.specs.Drawn.{AreOfRows, FiguresAreDrawn, IsRow, RowsAreDrawn, drawn_in, figure_shown}
+use Rattle.cmwq_chart_laws.specs.Drawn.{AreOfRows, FiguresAreDrawn, IsRow, RowsAreDrawn, figure_shown}
 use Rattle.cmwq_chart_laws.specs.Drawn.{is_row, is_there, item_of_figure, parts_of, row_of, row_shown_of, shown, shown_in}
 use Rattle.cmwq_chart_laws.specs.Drawn.{standing_in}
 use Rattle.cmwq_chart_laws.proofs.Folded.{none_below, only, picked, same_if, sees_all}

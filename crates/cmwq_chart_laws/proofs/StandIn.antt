@@ -1,10 +1,9 @@
 -- In which bands a figure stands.
 use Rattle.std.proofs.Common.{suc, ◌≡◌, ℕ, ◌+◌, ◌-◌, ◌*◌, ◌/◌, ◌<◌, ◌≤◌, ◌==◌, Bool, true, false, ◌&&◌, ◌||◌, Option, Some, None}
-use Rattle.std.proofs.Common.{◌⊎◌, inl, inr, ⊎_elim, ◌↔◌, max, min, nat_le, nat_lt, IfSome, refl, sym, ap, ap₂, ◌∙◌, subst}
+use Rattle.std.proofs.Common.{◌⊎◌, inl, inr, ⊎_elim, max, nat_le, nat_lt, IfSome, refl, sym, ap, ap₂, ◌∙◌}
 use Rattle.std.proofs.Common.{arith, suc-mul, add-one, le-leb, lt-ltb, leb-true, ltb-true, leb-false, ltb-false, eqb-true}
 use Rattle.std.proofs.Common.{eq-eqb}
 use Rattle.std.specs.Prelude.{if◌then◌else◌}
-use Rattle.std.specs.Option.{option_map_or}
 use Rattle.std.proofs.lemmas.Bool.{and_parts, cases_eq, or_cases}
 use Rattle.std.proofs.lemmas.Nat.{le-div}
 use Rattle.cmwq_lemmas.proofs.Truth.{or_true}

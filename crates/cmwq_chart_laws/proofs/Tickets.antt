@@ -1,13 +1,12 @@
 -- Each ticket has one wait.
-use Rattle.std.proofs.Common.{◌≡◌, ℕ, zero, suc, ◌+◌, ◌-◌, ◌<◌, ◌≤◌, ◌==◌, Bool, true, false, ◌&&◌, ◌||◌, not, ◌⊎◌, List, [], ◌∷◌}
+use Rattle.std.proofs.Common.{◌≡◌, ℕ, zero, suc, ◌+◌, ◌<◌, ◌≤◌, ◌==◌, Bool, true, false, ◌&&◌, ◌||◌, not, List, [], ◌∷◌}
 use Rattle.std.proofs.Common.{◌++◌, cond, count_by, length, map, filter, flat_map, Option, Some, None, option_map}
 use Rattle.std.proofs.Common.{option_to_list, reverse, refl, sym, ap, ap₂, ◌∙◌, subst, arith, nat_lt, lt-ltb, le-ltb, ltb-true}
-use Rattle.std.proofs.Common.{ltb-false, eq-eqb, eqb-true, ne_eqb, ⊎_elim, inl, inr, append-nil, length-append}
-use Rattle.std.specs.Prelude.{if◌then◌else◌, is_some, IsTrue, option_and_then, slice_get, slice_set}
+use Rattle.std.proofs.Common.{ltb-false, eq-eqb, eqb-true, ne_eqb, ⊎_elim, inl, append-nil, length-append}
+use Rattle.std.specs.Prelude.{if◌then◌else◌, is_some, option_and_then, slice_get, slice_set}
 use Rattle.std.specs.Option.{option_map_or}
 use Rattle.std.specs.List.{AllByRecursion, list_any, range_with_len}
 use Rattle.std.proofs.lemmas.Bool.{cases_eq}
-use Rattle.std.proofs.lemmas.Bool.Decides.{nat_tests}
 use Rattle.std.proofs.lemmas.List.{reverse-append, reverse-reverse}
 use Rattle.std.proofs.lemmas.List.Elements.{filter-append}
 use Rattle.std.proofs.lemmas.List.Sums.{length-filter}
@@ -18,10 +17,10 @@ use Rattle.cmwq_model.specs.declared.call.Call.{Call}
 use Rattle.cmwq_model.specs.declared.call.Call.TheVariants as call
 use Rattle.cmwq_model.specs.declared.entry.Entry.{Entry}
 use Rattle.cmwq_model.specs.declared.id.CallerId.{CallerId}
-use Rattle.cmwq_model.specs.declared.id.Who.TheVariants.{Caller, Worker}
+use Rattle.cmwq_model.specs.declared.id.Who.TheVariants.{Caller}
 use Rattle.cmwq_model.specs.declared.reply.Reply.{Reply}
 use Rattle.cmwq_model.specs.declared.reply.Reply.TheVariants as reply
-use Rattle.cmwq_model.specs.Prelude.{IsLegal, Layout, gives_ticket, is_at, is_by, is_done, is_end_of, past_of, same_who}
+use Rattle.cmwq_model.specs.Prelude.{Layout, gives_ticket, is_at, is_by, is_done, is_end_of, past_of, same_who}
 use Rattle.cmwq_chart.specs.declared.waits.CallerWait.{CallerWait}
 use Rattle.cmwq_chart.specs.CallerWaits.{begun_in_row, caller_of_number, callers_of, caller_waits_of, end_asked, free_row}
 use Rattle.cmwq_chart.specs.CallerWaits.{has_calls, left_row, number_done, rows_after, ticket_in_row, ticket_row}

@@ -1,26 +1,18 @@
 -- Each ticket has one wait in a chart.
-use Rattle.std.proofs.Common.{◌≡◌, ℕ, zero, suc, ◌+◌, ◌-◌, ◌<◌, ◌≤◌, ◌==◌, Bool, true, false, ◌&&◌, ◌||◌, not, List, []}
-use Rattle.std.proofs.Common.{◌∷◌, ◌++◌, cond, count_by, length, map, filter, flat_map, Option, Some, None, option_map}
-use Rattle.std.proofs.Common.{option_to_list, IfSome, refl, sym, ap, ap₂, ◌∙◌, subst, arith, nat_lt, eq-eqb, eqb-true}
-use Rattle.std.proofs.Common.{ne_eqb, ltb-true, ⊎_elim, inl, inr, length-append}
-use Rattle.std.specs.Prelude.{if◌then◌else◌, IsTrue, option_and_then, is_some}
-use Rattle.std.specs.Option.{option_map_or}
-use Rattle.std.specs.List.{AllByRecursion, list_any, range_with_len}
-use Rattle.std.proofs.lemmas.Bool.{and_parts, cases_eq}
-use Rattle.std.proofs.lemmas.List.Elements.{filter-append}
-use Rattle.cmwq_lemmas.proofs.Lists.{All_append, All_flat, All_map, count_by-cons}
-use Rattle.cmwq_lemmas.proofs.Members.{In, all_in, in_filter, of_in}
-use Rattle.cmwq_lemmas.proofs.Truth.{and_false}
-use Rattle.cmwq_model.specs.declared.call.Call.{Call}
-use Rattle.cmwq_model.specs.declared.call.Call.TheVariants as call
+use Rattle.std.proofs.Common.{◌≡◌, ℕ, ◌<◌, ◌==◌, Bool, true, ◌&&◌, List, []}
+use Rattle.std.proofs.Common.{◌∷◌, length, filter}
+use Rattle.std.proofs.Common.{refl, sym, ap, ap₂, ◌∙◌, subst, nat_lt, eq-eqb, eqb-true}
+use Rattle.std.proofs.Common.{ltb-true, inl}
+use Rattle.std.specs.Prelude.{IsTrue}
+use Rattle.std.specs.List.{list_any}
+use Rattle.std.proofs.lemmas.Bool.{and_parts}
+use Rattle.cmwq_lemmas.proofs.Members.{In, in_filter, of_in}
 use Rattle.cmwq_model.specs.declared.entry.Entry.{Entry}
 use Rattle.cmwq_model.specs.declared.id.CallerId.{CallerId}
 use Rattle.cmwq_model.specs.declared.id.Who.{Who}
-use Rattle.cmwq_model.specs.declared.id.Who.TheVariants.{Caller, Worker}
-use Rattle.cmwq_model.specs.declared.reply.Reply.{Reply}
-use Rattle.cmwq_model.specs.declared.reply.Reply.TheVariants as reply
-use Rattle.cmwq_model.specs.Prelude.{IsLegal, Layout, fits, gives_ticket, has_numbers, is_at, is_by, is_callers, is_done}
-use Rattle.cmwq_model.specs.Prelude.{is_end_of, is_layout, past_of, same_who}
+use Rattle.cmwq_model.specs.declared.id.Who.TheVariants.{Caller}
+use Rattle.cmwq_model.specs.Prelude.{IsLegal, Layout, fits, gives_ticket, has_numbers, is_callers}
+use Rattle.cmwq_model.specs.Prelude.{is_layout, past_of, same_who}
 use Rattle.cmwq_model.proofs.Growing.{older_are_legal}
 use Rattle.cmwq_theory_steps.proofs.Causes.{cause_of}
 use Rattle.cmwq_theory_steps.proofs.Reasons.{legal_fits, ticket_reason}

@@ -1,5 +1,5 @@
 -- Each figure of a chart is of an entry of its history: nothing is invented.
-use Rattle.std.specs.Prelude.{◌≡◌, ℕ, List, length, true, Option, Some, IfSome}
+use Rattle.std.specs.Prelude.{◌≡◌, ℕ, List, length, true, Some, IfSome}
 use Rattle.std.specs.List.{AllByRecursion}
 use Rattle.cmwq_model.specs.declared.call.Call.TheVariants as call
 use Rattle.cmwq_model.specs.declared.entry.Entry.{Entry}

@@ -1,15 +1,14 @@
 -- Laws of edges: a figure reaches from the column of its first entry to that of its last, as far as these are shown in
 -- the band, so that two bars of a worker do not overlap in the picture.
-use Rattle.std.specs.Prelude.{◌≡◌, ℕ, ◌+◌, ◌<◌, ◌≤◌, List, true, Option, Some, None}
+use Rattle.std.specs.Prelude.{◌≡◌, ℕ, ◌+◌, ◌<◌, ◌≤◌, true, Option, Some, None}
 use Rattle.std.specs.List.{AllByRecursion}
-use Rattle.cmwq_model.specs.declared.entry.Entry.{Entry}
 use Rattle.cmwq_theory_steps.specs.Histories.{OfLegal}
 use Rattle.cmwq_chart.specs.declared.bars.Bar.{Bar}
 use Rattle.cmwq_chart.specs.Bars.{bars_of}
 use Rattle.cmwq_chart_text.specs.declared.figures.Figure.TheVariants as figure
 use Rattle.cmwq_chart_text.specs.declared.page.Page.{Page}
 use Rattle.cmwq_chart_text.specs.Bands.{stands_in}
-use Rattle.cmwq_chart_text.specs.Pages.{band_of, band_start, column_at, column_width, columns, end_in, middle_of}
+use Rattle.cmwq_chart_text.specs.Pages.{band_start, column_at, column_width, end_in, middle_of}
 use Rattle.cmwq_chart_text.specs.Spans.{span_left, span_width}
 use Rattle.cmwq_chart_laws.specs.Drawn.{IsShownIn}
 
