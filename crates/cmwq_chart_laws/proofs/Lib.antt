@@ -13,3 +13,4 @@ pub mod Causing
 pub mod Tickets
 pub mod WaitsDrawn
 pub mod LevelsDrawn
+pub mod EndsDrawn

@@ -194,3 +194,11 @@ module _ (test : Figure → Bool) (ws : List CallerWait) (wss : List WaitSign) (
   only_levels a b c d e =
       kinds [] [] [] [] [] (filter (λ y. test (figure.Level y)) ls) (no_waits a) (no_wait_signs b) (no_bars c)
       (no_sleeps d) (no_signs e) refl
+
+  pub one_wait_sign : (x : WaitSign) → filter (λ y. test (figure.WaitSign y)) wss ≡ x ∷ []
+      → ((y : CallerWait) → test (figure.Wait y) ≡ false) → ((y : Bar) → test (figure.Bar y) ≡ false)
+      → ((y : Sleep) → test (figure.Sleep y) ≡ false) → ((y : Sign) → test (figure.Sign y) ≡ false)
+      → ((y : Level) → test (figure.Level y) ≡ false)
+      → filter test (figures_of ws wss bs ss gs ls) ≡ figure.WaitSign x ∷ []
+  one_wait_sign x is a c d e f =
+      kinds [] (x ∷ []) [] [] [] [] (no_waits a) is (no_bars c) (no_sleeps d) (no_signs e) (no_levels f)

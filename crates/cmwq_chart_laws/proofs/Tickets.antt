@@ -56,11 +56,11 @@ set_past [] n x h = refl
 set_past (y ∷ xs) zero x h = absurd (omega arith)
 set_past (y ∷ xs) (suc n) x h = ap (λ l. y ∷ l) (set_past xs n x (omega arith))
 
-abbrev if_one : Bool → ℕ
+abbrev pub if_one : Bool → ℕ
 if_one b = cond b 1 0
 
 module _ (c : CallerId) (n : ℕ) where
-  abbrev here : Option ℕ → Bool
+  abbrev pub here : Option ℕ → Bool
   here r = is_at r n
 
   abbrev from_here : CallerWait → Bool
@@ -314,7 +314,7 @@ module _ (c : CallerId) (n : ℕ) where
       let k = is_ended a u h in
       ap₂ (λ x y. is_end_of n x && is_done y) k.0 k.1 ∙ and_true (u == n)
 
-  rows_then : (after : List Entry) (e : Entry) (before : List Entry) → length before ≡ n → is_by (Caller c) e ≡ true
+  pub rows_then : (after : List Entry) (e : Entry) (before : List Entry) → length before ≡ n → is_by (Caller c) e ≡ true
       → gives_ticket e.reply ≡ true
       → count_by here (wait_rows (after ++ e ∷ before) c) ≡ if_one (not (list_any (ends_wait_of c n) after))
   unfolding wait_rows
@@ -459,25 +459,20 @@ same_flat f g [] same = refl
 same_flat f g (i ∷ is) same = ap₂ (λ k l. k ++ l) (same i) (same_flat f g is same)
 
 module _ (s : Layout) (entries : List Entry) (e : Entry) (before : List Entry) (c : CallerId)
-    (stands : StandsIn (past_of entries) e before) (by_caller : e.who ≡ Caller c)
-    (gives : gives_ticket e.reply ≡ true) (there : c.0 < s.callers) where
-  abbrev past : List Entry
-  past = past_of entries
-
-  abbrev its : CallerWait → Bool
-  its x = x.from == length before
-
-  own_count : (d : CallerId) → count_by its (waits_by past d) ≡ if_one (is_by (Caller d) e && gives_ticket e.reply)
-  own_count d =
-      waits_count d (length before) past ∙ ap (given d (length before)) stands.parts
-      ∙ given_by d (length before) stands.after e before refl
-
+    (stands : StandsIn (past_of entries) e before) (by_caller : e.who ≡ Caller c) (there : c.0 < s.callers) where
   is_by_number : (d : CallerId) → is_by (Caller d) e ≡ (c.0 == d.0)
   is_by_number d = ap (λ x. same_who x (Caller d)) by_caller
 
+  pub is_by_itself : is_by (Caller c) e ≡ true
+  is_by_itself = is_by_number c ∙ eq-eqb c.0 c.0 refl
+
+  pub is_by_none : (d : CallerId) → (d.0 ≡ c.0 → ⊥) → is_by (Caller d) e ≡ false
+  is_by_none d differs = is_by_number d ∙ ne_eqb c.0 d.0 (λ same. differs (sym same))
+
   entry_there : In e entries
   entry_there =
-      let back : entries ≡ reverse (stands.after ++ e ∷ before) = sym (reverse-reverse entries) ∙ ap reverse stands.parts in
+      let back : entries ≡ reverse (stands.after ++ e ∷ before) =
+      sym (reverse-reverse entries) ∙ ap reverse stands.parts in
       let parts : reverse (stands.after ++ e ∷ before) ≡ reverse (e ∷ before) ++ reverse stands.after =
       reverse-append stands.after (e ∷ before) in
       let split : reverse (e ∷ before) ≡ reverse before ++ reverse (e ∷ []) = reverse-append (e ∷ []) before in
@@ -485,47 +480,53 @@ module _ (s : Layout) (entries : List Entry) (e : Entry) (before : List Entry) (
       (in_left (reverse (e ∷ before)) (reverse stands.after) e
       (subst (λ l. In e l) (sym split) (in_right (reverse before) (reverse (e ∷ [])) e (inl refl))))
 
-  has_it : has_calls entries (caller_of_number c.0) ≡ true
-  has_it = any_in (is_by (Caller (caller_of_number c.0))) entries e entry_there
-      (is_by_number (caller_of_number c.0) ∙ eq-eqb c.0 c.0 refl)
+  has_it : has_calls entries c ≡ true
+  has_it = any_in (is_by (Caller c)) entries e entry_there is_by_itself
 
-  abbrev of_number : ℕ → List CallerWait
-  of_number i = filter its (waits_by past (caller_of_number i))
-
-  each_number : (i : ℕ)
-      → (if has_calls entries (caller_of_number i) then of_number i else []) ≡ only c.0 of_number i
-  each_number i = ⊎_elim here other (cases_eq i c.0)
-    where
-      here : i ≡ c.0
-          → (if has_calls entries (caller_of_number i) then of_number i else []) ≡ only c.0 of_number i
-      here same =
-          ap (λ b. if b then of_number i else [])
-          (ap (λ k. has_calls entries (caller_of_number k)) same ∙ has_it)
-          ∙ sym (ap (λ b. if b then of_number i else []) (eq-eqb i c.0 same))
-
-      other : (i ≡ c.0 → ⊥)
-          → (if has_calls entries (caller_of_number i) then of_number i else []) ≡ only c.0 of_number i
-      other differs =
-          ap (λ l. if has_calls entries (caller_of_number i) then l else [])
-          (none_of_none its (waits_by past (caller_of_number i))
-          (own_count (caller_of_number i)
-          ∙ ap (λ b. if_one (b && gives_ticket e.reply))
-          (is_by_number (caller_of_number i) ∙ ne_eqb c.0 i (λ same. differs (sym same)))))
-          ∙ same_if (has_calls entries (caller_of_number i)) []
-          ∙ sym (ap (λ b. if b then of_number i else []) (ne_eqb i c.0 differs))
-
-  alone : filter its (caller_waits_of past (callers_of s entries)) ≡ of_number c.0
+  -- what none of the other callers has is what this one has of it
+  pub of_caller : {X : Type 0} (test : X → Bool) (f : CallerId → List X)
+      → ((d : CallerId) → (d.0 ≡ c.0 → ⊥) → filter test (f d) ≡ [])
+      → filter test (flat_map f (callers_of s entries)) ≡ filter test (f c)
   unfolding callers_of
-  alone =
-      of_callers its (waits_by past) (has_calls entries) (range_with_len 0 s.callers)
-      ∙ same_flat (λ i. if has_calls entries (caller_of_number i) then of_number i else []) (only c.0 of_number)
-      (range_with_len 0 s.callers) each_number
-      ∙ picked c.0 of_number 0 s.callers (omega arith) (omega arith)
+  of_caller test f none =
+      of_callers test f (has_calls entries) (range_with_len 0 s.callers)
+      ∙ same_flat (λ i. if has_calls entries (caller_of_number i) then filter test (f (caller_of_number i)) else [])
+      (only c.0 (λ i. filter test (f (caller_of_number i)))) (range_with_len 0 s.callers)
+      (λ i. ⊎_elim (here i) (other i) (cases_eq i c.0))
+      ∙ picked c.0 (λ i. filter test (f (caller_of_number i))) 0 s.callers (omega arith) (omega arith)
+    where
+      here : (i : ℕ) → i ≡ c.0
+          → (if has_calls entries (caller_of_number i) then filter test (f (caller_of_number i)) else [])
+          ≡ only c.0 (λ i. filter test (f (caller_of_number i))) i
+      here i same =
+          ap (λ b. if b then filter test (f (caller_of_number i)) else [])
+          (ap (λ k. has_calls entries (caller_of_number k)) same ∙ has_it)
+          ∙ sym (ap (λ b. if b then filter test (f (caller_of_number i)) else []) (eq-eqb i c.0 same))
 
-  pub waits_alone : filter its (caller_waits_of past (callers_of s entries)) ≡ filter its (waits_by past c)
-  waits_alone = alone
+      other : (i : ℕ) → (i ≡ c.0 → ⊥)
+          → (if has_calls entries (caller_of_number i) then filter test (f (caller_of_number i)) else [])
+          ≡ only c.0 (λ i. filter test (f (caller_of_number i))) i
+      other i differs =
+          ap (λ l. if has_calls entries (caller_of_number i) then l else []) (none (caller_of_number i) differs)
+          ∙ same_if (has_calls entries (caller_of_number i)) []
+          ∙ sym (ap (λ b. if b then filter test (f (caller_of_number i)) else []) (ne_eqb i c.0 differs))
 
-  pub counts_one : count_by its (waits_by past c) ≡ 1
-  counts_one =
-      own_count (caller_of_number c.0)
-      ∙ ap₂ (λ a b. if_one (a && b)) (is_by_number (caller_of_number c.0) ∙ eq-eqb c.0 c.0 refl) gives
+  module _ (gives : gives_ticket e.reply ≡ true) where
+    abbrev its : CallerWait → Bool
+    its x = x.from == length before
+
+    own_count : (d : CallerId)
+        → count_by its (waits_by (past_of entries) d) ≡ if_one (is_by (Caller d) e && gives_ticket e.reply)
+    own_count d =
+        waits_count d (length before) (past_of entries) ∙ ap (given d (length before)) stands.parts
+        ∙ given_by d (length before) stands.after e before refl
+
+    pub waits_alone : filter its (caller_waits_of (past_of entries) (callers_of s entries))
+        ≡ filter its (waits_by (past_of entries) c)
+    waits_alone =
+        of_caller its (waits_by (past_of entries))
+        (λ d differs. none_of_none its (waits_by (past_of entries) d)
+        (own_count d ∙ ap (λ b. if_one (b && gives_ticket e.reply)) (is_by_none d differs)))
+
+    pub counts_one : count_by its (waits_by (past_of entries) c) ≡ 1
+    counts_one = own_count c ∙ ap₂ (λ a b. if_one (a && b)) is_by_itself gives

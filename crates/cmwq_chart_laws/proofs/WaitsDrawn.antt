@@ -35,7 +35,7 @@ use Rattle.cmwq_chart_laws.proofs.Once.{is_drawn_once, one_wait}
 use Rattle.cmwq_chart_laws.proofs.Tickets.{counts_one, goes_on, one_passes, waits_alone}
 
 -- who got a ticket is a caller of the shape
-caller_there : (s : Layout) (e : Entry) (c : CallerId) → IsTrue (fits s e.who e.call) → e.who ≡ Caller c → c.0 < s.callers
+pub caller_there : (s : Layout) (e : Entry) (c : CallerId) → IsTrue (fits s e.who e.call) → e.who ≡ Caller c → c.0 < s.callers
 caller_there s e c fit is =
     let h : ((nat_lt c.0 s.callers && is_callers e.call) && has_numbers s e.call) ≡ true =
     subst (λ (x : Who). fits s x e.call ≡ true) is fit in
@@ -52,7 +52,7 @@ module _ (w : Window) (s : Layout) (entries : List Entry) (is : IsTrue (is_layou
   its x = x.from == length before
 
   one : (x : CallerWait) × (filter its (waits_by (past_of entries) c) ≡ x ∷ [])
-  one = one_passes its (waits_by (past_of entries) c) (counts_one s entries e before c stands by_caller gives there)
+  one = one_passes its (waits_by (past_of entries) c) (counts_one s entries e before c stands by_caller there gives)
 
   listed : (x : CallerWait) → filter its (waits_by (past_of entries) c) ≡ x ∷ []
       → In x (waits_by (past_of entries) c) × (its x ≡ true)
@@ -83,7 +83,7 @@ module _ (w : Window) (s : Layout) (entries : List Entry) (is : IsTrue (is_layou
             (wait_signs_of (past_of entries) (callers_of s entries)) (bars_of (past_of entries))
             (sleeps_of (past_of entries) (lanes_of s entries)) (signs_of (past_of entries))
             (levels_of s (past_of entries) (places_in s entries)) x
-            (waits_alone s entries e before c stands by_caller gives there ∙ alone) (λ y. refl) (λ y. refl) (λ y. refl)
+            (waits_alone s entries e before c stands by_caller there gives ∙ alone) (λ y. refl) (λ y. refl) (λ y. refl)
             (λ y. refl) (λ y. refl)) refl;
       }
 

@@ -8,6 +8,8 @@ use Rattle.cmwq_model.specs.declared.id.Who.TheVariants.{Caller}
 use Rattle.cmwq_model.specs.declared.reply.Reply.TheVariants as reply
 use Rattle.cmwq_model.specs.Prelude.{Layout, gives_ticket, is_by, is_done, is_end_of, past_of}
 use Rattle.cmwq_chart.specs.declared.waits.CallerWait.{CallerWait}
+use Rattle.cmwq_chart.specs.declared.waits.WaitSign.{WaitSign}
+use Rattle.cmwq_chart.specs.CallerWaits.{is_end_answer}
 use Rattle.cmwq_chart_text.specs.declared.figures.Figure.{Figure}
 use Rattle.cmwq_chart_text.specs.declared.figures.Figure.TheVariants as figure
 use Rattle.cmwq_chart_text.specs.declared.page.Window.{Window}
@@ -38,3 +40,21 @@ pub record HasOneWaitDrawn (w : Window) (s : Layout) (entries : List Entry) (e :
 abbrev pub TicketsAreDrawn : Type 0
 TicketsAreDrawn = OfCharts (λ w s entries. (e : Entry) (before : List Entry) (stands : StandsIn (past_of entries) e before)
     → gives_ticket e.reply ≡ true → HasOneWaitDrawn w s entries e before stands.after)
+
+-- ---- an entry that asks for the end of a wait has a mark in its caller's row, which says whether it was done
+abbrev pub is_wait_sign_at : ℕ → Figure → Bool
+is_wait_sign_at at (figure.WaitSign sign) = sign.at == at
+is_wait_sign_at at f = false
+
+pub record HasOneEndDrawn (w : Window) (s : Layout) (entries : List Entry) (e : Entry) (before : List Entry)
+    : Type 0 where
+  pub sign : WaitSign
+  pub at : sign.at ≡ length before
+  pub by_caller : e.who ≡ Caller sign.caller
+  pub is_done : sign.is_done ≡ is_done e.reply
+  pub drawn : IsDrawnOnce (chart_page w entries) (chart_parts w s entries) (is_wait_sign_at (length before))
+      (figure.WaitSign sign)
+
+abbrev pub EndsAreDrawn : Type 0
+EndsAreDrawn = OfCharts (λ w s entries. (e : Entry) (before : List Entry) → StandsIn (past_of entries) e before
+    → is_end_answer e.reply ≡ true → HasOneEndDrawn w s entries e before)

@@ -3,7 +3,7 @@
 ghost use Rattle.cmwq_chart_laws.specs.Causes.{NothingElseIsCharted};
 ghost use Rattle.cmwq_chart_laws.specs.Charts.{ChartsAreOfParts, ChartsAreOfRows, SignsAreDrawn, StartsAreDrawn};
 ghost use Rattle.cmwq_chart_laws.specs.Levels.{LevelsAreDrawn};
-ghost use Rattle.cmwq_chart_laws.specs.Waits.{TicketsAreDrawn};
+ghost use Rattle.cmwq_chart_laws.specs.Waits.{EndsAreDrawn, TicketsAreDrawn};
 
 /// The text of a chart is that of the picture of its figures.
 pub fn charts_are_of_parts()
@@ -42,4 +42,10 @@ pub fn tickets_are_drawn()
 /// what is open and active and how wide the queue is after it; a band leaves the row out only where nothing is open.
 pub fn levels_are_drawn()
     ensures { LevelsAreDrawn }
+{}
+
+/// Each entry by which a caller asks for the end of a wait has exactly one mark there, in its caller's row, which says
+/// whether the wait was done.
+pub fn ends_are_drawn()
+    ensures { EndsAreDrawn }
 {}
