@@ -14,3 +14,4 @@ pub mod Tickets
 pub mod WaitsDrawn
 pub mod LevelsDrawn
 pub mod EndsDrawn
+pub mod Stacked

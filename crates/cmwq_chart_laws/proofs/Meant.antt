@@ -182,7 +182,7 @@ module _ (p : Page) (figures : List Figure) (rows : AreOfRows figures) where
       all_below name (numbers_of p band top height)
       (of_numbers (λ x. (is_name x.what ≡ false) × IsBelow name x) p band top height (λ at is h. (refl, tt)))
 
-  note_named : (band : ℕ) (f : Figure) (w : What) → note_of p band f ≡ Some w → is_name w ≡ false
+  pub note_named : (band : ℕ) (f : Figure) (w : What) → note_of p band f ≡ Some w → is_name w ≡ false
   note_named band f w h = by w (note_row p band f w h) h
     where
       by : (w : What) → row_of w ≡ Some (figure_row f) → note_of p band f ≡ Some w → is_name w ≡ false

@@ -15,9 +15,9 @@ use Rattle.cmwq_chart_text.specs.declared.part.Part.{Part}
 use Rattle.cmwq_chart_text.specs.declared.part.What.{What}
 use Rattle.cmwq_chart_text.specs.declared.part.What.TheVariants as what
 use Rattle.cmwq_chart_text.specs.Bands.{stands_in}
-use Rattle.cmwq_chart_text.specs.Drawings.{Drawing, below, figure_part, is_in_row, note_parts, numbers_of, part_at, row_drawn}
+use Rattle.cmwq_chart_text.specs.Drawings.{waits_in, Drawing, below, figure_part, is_in_row, note_parts, numbers_of, part_at, row_drawn}
 use Rattle.cmwq_chart_text.specs.Drawings.{shows, with_band_of, with_row, with_row_of, with_rows, page_drawn}
-use Rattle.cmwq_chart_text.specs.Figures.{figure_number, figure_row, most_rows}
+use Rattle.cmwq_chart_text.specs.Figures.{row_height, figure_number, figure_row, most_rows}
 use Rattle.cmwq_chart_text.specs.Notes.{has_caption, has_label, note_of}
 use Rattle.cmwq_chart_text.specs.Pages.{bands}
 use Rattle.cmwq_chart_laws.specs.Drawn.{row_of, parts_of}
@@ -89,6 +89,7 @@ pub record IsNamed (p : Page) (band : ℕ) (own : List Figure) (d : Drawing) : T
   pub are : own ≡ first ∷ rest
   pub some : shows own ≡ true
   pub parts : (with_row p band own d).parts ≡ d.parts ++ row_parts p band d.top (figure_row first) own
+  pub top : (with_row p band own d).top ≡ below d.top (row_height (figure_row first) (waits_in own))
 
 abbrev drawn_if : Page → ℕ → Figure → List Figure → Drawing → Bool → Drawing
 drawn_if p band f fs d b = row_drawn p band (f ∷ fs) d (if b then Some (figure_row f) else None)
@@ -112,6 +113,7 @@ row_cases p band (f ∷ fs) d = by (shows (f ∷ fs)) refl
           ∙ append_assoc d.parts
           (part_at band d.top (what.Row (figure_row f)) ∷ map (figure_part band d.top) (f ∷ fs))
           (flat_map (note_parts p band d.top) (f ∷ fs));
+      top = ap (λ b. (drawn_if p band f fs d b).top) is;
     })
     by false is = inl (is, ap (drawn_if p band f fs d) is)
 

@@ -1,5 +1,5 @@
 -- Laws of pictures: what stands in each band of a page, in each of its rows.
-use Rattle.std.specs.Prelude.{◌≡◌, ℕ, ◌<◌, ◌≤◌, ◌==◌, Bool, true, false, ◌&&◌, if◌then◌else◌, List, [], ◌∷◌, ◌++◌}
+use Rattle.std.specs.Prelude.{◌≡◌, ℕ, ◌+◌, ◌<◌, ◌≤◌, ◌==◌, Bool, true, false, ◌&&◌, if◌then◌else◌, List, [], ◌∷◌, ◌++◌}
 use Rattle.std.specs.Prelude.{map, filter, filter_map, flat_map, count_by, Contains, nat_le, nat_lt, option_to_list}
 use Rattle.std.specs.Prelude.{Option, Some, None, IfSome}
 use Rattle.std.specs.Option.{option_map_or}
@@ -13,8 +13,8 @@ use Rattle.cmwq_chart_text.specs.declared.part.Part.{Part}
 use Rattle.cmwq_chart_text.specs.declared.part.What.{What}
 use Rattle.cmwq_chart_text.specs.declared.part.What.TheVariants as what
 use Rattle.cmwq_chart_text.specs.Bands.{stands_in}
-use Rattle.cmwq_chart_text.specs.Drawings.{page_drawn, part_at, shows}
-use Rattle.cmwq_chart_text.specs.Figures.{figure_row, is_flat, row_number, who_row}
+use Rattle.cmwq_chart_text.specs.Drawings.{page_drawn, part_at, shows, waits_in}
+use Rattle.cmwq_chart_text.specs.Figures.{figure_row, is_flat, row_height, row_number, who_row}
 use Rattle.cmwq_chart_text.specs.Notes.{has_caption, has_label, has_number, note_of}
 use Rattle.cmwq_chart_text.specs.Pages.{band_of}
 
@@ -154,3 +154,22 @@ abbrev pub NumbersAreDrawn : Type 0
 NumbersAreDrawn = (p : Page) (figures : List Figure) (band at : ℕ)
     → count_by (is_number_in band at) (parts_of p figures)
     ≡ (if is_shown_in p band at && has_number p at then 1 else 0)
+
+-- ---- rows do not overlap: read in their order, each name stands below the rows before it. Where a row ends, up to a
+-- part, if the rows before that end at an edge
+abbrev pub edge_behind : Page → List Figure → ℕ → ℕ → ℕ → What → ℕ
+edge_behind p figures edge band top (what.Row r) = top + row_height r (waits_in (standing_in p figures band r))
+edge_behind p figures edge band top w = edge
+
+abbrev pub edge_after : Page → List Figure → ℕ → Part → ℕ
+edge_after p figures edge x = edge_behind p figures edge x.band x.top x.what
+
+unfoldable pub AreStacked : Page → List Figure → ℕ → List Part → Type 0
+AreStacked p figures edge [] = Unit {0}
+AreStacked p figures edge (x ∷ parts) =
+    (is_name x.what ≡ true → edge ≤ x.top) × AreStacked p figures (edge_after p figures edge x) parts
+
+-- heights are kept below 2 ^ 32: this is of each picture that is not as high
+abbrev pub RowsAreStacked : Type 0
+RowsAreStacked = (p : Page) (figures : List Figure) → AreOfRows figures → (page_drawn p figures).top < 4294967295
+    → AreStacked p figures 0 (parts_of p figures)

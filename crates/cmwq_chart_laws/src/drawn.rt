@@ -1,7 +1,7 @@
 //! What is drawn of shapes, on every page.
 
 ghost use Rattle.cmwq_chart_laws.specs.Drawn.{FiguresAreBelowNames, FiguresAreDrawn, NothingElseIsDrawn};
-ghost use Rattle.cmwq_chart_laws.specs.Drawn.{NumbersAreDrawn, RowsAreDrawn, RowsAreToldApart};
+ghost use Rattle.cmwq_chart_laws.specs.Drawn.{NumbersAreDrawn, RowsAreDrawn, RowsAreStacked, RowsAreToldApart};
 
 /// Rows whose numbers are in the ranges of their types are told apart by their numbers.
 pub fn rows_are_told_apart()
@@ -34,4 +34,10 @@ pub fn figures_are_below_names()
 /// Each entry that is shown and is to have a number has it once, in its band.
 pub fn numbers_are_drawn()
     ensures { NumbersAreDrawn }
+{}
+
+/// Rows do not overlap: read in their order, each name stands below the rows before it, and each band below the one
+/// before it.
+pub fn rows_are_stacked()
+    ensures { RowsAreStacked }
 {}

@@ -12,7 +12,7 @@ pub use charts::{
 };
 pub use drawn::{
     figures_are_below_names, figures_are_drawn, nothing_else_is_drawn, numbers_are_drawn,
-    rows_are_drawn, rows_are_told_apart,
+    rows_are_drawn, rows_are_stacked, rows_are_told_apart,
 };
 pub use edges::{bars_do_not_overlap, columns_are_apart, figures_have_edges, marks_are_inside};
 pub use standing::{figures_stand_with_entries, flat_levels_stand_at_their_ends};
