@@ -376,13 +376,13 @@ wait_signs_caused (e ∷ past) c =
 
 -- ---- bars, in a legal history
 
-abbrev Starts : ℕ → Entry → Type 0
+abbrev pub Starts : ℕ → Entry → Type 0
 Starts n e = number_started e.reply ≡ Some n
 
-abbrev Finishes : ℕ → Entry → Type 0
+abbrev pub Finishes : ℕ → Entry → Type 0
 Finishes n e = number_finished e.reply ≡ Some n
 
-abbrev IsBarOf : List Entry → Bar → Type 0
+abbrev pub IsBarOf : List Entry → Bar → Type 0
 IsBarOf past b = HasEntryBy past b.from (Worker b.worker) (Starts b.number)
     × IfSome b.to (λ last. HasEntryBy past last (Worker b.worker) (Finishes b.number))
 
@@ -398,7 +398,7 @@ start_is e w n (Worker v) (Some m) hx ho h =
     let same : start_of v m ≡ start_of w n = same_Some (start_of v m) (start_of w n) h in
     (hx ∙ ap (λ (s : Start). Worker s.worker) same, ho ∙ ap (λ (s : Start). Some s.number) same)
 
-bars_caused : (s : Layout) (past : List Entry) → IsLegal s past → AllByRecursion (IsBarOf past) (bars_of past)
+pub bars_caused : (s : Layout) (past : List Entry) → IsLegal s past → AllByRecursion (IsBarOf past) (bars_of past)
 bars_caused s past legal =
     all_in (IsBarOf past) (bars_of past)
     (λ b i. one b i (of_in (IsOfStart past) (bars_of past) b (bars_are_of_starts past) i))

@@ -15,3 +15,4 @@ pub mod WaitsDrawn
 pub mod LevelsDrawn
 pub mod EndsDrawn
 pub mod Stacked
+pub mod FinishesDrawn

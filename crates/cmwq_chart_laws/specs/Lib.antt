@@ -5,3 +5,4 @@ pub mod Charts
 pub mod Causes
 pub mod Waits
 pub mod Levels
+pub mod Finishes

@@ -2,6 +2,7 @@
 
 ghost use Rattle.cmwq_chart_laws.specs.Causes.{NothingElseIsCharted};
 ghost use Rattle.cmwq_chart_laws.specs.Charts.{ChartsAreOfParts, ChartsAreOfRows, SignsAreDrawn, StartsAreDrawn};
+ghost use Rattle.cmwq_chart_laws.specs.Finishes.{FinishesAreDrawn};
 ghost use Rattle.cmwq_chart_laws.specs.Levels.{LevelsAreDrawn};
 ghost use Rattle.cmwq_chart_laws.specs.Waits.{EndsAreDrawn, TicketsAreDrawn};
 
@@ -48,4 +49,9 @@ pub fn levels_are_drawn()
 /// whether the wait was done.
 pub fn ends_are_drawn()
     ensures { EndsAreDrawn }
+{}
+
+/// Each entry that finishes a queueing is where exactly one bar of its worker ends, and that is a bar of the queueing.
+pub fn finishes_are_drawn()
+    ensures { FinishesAreDrawn }
 {}

@@ -7,7 +7,7 @@ mod edges;
 mod standing;
 
 pub use charts::{
-    charts_are_of_parts, charts_are_of_rows, ends_are_drawn, levels_are_drawn,
+    charts_are_of_parts, charts_are_of_rows, ends_are_drawn, finishes_are_drawn, levels_are_drawn,
     nothing_else_is_charted, signs_are_drawn, starts_are_drawn, tickets_are_drawn,
 };
 pub use drawn::{
