@@ -1,5 +1,5 @@
 -- The statuses of a board's calls.
-use Rattle.cmwq_c.specs.Common.{Who, Caller, Worker, Call, Entry, nat_lt}
+use Rattle.cmwq_c.specs.Common.{Who, Caller, Worker, Call, Entry, Reply, nat_lt}
 use Rattle.std.specs.Prelude.{ℕ, ◌==◌, ◌||◌, ◌&&◌, if◌then◌else◌, nat_le, List, [], ◌∷◌, length}
 use Rattle.std.specs.Prelude.{Option, None, Some}
 use Rattle.cmwq_model.specs.declared.id.CallerId.{CallerId}
@@ -111,6 +111,10 @@ begun_number (begun.Waits party r) = 14
 abbrev pub party_after : Begun → ℕ → ℕ
 party_after (begun.Ended r) old = old
 party_after (begun.Waits party r) old = party.0
+
+abbrev pub begun_reply : Begun → Reply
+begun_reply (begun.Ended r) = r
+begun_reply (begun.Waits party r) = r
 
 abbrev pub ended_number : Ended → ℕ
 ended_number Done = 0

@@ -5,14 +5,14 @@ ghost use Rattle.cmwq_model.specs.Prelude.{is_layout};
 ghost use Rattle.cmwq_dispatch.specs.Dispatched.{is_over};
 ghost use Rattle.cmwq_board.specs.Boarded.{layout_of, past_of_board};
 ghost use Rattle.cmwq_board.specs.Items.{item_state};
-ghost use Rattle.cmwq_board.specs.Waits.{reply_of};
 ghost use Rattle.cmwq_board.specs.declared.board.Begun.{Begun};
 ghost use Rattle.cmwq_board.specs.declared.board.Ended.{Ended};
 ghost use Rattle.cmwq_board.specs.declared.board.Start.{Start};
 ghost use Rattle.cmwq_c.specs.BoardCalls.{AdvancesTo, BeginsAs, Calls, Ends, EndsAs, Fails, IsDueNumber, IsNewBoard};
 ghost use Rattle.cmwq_c.specs.BoardCalls.{LeavesBy, StartsAs, Stops, due_number};
-ghost use Rattle.cmwq_c.specs.BoardStatuses.{advance_status, begin_done, begin_status, begun_number, end_done};
-ghost use Rattle.cmwq_c.specs.BoardStatuses.{end_status, ended_number, finish_status, item_after, item_status};
+ghost use Rattle.cmwq_c.specs.BoardStatuses.{advance_status, begin_done, begin_status, begun_number, begun_reply};
+ghost use Rattle.cmwq_c.specs.BoardStatuses.{end_done, end_status, ended_number, finish_status, item_after};
+ghost use Rattle.cmwq_c.specs.BoardStatuses.{item_status};
 ghost use Rattle.cmwq_c.specs.BoardStatuses.{leave_status, number_after, party_after, single_status, start_done};
 ghost use Rattle.cmwq_c.specs.BoardStatuses.{start_number, start_status};
 ghost use Rattle.cmwq_c.specs.Items.{item_numbers};
@@ -77,7 +77,8 @@ pub extern "C" fn cmwq_board_call(
 ) -> u32
     ensures status { result ≡ if_live board.old.live (single_status board.old.held.board (asked_of call.now)) }
     ensures live { board.new.live ≡ board.old.live }
-    ensures calls { result ≡ 0 → Calls (asked_of call.now) board.old.held.board board.new.held.board reply.new wakes.new }
+    ensures calls { result ≡ 0
+        → Calls (asked_of call.now) board.old.held.board board.new.held.board reply.new wakes.new }
     ensures kept { result ≢ 0 → (reply.new ≡ reply.old) × (wakes.new ≡ wakes.old) }
     ensures same { result ≢ 0 → board.old.live ≡ true → board.new.held.board ≡ board.old.held.board }
 {
@@ -102,7 +103,8 @@ pub extern "C" fn cmwq_board_start(
     number: &mut u64,
     wakes: &mut WakesNumbers,
 ) -> u32
-    ensures status { start_done result ≡ if_live board.old.live (start_status board.old.held.board (worker_meant worker.now)) }
+    ensures status { start_done result
+        ≡ if_live board.old.live (start_status board.old.held.board (worker_meant worker.now)) }
     ensures live { board.new.live ≡ board.old.live }
     ensures starts { start_done result ≡ 0 → (answer : Start) × (result ≡ start_number answer)
         × (item.new ≡ item_after answer item.old) × (number.new ≡ number_after answer number.old)
@@ -158,10 +160,11 @@ pub extern "C" fn cmwq_board_begin(
     reply: &mut ReplyNumbers,
     wakes: &mut WakesNumbers,
 ) -> u32
-    ensures status { begin_done result ≡ if_live board.old.live (begin_status board.old.held.board (asked_of call.now)) }
+    ensures status { begin_done result
+        ≡ if_live board.old.live (begin_status board.old.held.board (asked_of call.now)) }
     ensures live { board.new.live ≡ board.old.live }
     ensures begins { begin_done result ≡ 0 → (answer : Begun) × (result ≡ begun_number answer)
-        × (party.new ≡ party_after answer party.old) × (reply.new ≡ reply_numbers (reply_of answer))
+        × (party.new ≡ party_after answer party.old) × (reply.new ≡ reply_numbers (begun_reply answer))
         × BeginsAs (asked_of call.now) answer board.old.held.board board.new.held.board wakes.new }
     ensures kept { begin_done result ≢ 0
         → (party.new ≡ party.old) × (reply.new ≡ reply.old) × (wakes.new ≡ wakes.old) }
@@ -241,7 +244,8 @@ pub extern "C" fn cmwq_board_advance(
 ) -> u32
     ensures status { result ≡ if_live board.old.live (advance_status board.old.held.board caller ticks) }
     ensures live { board.new.live ≡ board.old.live }
-    ensures advances { result ≡ 0 → AdvancesTo caller ticks board.old.held.board board.new.held.board now.new wakes.new }
+    ensures advances { result ≡ 0
+        → AdvancesTo caller ticks board.old.held.board board.new.held.board now.new wakes.new }
     ensures kept { result ≢ 0 → (now.new ≡ now.old) × (wakes.new ≡ wakes.old) }
     ensures same { result ≢ 0 → board.old.live ≡ true → board.new.held.board ≡ board.old.held.board }
 {
@@ -278,7 +282,8 @@ pub extern "C" fn cmwq_board_time(alloc: Global, board: &mut BoardHandle) -> u64
 pub extern "C" fn cmwq_board_due(alloc: Global, board: &mut BoardHandle) -> u64
     ensures live { board.new.live ≡ board.old.live }
     ensures same { board.old.live ≡ true → board.new.held.board ≡ board.old.held.board }
-    ensures due { board.old.live ≡ true → IsDueNumber (past_of_board board.old.held.board) (layout_of board.old.held.board).items result }
+    ensures due { board.old.live ≡ true
+        → IsDueNumber (past_of_board board.old.held.board) (layout_of board.old.held.board).items result }
     ensures closed { board.old.live ≡ false → result ≡ due_number None }
 {
     match mem::replace(board, BoardHandle::none()).into_box(alloc) {

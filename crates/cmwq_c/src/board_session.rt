@@ -5,14 +5,14 @@ ghost use Rattle.cmwq_model.specs.Prelude.{is_layout};
 ghost use Rattle.cmwq_dispatch.specs.Dispatched.{is_over};
 ghost use Rattle.cmwq_board.specs.Boarded.{handed_out, kept_in, layout_of, past_of_board};
 ghost use Rattle.cmwq_board.specs.Items.{item_state};
-ghost use Rattle.cmwq_board.specs.Waits.{reply_of};
 ghost use Rattle.cmwq_board.specs.declared.board.Begun.{Begun};
 ghost use Rattle.cmwq_board.specs.declared.board.Ended.{Ended};
 ghost use Rattle.cmwq_board.specs.declared.board.Start.{Start};
 ghost use Rattle.cmwq_c.specs.BoardCalls.{AdvancesTo, BeginsAs, Calls, Ends, EndsAs, Fails};
 ghost use Rattle.cmwq_c.specs.BoardCalls.{IsDueNumber, IsNewBoard, LeavesBy, StartsAs, Stops};
-ghost use Rattle.cmwq_c.specs.BoardStatuses.{advance_status, begin_done, begin_status, begun_number, end_done};
-ghost use Rattle.cmwq_c.specs.BoardStatuses.{end_status, ended_number, finish_status, hand_out_status, item_after};
+ghost use Rattle.cmwq_c.specs.BoardStatuses.{advance_status, begin_done, begin_status, begun_number, begun_reply};
+ghost use Rattle.cmwq_c.specs.BoardStatuses.{end_done, end_status, ended_number, finish_status, hand_out_status};
+ghost use Rattle.cmwq_c.specs.BoardStatuses.{item_after};
 ghost use Rattle.cmwq_c.specs.BoardStatuses.{item_status, leave_status, number_after, party_after, run_of};
 ghost use Rattle.cmwq_c.specs.BoardStatuses.{single_status, start_done, start_number, start_status};
 ghost use Rattle.cmwq_c.specs.Items.{item_numbers};
@@ -121,7 +121,7 @@ fn started(start: Start, item: &mut u16, number: &mut u64) -> u32
 fn began(begun: Begun, party: &mut u8, reply: &mut ReplyNumbers) -> u32
     ensures status { result ≡ begun_number begun }
     ensures party { party.new ≡ party_after begun party.old }
-    ensures reply { reply.new ≡ reply_numbers (reply_of begun) }
+    ensures reply { reply.new ≡ reply_numbers (begun_reply begun) }
 {
     match begun {
         Begun::Ended { reply: made } => {
@@ -248,7 +248,7 @@ impl BoardSession {
     ) -> u32
         ensures status { begin_done result ≡ begin_status self.old (asked_of call.now) }
         ensures begins { begin_done result ≡ 0 → (answer : Begun) × (result ≡ begun_number answer)
-            × (party.new ≡ party_after answer party.old) × (reply.new ≡ reply_numbers (reply_of answer))
+            × (party.new ≡ party_after answer party.old) × (reply.new ≡ reply_numbers (begun_reply answer))
             × BeginsAs (asked_of call.now) answer self.old self.new told.new }
         ensures kept { begin_done result ≢ 0 → (self.new ≡ self.old) × (party.new ≡ party.old)
             × (reply.new ≡ reply.old) × (told.new ≡ told.old) }
