@@ -112,8 +112,8 @@ static inline uint32_t cmwq_hub_advance_(struct cmwq_hub *hub, uint64_t tick)
     while (status == CMWQ_OK && (now = cmwq_board_time(&hub->board)) < tick) {
         uint32_t ticks = tick - now < UINT32_MAX ? (uint32_t)(tick - now) : UINT32_MAX;
 
+        cmwq_hub_space_(hub, hub->is.keep);
         status = cmwq_hub_note_(hub, cmwq_board_advance(&hub->board, 0, ticks, &now, &hub->wakes));
-        if (ticks == UINT32_MAX) cmwq_hub_space_(hub, hub->is.keep);
     }
     return status;
 }
@@ -212,12 +212,8 @@ static inline void *cmwq_hub_tick_(void *at)
         then = hub->due < UINT64_MAX / 2 / tick ? hub->due * tick : UINT64_MAX;
         if (hub->left && then > now + 100000000)
             then = now + 100000000; /* the end of a drain that was left isn't told */
-        if (hub->due > now / tick) {
-            cmwq_hub_sleep_(hub, me, then);
-        } else {
-            cmwq_hub_space_(hub, hub->is.keep);
-            status = cmwq_hub_advance_(hub, now / tick);
-        }
+        if (hub->due > now / tick) cmwq_hub_sleep_(hub, me, then);
+        else status = cmwq_hub_advance_(hub, now / tick);
     }
     cmwq_hub_unlock_(hub);
     return NULL;
@@ -257,31 +253,31 @@ static inline void *cmwq_hub_write_(void *at)
 static inline bool cmwq_hub_start_(struct cmwq_hub *hub, bool is_high)
 {
     pthread_condattr_t monotonic;
-    bool started = true;
 
     pthread_condattr_init(&monotonic);
     pthread_condattr_setclock(&monotonic, CLOCK_MONOTONIC);
     pthread_mutex_init(&hub->lock, NULL);
     pthread_cond_init(&hub->changed, NULL);
     for (struct cmwq_party_ *party = hub->parties; party <= hub->journal; party++) {
-        party->hub = hub;
-        pthread_cond_init(&party->wakes, &monotonic);
-    }
-    hub->state = CMWQ_OPEN_;
-    for (unsigned k = 0; k < hub->workers && started; k++) {
-        struct cmwq_party_ *party = &hub->parties[k];
-        unsigned pool = k / hub->shape.workers;
+        unsigned k = (unsigned)(party - hub->parties), pool = k / hub->shape.workers;
 
+        pthread_cond_init(&party->wakes, &monotonic);
+        party->hub = hub;
         party->who.kind = pool % 2 ? CMWQ_HIGH_WORKER : CMWQ_WORKER;
         party->who.index = (uint8_t)(k % hub->shape.workers);
         party->who.cpu = (uint8_t)(pool / 2);
-        if (pool % 2 && !is_high) continue;
-        started = party->started = !pthread_create(&party->thread, NULL, cmwq_hub_work_, party);
     }
-    if (started) hub->clock->started = !pthread_create(&hub->clock->thread, NULL, cmwq_hub_tick_, hub->clock);
-    if (hub->clock->started && hub->is.journal)
-        hub->journal->started = !pthread_create(&hub->journal->thread, NULL, cmwq_hub_write_, hub->journal);
-    return hub->is.journal ? hub->journal->started : hub->clock->started;
+    hub->state = CMWQ_OPEN_;
+    for (struct cmwq_party_ *party = hub->parties; party <= hub->journal; party++) {
+        bool works = party < hub->parties + hub->workers, ticks = party == hub->clock;
+        bool writes = party == hub->journal && hub->is.journal;
+        void *(*body)(void *) = works ? cmwq_hub_work_ : ticks ? cmwq_hub_tick_ : cmwq_hub_write_;
+
+        if (works ? party->who.kind == CMWQ_HIGH_WORKER && !is_high : !ticks && !writes) continue;
+        party->started = pthread_create(&party->thread, NULL, body, party) == 0;
+        if (!party->started) return false;
+    }
+    return true;
 }
 
 /* Gives up what there is of a hub, which nobody is in. Its lock stays, so that later calls are refused. */
