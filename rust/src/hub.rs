@@ -66,6 +66,8 @@ pub(crate) struct Hub {
 thread_local! {
     /// The hub and the worker of the run that this thread is in, and whether that run sleeps.
     static RUN: Cell<Option<(*const Hub, Who, bool)>> = const { Cell::new(None) };
+    /// The hub whose thread this is.
+    static OWNER: Cell<*const Hub> = const { Cell::new(std::ptr::null()) };
 }
 
 /// Those who are to be woken. They are, when this is dropped.
@@ -266,8 +268,14 @@ impl Hub {
         }
     }
 
-    pub(crate) fn is_in_run(&self) -> bool {
-        self.who(true).kind != CALLER
+    /// This thread is one of the hub's.
+    pub(crate) fn enter(&self) {
+        OWNER.set(self);
+    }
+
+    /// Whether this thread is one of the hub's, which can't join itself.
+    pub(crate) fn is_own_thread(&self) -> bool {
+        std::ptr::eq(OWNER.get(), self)
     }
 
     /// A call that waits. Returns the reply with which it began.

@@ -248,7 +248,11 @@ impl Builder {
         let mut made = Workqueues { hub, names: self.names, workers: Vec::new(), clock: None, journal: None };
         if let Some(mut writer) = self.history {
             let hub = made.hub.clone();
-            made.journal = Some(spawn("cmwq journal", move || hub.keep_journal(&head, &mut *writer))?);
+            let journal = move || {
+                hub.enter();
+                hub.keep_journal(&head, &mut *writer)
+            };
+            made.journal = Some(spawn("cmwq journal", journal)?);
         }
         let hub = made.hub.clone();
         made.clock = Some(spawn("cmwq clock", move || hub.keep_time())?);
@@ -258,7 +262,11 @@ impl Builder {
                 for index in 0..self.shape.workers {
                     let (hub, who) = (made.hub.clone(), Who { kind, index, cpu });
                     let name = format!("cmwq {cpu}{}{index}", if kind == WORKER { 'n' } else { 'h' });
-                    made.workers.push(spawn(&name, move || hub.work(who))?);
+                    let work = move || {
+                        hub.enter();
+                        hub.work(who);
+                    };
+                    made.workers.push(spawn(&name, work)?);
                 }
             }
         }
@@ -322,7 +330,7 @@ impl Workqueues {
     /// [`Error::Panicked`], [`Error::History`]. In a work function [`Error::Itself`]: it can't join its own thread, so
     /// another thread shuts down.
     pub fn shutdown(mut self) -> Result<()> {
-        if self.hub.is_in_run() {
+        if self.hub.is_own_thread() {
             return Err(Error::Itself);
         }
         self.end()
@@ -353,7 +361,7 @@ impl Drop for Workqueues {
         if self.workers.is_empty() && self.clock.is_none() && self.journal.is_none() {
             return;
         }
-        if !self.hub.is_in_run() {
+        if !self.hub.is_own_thread() {
             let _ = self.end();
             return;
         }

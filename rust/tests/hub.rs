@@ -228,6 +228,21 @@ fn dropped_in_a_run_of_its_own() -> Result<()> {
 }
 
 #[test]
+fn dropped_with_a_work_function() -> Result<()> {
+    let _dog = watchdog();
+    let text = Text::default();
+    let all = Workqueues::builder().queue("a", max_active(1)).history(text.clone()).build()?;
+    let queue = all.queue("a")?;
+    let item = queue.item(move |_| _ = &all)?;
+    item.queue()?;
+    drop(item); // a worker drops all then
+    while !matches!(check(&text.0.lock().unwrap()), Ok(Verdict::Legal { .. })) {
+        thread::sleep(Duration::from_millis(1));
+    }
+    Ok(())
+}
+
+#[test]
 fn a_writer_that_fails() -> Result<()> {
     let _dog = watchdog();
     struct Bad(usize);
