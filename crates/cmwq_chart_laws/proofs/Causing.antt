@@ -107,10 +107,10 @@ signs_caused (e ∷ past) =
     )
 
 -- ---- sleeps
-abbrev Slept : Entry → Type 0
+abbrev pub Slept : Entry → Type 0
 Slept e = e.reply ≡ reply.Slept
 
-abbrev Woke : Entry → Type 0
+abbrev pub Woke : Entry → Type 0
 Woke e = e.reply ≡ reply.Woke
 
 asleep_caused : (past : List Entry) (w : WorkerId) → IfSome (asleep_since past w)
@@ -139,7 +139,7 @@ asleep_caused (e ∷ past) w = by (later (asleep_since past w) (asleep_caused pa
     by h true is = own is e.reply refl (asleep_since past w) h
     by h false is = h
 
-abbrev IsSleepOf : List Entry → Sleep → Type 0
+abbrev pub IsSleepOf : List Entry → Sleep → Type 0
 IsSleepOf past x = HasEntryBy past x.from (Worker x.worker) Slept
     × IfSome x.to (λ last. HasEntryBy past last (Worker x.worker) Woke)
 
@@ -173,7 +173,7 @@ sleeps_ended_caused (e ∷ past) w =
         ((one_later e past from (Worker w) Slept h, the_last e past (Worker w) Woke k.0 (is_woke e.reply k.1)), tt)
     by false is o h = tt
 
-sleeps_caused : (past : List Entry) (w : WorkerId) → AllByRecursion (IsSleepOf past) (sleeps_by past w)
+pub sleeps_caused : (past : List Entry) (w : WorkerId) → AllByRecursion (IsSleepOf past) (sleeps_by past w)
 unfolding sleeps_by
 sleeps_caused past w =
     All_append (IsSleepOf past) (sleeps_ended past w)

@@ -69,6 +69,35 @@ limits s h =
       queues = at_most 1 255 (length s.queues) d;
     }
 
+-- ---- what holds of a worker holds of the worker of each of its sleeps
+
+sleeps_ended_rows : (P : WorkerId → Type 0) (past : List Entry) (w : WorkerId) → P w
+    → AllByRecursion (λ (x : Sleep). P x.worker) (sleeps_ended past w)
+unfolding sleeps_ended
+sleeps_ended_rows P [] w is = tt
+sleeps_ended_rows P (e ∷ past) w is =
+    All_append (λ (x : Sleep). P x.worker) (sleeps_ended past w) (option_to_list (sleep_ended past e w))
+    (sleeps_ended_rows P past w is) (here (is_by (Worker w) e && ends_sleep e.reply) (asleep_since past w))
+  where
+    here : (b : Bool) (o : Option ℕ) → AllByRecursion (λ (x : Sleep). P x.worker)
+        (option_to_list (if b then option_map (sleep_from w (Some (length past))) o else None))
+    here true None = tt
+    here true (Some from) = (is, tt)
+    here false o = tt
+
+pub sleeps_rows : (P : WorkerId → Type 0) (past : List Entry) (w : WorkerId) → P w
+    → AllByRecursion (λ (x : Sleep). P x.worker) (sleeps_by past w)
+unfolding sleeps_by
+sleeps_rows P past w is =
+    All_append (λ (x : Sleep). P x.worker) (sleeps_ended past w)
+    (option_to_list (option_map (sleep_from w None) (asleep_since past w))) (sleeps_ended_rows P past w is)
+    (left (asleep_since past w))
+  where
+    left : (o : Option ℕ) → AllByRecursion (λ (x : Sleep). P x.worker)
+        (option_to_list (option_map (sleep_from w None) o))
+    left None = tt
+    left (Some from) = (is, tt)
+
 -- ---- what holds of a caller holds of the caller of each of its waits
 
 waits_ended_rows : (P : CallerId → Type 0) (past : List Entry) (c : CallerId) → P c
@@ -180,40 +209,13 @@ module _ (s : Layout) (few : Limits s) where
           (All_map (λ i. (0 ≤ i) × (i < 0 + s.workers)) (λ i. IsWorkerRow (worker_at p i)) (range_with_len 0 s.workers)
           (λ i k. let less = k.1 in let most = few.workers in (h, omega arith)) (range_in_it 0 s.workers))
 
-  sleeps_ended_rows : (past : List Entry) (w : WorkerId) → IsWorkerRow w
-      → AllByRecursion (λ (x : Sleep). IsWorkerRow x.worker) (sleeps_ended past w)
-  unfolding sleeps_ended
-  sleeps_ended_rows [] w is = tt
-  sleeps_ended_rows (e ∷ past) w is =
-      All_append (λ (x : Sleep). IsWorkerRow x.worker) (sleeps_ended past w) (option_to_list (sleep_ended past e w))
-      (sleeps_ended_rows past w is) (here (is_by (Worker w) e && ends_sleep e.reply) (asleep_since past w))
-    where
-      here : (b : Bool) (o : Option ℕ) → AllByRecursion (λ (x : Sleep). IsWorkerRow x.worker)
-          (option_to_list (if b then option_map (sleep_from w (Some (length past))) o else None))
-      here true None = tt
-      here true (Some from) = (is, tt)
-      here false o = tt
-
-  sleeps_rows : (past : List Entry) (w : WorkerId) → IsWorkerRow w
-      → AllByRecursion (λ (x : Sleep). IsWorkerRow x.worker) (sleeps_by past w)
-  unfolding sleeps_by
-  sleeps_rows past w is =
-      All_append (λ (x : Sleep). IsWorkerRow x.worker) (sleeps_ended past w)
-      (option_to_list (option_map (sleep_from w None) (asleep_since past w))) (sleeps_ended_rows past w is)
-      (left (asleep_since past w))
-    where
-      left : (o : Option ℕ) → AllByRecursion (λ (x : Sleep). IsWorkerRow x.worker)
-          (option_to_list (option_map (sleep_from w None) o))
-      left None = tt
-      left (Some from) = (is, tt)
-
   all_sleeps_rows : (past entries : List Entry)
       → AllByRecursion (λ (x : Sleep). IsWorkerRow x.worker) (sleeps_of past (lanes_of s entries))
   unfolding lanes_of
   all_sleeps_rows past entries =
       All_flat_map (λ (x : Sleep). IsWorkerRow x.worker) (sleeps_by past) (filter (has_entries entries) (workers s))
       (All_map IsWorkerRow (λ w. AllByRecursion (λ (x : Sleep). IsWorkerRow x.worker) (sleeps_by past w))
-      (filter (has_entries entries) (workers s)) (sleeps_rows past)
+      (filter (has_entries entries) (workers s)) (sleeps_rows IsWorkerRow past)
       (all_kept IsWorkerRow (has_entries entries) (workers s) workers_rows))
 
   -- ---- callers

@@ -1,15 +1,15 @@
 -- Each entry that asks for the end of a wait has one mark in a chart.
-use Rattle.std.proofs.Common.{◌≡◌, ℕ, zero, suc, ◌+◌, ◌-◌, ◌<◌, ◌≤◌, ◌==◌, Bool, true, false, ◌&&◌, ◌||◌, not, List, []}
-use Rattle.std.proofs.Common.{◌∷◌, ◌++◌, cond, count_by, length, map, filter, flat_map, find, Option, Some, None}
-use Rattle.std.proofs.Common.{option_map, option_to_list, IfSome, refl, sym, ap, ap₂, ◌∙◌, subst, arith, eq-eqb, eqb-true}
-use Rattle.std.proofs.Common.{ne_eqb, ⊎_elim, inl, inr, length-append, append-nil}
-use Rattle.std.specs.Prelude.{if◌then◌else◌, IsTrue, option_and_then, slice_get}
+use Rattle.std.proofs.Common.{◌≡◌, ℕ, suc, ◌+◌, ◌<◌, ◌≤◌, ◌==◌, Bool, true, false, not, List, []}
+use Rattle.std.proofs.Common.{◌∷◌, ◌++◌, cond, count_by, length, filter, Option, Some, None}
+use Rattle.std.proofs.Common.{option_map, option_to_list, refl, sym, ap, ap₂, ◌∙◌, subst, arith, eq-eqb, eqb-true}
+use Rattle.std.proofs.Common.{ne_eqb, length-append, append-nil}
+use Rattle.std.specs.Prelude.{if◌then◌else◌, IsTrue, option_and_then}
 use Rattle.std.specs.List.{AllByRecursion, list_any}
 use Rattle.std.proofs.lemmas.Bool.{and_parts, or_parts}
 use Rattle.std.proofs.lemmas.Option.{same_Some}
 use Rattle.std.proofs.lemmas.List.Elements.{filter-append}
 use Rattle.std.proofs.lemmas.List.Folds.{list_any-append}
-use Rattle.cmwq_lemmas.proofs.Lists.{All_append, All_map, count_by-cons, of_option}
+use Rattle.cmwq_lemmas.proofs.Lists.{All_append, All_map, count_by-cons}
 use Rattle.cmwq_lemmas.proofs.Members.{In, found, in_filter, of_in}
 use Rattle.cmwq_model.specs.declared.call.Call.{Call}
 use Rattle.cmwq_model.specs.declared.call.Call.TheVariants as call
@@ -21,7 +21,7 @@ use Rattle.cmwq_model.specs.declared.record.Ticket.{Ticket}
 use Rattle.cmwq_model.specs.declared.reply.Reply.{Reply}
 use Rattle.cmwq_model.specs.declared.reply.Reply.TheVariants as reply
 use Rattle.cmwq_model.specs.Prelude.{IsLegal, Layout, answer, end_of_ticket, ends, gives_ticket, is_at, is_by, is_done}
-use Rattle.cmwq_model.specs.Prelude.{is_end_of, is_held_by, is_layout, is_ticket, is_unended, past_of, same_who}
+use Rattle.cmwq_model.specs.Prelude.{is_layout, is_ticket, is_unended, past_of, same_who}
 use Rattle.cmwq_model.specs.Prelude.{ticket_for, ticket_in, ticket_of, tickets, unended_tickets}
 use Rattle.cmwq_model.proofs.Growing.{older_are_legal}
 use Rattle.cmwq_theory_steps.proofs.Causes.{Cause, cause_of}
@@ -42,7 +42,7 @@ use Rattle.cmwq_chart_text.specs.declared.page.Window.{Window}
 use Rattle.cmwq_output_laws.specs.BarLaws.{StandsIn}
 use Rattle.cmwq_chart_laws.specs.Causes.{HasEntryBy}
 use Rattle.cmwq_chart_laws.specs.Charts.{chart_figures, chart_page}
-use Rattle.cmwq_chart_laws.specs.Waits.{EndsAreDrawn, HasOneEndDrawn, ends_wait_of, is_wait_sign_at}
+use Rattle.cmwq_chart_laws.specs.Waits.{EndsAreDrawn, HasOneEndDrawn, is_wait_sign_at}
 use Rattle.cmwq_chart_laws.proofs.Causing.{GivesTicket, one_later}
 use Rattle.cmwq_chart_laws.proofs.ChartRows.{charts_are_of_rows}
 use Rattle.cmwq_chart_laws.proofs.Once.{is_drawn_once, one_wait_sign}

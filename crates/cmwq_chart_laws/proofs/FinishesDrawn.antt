@@ -1,21 +1,19 @@
 -- Each entry that finishes a queueing is where one bar ends in a chart.
-use Rattle.std.proofs.Common.{◌≡◌, ℕ, zero, suc, ◌+◌, ◌-◌, ◌<◌, ◌≤◌, ◌==◌, Bool, true, false, ◌&&◌, ◌||◌, not, List, []}
-use Rattle.std.proofs.Common.{◌∷◌, ◌++◌, cond, length, filter, Option, Some, None, IfSome, refl, sym, ap, ap₂, ◌∙◌}
-use Rattle.std.proofs.Common.{subst, append_assoc, arith, nat_lt, ltb-true, ltb-false, eq-eqb, eqb-true, ⊎_elim, inl, inr, length-append, ◌⊎◌}
-use Rattle.std.specs.Prelude.{if◌then◌else◌, IsTrue, option_and_then, is_some}
-use Rattle.std.specs.Option.{option_map_or, option_or}
-use Rattle.std.specs.List.{AllByRecursion, list_any}
+use Rattle.std.proofs.Common.{◌≡◌, ℕ, ◌+◌, ◌<◌, ◌==◌, Bool, true, false, ◌&&◌, not, List, []}
+use Rattle.std.proofs.Common.{◌∷◌, ◌++◌, cond, length, filter, Option, Some, None, IfSome, refl, sym, ap, ◌∙◌}
+use Rattle.std.proofs.Common.{subst, append_assoc, arith, nat_lt, ltb-true, ltb-false, eq-eqb, eqb-true, inl, length-append}
+use Rattle.std.specs.Prelude.{if◌then◌else◌, is_some}
+use Rattle.std.specs.Option.{option_map_or}
+use Rattle.std.specs.List.{list_any}
 use Rattle.std.proofs.lemmas.Bool.{and_parts}
 use Rattle.std.proofs.lemmas.Option.{same_Some}
 use Rattle.cmwq_lemmas.proofs.Filters.{filter_same, filter_twice}
 use Rattle.cmwq_lemmas.proofs.Lists.{same_tail}
 use Rattle.cmwq_lemmas.proofs.Members.{In, all_in, any_in, in_filter, in_right, of_in}
-use Rattle.cmwq_lemmas.proofs.Truth.{same_bools}
 use Rattle.cmwq_model.specs.declared.entry.Entry.{Entry}
-use Rattle.cmwq_model.specs.declared.id.Who.{Who}
-use Rattle.cmwq_model.specs.declared.id.Who.TheVariants.{Caller, Worker}
+use Rattle.cmwq_model.specs.declared.id.Who.TheVariants.{Worker}
 use Rattle.cmwq_model.specs.declared.id.WorkerId.{WorkerId}
-use Rattle.cmwq_model.specs.Prelude.{IsLegal, Layout, finishes, is_at, is_by, is_cancelled, is_finished, is_layout}
+use Rattle.cmwq_model.specs.Prelude.{IsLegal, Layout, finishes, is_at, is_by, is_cancelled, is_finished}
 use Rattle.cmwq_model.specs.Prelude.{is_number_open, is_open, item_at, last_start, number_finished, number_started, past_of}
 use Rattle.cmwq_model.specs.Prelude.{run, starts}
 use Rattle.cmwq_model.proofs.Growing.{older_are_legal}
@@ -23,7 +21,7 @@ use Rattle.cmwq_theory_steps.proofs.Fresh.{finishes_run}
 use Rattle.cmwq_theory_steps.proofs.ItemRuns.{run_is}
 use Rattle.cmwq_theory_steps.proofs.StartsListed.{starts_anew}
 use Rattle.cmwq_chart.specs.declared.bars.Bar.{Bar}
-use Rattle.cmwq_chart.specs.Bars.{bars_of, finish_place}
+use Rattle.cmwq_chart.specs.Bars.{bars_of}
 use Rattle.cmwq_chart.specs.CallerWaits.{callers_of, caller_waits_of, wait_signs_of}
 use Rattle.cmwq_chart.specs.Lanes.{lanes_of}
 use Rattle.cmwq_chart.specs.Levels.{levels_of}
@@ -31,12 +29,11 @@ use Rattle.cmwq_chart.specs.Shapes.{places_in}
 use Rattle.cmwq_chart.specs.Signs.{signs_of}
 use Rattle.cmwq_chart.specs.Sleeps.{sleeps_of}
 use Rattle.cmwq_chart_text.specs.declared.figures.Figure.TheVariants as figure
-use Rattle.cmwq_chart_text.specs.declared.page.Window.{Window}
-use Rattle.cmwq_output_laws.specs.BarLaws.{EndsWell, FinishesAt, HasOneBar, StandsIn, begins_at}
+use Rattle.cmwq_output_laws.specs.BarLaws.{EndsWell, HasOneBar, StandsIn, begins_at}
 use Rattle.cmwq_output_laws.proofs.OneBar.{starts_have_one_bar}
 use Rattle.cmwq_chart_laws.specs.Causes.{HasEntryBy}
 use Rattle.cmwq_chart_laws.specs.Charts.{chart_figures, chart_page}
-use Rattle.cmwq_chart_laws.specs.Finishes.{FinishesAreDrawn, HasOneBarTo, is_bar_to}
+use Rattle.cmwq_chart_laws.specs.Finishes.{FinishesAreDrawn, is_bar_to}
 use Rattle.cmwq_chart_laws.proofs.Causing.{Finishes, IsBarOf, Starts, bars_caused, one_later, the_last}
 use Rattle.cmwq_chart_laws.proofs.ChartRows.{charts_are_of_rows}
 use Rattle.cmwq_chart_laws.proofs.Once.{is_drawn_once, one_bar}

@@ -242,7 +242,7 @@ levels_as s past p places =
 
 -- ---- each place that is shown is so once
 
-filter_of_flat : {X Y : Type 0} (test : Y → Bool) (f : X → List Y) (xs : List X)
+pub filter_of_flat : {X Y : Type 0} (test : Y → Bool) (f : X → List Y) (xs : List X)
     → filter test (flat_map f xs) ≡ flat_map (λ x. filter test (f x)) xs
 filter_of_flat test f [] = refl
 filter_of_flat test f (x ∷ xs) =

@@ -16,3 +16,5 @@ pub mod LevelsDrawn
 pub mod EndsDrawn
 pub mod Stacked
 pub mod FinishesDrawn
+pub mod SleepsDrawn
+pub mod Marked

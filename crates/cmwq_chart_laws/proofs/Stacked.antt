@@ -1,19 +1,18 @@
 -- Rows stand one below the other.
-use Rattle.std.proofs.Common.{◌≡◌, ℕ, zero, suc, ◌+◌, ◌-◌, ◌<◌, ◌≤◌, ◌==◌, Bool, true, false, ◌&&◌, List, [], ◌∷◌, ◌++◌}
-use Rattle.std.proofs.Common.{map, filter, flat_map, fold, Option, Some, None, min, refl, sym, ap, ◌∙◌, subst, arith}
+use Rattle.std.proofs.Common.{◌≡◌, ℕ, ◌+◌, ◌-◌, ◌<◌, ◌≤◌, true, false, List, [], ◌∷◌, ◌++◌}
+use Rattle.std.proofs.Common.{map, filter, flat_map, fold, Some, refl, sym, ap, ◌∙◌, subst, arith}
 use Rattle.std.proofs.Common.{⊎_elim}
 use Rattle.std.specs.List.{AllByRecursion, range_with_len}
-use Rattle.cmwq_lemmas.proofs.Lists.{All_each, All_map}
+use Rattle.cmwq_lemmas.proofs.Lists.{All_each}
 use Rattle.cmwq_chart_text.specs.declared.figures.Figure.{Figure}
-use Rattle.cmwq_chart_text.specs.declared.figures.Row.{Row}
 use Rattle.cmwq_chart_text.specs.declared.page.Page.{Page}
 use Rattle.cmwq_chart_text.specs.declared.part.Part.{Part}
 use Rattle.cmwq_chart_text.specs.declared.part.What.{What}
 use Rattle.cmwq_chart_text.specs.declared.part.What.TheVariants as what
 use Rattle.cmwq_chart_text.specs.Bands.{stands_in}
 use Rattle.cmwq_chart_text.specs.Drawings.{Drawing, below, figure_part, is_in_row, note_parts, numbers_of, page_drawn}
-use Rattle.cmwq_chart_text.specs.Drawings.{part_at, shows, waits_in, with_band_of, with_row, with_row_of, with_rows}
-use Rattle.cmwq_chart_text.specs.Figures.{figure_number, figure_row, most_rows, row_height, row_number}
+use Rattle.cmwq_chart_text.specs.Drawings.{waits_in, with_band_of, with_row_of, with_rows}
+use Rattle.cmwq_chart_text.specs.Figures.{figure_number, figure_row, most_rows, row_height}
 use Rattle.cmwq_chart_text.specs.Notes.{note_of}
 use Rattle.cmwq_chart_text.specs.Pages.{bands}
 use Rattle.cmwq_chart_laws.specs.Drawn.{AreOfRows, AreStacked, RowsAreStacked, edge_after, edge_behind, is_name, parts_of, standing_in}

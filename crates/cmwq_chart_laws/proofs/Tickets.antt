@@ -40,7 +40,7 @@ one_passes test xs h = by (filter test xs) (length-filter test xs ∙ h)
     by (x ∷ []) k = (x, refl)
     by (x ∷ y ∷ ys) k = absurd (omega arith)
 
-none_of_none : {X : Type 0} (test : X → Bool) (xs : List X) → count_by test xs ≡ 0 → filter test xs ≡ []
+pub none_of_none : {X : Type 0} (test : X → Bool) (xs : List X) → count_by test xs ≡ 0 → filter test xs ≡ []
 none_of_none test xs h = by (filter test xs) (length-filter test xs ∙ h)
   where
     by : {X : Type 0} (ys : List X) → length ys ≡ 0 → ys ≡ []
@@ -458,6 +458,19 @@ pub same_flat : {X : Type 0} (f g : ℕ → List X) (is : List ℕ) → ((i : �
 same_flat f g [] same = refl
 same_flat f g (i ∷ is) same = ap₂ (λ k l. k ++ l) (same i) (same_flat f g is same)
 
+-- an entry of the past of a list is one of the list
+pub entry_listed : (entries : List Entry) (e : Entry) (before : List Entry) → StandsIn (past_of entries) e before
+    → In e entries
+entry_listed entries e before stands =
+    let back : entries ≡ reverse (stands.after ++ e ∷ before) =
+    sym (reverse-reverse entries) ∙ ap reverse stands.parts in
+    let parts : reverse (stands.after ++ e ∷ before) ≡ reverse (e ∷ before) ++ reverse stands.after =
+    reverse-append stands.after (e ∷ before) in
+    let split : reverse (e ∷ before) ≡ reverse before ++ reverse (e ∷ []) = reverse-append (e ∷ []) before in
+    subst (λ l. In e l) (sym (back ∙ parts))
+    (in_left (reverse (e ∷ before)) (reverse stands.after) e
+    (subst (λ l. In e l) (sym split) (in_right (reverse before) (reverse (e ∷ [])) e (inl refl))))
+
 module _ (s : Layout) (entries : List Entry) (e : Entry) (before : List Entry) (c : CallerId)
     (stands : StandsIn (past_of entries) e before) (by_caller : e.who ≡ Caller c) (there : c.0 < s.callers) where
   is_by_number : (d : CallerId) → is_by (Caller d) e ≡ (c.0 == d.0)
@@ -470,15 +483,7 @@ module _ (s : Layout) (entries : List Entry) (e : Entry) (before : List Entry) (
   is_by_none d differs = is_by_number d ∙ ne_eqb c.0 d.0 (λ same. differs (sym same))
 
   entry_there : In e entries
-  entry_there =
-      let back : entries ≡ reverse (stands.after ++ e ∷ before) =
-      sym (reverse-reverse entries) ∙ ap reverse stands.parts in
-      let parts : reverse (stands.after ++ e ∷ before) ≡ reverse (e ∷ before) ++ reverse stands.after =
-      reverse-append stands.after (e ∷ before) in
-      let split : reverse (e ∷ before) ≡ reverse before ++ reverse (e ∷ []) = reverse-append (e ∷ []) before in
-      subst (λ l. In e l) (sym (back ∙ parts))
-      (in_left (reverse (e ∷ before)) (reverse stands.after) e
-      (subst (λ l. In e l) (sym split) (in_right (reverse before) (reverse (e ∷ [])) e (inl refl))))
+  entry_there = entry_listed entries e before stands
 
   has_it : has_calls entries c ≡ true
   has_it = any_in (is_by (Caller c)) entries e entry_there is_by_itself

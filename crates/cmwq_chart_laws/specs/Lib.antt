@@ -6,3 +6,5 @@ pub mod Causes
 pub mod Waits
 pub mod Levels
 pub mod Finishes
+pub mod Sleeps
+pub mod Marks

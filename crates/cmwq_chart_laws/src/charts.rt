@@ -1,10 +1,9 @@
 //! What `chart` draws of a legal history.
 
 ghost use Rattle.cmwq_chart_laws.specs.Causes.{NothingElseIsCharted};
-ghost use Rattle.cmwq_chart_laws.specs.Charts.{ChartsAreOfParts, ChartsAreOfRows, SignsAreDrawn, StartsAreDrawn};
-ghost use Rattle.cmwq_chart_laws.specs.Finishes.{FinishesAreDrawn};
+ghost use Rattle.cmwq_chart_laws.specs.Charts.{ChartsAreOfParts, ChartsAreOfRows};
 ghost use Rattle.cmwq_chart_laws.specs.Levels.{LevelsAreDrawn};
-ghost use Rattle.cmwq_chart_laws.specs.Waits.{EndsAreDrawn, TicketsAreDrawn};
+ghost use Rattle.cmwq_chart_laws.specs.Waits.{TicketsAreDrawn};
 
 /// The text of a chart is that of the picture of its figures.
 pub fn charts_are_of_parts()
@@ -14,17 +13,6 @@ pub fn charts_are_of_parts()
 /// The rows of these figures have numbers in the ranges of their types, so the laws of pictures hold of charts.
 pub fn charts_are_of_rows()
     ensures { ChartsAreOfRows }
-{}
-
-/// Each entry that starts a queueing has exactly one bar, in its worker's row, in each band that shows an entry from this
-/// one to that by which the worker finishes the queueing, or to the end, and in no other.
-pub fn starts_are_drawn()
-    ensures { StartsAreDrawn }
-{}
-
-/// Each entry that is shown, and whose reply has a kind of sign, has exactly one sign, in the row of who made it.
-pub fn signs_are_drawn()
-    ensures { SignsAreDrawn }
 {}
 
 /// Each figure of a chart is of entries of its history, at its places and by who its row names: a bar of a start and a
@@ -39,19 +27,9 @@ pub fn tickets_are_drawn()
     ensures { TicketsAreDrawn }
 {}
 
-/// Of each queue on a CPU that had a queueing exactly one level, in its row, covers each entry that a band shows, and says
-/// what is open and active and how wide the queue is after it; a band leaves the row out only where nothing is open.
+/// Of each queue on a CPU that had a queueing exactly one level, in its row, covers each entry that a band shows, and
+/// says what is open and active and how wide the queue is after it. A band leaves the row out only where nothing is
+/// open.
 pub fn levels_are_drawn()
     ensures { LevelsAreDrawn }
-{}
-
-/// Each entry by which a caller asks for the end of a wait has exactly one mark there, in its caller's row, which says
-/// whether the wait was done.
-pub fn ends_are_drawn()
-    ensures { EndsAreDrawn }
-{}
-
-/// Each entry that finishes a queueing is where exactly one bar of its worker ends, and that is a bar of the queueing.
-pub fn finishes_are_drawn()
-    ensures { FinishesAreDrawn }
 {}

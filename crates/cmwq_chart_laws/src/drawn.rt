@@ -19,8 +19,8 @@ pub fn figures_are_drawn()
     ensures { FiguresAreDrawn }
 {}
 
-/// Each part of a picture is the name of a row that shows something, the number of an entry that is shown there, a figure
-/// of the list that stands there, or its item: nothing else is drawn.
+/// Each part of a picture is the name of a row that shows something, the number of an entry that is shown there, a
+/// figure of the list that stands there, or its item: nothing else is drawn.
 pub fn nothing_else_is_drawn()
     ensures { NothingElseIsDrawn }
 {}

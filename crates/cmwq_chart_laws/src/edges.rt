@@ -12,8 +12,8 @@ pub fn marks_are_inside()
     ensures { MarksAreInside }
 {}
 
-/// In a band a bar, a sleep, a wait or a level reaches from the column of its first entry to that of its last, where these
-/// are shown there, and else to the edges of the band.
+/// In a band a bar, a sleep, a wait or a level reaches from the column of its first entry to that of its last, where
+/// these are shown there, and else to the edges of the band.
 pub fn figures_have_edges()
     ensures { FiguresHaveEdges }
 {}
