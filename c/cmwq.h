@@ -310,7 +310,8 @@ struct cmwq_item { uint64_t number, run; uint8_t pending, queue, cpu, runs; stru
 
 /**
  * cmwq_board_open() - opens a board with no entries; one that the handle has is closed
- * @shape: @keep entries are kept at once, or as many as one call may make (two more than the items) if that is more
+ * @shape: @keep entries are kept at once, or as many as two calls may make (twice two more than the items) if that is
+ * more
  * @queues: @len of them, 1 to 255
  * @lent: so many callers, the last of the shape, are lent to waits; the others are the shell's own
  * Return: CMWQ_OK; CMWQ_REFUSED: the shape is outside the limits, or has fewer callers than @lent; CMWQ_NO_MEMORY.

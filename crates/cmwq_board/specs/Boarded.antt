@@ -1,5 +1,5 @@
 -- What contracts see of a board.
-use Rattle.std.specs.Prelude.{◌≡◌, ◌≤◌, ◌+◌, ◌-◌, ◌&&◌, if◌then◌else◌, ℕ, Bool, true, List, length}
+use Rattle.std.specs.Prelude.{◌≡◌, ◌≤◌, ◌+◌, ◌-◌, ◌*◌, ◌&&◌, if◌then◌else◌, ℕ, Bool, true, List, length}
 use Rattle.std.specs.Prelude.{nat_le, nat_lt, max, replicate, drop, Option, Some, None}
 use Rattle.std.specs.List.{list_any}
 use Rattle.cmwq_model.specs.Prelude.{Layout}
@@ -36,10 +36,14 @@ has_space b n = nat_le (length b.dispatch.history.entries + n) (b.keeps + b.give
 abbrev pub most_made : Layout → ℕ
 most_made s = s.items + 2
 
+-- After the entries of one call there is still space for those of a ticket that was left and is ended then.
+abbrev pub least_kept : Layout → ℕ
+least_kept s = 2 * most_made s
+
 -- a new one has no entries, and all its lent callers may be lent
 abbrev pub is_new_board : Layout → ℕ → ℕ → Asleep → Boarded
 is_new_board s kept lent asleep =
-    board_of (is_new s s.room asleep) 0 (max kept (most_made s)) (replicate lent Free)
+    board_of (is_new s s.room asleep) 0 (max kept (least_kept s)) (replicate lent Free)
 
 -- a worker, or a caller of the user's own
 abbrev pub is_own : Boarded → Who → Bool

@@ -7,7 +7,7 @@ ghost use Rattle.cmwq_dispatch.specs.Asleep.{NobodySleeps};
 ghost use Rattle.cmwq_dispatch.specs.Dispatched.{Stands, is_new, is_over};
 ghost use Rattle.cmwq_dispatch.specs.Naming.{NamesAll, NamesMore};
 ghost use Rattle.cmwq_board.specs.Boarded.{IsBoard, board_of, failed, handed_out, is_new_board, is_own, kept_in, layout_of};
-ghost use Rattle.cmwq_board.specs.Boarded.{most_made, past_of_board, stopped, with_asleep};
+ghost use Rattle.cmwq_board.specs.Boarded.{least_kept, most_made, past_of_board, stopped, with_asleep};
 ghost use Rattle.cmwq_board.specs.Lent.{drains, first_lent, is_left};
 ghost use Rattle.std.specs.List.{list_any};
 ghost use Rattle.cmwq_board.specs.Steps.{Finishes, Makes, Starts, call_fault, finish_fault};
@@ -111,12 +111,20 @@ fn new_dispatch(alloc: Global, shape: &Shape) -> Result<Dispatch, NoMemory>
     Dispatch::new(alloc, shape, shape.counts().room)
 }
 
-/// No entries, of which so many are kept, or as many as one call may make if that is more.
+/// How many entries a board keeps at least.
+fn least_kept(shape: &Shape) -> u32
+    ensures { result ≡ least_kept shape.now }
+{
+    2 * (u32::from(shape.counts().items) + 2)
+}
+
+/// No entries, of which so many are kept, or as many as two calls may make if that is more: a call's own, and those of
+/// a ticket that was left and is ended then.
 fn new_tail(alloc: Global, shape: &Shape, kept: u32) -> Result<Tail<Entry>, AllocError>
     ensures { IfOk result
-        (λ tail. tail ≡ record { all = []; given = 0; room = max kept (most_made shape.now) }) }
+        (λ tail. tail ≡ record { all = []; given = 0; room = max kept (least_kept shape.now) }) }
 {
-    Tail::new(alloc, kept.max(most_made(shape)))
+    Tail::new(alloc, kept.max(least_kept(shape)))
 }
 
 /// So many callers may be lent, or all if the shape has fewer.
@@ -128,8 +136,8 @@ fn new_lent(alloc: Global, shape: &Shape, lent: u8) -> Result<Vec<Lending>, Allo
 }
 
 impl Board {
-    /// A board with no entries, which keeps so many entries at a time, or as many as one call may make if that is more.
-    /// The last `lent` callers of the shape, or all if it has fewer, are lent to waits, and the others are the user's
+    /// A board with no entries, which keeps so many entries at a time, or as many as two calls may make if that is
+    /// more. The last `lent` callers of the shape, or all if it has fewer, are lent to waits, and the others are the user's
     /// own. No later call takes memory; the error says that it ran out.
     pub fn new(alloc: Global, shape: &Shape, kept: u32, lent: u8) -> Result<Board, NoMemory>
         ensures new { IfOk result (λ board. board ≡ is_new_board shape.now kept (min lent shape.now.callers)

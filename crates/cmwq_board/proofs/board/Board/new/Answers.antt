@@ -3,7 +3,7 @@ use Rattle.std.proofs.Common.{ap, arith, sym, subst}
 use Rattle.cmwq_dispatch.specs.Dispatched.{Dispatched, is_new}
 use Rattle.cmwq_model.specs.declared.entry.Entry.{Entry}
 use Rattle.cmwq_state.specs.Tails.{Tailed}
-use Rattle.cmwq_board.specs.Boarded.{IsBoard, most_made}
+use Rattle.cmwq_board.specs.Boarded.{IsBoard, least_kept, most_made}
 use Rattle.cmwq_board.specs.declared.lending.Lending.{Lending}
 use Rattle.cmwq_board.proofs.Places.{free_none_drains, free_none_left, new_board}
 use Rattle.cmwq_board.proofs.board.Board.new.Goals as goal
@@ -21,7 +21,7 @@ of_parts-requires-clause-board c =
     let s = c.args.shape.now in
     let d = c.in_ok-dispatch.dispatch in
     let n = min c.args.lent s.callers in
-    let keeps = max c.args.kept (most_made s) in
+    let keeps = max c.args.kept (least_kept s) in
     let most : most_made s ≤ keeps = omega arith in
     let few : n ≤ s.callers = omega arith in
     let new = is_new s s.room d.asleep in
