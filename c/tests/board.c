@@ -201,7 +201,7 @@ static void a_flush(void)
     CHECK(outputs.state.worker.kind == CMWQ_WORKER && outputs.state.worker.index == 0 && outputs.state.run == 0);
     CHECK(start(&board, worker(0)) == CMWQ_NOT_NOW && nothing_is_written());
     CHECK(finish(&board, worker(1)) == CMWQ_NOT_NOW && nothing_is_written());
-    CHECK(begin(&board, user, CMWQ_FLUSH, 0, 1) == CMWQ_OK || outputs.party == 1);
+    CHECK(finish(&board, worker(0)) == CMWQ_OK);
     cmwq_board_close(&board);
 
     open_board(&board, 100, 2);
@@ -221,7 +221,7 @@ static void a_flush(void)
     CHECK(cmwq_lines_open(&lines, &board) == CMWQ_OK && lines.live);
     hands_out(&board, &lines, 100,
               "c0 0 queue 0 0 0 = yes 0\n"
-              "w0n0 0 take = started_enlist 0 1\n"
+              "w0n0 0 take = started 0 enlist 1\n"
               "c1 0 flush_item 1 = idle\n"
               "c1 1 flush 0 = ticket 3\n"
               "w0n0 1 finish = finished 0\n"
@@ -365,7 +365,9 @@ static void refused_calls(void)
     CHECK(cmwq_board_open(&board, &small, queues, 2, 1) == CMWQ_OK);
     CHECK(call(&board, user, CMWQ_QUEUE, 0, 0) == CMWQ_FULL && nothing_is_written());
     CHECK(begin(&board, user, CMWQ_FLUSH, 0, 0) == CMWQ_FULL && nothing_is_written());
-    CHECK(call(&board, user, CMWQ_FREEZE, 0, 0) == CMWQ_OK && call(&board, user, CMWQ_THAW, 0, 0) == CMWQ_FULL);
+    CHECK(call(&board, user, CMWQ_FREEZE, 0, 0) == CMWQ_FULL && nothing_is_written()); /* its thaw is owed */
+    CHECK(call(&board, user, CMWQ_CANCEL, 0, 0) == CMWQ_OK && outputs.reply.kind == CMWQ_NO);
+    CHECK(call(&board, user, CMWQ_CANCEL, 0, 0) == CMWQ_FULL && nothing_is_written());
     CHECK(advance(&board, 0, 1) == CMWQ_FULL && nothing_is_written());
     cmwq_board_close(&board);
 }

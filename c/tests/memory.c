@@ -74,37 +74,79 @@ static long opens(void)
     }
 }
 
-/* How many a board and its lines take. */
+/* No other call of a board and of lines takes memory. */
+static void others_of_board(struct cmwq_board *board, struct cmwq_lines *lines)
+{
+    struct cmwq_call call = {.kind = CMWQ_QUEUE}, flush = {.kind = CMWQ_FLUSH};
+    struct cmwq_who worker = {CMWQ_WORKER, 0, 0};
+    struct cmwq_wakes wakes;
+    struct cmwq_reply reply;
+    struct cmwq_item state;
+    uint8_t out[CMWQ_LINE], party;
+    uint64_t number;
+    uint16_t item;
+    size_t written;
+
+    left = 0;
+    CHECK(cmwq_board_call(board, &call, &reply, &wakes) == CMWQ_OK);
+    CHECK(cmwq_board_start(board, &worker, &item, &number, &wakes) == CMWQ_OK);
+    CHECK(cmwq_board_begin(board, &flush, &party, &reply, &wakes) == CMWQ_WAITS);
+    CHECK(cmwq_board_finish(board, &worker, &wakes) == CMWQ_OK);
+    CHECK(cmwq_board_end(board, party, &wakes) == CMWQ_OK);
+    CHECK(cmwq_board_advance(board, 0, 1, &number, &wakes) == CMWQ_OK);
+    CHECK(cmwq_board_item(board, 0, &state) == CMWQ_OK && cmwq_board_due(board) == UINT64_MAX);
+    CHECK(cmwq_board_hand_out(board, lines) == CMWQ_OK);
+    CHECK(cmwq_lines_write(lines, out, sizeof out, &written) == CMWQ_OK && written > 0);
+    CHECK(cmwq_lines_forget(lines) == CMWQ_OK && left == 0);
+}
+
+/* How many allocations a board and its lines take. */
 static long boards(void)
 {
-    struct cmwq_shape shape = {.room = 1000, .keep = 50, .items = 20, .cpus = 2, .workers = 2, .callers = 3};
+    struct cmwq_shape shape = {.room = 1000, .keep = 1000, .items = 20, .cpus = 2, .workers = 2, .callers = 3};
     struct cmwq_queue queues[3] = {{1, 0, 0, 0}, {2, 1, 0, 0}, {3, 0, 1, 1}};
 
     for (long many = 0;; many++) {
         struct cmwq_board board = {0};
         struct cmwq_lines lines = {0};
-        struct cmwq_call call = {.kind = CMWQ_QUEUE};
-        struct cmwq_reply reply;
-        struct cmwq_wakes wakes;
         uint32_t status;
 
         left = many;
-        status = cmwq_board_open(&board, &shape, queues, 3, 2);
-        CHECK(status == CMWQ_OK || (status == CMWQ_NO_MEMORY && !board.live && live == 0));
+        status = cmwq_board_open(&board, &shape, queues, 3, 1);
         if (status == CMWQ_OK)
             status = cmwq_lines_open(&lines, &board);
-        CHECK(status == CMWQ_OK || (status == CMWQ_NO_MEMORY && !lines.live));
         if (status == CMWQ_OK) {
-            left = 0; /* no other call takes memory */
-            CHECK(cmwq_board_call(&board, &call, &reply, &wakes) == CMWQ_OK && cmwq_board_hand_out(&board, &lines) == CMWQ_OK);
-            call.kind = CMWQ_FLUSH;
-            CHECK(cmwq_board_begin(&board, &call, &(uint8_t){0}, &reply, &wakes) == CMWQ_WAITS && left == 0);
+            others_of_board(&board, &lines);
+            CHECK(cmwq_lines_open(&lines, &board) == CMWQ_NO_MEMORY && lines.live && board.live);
+            CHECK(cmwq_board_open(&board, &shape, queues, 3, 1) == CMWQ_NO_MEMORY && board.live);
+            cmwq_lines_close(&lines);
+            cmwq_board_close(&board);
+            CHECK(live == 0);
+            return many;
         }
-        cmwq_lines_close(&lines);
+        CHECK(status == CMWQ_NO_MEMORY && !lines.live && left < 0);
         cmwq_board_close(&board);
+        CHECK(live == 0);
+    }
+}
+
+/* How many the head of a history takes. */
+static long heads(void)
+{
+    struct cmwq_shape shape = {.room = 1000, .keep = 1000, .items = 20, .cpus = 2, .workers = 2, .callers = 3};
+    struct cmwq_queue queue = {1, 0, 0, 0};
+    uint8_t out[3 * CMWQ_LINE];
+    size_t written = 77;
+
+    for (long many = 0;; many++) {
+        uint32_t status;
+
+        left = many;
+        status = cmwq_head(&shape, &queue, 1, out, sizeof out, &written);
         CHECK(live == 0);
         if (status == CMWQ_OK)
             return many;
+        CHECK(status == CMWQ_NO_MEMORY && written == 77);
     }
 }
 
@@ -130,7 +172,8 @@ static long judges(void)
 int main(void)
 {
     CHECK(opens() > 10);
-    CHECK(boards() > 10);
     CHECK(judges() > 10);
+    CHECK(boards() > 10);
+    CHECK(heads() > 0);
     return 0;
 }

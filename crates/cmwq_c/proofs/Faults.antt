@@ -1,5 +1,5 @@
 -- At a fault a call isn't done, and what is done has its own statuses.
-use Rattle.std.proofs.Common.{◌≡◌, arith, refl}
+use Rattle.std.proofs.Common.{◌≡◌, ◌∙◌, ℕ, ap, arith, refl, sym}
 use Rattle.cmwq_board.specs.declared.board.Begun.{Begun}
 use Rattle.cmwq_board.specs.declared.board.Begun.TheVariants as begun
 use Rattle.cmwq_board.specs.declared.board.Ended.{Ended}
@@ -14,19 +14,19 @@ use Rattle.cmwq_dispatch.specs.declared.dispatch.Sleep.TheVariants as sleep
 use Rattle.cmwq_c.specs.BoardStatuses.{begin_done, begun_number, end_done, ended_number, fault_number, start_done}
 use Rattle.cmwq_c.specs.BoardStatuses.{start_number, wait_fault_number}
 
-pub never_done : (f : BoardFault) → fault_number f ≡ 0 → ⊥
-never_done fault.Refused is = omega (arith, is)
-never_done fault.Failed is = omega (arith, is)
-never_done fault.Closed is = omega (arith, is)
-never_done fault.Misuse is = omega (arith, is)
-never_done fault.Crowded is = omega (arith, is)
-never_done fault.Full is = omega (arith, is)
+not_done : (f : BoardFault) → fault_number f ≡ 0 → ⊥
+not_done fault.Refused is = omega (arith, is)
+not_done fault.Failed is = omega (arith, is)
+not_done fault.Closed is = omega (arith, is)
+not_done fault.Misuse is = omega (arith, is)
+not_done fault.Crowded is = omega (arith, is)
+not_done fault.Full is = omega (arith, is)
 
-pub never_begun : (f : WaitFault) → wait_fault_number f ≡ 0 → ⊥
-never_begun (wait.Board f) is = never_done f is
-never_begun wait.Itself is = omega (arith, is)
-never_begun wait.Deadlock is = omega (arith, is)
-never_begun wait.NoCaller is = omega (arith, is)
+not_begun : (f : WaitFault) → wait_fault_number f ≡ 0 → ⊥
+not_begun (wait.Board f) is = not_done f is
+not_begun wait.Itself is = omega (arith, is)
+not_begun wait.Deadlock is = omega (arith, is)
+not_begun wait.NoCaller is = omega (arith, is)
 
 pub start_fault_stays : (f : BoardFault) → start_done (fault_number f) ≡ fault_number f
 start_fault_stays fault.Refused = refl
@@ -69,3 +69,17 @@ end_is_done Done = refl
 end_is_done (Not sleep.Sleeps) = refl
 end_is_done (Not sleep.Over) = refl
 end_is_done (Not sleep.LooksAgain) = refl
+
+-- a status is that of a fault, or of what is done
+
+pub never_done : (f : BoardFault) (status : ℕ) → status ≡ fault_number f → status ≡ 0 → ⊥
+never_done f status is done = not_done f (sym is ∙ done)
+
+pub never_started : (f : BoardFault) (status : ℕ) → status ≡ fault_number f → start_done status ≡ 0 → ⊥
+never_started f status is done = not_done f (sym (start_fault_stays f) ∙ sym (ap start_done is) ∙ done)
+
+pub wait_never_begun : (f : WaitFault) (status : ℕ) → status ≡ wait_fault_number f → begin_done status ≡ 0 → ⊥
+wait_never_begun f status is done = not_begun f (sym (begin_fault_stays f) ∙ sym (ap begin_done is) ∙ done)
+
+pub never_ended : (f : BoardFault) (status : ℕ) → status ≡ fault_number f → end_done status ≡ 0 → ⊥
+never_ended f status is done = not_done f (sym (end_fault_stays f) ∙ sym (ap end_done is) ∙ done)

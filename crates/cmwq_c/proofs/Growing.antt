@@ -1,6 +1,7 @@
 -- One more line is written behind those that are.
 use Rattle.std.proofs.Common.{arith, sym, ap, ap₂, subst, subst₂, ◌∙◌, ◌++◌, append-nil, length-append, drop-drop}
-use Rattle.std.proofs.Common.{drop_of_length-le, le-ltb, length-drop, length-take, refl, take_all, zero, suc, if◌then◌else◌}
+use Rattle.std.proofs.Common.{drop_of_length-le, le-ltb, length-drop, length-take, refl, take_all, zero, suc}
+use Rattle.std.specs.Prelude.{if◌then◌else◌}
 use Rattle.std.specs.Prelude.{◌≡◌, ◌≤◌, ◌<◌, ◌+◌, ◌-◌, ℕ, List, [], ◌∷◌, length, take, drop, get_or}
 use Rattle.std.proofs.Math.Seq.{drop-append-add, take-append-add}
 use Rattle.std.proofs.lemmas.List.{take_more}

@@ -35,7 +35,8 @@ IsNewBoard s kept lent b = (b ≡ is_new_board s kept lent b.dispatch.asleep) ×
 -- one call is made, with this reply
 abbrev pub Calls : Option (Who × Call) → Boarded → Boarded → ReplyNumbers → WakesNumbers → Type 0
 Calls asked old new reply told =
-    IfSome asked (λ a. Tells (ThenClears (Makes a.0 a.1) old new) told × (reply ≡ reply_numbers (reply_now old a.0 a.1)))
+    IfSome asked
+    (λ a. Tells (ThenClears (Makes a.0 a.1) old new) told × (reply ≡ reply_numbers (reply_now old a.0 a.1)))
 
 -- the worker starts something, rests or is over
 abbrev pub StartsAs : Option WorkerId → Start → Boarded → Boarded → WakesNumbers → Type 0

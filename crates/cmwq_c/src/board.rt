@@ -65,8 +65,8 @@ pub extern "C" fn cmwq_board_close(alloc: Global, board: &mut BoardHandle)
     mem::replace(board, BoardHandle::none()).into_box(alloc);
 }
 
-/// Makes one entry: queue, delay, modify, cancel, set_max, freeze or thaw, and by a worker also sleep, wake or retire. 0
-/// done, 1 no such call, 2 closed, 3 no room, 6 crowded, 8 stopped, 9 failed.
+/// Makes one entry: queue, delay, modify, cancel, set_max, freeze or thaw, and by a worker also sleep, wake or retire.
+/// 0 done, 1 no such call, 2 closed, 3 no room, 6 crowded, 8 stopped, 9 failed.
 #[unsafe(no_mangle)]
 pub extern "C" fn cmwq_board_call(
     alloc: Global,
@@ -92,8 +92,9 @@ pub extern "C" fn cmwq_board_call(
     }
 }
 
-/// A worker starts the next queueing of its pool. 0 it runs the item, by the queueing of the number; 15 there is nothing
-/// to start, and it rests until it is named; 16 it may go. 1 no such worker, 2 closed, 6 crowded, 10 it has a run.
+/// A worker starts the next queueing of its pool. 0 it runs the item, by the queueing of the number; 15 there is
+/// nothing to start, and it rests until it is named; 16 it may go. 1 no such worker, 2 closed, 6 crowded, 10 it has a
+/// run.
 #[unsafe(no_mangle)]
 pub extern "C" fn cmwq_board_start(
     alloc: Global,
@@ -148,9 +149,9 @@ pub extern "C" fn cmwq_board_finish(
     }
 }
 
-/// A wait begins, by a lent caller: of the worker's run, if a worker calls, and else of nobody's run. 0 it has ended, 14
-/// it goes on, by this party. 1 no such call, 2 closed, 3 no room, 6 crowded, 8 stopped, 9 failed, 10 the worker has no
-/// run, 11 the run would wait for itself, 12 a deadlock, 13 no caller is left.
+/// A wait begins, by a lent caller: of the worker's run, if a worker calls, and else of nobody's run. 0 it has ended,
+/// 14 it goes on, by this party. 1 no such call, 2 closed, 3 no room, 6 crowded, 8 stopped, 9 failed, 10 the worker has
+/// no run, 11 the run would wait for itself, 12 a deadlock, 13 no caller is left.
 #[unsafe(no_mangle)]
 pub extern "C" fn cmwq_board_begin(
     alloc: Global,
@@ -180,8 +181,8 @@ pub extern "C" fn cmwq_board_begin(
     }
 }
 
-/// The wait of this party ends if it is ready. 0 it has ended, 14 the party sleeps until it is named, 16 it never ends, 17
-/// the same call is to be made again. 1 no lent caller, 2 closed, 6 crowded, 9 failed, 10 nobody waits by it.
+/// The wait of this party ends if it is ready. 0 it has ended, 14 the party sleeps until it is named, 16 it never ends,
+/// 17 the same call is to be made again. 1 no lent caller, 2 closed, 6 crowded, 9 failed, 10 nobody waits by it.
 #[unsafe(no_mangle)]
 pub extern "C" fn cmwq_board_end(
     alloc: Global,
@@ -206,8 +207,8 @@ pub extern "C" fn cmwq_board_end(
     }
 }
 
-/// Nobody waits by this party any more. Its ticket is ended by a later call once it is ready. 0 done, 1 no lent caller, 2
-/// closed, 9 failed, 10 nobody waits by it, or a run does.
+/// Nobody waits by this party any more. Its ticket is ended by a later call once it is ready. 0 done, 1 no lent caller,
+/// 2 closed, 9 failed, 10 nobody waits by it, or a run does.
 #[unsafe(no_mangle)]
 pub extern "C" fn cmwq_board_leave(
     alloc: Global,

@@ -65,8 +65,8 @@ fn run_of(who: Who) -> Option<WorkerId>
     }
 }
 
-/// A board of this shape with no entries, whose last `lent` callers are lent to waits, or the status that says why there
-/// is none.
+/// A board of this shape with no entries, whose last `lent` callers are lent to waits, or the status that says why
+/// there is none.
 pub fn board_of(
     alloc: Global,
     shape: &ShapeNumbers,

@@ -6,14 +6,16 @@ use Rattle.cmwq_c.proofs.wakes.caller_numbers.Goals.{in-Some, in_default}
 
 pub loop-caller-preserved : goal.loop-caller-preserved
 loop-caller-preserved c =
-    let i = c.loop-caller.caller-index in
+    let l = c.loop-caller in
+    let named = c.args.named.now in
     let few = c.loop-caller-test.true in
-    let there : i < length c.args.named.now = omega (arith, c.told-named, few) in
+    let there : l.caller-index < length named = omega (arith, c.told-named, few) in
+    let Are = AreTold caller_number nobody_number 8 named (l.caller-index + 1) in
     elim c.match-caller.branch [
-      | in-Some w ↦ subst₂ (AreTold caller_number nobody_number 8 c.args.named.now (i + 1)) (sym w.place-is)
-          (sym w.told-is) (told_some caller_number nobody_number 8 c.args.named.now i c.loop-caller.place c.loop-caller.told w.in-Some.caller
-          c.loop-caller.invariant there few w.in-Some.is)
-      | in_default w ↦ subst₂ (AreTold caller_number nobody_number 8 c.args.named.now (i + 1)) (sym w.place-is)
-          (sym w.told-is) (told_none caller_number nobody_number 8 c.args.named.now i c.loop-caller.place c.loop-caller.told
-          c.loop-caller.invariant there w.in_default.is)
+      | in-Some w ↦ subst₂ Are (sym w.place-is)
+          (sym w.told-is)
+          (told_some caller_number nobody_number 8 named l.caller-index l.place l.told w.in-Some.caller l.invariant there few
+          w.in-Some.is)
+      | in_default w ↦ subst₂ Are (sym w.place-is) (sym w.told-is)
+          (told_none caller_number nobody_number 8 named l.caller-index l.place l.told l.invariant there w.in_default.is)
     ]

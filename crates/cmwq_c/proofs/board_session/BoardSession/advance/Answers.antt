@@ -1,4 +1,5 @@
-use Rattle.std.proofs.Common.{subst, sym, ◌∙◌}
+-- Ticks that go by.
+use Rattle.std.proofs.Common.{subst, ◌∙◌}
 use Rattle.cmwq_board.specs.Boarded.{Boarded}
 use Rattle.cmwq_c.specs.BoardCalls.{AdvancesTo}
 use Rattle.cmwq_c.proofs.Faults.{never_done}
@@ -8,8 +9,10 @@ use Rattle.cmwq_c.proofs.board_session.BoardSession.advance.Goals.{in-Ok, in-Err
 pub returns-clause-advances : goal.returns-clause-advances
 returns-clause-advances c done =
     let after = c.advance-advanced.new in
-    elim c.match-advanced.branch [
-      | in-Ok w ↦ subst (λ (b : Boarded). AdvancesTo c.args.caller c.args.ticks b after.self c.match-advanced.now c.match-advanced.told) c.self.view_is (
+    let made = c.match-advanced in
+    let a = c.args in
+    elim made.branch [
+      | in-Ok w ↦ subst (λ (b : Boarded). AdvancesTo a.caller a.ticks b after.self made.now made.told) c.self.view_is (
         record {
           before = c.new-wakes.result;
           after = after.wakes;
@@ -19,5 +22,5 @@ returns-clause-advances c done =
         },
         w.now-is ∙ w.in-Ok.ensures.now,
       )
-      | in-Err w ↦ absurd (never_done w.in-Err.fault (sym w.fault_number.ensures ∙ sym w.result-is ∙ done))
+      | in-Err w ↦ absurd (never_done w.in-Err.fault _ (w.result-is ∙ w.fault_number.ensures) done)
     ]

@@ -1,3 +1,4 @@
+-- The board fails.
 use Rattle.std.proofs.Common.{subst}
 use Rattle.cmwq_board.specs.Boarded.{Boarded}
 use Rattle.cmwq_c.specs.BoardCalls.{Fails}

@@ -1,4 +1,5 @@
-use Rattle.std.proofs.Common.{subst₂, sym, ◌∙◌}
+-- A finish.
+use Rattle.std.proofs.Common.{subst₂, ◌∙◌}
 use Rattle.cmwq_board.specs.Boarded.{Boarded}
 use Rattle.cmwq_c.specs.BoardCalls.{Ends}
 use Rattle.cmwq_c.proofs.Faults.{never_done}
@@ -8,8 +9,9 @@ use Rattle.cmwq_c.proofs.board_session.BoardSession.finish.Goals.{in-Ok, in-Err}
 pub returns-clause-ends : goal.returns-clause-ends
 returns-clause-ends c done =
     let after = c.finish-finished.new in
-    elim c.match-finished.branch [
-      | in-Ok w ↦ subst₂ (λ o (b : Boarded). Ends o b after.self c.match-finished.told) c.in-Some.ensures c.self.view_is (
+    let made = c.match-finished in
+    elim made.branch [
+      | in-Ok w ↦ subst₂ (λ o (b : Boarded). Ends o b after.self made.told) c.in-Some.ensures c.self.view_is (
         w.in-Ok._finish,
         record {
           before = c.new-wakes.result;
@@ -19,5 +21,5 @@ returns-clause-ends c done =
           numbers = w.told-is ∙ w.tell.ensures;
         },
       )
-      | in-Err w ↦ absurd (never_done w.in-Err.fault (sym w.fault_number.ensures ∙ sym w.result-is ∙ done))
+      | in-Err w ↦ absurd (never_done w.in-Err.fault _ (w.result-is ∙ w.fault_number.ensures) done)
     ]

@@ -1,3 +1,4 @@
+-- The board is stopped.
 use Rattle.std.proofs.Common.{subst}
 use Rattle.cmwq_board.specs.Boarded.{Boarded}
 use Rattle.cmwq_c.specs.BoardCalls.{Stops}

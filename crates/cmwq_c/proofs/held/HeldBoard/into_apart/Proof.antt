@@ -57,8 +57,8 @@ into_apart_spec 𝓤 𝓛 𝓜 𝓡 wired =
     sets ! (agg ! (and_then ! (get ! refl) (and_then ! (get ! refl) (no_more !)))) refl (apart_good R Z LZ g b o h fits)
     $
     apart_in R Z LZ g ! b o h a v.board $
-    use0 𝓛 (raw (fact 𝓤 (v.board ≡ v.board))) (fact_i 𝓤 (v.board ≡ v.board) (emp 𝓤) refl) $ nothing ! $ nothing ! $ fjoin !
-    $ nothing ! $ fjoin ! $
+    use0 𝓛 (raw (fact 𝓤 (v.board ≡ v.board))) (fact_i 𝓤 (v.board ≡ v.board) (emp 𝓤) refl) $ nothing ! $ nothing ! $
+    fjoin ! $ nothing ! $ fjoin ! $
     returns ! (look_at ! 0 refl) $ free_all ! refl $ keep ! (4 ∷ 0 ∷ 2 ∷ 1 ∷ []) $ by !
     (leaves 𝓛 En hs c z (both (vptr b o) h) (record { at = block_ptr b o; alloc = a; value = v.board })
     (tt, (tt, tt)) (tt, (tt, tt))))))))

@@ -41,8 +41,8 @@ of_spec 𝓤 𝓛 𝓜 𝓡 wired =
     sets ! (of_opd ! (get_in ! (fld ! refl (stop !)) (sub ! 0 refl (whole !)))) refl (tt, tt) $ sets !
     (of_opd ! (get ! refl)) refl (tt, tt) $
     sets ! (agg ! (and_then ! (get ! refl) (no_more !))) refl (tt, (tt, tt)) $
-    use0 𝓛 (‵ (HeldBoard.own_val (block_ptr b o, tt) (held_of (block_ptr b o) ∷ []))) (held_made_board 𝓛 (block_ptr b o)) $ fjoin !
-    $
+    use0 𝓛 (‵ (HeldBoard.own_val (block_ptr b o, tt) (held_of (block_ptr b o) ∷ [])))
+    (held_made_board 𝓛 (block_ptr b o)) $ fjoin ! $
     use0 𝓛 (raw (fact 𝓤 Told)) (fact_i 𝓤 Told (emp 𝓤) (refl, refl)) $ nothing ! $ nothing ! $ fjoin ! $
     returns ! (look_at ! 0 refl) $ free_all ! refl $ keep ! (5 ∷ 0 ∷ 2 ∷ 1 ∷ []) $ by !
     (leaves 𝓛 En hs c z (held_of (block_ptr b o)) r (tt, tt) (tt, tt)))))
