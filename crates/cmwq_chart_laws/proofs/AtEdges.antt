@@ -1,6 +1,7 @@
 -- Where the edges of a figure stand.
 use Rattle.std.proofs.Common.{◌≡◌, ℕ, ◌+◌, ◌-◌, ◌*◌, ◌/◌, ◌<◌, ◌≤◌, Bool, true, false, Option, Some, None, max, min}
-use Rattle.std.proofs.Common.{IfSome, add-mul, suc, refl, ap, ◌∙◌, subst, arith, suc-mul, add-one, nat_le, mul-le-mul_right}
+use Rattle.std.proofs.Common.{IfSome, add-mul, suc, refl, ap, ◌∙◌, subst, arith, suc-mul, add-one, nat_le}
+use Rattle.std.proofs.Common.{mul-le-mul_right}
 use Rattle.std.specs.Prelude.{if◌then◌else◌}
 use Rattle.std.specs.List.{AllByRecursion}
 use Rattle.cmwq_lemmas.proofs.Lists.{All_map}

@@ -31,7 +31,8 @@ use Rattle.cmwq_chart.specs.declared.waits.CallerWait.{CallerWait}
 use Rattle.cmwq_chart.specs.declared.waits.WaitSign.{WaitSign}
 use Rattle.cmwq_chart.specs.Bars.{bars_of}
 use Rattle.cmwq_chart.specs.CallerWaits.{begun_in_row, callers_of, caller_waits_of, end_asked, free_row, is_end_answer}
-use Rattle.cmwq_chart.specs.CallerWaits.{left_row, number_done, rows_after, sign_on, ticket_in_row, ticket_row, wait_ended}
+use Rattle.cmwq_chart.specs.CallerWaits.{left_row, number_done, rows_after, sign_on, ticket_in_row, ticket_row}
+use Rattle.cmwq_chart.specs.CallerWaits.{wait_ended}
 use Rattle.cmwq_chart.specs.CallerWaits.{wait_in, wait_left, wait_over, wait_rows, wait_sign_of, wait_signs_by}
 use Rattle.cmwq_chart.specs.CallerWaits.{wait_signs_of, waits_by, waits_ended, waits_left}
 use Rattle.cmwq_chart.specs.Lanes.{lanes_of}
@@ -458,9 +459,11 @@ figures_caused s entries legal =
     (All_append P (map figure.Wait ws ++ map figure.WaitSign wss) (map figure.Bar bs)
     (All_append P (map figure.Wait ws) (map figure.WaitSign wss)
     (all_mapped figure.Wait P ws (All_flat (IsWaitOf past) (waits_by past) callers (waits_caused past)))
-    (all_mapped figure.WaitSign P wss (All_flat (IsWaitSignOf past) (wait_signs_by past) callers (wait_signs_caused past))))
+    (all_mapped figure.WaitSign P wss (All_flat (IsWaitSignOf past) (wait_signs_by past) callers
+    (wait_signs_caused past))))
     (all_mapped figure.Bar P bs (bars_caused s past legal)))
-    (all_mapped figure.Sleep P ss (All_flat (IsSleepOf past) (sleeps_by past) (lanes_of s entries) (sleeps_caused past))))
+    (all_mapped figure.Sleep P ss (All_flat (IsSleepOf past) (sleeps_by past) (lanes_of s entries)
+    (sleeps_caused past))))
     (all_mapped figure.Sign P gs (signs_caused past)))
     (all_mapped figure.Level P ls (levels_are_true s past (places_in s entries)))
 

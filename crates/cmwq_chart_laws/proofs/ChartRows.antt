@@ -36,7 +36,8 @@ use Rattle.cmwq_chart.specs.Levels.{all_places, changes_level, has_queueings, le
 use Rattle.cmwq_chart.specs.Levels.{levels_left, levels_of, place_on, places_of, places_of_queue}
 use Rattle.cmwq_chart.specs.Shapes.{places_in}
 use Rattle.cmwq_chart.specs.Signs.{sign_at, sign_kind, sign_of, signs_of}
-use Rattle.cmwq_chart.specs.Sleeps.{asleep_since, ends_sleep, sleep_ended, sleep_from, sleeps_by, sleeps_ended, sleeps_of}
+use Rattle.cmwq_chart.specs.Sleeps.{asleep_since, ends_sleep, sleep_ended, sleep_from, sleeps_by, sleeps_ended}
+use Rattle.cmwq_chart.specs.Sleeps.{sleeps_of}
 use Rattle.cmwq_chart_text.specs.declared.figures.Figure.{Figure}
 use Rattle.cmwq_chart_text.specs.declared.figures.Figure.TheVariants as figure
 use Rattle.cmwq_chart_text.specs.Figures.{figure_row, who_row}
@@ -152,7 +153,8 @@ module _ (s : Layout) (few : Limits s) where
       let cpu = ltb-true w.pool.cpu.0 s.cpus n.0 in let index = ltb-true w.index s.workers n.1 in
       let cpus = few.cpus in let workers = few.workers in (omega arith, omega arith)
 
-  signs_rows : (past : List Entry) → IsLegal s past → AllByRecursion (λ (g : Sign). IsRow (who_row g.who)) (signs_of past)
+  signs_rows : (past : List Entry) → IsLegal s past → AllByRecursion (λ (g : Sign). IsRow (who_row g.who))
+      (signs_of past)
   unfolding signs_of IsLegal
   signs_rows [] legal = tt
   signs_rows (e ∷ past) legal =

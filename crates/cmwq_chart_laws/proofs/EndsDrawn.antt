@@ -61,9 +61,11 @@ module _ (c : CallerId) where
   is_at_it : (past : List Entry) (e : Entry) (x : WaitSign) → wait_sign_of past e c ≡ Some x → x.at ≡ length past
   is_at_it past e x h = by (is_by (Caller c) e) (is_end_answer e.reply) (end_asked e.call) h
     where
-      on : (row : ℕ) (o : Option ℕ) → option_map (λ (t : ℕ). sign_made c row (length past) (is_done e.reply)) o ≡ Some x → x.at ≡ length past
+      on : (row : ℕ) (o : Option ℕ) → option_map (λ (t : ℕ). sign_made c row (length past) (is_done e.reply)) o
+          ≡ Some x → x.at ≡ length past
       on row None k = cc
-      on row (Some t) k = sym (ap (λ (y : WaitSign). y.at) (same_Some (sign_made c row (length past) (is_done e.reply)) x k))
+      on row (Some t) k = sym (ap (λ (y : WaitSign). y.at) (same_Some (sign_made c row (length past) (is_done e.reply))
+          x k))
 
       by : (a b : Bool) (o : Option ℕ) → (if a then (if b then option_and_then
           (λ t. sign_on (wait_rows past c) e c (length past) (ticket_row (wait_rows past c) t)) o else None) else None)
@@ -236,7 +238,8 @@ made_sign past e c n own is asked waits =
     (λ t. sign_on (wait_rows past c) e c (length past) (ticket_row (wait_rows past c) t)) (end_asked k)) asked
     ∙ ap (option_map (λ (t : ℕ). sign_made c (ticket_row (wait_rows past c) n) (length past) (is_done e.reply))) waits
 
-module _ (w : Window) (s : Layout) (entries : List Entry) (is : IsTrue (is_layout s)) (legal : IsLegal s (past_of entries))
+module _ (w : Window) (s : Layout) (entries : List Entry) (is : IsTrue (is_layout s))
+    (legal : IsLegal s (past_of entries))
     (e : Entry) (before : List Entry) (c : CallerId) (n : ℕ) (stands : StandsIn (past_of entries) e before)
     (by_caller : e.who ≡ Caller c) (there_is : c.0 < s.callers) (answers : is_end_answer e.reply ≡ true)
     (asked : e.call ≡ call.End n)

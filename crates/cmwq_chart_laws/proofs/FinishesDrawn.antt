@@ -1,7 +1,8 @@
 -- Each entry that finishes a queueing is where one bar ends in a chart.
 use Rattle.std.proofs.Common.{◌≡◌, ℕ, ◌+◌, ◌<◌, ◌==◌, Bool, true, false, ◌&&◌, not, List, []}
 use Rattle.std.proofs.Common.{◌∷◌, ◌++◌, cond, length, filter, Option, Some, None, IfSome, refl, sym, ap, ◌∙◌}
-use Rattle.std.proofs.Common.{subst, append_assoc, arith, nat_lt, ltb-true, ltb-false, eq-eqb, eqb-true, inl, length-append}
+use Rattle.std.proofs.Common.{subst, append_assoc, arith, nat_lt, ltb-true, ltb-false, eq-eqb, eqb-true, inl}
+use Rattle.std.proofs.Common.{length-append}
 use Rattle.std.specs.Prelude.{if◌then◌else◌, is_some}
 use Rattle.std.specs.Option.{option_map_or}
 use Rattle.std.specs.List.{list_any}
@@ -14,7 +15,8 @@ use Rattle.cmwq_model.specs.declared.entry.Entry.{Entry}
 use Rattle.cmwq_model.specs.declared.id.Who.TheVariants.{Worker}
 use Rattle.cmwq_model.specs.declared.id.WorkerId.{WorkerId}
 use Rattle.cmwq_model.specs.Prelude.{IsLegal, Layout, finishes, is_at, is_by, is_cancelled, is_finished}
-use Rattle.cmwq_model.specs.Prelude.{is_number_open, is_open, item_at, last_start, number_finished, number_started, past_of}
+use Rattle.cmwq_model.specs.Prelude.{is_number_open, is_open, item_at, last_start, number_finished, number_started}
+use Rattle.cmwq_model.specs.Prelude.{past_of}
 use Rattle.cmwq_model.specs.Prelude.{run, starts}
 use Rattle.cmwq_model.proofs.Growing.{older_are_legal}
 use Rattle.cmwq_theory_steps.proofs.Fresh.{finishes_run}
@@ -190,7 +192,8 @@ module _ (s : Layout) (past : List Entry) (legal : IsLegal s past) (e : Entry) (
       let place : length begun.before ≡ length before0 =
       compared (length begun.before) (length before0)
       (λ less. started_once s past e0 begun.entry before0 begun.before n legal stands0 begun.stands started0 its less)
-      (λ less. started_once s past begun.entry e0 begun.before before0 n legal begun.stands stands0 its started0 less) in
+      (λ less. started_once s past begun.entry e0 begun.before before0 n legal begun.stands stands0 its started0 less)
+      in
       eq-eqb b.from (length before0) (sym begun.place ∙ place)
     where
       number : (o : Option ℕ) → option_map_or (λ last. last == length before) o false ≡ true

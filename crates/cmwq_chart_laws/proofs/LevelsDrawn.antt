@@ -20,7 +20,8 @@ use Rattle.cmwq_model.specs.declared.record.Place.{Place}
 use Rattle.cmwq_model.specs.Prelude.{IsLegal, Layout, is_layout, past_of, queueings}
 use Rattle.cmwq_chart.specs.declared.levels.Level.{Level}
 use Rattle.cmwq_chart.specs.Levels.{all_places, changes_level, has_queueings, height_at, level_ended, level_from}
-use Rattle.cmwq_chart.specs.Levels.{level_until, levels_ended, levels_ended_by, levels_left, levels_of, open_at, place_on}
+use Rattle.cmwq_chart.specs.Levels.{level_until, levels_ended, levels_ended_by, levels_left, levels_of, open_at}
+use Rattle.cmwq_chart.specs.Levels.{place_on}
 use Rattle.cmwq_chart.specs.Levels.{places_of, places_of_queue}
 use Rattle.cmwq_chart.specs.Shapes.{places_in}
 use Rattle.cmwq_chart_text.specs.declared.figures.Figure.{Figure}
@@ -179,7 +180,8 @@ one_level s past p at = by (nat_lt at (level_from s past p)) refl
           level = h.level;
           covers = both
               ∙ ap₂ (λ k l. k ++ l) h.covers
-              (ap (λ b. cond (b && true) (level_until s past None p ∷ []) []) (le-leb-not (level_from s past p) at less));
+              (ap (λ b. cond (b && true) (level_until s past None p ∷ []) [])
+              (le-leb-not (level_from s past p) at less));
         }
     by false is =
         let begun = ltb-false at (level_from s past p) is in
@@ -218,7 +220,8 @@ of_ended s past a p places =
     (λ q. by q (changes_level s past a q)) places
   where
     by : (q : Place) (b : Bool)
-        → filter (level_as p) (option_to_list (if b then Some (level_until s past (Some (length past - 1)) q) else None))
+        → filter (level_as p) (option_to_list (if b then Some (level_until s past (Some (length past - 1)) q)
+        else None))
         ≡ (if same_as p q then option_to_list (if b then Some (level_until s past (Some (length past - 1)) q) else None)
         else [])
     by q true = refl
@@ -282,7 +285,8 @@ one_place s p queue cpu =
         filter_of_map (same_as p) (place_on q) (range_with_len 0 s.cpus) ∙ in_queue q (q == p.queue.0) refl
 
 -- a place that is shown is one of the shape
-place_there : (s : Layout) → AllByRecursion (λ (p : Place). (p.queue.0 < length s.queues) × (p.cpu.0 < s.cpus)) (all_places s)
+place_there : (s : Layout) → AllByRecursion (λ (p : Place). (p.queue.0 < length s.queues) × (p.cpu.0 < s.cpus))
+    (all_places s)
 place_there s =
     All_flat_map (λ (p : Place). (p.queue.0 < length s.queues) × (p.cpu.0 < s.cpus)) (places_of_queue s)
     (range_with_len 0 (length s.queues))
@@ -290,7 +294,8 @@ place_there s =
     (λ q. AllByRecursion (λ (p : Place). (p.queue.0 < length s.queues) × (p.cpu.0 < s.cpus)) (places_of_queue s q))
     (range_with_len 0 (length s.queues))
     (λ q h. let less = h.1 in
-    all_mapped (place_on q) (λ (p : Place). (p.queue.0 < length s.queues) × (p.cpu.0 < s.cpus)) (range_with_len 0 s.cpus)
+    all_mapped (place_on q) (λ (p : Place). (p.queue.0 < length s.queues) × (p.cpu.0 < s.cpus))
+    (range_with_len 0 s.cpus)
     (All_map (λ i. (0 ≤ i) × (i < 0 + s.cpus)) (λ i. (q < length s.queues) × (i < s.cpus)) (range_with_len 0 s.cpus)
     (λ i k. let under = k.1 in (omega arith, omega arith)) (range_in_it 0 s.cpus)))
     (range_in_it 0 (length s.queues)))
@@ -300,7 +305,8 @@ shown_once : (s : Layout) (entries : List Entry) (p : Place) → In p (places_in
 unfolding places_of
 shown_once s entries p i =
     let k = in_filter (has_queueings (queueings (past_of entries))) (all_places s) p i in
-    let there = of_in (λ (q : Place). (q.queue.0 < length s.queues) × (q.cpu.0 < s.cpus)) (all_places s) p (place_there s)
+    let there = of_in (λ (q : Place). (q.queue.0 < length s.queues) × (q.cpu.0 < s.cpus)) (all_places s) p
+    (place_there s)
     k.0 in
     filters_commute (same_as p) (has_queueings (queueings (past_of entries))) (all_places s)
     ∙ ap (filter (has_queueings (queueings (past_of entries)))) (one_place s p there.0 there.1)
@@ -308,7 +314,8 @@ shown_once s entries p i =
 
 -- so of all levels one is of the place and covers the entry
 pub one_of_place : (s : Layout) (entries : List Entry) (p : Place) (at : ℕ) → In p (places_in s entries)
-    → (l : Level) × (filter (level_as p) (filter (over at) (levels_of s (past_of entries) (places_in s entries))) ≡ l ∷ [])
+    → (l : Level) × (filter (level_as p) (filter (over at) (levels_of s (past_of entries) (places_in s entries)))
+    ≡ l ∷ [])
 one_of_place s entries p at i =
     let h : HasOne s (past_of entries) p at = one_level s (past_of entries) p at in (
       h.level,
@@ -353,7 +360,8 @@ covers_over at l begun not_over = ap₂ (λ x y. x && y) (le-leb l.from at begun
     by None k = refl
     by (Some last) k = le-leb at last k
 
-module _ (w : Window) (s : Layout) (entries : List Entry) (is : IsTrue (is_layout s)) (legal : IsLegal s (past_of entries))
+module _ (w : Window) (s : Layout) (entries : List Entry) (is : IsTrue (is_layout s))
+    (legal : IsLegal s (past_of entries))
     (p : Place) (here : In p (places_in s entries)) where
   abbrev page : Page
   page = chart_page w entries
@@ -425,7 +433,8 @@ module _ (w : Window) (s : Layout) (entries : List Entry) (is : IsTrue (is_layou
 
       its_place : l.place ≡ p
       its_place =
-          let k : IsRow (row.Place l.place) = of_in (λ f. IsRow (figure_row f)) (chart_figures s entries) (figure.Level l)
+          let k : IsRow (row.Place l.place) = of_in (λ f. IsRow (figure_row f)) (chart_figures s entries)
+          (figure.Level l)
           rows its_tests.0 in
           same_place p l.place (sym (row_as p l.place of_row k) ∙ its_tests.1)
 
@@ -441,7 +450,8 @@ module _ (w : Window) (s : Layout) (entries : List Entry) (is : IsTrue (is_layou
       in_own stands =
           filter_in (is_of_row (row.Place p)) (filter (stands_in (chart_page w entries) band) (chart_figures s entries))
           (figure.Level l)
-          (filter_in (stands_in (chart_page w entries) band) (chart_figures s entries) (figure.Level l) its_tests.0 stands)
+          (filter_in (stands_in (chart_page w entries) band) (chart_figures s entries) (figure.Level l) its_tests.0
+          stands)
           its_tests.1
 
       -- a figure in the row of a place is a level
@@ -449,19 +459,23 @@ module _ (w : Window) (s : Layout) (entries : List Entry) (is : IsTrue (is_layou
           → IfSome (figure_to g) (λ last. at ≤ last) → is_level_over at g ≡ true
       over_of at (figure.Level m) r k begun not_over = covers_over at m begun not_over
       over_of at (figure.Wait x) r k begun not_over =
-          let same : row.Caller x.caller ≡ row.Place p = rows_are_told_apart (row.Caller x.caller) (row.Place p) k of_row
+          let same : row.Caller x.caller ≡ row.Place p = rows_are_told_apart (row.Caller x.caller) (row.Place p) k
+          of_row
           (eqb-true (row_number (row.Caller x.caller)) (row_number (row.Place p)) r) in
           cc
       over_of at (figure.WaitSign x) r k begun not_over =
-          let same : row.Caller x.caller ≡ row.Place p = rows_are_told_apart (row.Caller x.caller) (row.Place p) k of_row
+          let same : row.Caller x.caller ≡ row.Place p = rows_are_told_apart (row.Caller x.caller) (row.Place p) k
+          of_row
           (eqb-true (row_number (row.Caller x.caller)) (row_number (row.Place p)) r) in
           cc
       over_of at (figure.Bar x) r k begun not_over =
-          let same : row.Worker x.worker ≡ row.Place p = rows_are_told_apart (row.Worker x.worker) (row.Place p) k of_row
+          let same : row.Worker x.worker ≡ row.Place p = rows_are_told_apart (row.Worker x.worker) (row.Place p) k
+          of_row
           (eqb-true (row_number (row.Worker x.worker)) (row_number (row.Place p)) r) in
           cc
       over_of at (figure.Sleep x) r k begun not_over =
-          let same : row.Worker x.worker ≡ row.Place p = rows_are_told_apart (row.Worker x.worker) (row.Place p) k of_row
+          let same : row.Worker x.worker ≡ row.Place p = rows_are_told_apart (row.Worker x.worker) (row.Place p) k
+          of_row
           (eqb-true (row_number (row.Worker x.worker)) (row_number (row.Place p)) r) in
           cc
       over_of at (figure.Sign x) r k begun not_over = absurd (by x.who r k)
@@ -486,7 +500,8 @@ module _ (w : Window) (s : Layout) (entries : List Entry) (is : IsTrue (is_layou
           let b = in_filter (stands_in (chart_page w entries) band) (chart_figures s entries) one.0 a.0 in
           let h : HasEntryIn (chart_page w entries) one.0 band = entry_of (chart_page w entries) one.0 band b.1 in
           let ends = between_ends (chart_page w entries) (figure.Level l) band h.at flat stands its_entry h.is_shown in
-          let k : IsRow (figure_row one.0) = of_in (λ f. IsRow (figure_row f)) (chart_figures s entries) one.0 rows b.0 in
+          let k : IsRow (figure_row one.0) = of_in (λ f. IsRow (figure_row f)) (chart_figures s entries) one.0 rows b.0
+          in
           let this = it_is h.at (figure.Level l) its_tests.0 its_tests.1 (covers_over h.at l ends.0 ends.1) in
           let that = it_is h.at one.0 b.0 a.1 (over_of h.at one.0 a.1 k h.begun h.not_over) in
           let clash : true ≡ false =
@@ -503,7 +518,8 @@ module _ (w : Window) (s : Layout) (entries : List Entry) (is : IsTrue (is_layou
           ≡ figure.Level l ∷ [])
           ⊎ ((drawn_in band (row.Place p) (chart_parts w s entries) ≡ []) × (l.height.open_count ≡ 0))
       once_or_none =
-          by (shows own) refl (stands_in (chart_page w entries) band (figure.Level l)) refl (is_flat (figure.Level l)) refl
+          by (shows own) refl (stands_in (chart_page w entries) band (figure.Level l)) refl (is_flat (figure.Level l))
+          refl
         where
           by : (a : Bool) → shows own ≡ a → (b : Bool) → stands_in (chart_page w entries) band (figure.Level l) ≡ b
               → (c : Bool) → is_flat (figure.Level l) ≡ c

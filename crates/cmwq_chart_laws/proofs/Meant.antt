@@ -222,7 +222,8 @@ module _ (p : Page) (figures : List Figure) (rows : AreOfRows figures) where
         refl,
         all_below (Some (name_at band top (figure_row f)))
             (map (figure_part band top) (f ∷ fs) ++ flat_map (note_parts p band top) (f ∷ fs))
-            (of_shapes (λ x. (is_name x.what ≡ false) × IsBelow (Some (name_at band top (figure_row f))) x) p band top (f ∷ fs)
+            (of_shapes (λ x. (is_name x.what ≡ false) × IsBelow (Some (name_at band top (figure_row f))) x) p band top
+            (f ∷ fs)
             (All_map (λ g. figure_row f ≡ figure_row g)
             (λ g. (is_name (what.Figure g) ≡ false)
             × IsBelow (Some (name_at band top (figure_row f))) (part_at band top (what.Figure g))) (f ∷ fs)
@@ -232,7 +233,8 @@ module _ (p : Page) (figures : List Figure) (rows : AreOfRows figures) where
             × IsBelow (Some (name_at band top (figure_row f))) (part_at band top w)) (f ∷ fs)
             (λ g k w h. (
               note_named band g w h,
-              subst (λ (o : Option Row). IfSome o (λ r. Some (name_at band top (figure_row f)) ≡ Some (name_at band top r)))
+              subst (λ (o : Option Row). IfSome o (λ r. Some (name_at band top (figure_row f))
+                  ≡ Some (name_at band top r)))
                   (sym (note_row p band g w h)) (ap (λ r. Some (name_at band top r)) k),
             )) same)),
       )

@@ -79,7 +79,8 @@ module _ (p : Page) (figures : List Figure) (rows : AreOfRows figures) (test : F
     there = λ band h.
         passing band
         ∙ ap (λ b. if b then f ∷ [] else []) ((figures_stand_with_entries p f band flat).1 h);
-    nowhere_else = λ band none. passing band ∙ ap (λ b. if b then f ∷ [] else []) (fails band none (stands_in p band f) refl);
+    nowhere_else = λ band none. passing band ∙ ap (λ b. if b then f ∷ [] else [])
+        (fails band none (stands_in p band f) refl);
   }
     where
       fails : (band : ℕ) → (HasEntryIn p f band → ⊥) → (b : Bool) → stands_in p band f ≡ b → b ≡ false
@@ -91,7 +92,8 @@ module _ (p : Page) (figures : List Figure) (rows : AreOfRows figures) (test : F
 none_mapped : {X : Type 0} (con : X → Figure) (test : Figure → Bool) (xs : List X)
     → ((x : X) → test (con x) ≡ false) → filter test (map con xs) ≡ []
 none_mapped con test xs fails =
-    filter_none test (map con xs) (all_mapped con (λ f. test f ≡ false) xs (All_each (λ x. test (con x) ≡ false) xs fails))
+    filter_none test (map con xs) (all_mapped con (λ f. test f ≡ false) xs
+    (All_each (λ x. test (con x) ≡ false) xs fails))
 
 kind_mapped : {X : Type 0} (con : X → Figure) (test : Figure → Bool) (xs : List X)
     → filter test (map con xs) ≡ map con (filter (λ x. test (con x)) xs)

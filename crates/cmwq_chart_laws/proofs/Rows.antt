@@ -15,7 +15,8 @@ use Rattle.cmwq_chart_text.specs.declared.part.Part.{Part}
 use Rattle.cmwq_chart_text.specs.declared.part.What.{What}
 use Rattle.cmwq_chart_text.specs.declared.part.What.TheVariants as what
 use Rattle.cmwq_chart_text.specs.Bands.{stands_in}
-use Rattle.cmwq_chart_text.specs.Drawings.{waits_in, Drawing, below, figure_part, is_in_row, note_parts, numbers_of, part_at, row_drawn}
+use Rattle.cmwq_chart_text.specs.Drawings.{waits_in, Drawing, below, figure_part, is_in_row, note_parts, numbers_of}
+use Rattle.cmwq_chart_text.specs.Drawings.{part_at, row_drawn}
 use Rattle.cmwq_chart_text.specs.Drawings.{shows, with_band_of, with_row, with_row_of, with_rows, page_drawn}
 use Rattle.cmwq_chart_text.specs.Figures.{row_height, figure_number, figure_row, most_rows}
 use Rattle.cmwq_chart_text.specs.Notes.{has_caption, has_label, note_of}

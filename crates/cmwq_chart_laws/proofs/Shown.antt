@@ -27,7 +27,8 @@ use Rattle.cmwq_chart_text.specs.Figures.{figure_number, figure_row, most_rows, 
 use Rattle.cmwq_chart_text.specs.Notes.{has_caption, has_label, has_number, note_of}
 use Rattle.cmwq_chart_text.specs.Pages.{bands, band_start, end_in}
 use Rattle.cmwq_chart_laws.specs.Drawn.{AreOfRows, FiguresAreDrawn, IsRow, RowsAreDrawn, figure_shown}
-use Rattle.cmwq_chart_laws.specs.Drawn.{is_row, is_there, item_of_figure, parts_of, row_of, row_shown_of, shown, shown_in}
+use Rattle.cmwq_chart_laws.specs.Drawn.{is_row, is_there, item_of_figure, parts_of, row_of, row_shown_of, shown}
+use Rattle.cmwq_chart_laws.specs.Drawn.{shown_in}
 use Rattle.cmwq_chart_laws.specs.Drawn.{standing_in}
 use Rattle.cmwq_chart_laws.proofs.Folded.{none_below, only, picked, same_if, sees_all}
 use Rattle.cmwq_chart_laws.proofs.RowNumbers.{row_within, rows_are_told_apart}

@@ -354,7 +354,8 @@ flat_kept keep g none (x ∷ xs) = by (keep x) refl (flat_kept keep g none xs)
 worker_there : (s : Layout) (e : Entry) (w : WorkerId) → IsTrue (fits s e.who e.call) → e.who ≡ Worker w
     → (w.pool.cpu.0 < s.cpus) × (w.index < s.workers)
 worker_there s e w fit is =
-    let h : ((nat_lt w.pool.cpu.0 s.cpus && nat_lt w.index s.workers && is_workers e.call) && has_numbers s e.call) ≡ true =
+    let h : ((nat_lt w.pool.cpu.0 s.cpus && nat_lt w.index s.workers && is_workers e.call) && has_numbers s e.call) ≡
+    true =
     subst (λ (x : Who). fits s x e.call ≡ true) is fit in
     let a = and_parts (nat_lt w.pool.cpu.0 s.cpus && nat_lt w.index s.workers && is_workers e.call)
     (has_numbers s e.call) h in
@@ -390,7 +391,8 @@ module _ (s : Layout) (entries : List Entry) (e : Entry) (before : List Entry) (
   of_worker test f none =
       filter_of_flat test f (lanes_of s entries)
       ∙ flat_kept (is_worker w) (λ v. filter test (f v))
-      (λ v other. none v (is_by_it v ∙ turned (same_worker w v) other (λ h. same_worker-true w v h))) (lanes_of s entries)
+      (λ v other. none v (is_by_it v ∙ turned (same_worker w v) other (λ h. same_worker-true w v h)))
+      (lanes_of s entries)
       ∙ ap (flat_map (λ v. filter test (f v))) one_lane ∙ append-nil (filter test (f w))
     where
       turned : {v : WorkerId} (b : Bool) → same_worker v w ≡ false → (b ≡ true → w ≡ v) → b ≡ false
@@ -435,7 +437,8 @@ module _ (s : Layout) (entries : List Entry) (e : Entry) (before : List Entry) (
         (sleeps_rows (λ v. v ≡ w) (past_of entries) w refl) i
 
     it_is : (x : Sleep) → In x (sleeps_by (past_of entries) w) → IsSleepOf (past_of entries) x
-    it_is x i = of_in (IsSleepOf (past_of entries)) (sleeps_by (past_of entries) w) x (sleeps_caused (past_of entries) w) i
+    it_is x i = of_in (IsSleepOf (past_of entries)) (sleeps_by (past_of entries) w) x
+        (sleeps_caused (past_of entries) w) i
 
     drawn_once : (test : Figure → Bool) (x : Sleep)
         → filter (λ y. test (figure.Sleep y)) (sleeps_of (past_of entries) (lanes_of s entries)) ≡ x ∷ []
@@ -464,7 +467,8 @@ module _ (s : Layout) (entries : List Entry) (e : Entry) (before : List Entry) (
               by_worker = by_worker ∙ ap Worker (sym (its_worker x k.0));
               ends = (it_is x k.0).1;
               drawn = drawn_once (is_sleep_from (length before)) x
-                  (of_worker from_it (sleeps_by (past_of entries)) none_from ∙ alone) (λ y. refl) (λ y. refl) (λ y. refl)
+                  (of_worker from_it (sleeps_by (past_of entries)) none_from ∙ alone) (λ y. refl) (λ y. refl)
+                  (λ y. refl)
                   (λ y. refl) (λ y. refl);
             }
 

@@ -15,7 +15,8 @@ use Rattle.cmwq_chart_text.specs.Drawings.{waits_in, with_band_of, with_row_of, 
 use Rattle.cmwq_chart_text.specs.Figures.{figure_number, figure_row, most_rows, row_height}
 use Rattle.cmwq_chart_text.specs.Notes.{note_of}
 use Rattle.cmwq_chart_text.specs.Pages.{bands}
-use Rattle.cmwq_chart_laws.specs.Drawn.{AreOfRows, AreStacked, RowsAreStacked, edge_after, edge_behind, is_name, parts_of, standing_in}
+use Rattle.cmwq_chart_laws.specs.Drawn.{AreOfRows, AreStacked, RowsAreStacked, edge_after, edge_behind, is_name}
+use Rattle.cmwq_chart_laws.specs.Drawn.{parts_of, standing_in}
 use Rattle.cmwq_chart_laws.proofs.Folded.{keeps_all}
 use Rattle.cmwq_chart_laws.proofs.Meant.{note_named, of_numbers}
 use Rattle.cmwq_chart_laws.proofs.Rows.{IsNamed, numbers_are, of_shapes, row_cases, row_parts}

@@ -1,7 +1,9 @@
 -- In which bands a figure stands.
-use Rattle.std.proofs.Common.{suc, ◌≡◌, ℕ, ◌+◌, ◌-◌, ◌*◌, ◌/◌, ◌<◌, ◌≤◌, ◌==◌, Bool, true, false, ◌&&◌, ◌||◌, Option, Some, None}
+use Rattle.std.proofs.Common.{suc, ◌≡◌, ℕ, ◌+◌, ◌-◌, ◌*◌, ◌/◌, ◌<◌, ◌≤◌, ◌==◌, Bool, true, false, ◌&&◌, ◌||◌, Option}
+use Rattle.std.proofs.Common.{Some, None}
 use Rattle.std.proofs.Common.{◌⊎◌, inl, inr, ⊎_elim, max, nat_le, nat_lt, IfSome, refl, sym, ap, ap₂, ◌∙◌}
-use Rattle.std.proofs.Common.{arith, suc-mul, add-one, le-leb, lt-ltb, leb-true, ltb-true, leb-false, ltb-false, eqb-true}
+use Rattle.std.proofs.Common.{arith, suc-mul, add-one, le-leb, lt-ltb, leb-true, ltb-true, leb-false, ltb-false}
+use Rattle.std.proofs.Common.{eqb-true}
 use Rattle.std.proofs.Common.{eq-eqb}
 use Rattle.std.specs.Prelude.{if◌then◌else◌}
 use Rattle.std.proofs.lemmas.Bool.{and_parts, cases_eq, or_cases}
@@ -15,7 +17,8 @@ use Rattle.cmwq_chart_text.specs.Figures.{figure_from, figure_to, is_flat}
 use Rattle.cmwq_chart_text.specs.Pages.{band_of, band_start, bands, bands_end, columns, entries_shown}
 use Rattle.cmwq_chart_text.specs.Spans.{end_shown, first_shown, span_band, span_bands_end, span_end}
 use Rattle.cmwq_chart_laws.specs.Drawn.{IsShownIn}
-use Rattle.cmwq_chart_laws.specs.Standing.{HasEntryIn, IsFirstOrLast, FiguresStandWithEntries, FlatLevelsStandAtTheirEnds}
+use Rattle.cmwq_chart_laws.specs.Standing.{HasEntryIn, IsFirstOrLast, FiguresStandWithEntries}
+use Rattle.cmwq_chart_laws.specs.Standing.{FlatLevelsStandAtTheirEnds}
 
 -- ---- bands and their entries
 
@@ -150,7 +153,8 @@ module _ (p : Page) (f : Figure) where
   has_entry : (band : ℕ) → first_band p f ≤ band → band < bands_behind p f → HasEntryIn p f band
   has_entry band low high =
       let first = first_is p (figure_from f) in
-      let m : IsMet p a e band = met p a e band (omega arith) (omega (arith, first_band_is)) (omega (arith, behind_is)) in
+      let m : IsMet p a e band = met p a e band (omega arith) (omega (arith, first_band_is)) (omega (arith, behind_is))
+      in
       let ends = shown_end p (figure_to f) m.at m.before in
       let since = m.since in
       record {

@@ -1,7 +1,8 @@
 -- Each ticket has one wait.
 use Rattle.std.proofs.Common.{◌≡◌, ℕ, zero, suc, ◌+◌, ◌<◌, ◌≤◌, ◌==◌, Bool, true, false, ◌&&◌, ◌||◌, not, List, [], ◌∷◌}
 use Rattle.std.proofs.Common.{◌++◌, cond, count_by, length, map, filter, flat_map, Option, Some, None, option_map}
-use Rattle.std.proofs.Common.{option_to_list, reverse, refl, sym, ap, ap₂, ◌∙◌, subst, arith, nat_lt, lt-ltb, le-ltb, ltb-true}
+use Rattle.std.proofs.Common.{option_to_list, reverse, refl, sym, ap, ap₂, ◌∙◌, subst, arith, nat_lt, lt-ltb, le-ltb}
+use Rattle.std.proofs.Common.{ltb-true}
 use Rattle.std.proofs.Common.{ltb-false, eq-eqb, eqb-true, ne_eqb, ⊎_elim, inl, append-nil, length-append}
 use Rattle.std.specs.Prelude.{if◌then◌else◌, is_some, option_and_then, slice_get, slice_set}
 use Rattle.std.specs.Option.{option_map_or}
@@ -22,7 +23,8 @@ use Rattle.cmwq_model.specs.declared.reply.Reply.{Reply}
 use Rattle.cmwq_model.specs.declared.reply.Reply.TheVariants as reply
 use Rattle.cmwq_model.specs.Prelude.{Layout, gives_ticket, is_at, is_by, is_done, is_end_of, past_of, same_who}
 use Rattle.cmwq_chart.specs.declared.waits.CallerWait.{CallerWait}
-use Rattle.cmwq_chart.specs.CallerWaits.{begun_in_row, caller_of_number, callers_of, caller_waits_of, end_asked, free_row}
+use Rattle.cmwq_chart.specs.CallerWaits.{begun_in_row, caller_of_number, callers_of, caller_waits_of, end_asked}
+use Rattle.cmwq_chart.specs.CallerWaits.{free_row}
 use Rattle.cmwq_chart.specs.CallerWaits.{has_calls, left_row, number_done, rows_after, ticket_in_row, ticket_row}
 use Rattle.cmwq_chart.specs.CallerWaits.{wait_ended, wait_in, wait_left, wait_over, wait_rows, waits_by, waits_ended}
 use Rattle.cmwq_chart.specs.CallerWaits.{waits_left}
@@ -32,7 +34,8 @@ use Rattle.cmwq_chart_laws.proofs.Causing.{is_ended}
 use Rattle.cmwq_chart_laws.proofs.Folded.{only, picked, same_if}
 
 -- one that passes alone
-pub one_passes : {X : Type 0} (test : X → Bool) (xs : List X) → count_by test xs ≡ 1 → (x : X) × (filter test xs ≡ x ∷ [])
+pub one_passes : {X : Type 0} (test : X → Bool) (xs : List X) → count_by test xs ≡ 1
+    → (x : X) × (filter test xs ≡ x ∷ [])
 one_passes test xs h = by (filter test xs) (length-filter test xs ∙ h)
   where
     by : {X : Type 0} (ys : List X) → length ys ≡ 1 → (x : X) × (ys ≡ x ∷ [])
@@ -73,14 +76,16 @@ module _ (c : CallerId) (n : ℕ) where
   begun_later k m rows = by (nat_lt (free_row rows) (length rows)) refl
     where
       by : (b : Bool) → nat_lt (free_row rows) (length rows) ≡ b
-          → (if nat_lt (1 + free_row rows) (suc (length rows)) then slice_set (Some k ∷ rows) (1 + free_row rows) (Some m)
+          → (if nat_lt (1 + free_row rows) (suc (length rows)) then slice_set (Some k ∷ rows) (1 + free_row rows)
+          (Some m)
           else (Some k ∷ rows) ++ Some m ∷ [])
           ≡ Some k ∷ (if b then slice_set rows (free_row rows) (Some m) else rows ++ Some m ∷ [])
       by true is =
           ap (λ b. if b then slice_set (Some k ∷ rows) (1 + free_row rows) (Some m) else (Some k ∷ rows) ++ Some m ∷ [])
           (lt-ltb (1 + free_row rows) (suc (length rows))
           (let less = ltb-true (free_row rows) (length rows) is in omega arith))
-          ∙ ap (λ j. slice_set (Some k ∷ rows) j (Some m)) (let e : 1 + free_row rows ≡ suc (free_row rows) = omega arith in
+          ∙ ap (λ j. slice_set (Some k ∷ rows) j (Some m)) (let e : 1 + free_row rows ≡ suc (free_row rows) = omega
+          arith in
           e)
       by false is =
           ap (λ b. if b then slice_set (Some k ∷ rows) (1 + free_row rows) (Some m) else (Some k ∷ rows) ++ Some m ∷ [])
@@ -186,7 +191,8 @@ module _ (c : CallerId) (n : ℕ) where
 
       by : (b : Bool) → is_by (Caller c) e ≡ b
           → count_by from_here (option_to_list (if b then option_and_then
-          (λ t. wait_over (wait_rows past c) c (length past) (ticket_row (wait_rows past c) t)) (number_done e) else None))
+          (λ t. wait_over (wait_rows past c) c (length past) (ticket_row (wait_rows past c) t)) (number_done e) else
+          None))
           + count_by here (if b then rows_after e (length past) (wait_rows past c) else wait_rows past c)
           ≡ count_by here (wait_rows past c) + cond (b && gives_ticket e.reply && (length past == n)) 1 0
       by true is = own (gives_ticket e.reply) refl
@@ -200,7 +206,8 @@ module _ (c : CallerId) (n : ℕ) where
       let first : ticket_in_row all a ≡ r =
       ap (λ k. ticket_in_row all k) (let e : a ≡ a + 0 = omega arith in e)
       ∙ ap (λ (o : Option (Option ℕ)). option_and_then (λ k. k) o) (same 0) in
-      let more = count_append from_here (wait_left all c a) (flat_map (wait_left all c) (range_with_len (a + 1) (length rows))) in
+      let more = count_append from_here (wait_left all c a) (flat_map (wait_left all c)
+      (range_with_len (a + 1) (length rows))) in
       let one : count_by from_here (wait_left all c a) ≡ cond (is_at r n) 1 0 =
       ap (λ o. count_by from_here (option_to_list (option_map (wait_in c a None) o))) first ∙ ended_count a None r in
       let rest = left_waits all rows (a + 1)
@@ -342,7 +349,8 @@ module _ (c : CallerId) (n : ℕ) where
       ended earlier None done =
           earlier ∙ sym (ap (λ b. if_one (not (b || list_any (ends_wait_of c n) after))) (no_end a done))
       ended earlier (Some u) done =
-          ap (count_by here) (left_is (wait_rows (after ++ e ∷ before) c) (ticket_row (wait_rows (after ++ e ∷ before) c) u))
+          ap (count_by here) (left_is (wait_rows (after ++ e ∷ before) c)
+          (ticket_row (wait_rows (after ++ e ∷ before) c) u))
           ∙ ⊎_elim
           (λ same. ap (λ k. count_by here (slice_set (wait_rows (after ++ e ∷ before) c)
           (ticket_row (wait_rows (after ++ e ∷ before) c) k) None)) same

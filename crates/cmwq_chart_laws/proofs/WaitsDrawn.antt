@@ -35,14 +35,16 @@ use Rattle.cmwq_chart_laws.proofs.Once.{is_drawn_once, one_wait}
 use Rattle.cmwq_chart_laws.proofs.Tickets.{counts_one, goes_on, one_passes, waits_alone}
 
 -- who got a ticket is a caller of the shape
-pub caller_there : (s : Layout) (e : Entry) (c : CallerId) → IsTrue (fits s e.who e.call) → e.who ≡ Caller c → c.0 < s.callers
+pub caller_there : (s : Layout) (e : Entry) (c : CallerId) → IsTrue (fits s e.who e.call) → e.who ≡ Caller c
+    → c.0 < s.callers
 caller_there s e c fit is =
     let h : ((nat_lt c.0 s.callers && is_callers e.call) && has_numbers s e.call) ≡ true =
     subst (λ (x : Who). fits s x e.call ≡ true) is fit in
     let k = and_parts (nat_lt c.0 s.callers && is_callers e.call) (has_numbers s e.call) h in
     ltb-true c.0 s.callers (and_parts (nat_lt c.0 s.callers) (is_callers e.call) k.0).0
 
-module _ (w : Window) (s : Layout) (entries : List Entry) (is : IsTrue (is_layout s)) (legal : IsLegal s (past_of entries))
+module _ (w : Window) (s : Layout) (entries : List Entry) (is : IsTrue (is_layout s))
+    (legal : IsLegal s (past_of entries))
     (e : Entry) (before : List Entry) (c : CallerId) (stands : StandsIn (past_of entries) e before)
     (by_caller : e.who ≡ Caller c) (gives : gives_ticket e.reply ≡ true) (there : c.0 < s.callers) where
   past : List Entry
@@ -96,4 +98,5 @@ tickets_are_drawn w s entries is legal e before stands gives =
     (subst (IsLegal s) stands.parts legal) in
     let fit = legal_fits s before e older in
     let caller = ticket_reason s before e.who e.call e.reply fit (cause_of s before e older) gives in
-    ticket_is_drawn w s entries is legal e before caller.0 stands caller.1 gives (caller_there s e caller.0 fit caller.1)
+    ticket_is_drawn w s entries is legal e before caller.0 stands caller.1 gives
+    (caller_there s e caller.0 fit caller.1)

@@ -83,7 +83,8 @@ pub record HasOneBarDrawn (w : Window) (s : Layout) (entries : List Entry) (e : 
       (figure.Bar bar)
 
 abbrev pub StartsAreDrawn : Type 0
-StartsAreDrawn = OfCharts (λ w s entries. (e : Entry) (before : List Entry) (n : ℕ) → StandsIn (past_of entries) e before
+StartsAreDrawn = OfCharts (λ w s entries. (e : Entry) (before : List Entry) (n : ℕ)
+    → StandsIn (past_of entries) e before
     → number_started e.reply ≡ Some n → HasOneBarDrawn w s entries e before n)
 
 -- ---- each entry whose reply has a kind of sign has one, in the row of who made it

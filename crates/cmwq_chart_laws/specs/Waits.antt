@@ -38,7 +38,8 @@ pub record HasOneWaitDrawn (w : Window) (s : Layout) (entries : List Entry) (e :
       (figure.Wait wait)
 
 abbrev pub TicketsAreDrawn : Type 0
-TicketsAreDrawn = OfCharts (λ w s entries. (e : Entry) (before : List Entry) (stands : StandsIn (past_of entries) e before)
+TicketsAreDrawn = OfCharts (λ w s entries. (e : Entry) (before : List Entry)
+    (stands : StandsIn (past_of entries) e before)
     → gives_ticket e.reply ≡ true → HasOneWaitDrawn w s entries e before stands.after)
 
 -- ---- an entry that asks for the end of a wait has a mark in its caller's row, which says whether it was done

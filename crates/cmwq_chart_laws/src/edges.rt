@@ -18,8 +18,8 @@ pub fn figures_have_edges()
     ensures { FiguresHaveEdges }
 {}
 
-/// In a legal history no two bars of a worker overlap in the picture: in each band the one that begins first ends before
-/// the other begins.
+/// In a legal history no two bars of a worker overlap in the picture: in each band the one that begins first ends
+/// before the other begins.
 pub fn bars_do_not_overlap()
     ensures { BarsDoNotOverlap }
 {}
