@@ -74,40 +74,6 @@ static long opens(void)
     }
 }
 
-/* How many a board and its lines take. */
-static long boards(void)
-{
-    struct cmwq_shape shape = {.room = 1000, .keep = 50, .items = 20, .cpus = 2, .workers = 2, .callers = 3};
-    struct cmwq_queue queues[3] = {{1, 0, 0, 0}, {2, 1, 0, 0}, {3, 0, 1, 1}};
-
-    for (long many = 0;; many++) {
-        struct cmwq_board board = {0};
-        struct cmwq_lines lines = {0};
-        struct cmwq_call call = {.kind = CMWQ_QUEUE};
-        struct cmwq_reply reply;
-        struct cmwq_wakes wakes;
-        uint32_t status;
-
-        left = many;
-        status = cmwq_board_open(&board, &shape, queues, 3, 2);
-        CHECK(status == CMWQ_OK || (status == CMWQ_NO_MEMORY && !board.live && live == 0));
-        if (status == CMWQ_OK)
-            status = cmwq_lines_open(&lines, &board);
-        CHECK(status == CMWQ_OK || (status == CMWQ_NO_MEMORY && !lines.live));
-        if (status == CMWQ_OK) {
-            left = 0; /* no other call takes memory */
-            CHECK(cmwq_board_call(&board, &call, &reply, &wakes) == CMWQ_OK && cmwq_board_hand_out(&board, &lines) == CMWQ_OK);
-            call.kind = CMWQ_FLUSH;
-            CHECK(cmwq_board_begin(&board, &call, &(uint8_t){0}, &reply, &wakes) == CMWQ_WAITS && left == 0);
-        }
-        cmwq_lines_close(&lines);
-        cmwq_board_close(&board);
-        CHECK(live == 0);
-        if (status == CMWQ_OK)
-            return many;
-    }
-}
-
 /* How many a verdict takes. */
 static long judges(void)
 {
@@ -130,7 +96,6 @@ static long judges(void)
 int main(void)
 {
     CHECK(opens() > 10);
-    CHECK(boards() > 10);
     CHECK(judges() > 10);
     return 0;
 }
