@@ -1,6 +1,6 @@
 -- What is known where a wait is not refused.
-use Rattle.std.specs.Prelude.{◌≡◌, ◌≤◌, ◌<◌, ◌+◌, ◌-◌, ◌&&◌, ◌||◌, ◌∷◌, [], ℕ, Bool, true, false, not, suc, zero, List, length}
-use Rattle.std.specs.Prelude.{Option, Some, None, if◌then◌else◌, is_some, nat_lt, option_map, slice_index_or, IsTrue}
+use Rattle.std.specs.Prelude.{◌≡◌, ◌≤◌, ◌<◌, ◌+◌, ◌&&◌, ◌||◌, ◌∷◌, [], ℕ, Bool, true, false, not, List, length}
+use Rattle.std.specs.Prelude.{Option, Some, None, if◌then◌else◌, nat_lt, slice_index_or, IsTrue}
 use Rattle.std.proofs.Common.{refl, sym, ap, ap₂, ◌∙◌, subst, arith, true≢false}
 use Rattle.std.proofs.lemmas.Bool.{and_parts, leb-true, lt-ltb, ltb-true}
 use Rattle.std.proofs.lemmas.List.Quantifiers.{position-Some}
@@ -21,7 +21,7 @@ use Rattle.cmwq_state.specs.Tails.{Tailed}
 use Rattle.cmwq_model.specs.declared.entry.Entry.{Entry}
 use Rattle.cmwq_model.specs.declared.record.Ticket.{Ticket}
 use Rattle.cmwq_model.specs.declared.reply.Reply.{Reply}
-use Rattle.cmwq_board.specs.Waits.{begin_fault, caller_at, early_fault, fault_or, first_free, has_its_run, has_room_for}
+use Rattle.cmwq_board.specs.Waits.{begin_fault, caller_at, early_fault, fault_or, first_free, has_room_for}
 use Rattle.cmwq_board.specs.Waits.{is_free, is_there, lending_by, lent_fault, room_fault, sleeps_first, stuck_now}
 use Rattle.cmwq_board.specs.Waits.{with_firing}
 use Rattle.cmwq_board.specs.declared.fault.BoardFault.{BoardFault}

@@ -1,8 +1,7 @@
 -- Where nobody left a wait, there is nothing to clear.
-use Rattle.std.specs.Prelude.{◌≡◌, ◌≤◌, ◌<◌, ◌+◌, ◌||◌, ◌∷◌, [], ℕ, Bool, true, false, zero, suc, List, None, length}
-use Rattle.std.specs.Prelude.{slice_index_or}
+use Rattle.std.specs.Prelude.{◌≡◌, ◌≤◌, ◌<◌, ℕ, false, zero, suc, None, length}
 use Rattle.std.specs.List.{list_any}
-use Rattle.std.proofs.Common.{add-one, ap, arith, refl, subst, sym, true≢false}
+use Rattle.std.proofs.Common.{add-one, arith, refl, subst, sym, true≢false}
 use Rattle.std.proofs.lemmas.List.Folds.{list_any_at}
 use Rattle.std.proofs.lemmas.Bool.{both_ways, false_from_ne_true}
 use Rattle.cmwq_dispatch.specs.declared.wakes.Wakes.{Wakes}

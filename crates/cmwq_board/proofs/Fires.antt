@@ -1,22 +1,19 @@
 -- A caller that fires, time after time.
-use Rattle.std.specs.Prelude.{◌≡◌, ◌≤◌, ◌<◌, ◌+◌, ◌&&◌, ◌||◌, ◌==◌, ◌++◌, ◌∷◌, [], ℕ, Bool, true, false, not, suc, zero, nat_lt}
-use Rattle.std.specs.Prelude.{length, List, None, Some, Option}
+use Rattle.std.specs.Prelude.{◌≡◌, ◌+◌, ◌&&◌, ◌||◌, ◌==◌, ◌∷◌, [], ℕ, Bool, true, false, not, suc, zero, nat_lt}
+use Rattle.std.specs.Prelude.{length, None, Some, Option}
 use Rattle.std.proofs.lemmas.Bool.Decides.{nat_tests}
 use Rattle.std.proofs.Common.{refl, sym, ap, ◌∙◌, subst, arith, add-one, length-append, true≢false}
 use Rattle.cmwq_core.specs.History.{History, next_entry, past_in, with_entry}
-use Rattle.cmwq_dispatch.specs.Asleep.{Asleep, SleepOn}
+use Rattle.cmwq_dispatch.specs.Asleep.{SleepOn}
 use Rattle.cmwq_dispatch.specs.Dispatched.{Dispatched, MayEnter, is_over, past_now}
 use Rattle.cmwq_dispatch.specs.declared.wakes.Wakes.{Wakes}
 use Rattle.cmwq_dispatch.proofs.Steady.{newest}
-use Rattle.cmwq_model.specs.Prelude.{IsLegal, Layout, first_due, fired_answer, ends, gives_ticket, ticket_in}
-use Rattle.cmwq_model.specs.declared.call.Call.{Call}
+use Rattle.cmwq_model.specs.Prelude.{IsLegal, Layout, first_due, fired_answer, gives_ticket, ticket_in}
 use Rattle.cmwq_model.specs.declared.call.Call.TheVariants as call
 use Rattle.cmwq_model.specs.declared.entry.Entry.{Entry}
 use Rattle.cmwq_model.specs.declared.id.CallerId.{CallerId}
-use Rattle.cmwq_model.specs.declared.id.Who.{Who}
 use Rattle.cmwq_model.specs.declared.id.Who.TheVariants.{Caller}
 use Rattle.cmwq_model.specs.declared.record.Booking.{Booking}
-use Rattle.cmwq_model.specs.declared.record.Ticket.{Ticket}
 use Rattle.cmwq_state.specs.Tails.{Tailed}
 use Rattle.cmwq_board.specs.Lent.{tickets_held}
 use Rattle.cmwq_board.specs.Steps.{Stays, after_call, after_fires, may_fire}

@@ -1,13 +1,13 @@
 -- The worker that runs an item, and when timers fire.
-use Rattle.std.specs.Prelude.{◌≡◌, ◌≢◌, ◌==◌, ◌≤◌, ◌<◌, ◌+◌, ℕ, Bool, true, false, List, Option, Some, None}
-use Rattle.std.specs.Prelude.{◌⊎◌, if◌then◌else◌, nat_le, option_and_then, suc}
+use Rattle.std.specs.Prelude.{◌≡◌, ◌≢◌, ◌==◌, ◌<◌, ◌+◌, ℕ, Bool, true, false, List, Option, Some, None}
+use Rattle.std.specs.Prelude.{◌⊎◌, if◌then◌else◌, nat_le, option_and_then}
 use Rattle.std.proofs.Common.{⊎_elim, inl, inr}
-use Rattle.std.proofs.Common.{refl, sym, ap, ◌∙◌, subst, arith, true≢false}
+use Rattle.std.proofs.Common.{refl, sym, ap, ◌∙◌, arith}
 use Rattle.std.proofs.lemmas.Bool.{both_ways, eq-eqb, eqb-true, leb-false, leb-true}
 use Rattle.std.proofs.lemmas.Option.{same_Some}
-use Rattle.cmwq_lemmas.proofs.Members.{In, filter_in, found}
+use Rattle.cmwq_lemmas.proofs.Members.{filter_in, found}
 use Rattle.cmwq_model.specs.Prelude.{IsLegal, Layout, has_number, is_at, is_live, item_at, item_run, pool_at, queueing_at}
-use Rattle.cmwq_model.specs.Prelude.{run as run_in, still_open}
+use Rattle.cmwq_model.specs.Prelude.{run as run_in}
 unfoldable use Rattle.cmwq_model.specs.Prelude.{queueings}
 use Rattle.cmwq_model.specs.declared.entry.Entry.{Entry}
 use Rattle.cmwq_model.specs.declared.id.WorkerId.{WorkerId}

@@ -9,7 +9,7 @@ use Rattle.cmwq_model.specs.Tickets.{tickets}
 use Rattle.std.proofs.lemmas.Bool.{eq-eqb, eqb-true}
 use Rattle.std.proofs.lemmas.Option.{same_Some}
 use Rattle.std.specs.Prelude.{find}
-use Rattle.cmwq_core.specs.History.{is_done_waiting, next_entry}
+use Rattle.cmwq_core.specs.History.{is_done_waiting}
 use Rattle.cmwq_core.specs.Plans.{IsPlan}
 use Rattle.cmwq_core.specs.declared.plan.Plan.{Plan}
 use Rattle.cmwq_model.specs.Prelude.{end_of_ticket, is_done, ticket_of, waiting_for, waits_for}
@@ -17,7 +17,7 @@ unfoldable use Rattle.cmwq_model.specs.Prelude.{answer}
 use Rattle.cmwq_model.specs.declared.call.Call.TheVariants as call
 use Rattle.cmwq_model.specs.declared.id.Who.TheVariants.{Caller}
 use Rattle.cmwq_core.specs.History.{History, past_in}
-use Rattle.std.proofs.Common.{◌==◌, true≢false, refl, sym, ap, ◌∙◌, subst, arith, inl, get_or, length-set}
+use Rattle.std.proofs.Common.{◌==◌, true≢false, refl, sym, ap, ◌∙◌, subst, arith, inl, length-set}
 use Rattle.std.proofs.lemmas.Bool.Decides.{nat_tests}
 use Rattle.std.proofs.lemmas.List.{get_or-set_other, get_or-set_same}
 use Rattle.std.proofs.lemmas.List.Folds.{list_any_at}
@@ -32,7 +32,7 @@ use Rattle.cmwq_model.specs.declared.id.CallerId.{CallerId}
 use Rattle.std.specs.Prelude.{nat_le}
 use Rattle.std.proofs.lemmas.Bool.{and_parts, leb-true, ltb-true}
 use Rattle.cmwq_board.specs.Lent.{AreLent, drains, first_lent, is_drain, is_left, tickets_held, tickets_of}
-use Rattle.cmwq_board.specs.Steps.{Stays, may_fire}
+use Rattle.cmwq_board.specs.Steps.{may_fire}
 use Rattle.cmwq_board.specs.Waits.{firing_for, ticket_at}
 use Rattle.cmwq_board.specs.declared.lending.Lending.{Lending}
 use Rattle.cmwq_board.specs.declared.lending.Lending.TheVariants.{Free, Waits, Left}

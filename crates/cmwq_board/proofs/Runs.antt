@@ -1,5 +1,5 @@
 -- What a worker starts and finishes.
-use Rattle.std.specs.Prelude.{◌≡◌, ℕ, Bool, true, false, Option, Some, None, if◌then◌else◌, is_some}
+use Rattle.std.specs.Prelude.{◌≡◌, ℕ, Bool, true, Option, Some, if◌then◌else◌, is_some}
 use Rattle.std.proofs.Common.{ap, sym, ◌∙◌}
 use Rattle.cmwq_core.specs.History.{History, next_entry, past_in}
 use Rattle.cmwq_core.specs.Plans.{IsPlan}

@@ -1,5 +1,4 @@
 -- Who sleeps on over several steps.
-use Rattle.std.specs.Prelude.{◌≡◌, ◌⊎◌, true}
 use Rattle.std.proofs.Common.{⊎_elim, inl, inr}
 use Rattle.cmwq_dispatch.specs.Asleep.{Asleep, SleepOn}
 use Rattle.cmwq_dispatch.specs.declared.wakes.Wakes.{Wakes}

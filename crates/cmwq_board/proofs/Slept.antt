@@ -1,13 +1,13 @@
 -- A run falls asleep: that takes two entries, and the call of a wait needs as much room after it as before.
-use Rattle.cmwq_theory_steps.specs.Common.{◌≡◌, ◌≤◌, ◌+◌, ◌*◌, ◌&&◌, ◌||◌, ◌==◌, ◌∷◌, ◌++◌, [], ℕ, Bool, true, false, not, suc}
+use Rattle.cmwq_theory_steps.specs.Common.{◌≡◌, ◌≤◌, ◌+◌, ◌&&◌, ◌||◌, ◌==◌, ◌∷◌, ◌++◌, ℕ, Bool, true, false, not, suc}
 use Rattle.cmwq_theory_steps.specs.Common.{List, Option, Some, None, length, filter, find, option_to_list, option_and_then, refl}
 use Rattle.cmwq_theory_steps.specs.Common.{option_map, option_map_or, option_or, is_some, sym, ap, ap₂, ◌∙◌, subst, arith}
 use Rattle.cmwq_theory_steps.specs.Common.{append-nil, if◌then◌else◌, count_by, list_any, nat_le, Entry, Layout, Reply, Call}
-use Rattle.cmwq_theory_steps.specs.Common.{Queueing, Ticket, Booking, CallerId, WorkerId, Who, Caller, Worker, IsLegal, All_each}
+use Rattle.cmwq_theory_steps.specs.Common.{Queueing, Booking, CallerId, WorkerId, Who, Caller, Worker, IsLegal, All_each}
 use Rattle.cmwq_theory_steps.specs.Common.{answer, booking, booked_by, booking_of, bookings, destroy_answer, fits, flush_delayed_answer}
 use Rattle.cmwq_theory_steps.specs.Common.{cancel_sync_answer, flush_item_answer, wait_answer, is_gone, standing_bookings}
-use Rattle.cmwq_theory_steps.specs.Common.{due_in, finishes, gives_ticket, has_not_started, is_at, is_being_destroyed}
-use Rattle.cmwq_theory_steps.specs.Common.{is_booked, is_booked_on, is_crowded, is_done, is_held_back, is_item_open, is_of}
+use Rattle.cmwq_theory_steps.specs.Common.{due_in, gives_ticket, has_not_started, is_at, is_being_destroyed}
+use Rattle.cmwq_theory_steps.specs.Common.{is_booked, is_booked_on, is_crowded, is_done, is_held_back, is_item_open}
 use Rattle.cmwq_theory_steps.specs.Common.{is_of_item, is_started, is_unstarted, item_called, item_fired, item_of}
 use Rattle.cmwq_theory_steps.specs.Common.{number_booked, number_cancelled, number_finished, number_started, opening, opens}
 use Rattle.cmwq_theory_steps.specs.Common.{owed, place_called, place_wanted, queued_at, replaces, room_needed, runs_awake}
@@ -19,12 +19,10 @@ use Rattle.std.specs.Cmp.Derive.{both_true}
 use Rattle.std.specs.Prelude.{IsTrue}
 use Rattle.cmwq_lemmas.proofs.Filters.{filter_same, find_same}
 use Rattle.cmwq_lemmas.proofs.Lists.{filter_all}
-use Rattle.cmwq_lemmas.proofs.Truth.{or_true}
-use Rattle.cmwq_model.specs.Prelude.{entry_for, is_drain_of, is_destroy_of, is_held_by, most_tickets, has_time}
+use Rattle.cmwq_model.specs.Prelude.{entry_for, is_held_by, most_tickets, has_time}
 use Rattle.cmwq_model.specs.declared.call.Call.TheVariants as call
 use Rattle.cmwq_model.specs.declared.reply.Reply.TheVariants as reply
 use Rattle.cmwq_theory_steps.specs.Endings.{ending, is_ended, survives}
-use Rattle.cmwq_theory_steps.specs.Histories.{one}
 use Rattle.cmwq_theory_steps.specs.RoomSteps.{ends_unstarted, is_frozen_now, is_slept, is_thawed_now, is_woke}
 use Rattle.cmwq_theory_steps.specs.RoomSteps.{room_paid, settles_booked, taken_on}
 use Rattle.cmwq_theory_steps.proofs.OwedFrozen.{frozen_counted}
@@ -41,7 +39,6 @@ use Rattle.cmwq_dispatch.proofs.Steady.{newest}
 use Rattle.cmwq_dispatch.specs.Dispatched.{Dispatched, past_now}
 use Rattle.cmwq_dispatch.specs.declared.wakes.Wakes.{Wakes}
 use Rattle.cmwq_board.specs.Asked.{is_wait}
-use Rattle.cmwq_board.specs.Steps.{Enters}
 use Rattle.cmwq_board.specs.Waits.{MayEnterOf, more_made, sleeps_first}
 
 -- ---- a sleep owes one entry, which is the wake

@@ -1,7 +1,7 @@
 -- The tickets of the callers that are lent, after one more entry.
-use Rattle.std.specs.Prelude.{if◌then◌else◌, slice_index_or, nat_lt}
-use Rattle.cmwq_theory_steps.specs.Common.{◌≡◌, ◌<◌, ◌≤◌, ◌+◌, ◌-◌, ◌==◌, ◌&&◌, ◌∷◌, ◌++◌, [], ℕ, Bool, true, false, not, List}
-use Rattle.cmwq_theory_steps.specs.Common.{Option, Some, None, length, filter, option_to_list, refl, sym, ap, ap₂, ◌∙◌, subst}
+use Rattle.std.specs.Prelude.{if◌then◌else◌}
+use Rattle.cmwq_theory_steps.specs.Common.{◌≡◌, ◌≤◌, ◌+◌, ◌==◌, ◌&&◌, ◌∷◌, ◌++◌, [], ℕ, Bool, true, false, not, List}
+use Rattle.cmwq_theory_steps.specs.Common.{Some, None, length, filter, option_to_list, refl, sym, ap, ap₂, ◌∙◌, subst}
 use Rattle.cmwq_theory_steps.specs.Common.{arith, nat_tests, filter-append, append-nil, Entry, Layout, Ticket, Who, IsLegal}
 use Rattle.cmwq_theory_steps.specs.Common.{Call, Caller, Worker, cond, ends, eq-eqb, gives_ticket, is_done, is_end_of}
 use Rattle.cmwq_theory_steps.specs.Common.{is_held_by, same_who, ticket_for, ticket_in, unended_tickets}
@@ -11,9 +11,7 @@ use Rattle.cmwq_theory_steps.proofs.TicketSteps.{is_done_reply, unended_go_on}
 use Rattle.cmwq_core.specs.Plans.{IsPlan}
 use Rattle.cmwq_core.specs.declared.plan.Plan.{Plan}
 use Rattle.cmwq_model.specs.declared.call.Call.TheVariants as call
-use Rattle.cmwq_core.specs.History.{History, next_entry, past_in, with_entry}
-use Rattle.cmwq_dispatch.proofs.Steady.{newest}
-use Rattle.cmwq_dispatch.specs.Asleep.{Asleep}
+use Rattle.cmwq_core.specs.History.{History, next_entry, past_in}
 use Rattle.cmwq_model.specs.declared.id.CallerId.{CallerId}
 use Rattle.std.proofs.lemmas.List.{length-reverse}
 use Rattle.cmwq_dispatch.specs.Dispatched.{Dispatched, past_now}
@@ -21,7 +19,7 @@ use Rattle.cmwq_board.specs.Boarded.{IsBoard, board_of, most_made}
 use Rattle.cmwq_dispatch.specs.Asleep.{SleepOn}
 use Rattle.cmwq_dispatch.specs.declared.wakes.Wakes.{Wakes}
 use Rattle.cmwq_state.specs.Tails.{Tailed}
-use Rattle.cmwq_board.specs.Lent.{AreLent, OthersTickets, first_lent, is_before, is_of_number, tickets_held, tickets_of}
+use Rattle.cmwq_board.specs.Lent.{AreLent, OthersTickets, first_lent, is_before, is_of_number, tickets_held}
 use Rattle.cmwq_board.specs.Steps.{Makes, Stays, after_call}
 use Rattle.cmwq_board.specs.declared.lending.Lending.{Lending}
 

@@ -1,11 +1,10 @@
 -- What contracts see of a board.
-use Rattle.std.specs.Prelude.{◌≡◌, ◌≤◌, ◌+◌, ◌-◌, ◌&&◌, if◌then◌else◌, ℕ, Bool, true, false, not, List, [], length}
+use Rattle.std.specs.Prelude.{◌≡◌, ◌≤◌, ◌+◌, ◌-◌, ◌&&◌, if◌then◌else◌, ℕ, Bool, true, List, length}
 use Rattle.std.specs.Prelude.{nat_le, nat_lt, max, replicate, drop, Option, Some, None}
 use Rattle.std.specs.List.{list_any}
 use Rattle.cmwq_model.specs.Prelude.{Layout}
 use Rattle.cmwq_model.specs.declared.entry.Entry.{Entry}
 use Rattle.cmwq_model.specs.declared.id.Who.{Who}
-use Rattle.cmwq_model.specs.declared.id.Who.TheVariants.{Caller, Worker}
 use Rattle.cmwq_dispatch.specs.Asleep.{Asleep}
 use Rattle.cmwq_dispatch.specs.Dispatched.{Dispatched, is_new, past_now}
 use Rattle.cmwq_board.specs.Lent.{AreLent, drains, first_lent, is_before}

@@ -1,12 +1,11 @@
 -- What the calls of a board make of it, and why they make nothing.
-use Rattle.std.specs.Prelude.{◌≡◌, ◌⊎◌, ◌≤◌, ◌<◌, ◌+◌, ◌-◌, ◌&&◌, ◌||◌, ◌∷◌, ◌==◌, ℕ, Bool, true, false, not, zero, suc}
-use Rattle.std.specs.Prelude.{Option, Some, None, if◌then◌else◌, nat_lt, is_some, List, length, IfSome, slice_index_or}
+use Rattle.std.specs.Prelude.{◌≡◌, ◌⊎◌, ◌≤◌, ◌&&◌, ◌||◌, ℕ, Bool, true, false, not, zero, suc}
+use Rattle.std.specs.Prelude.{Option, Some, None, if◌then◌else◌, nat_lt}
 use Rattle.cmwq_core.specs.History.{IsItemOf, next_entry, takes, with_entry}
-use Rattle.cmwq_dispatch.specs.Asleep.{Asleep, Rests, SleepOn}
+use Rattle.cmwq_dispatch.specs.Asleep.{Rests, SleepOn}
 use Rattle.cmwq_dispatch.specs.Dispatched.{Dispatched, is_over, past_now}
 use Rattle.cmwq_dispatch.specs.declared.wakes.Wakes.{Wakes}
-use Rattle.cmwq_model.specs.Prelude.{Layout, fits, has_run, number_started, runs_awake, first_due, number_finished}
-use Rattle.cmwq_model.specs.Prelude.{is_retired}
+use Rattle.cmwq_model.specs.Prelude.{Layout, fits, has_run, number_started, runs_awake, number_finished}
 use Rattle.cmwq_model.specs.declared.call.Call.{Call}
 use Rattle.cmwq_model.specs.declared.call.Call.TheVariants as call
 use Rattle.cmwq_model.specs.declared.reply.Reply.{Reply}

@@ -1,15 +1,14 @@
 -- Waits, by callers that are lent to them.
-use Rattle.std.specs.Prelude.{◌≡◌, ◌⊎◌, ◌<◌, ◌≤◌, ◌+◌, ◌&&◌, ◌||◌, ◌∷◌, ◌++◌, ℕ, Bool, true, false, not, zero, suc, [], List}
-use Rattle.std.specs.Prelude.{Option, Some, None, if◌then◌else◌, is_some, length, option_map, option_and_then}
+use Rattle.std.specs.Prelude.{◌≡◌, ◌+◌, ◌&&◌, ◌||◌, ℕ, Bool, true, false, not, List}
+use Rattle.std.specs.Prelude.{Option, Some, None, if◌then◌else◌, is_some, length}
 use Rattle.std.specs.Prelude.{slice_index_or, slice_set}
 use Rattle.std.specs.List.{list_any, position}
 use Rattle.std.specs.Option.{option_map_or}
 use Rattle.cmwq_core.specs.History.{is_done_waiting, next_entry, takes, takes_with}
-use Rattle.cmwq_dispatch.specs.Asleep.{Asleep, IsUpAgain, SleepOn}
+use Rattle.cmwq_dispatch.specs.Asleep.{IsUpAgain, SleepOn}
 use Rattle.cmwq_dispatch.specs.Asleep.{Waits as SleepsFor}
-use Rattle.cmwq_dispatch.specs.Dispatched.{Dispatched, FallsAsleep, is_end, is_over, past_now}
+use Rattle.cmwq_dispatch.specs.Dispatched.{Dispatched, FallsAsleep, is_over, past_now}
 use Rattle.cmwq_dispatch.specs.declared.dispatch.Sleep.{Sleep}
-use Rattle.cmwq_dispatch.specs.declared.dispatch.Sleep.TheVariants as sleep
 use Rattle.cmwq_dispatch.specs.declared.wakes.Wakes.{Wakes}
 use Rattle.cmwq_model.specs.Prelude.{Layout, gives_ticket, has_numbers, has_run, is_done, runs_asleep, runs_awake}
 use Rattle.cmwq_model.specs.declared.call.Call.{Call}
@@ -21,13 +20,12 @@ use Rattle.cmwq_model.specs.declared.id.WorkerId.{WorkerId}
 use Rattle.cmwq_model.specs.declared.record.Ticket.{Ticket}
 use Rattle.cmwq_model.specs.declared.reply.Reply.{Reply}
 use Rattle.cmwq_waits.specs.Registered.{refusal_of, registered, wait_of}
-use Rattle.cmwq_waits.specs.declared.run_wait.RunWait.{RunWait}
 use Rattle.cmwq_waits.specs.declared.waits.Stuck.{Stuck}
 use Rattle.cmwq_board.specs.Asked.{is_wait}
 use Rattle.cmwq_board.specs.Boarded.{Boarded, first_place, has_space, layout_of, most_made, past_of_board, with_asleep}
 use Rattle.cmwq_board.specs.Faults.{fault_of_stuck}
 use Rattle.cmwq_board.specs.Lent.{drains, first_lent, is_drain}
-use Rattle.cmwq_board.specs.Steps.{Enters, FiresDue, has_worker, reply_now, with_dispatch}
+use Rattle.cmwq_board.specs.Steps.{Enters, FiresDue, has_worker, with_dispatch}
 use Rattle.cmwq_board.specs.declared.board.Begun.{Begun}
 use Rattle.cmwq_board.specs.declared.board.Begun.TheVariants as begun
 use Rattle.cmwq_board.specs.declared.board.Ended.{Ended}

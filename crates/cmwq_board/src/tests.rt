@@ -470,7 +470,6 @@ fn a_call_that_waits_for_nothing_wakes_its_run(rt: HostRuntime) {
         Reply::Woke,
         Reply::Idle,
         Reply::Finished(0),
-        Reply::Retired,
     ];
     replies(&rt, &mut board, &wanted);
     board.close();

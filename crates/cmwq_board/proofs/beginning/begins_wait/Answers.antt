@@ -1,13 +1,12 @@
-use Rattle.std.specs.Prelude.{◌≡◌, ◌<◌, ◌∷◌, [], IsTrue, true}
-use Rattle.std.proofs.Common.{ap, ◌∙◌, refl, sym, subst}
+use Rattle.std.specs.Prelude.{IsTrue}
+use Rattle.std.proofs.Common.{◌∙◌, sym, subst}
 use Rattle.std.proofs.lemmas.Bool.{and_parts}
 use Rattle.cmwq_core.specs.History.{takes_with}
-use Rattle.cmwq_dispatch.specs.Dispatched.{past_now}
 use Rattle.cmwq_model.specs.Prelude.{Layout, fits}
 use Rattle.cmwq_model.specs.declared.call.Call.TheVariants as call
 use Rattle.cmwq_model.specs.declared.id.Who.TheVariants.{Caller}
 use Rattle.cmwq_board.specs.Waits.{MayEnterOf, may_sleep, more_made}
-use Rattle.cmwq_board.proofs.Begins.{caller_fits_there, fires_stay, given_held}
+use Rattle.cmwq_board.proofs.Begins.{fires_stay}
 use Rattle.cmwq_board.proofs.Fires.{firing_lives}
 use Rattle.cmwq_board.proofs.Slept.{takes_after}
 use Rattle.cmwq_board.proofs.beginning.begins_wait.Goals as goal

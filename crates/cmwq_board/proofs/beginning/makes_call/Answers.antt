@@ -1,8 +1,7 @@
-use Rattle.std.specs.Prelude.{◌≡◌, ◌∷◌, [], if◌then◌else◌, length}
-use Rattle.std.proofs.Common.{ap, ◌∙◌, sym, subst, true≢false}
+use Rattle.std.specs.Prelude.{◌∷◌, [], if◌then◌else◌, length}
+use Rattle.std.proofs.Common.{ap, ◌∙◌, sym, subst}
 use Rattle.std.proofs.lemmas.Bool.{both_ways, ne_eqb}
 use Rattle.cmwq_core.specs.History.{next_entry, past_in}
-use Rattle.cmwq_dispatch.specs.Dispatched.{past_now}
 use Rattle.cmwq_model.specs.Prelude.{IsLegal, Layout, gives_ticket}
 use Rattle.cmwq_model.specs.declared.id.Who.TheVariants.{Caller}
 use Rattle.cmwq_model.specs.declared.reply.Reply.{Reply}

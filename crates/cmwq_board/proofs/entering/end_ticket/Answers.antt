@@ -1,4 +1,3 @@
-use Rattle.std.specs.Prelude.{◌≡◌, false}
 use Rattle.std.proofs.Common.{ap, ◌∙◌, sym}
 use Rattle.std.proofs.lemmas.Bool.{ne_eqb}
 use Rattle.cmwq_model.specs.declared.entry.Entry.{Entry}

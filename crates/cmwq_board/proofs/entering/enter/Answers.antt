@@ -1,9 +1,8 @@
-use Rattle.std.specs.Prelude.{◌≡◌, ◌∷◌, IfOk, false}
+use Rattle.std.specs.Prelude.{◌∷◌, IfOk}
 use Rattle.std.proofs.Common.{ap, ◌∙◌, subst}
 use Rattle.cmwq_core.specs.Plans.{IsPlan}
 use Rattle.cmwq_dispatch.specs.Dispatched.{past_now}
 use Rattle.cmwq_model.specs.declared.entry.Entry.{Entry}
-use Rattle.cmwq_model.specs.declared.id.Who.{Who}
 use Rattle.cmwq_board.specs.Lent.{is_of_number}
 use Rattle.cmwq_board.specs.Steps.{after_entry}
 use Rattle.cmwq_board.proofs.entering.enter.Goals as goal

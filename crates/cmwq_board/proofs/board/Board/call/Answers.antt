@@ -1,6 +1,5 @@
-use Rattle.std.specs.Prelude.{◌≡◌, Some}
-use Rattle.std.proofs.Common.{ap, ◌∙◌, refl, sym, subst}
-use Rattle.cmwq_dispatch.specs.Dispatched.{past_now}
+use Rattle.std.specs.Prelude.{◌≡◌}
+use Rattle.std.proofs.Common.{ap, ◌∙◌, sym, subst}
 use Rattle.cmwq_model.specs.declared.entry.Entry.{Entry}
 use Rattle.cmwq_state.specs.Tails.{Tailed}
 use Rattle.cmwq_board.specs.Boarded.{Boarded, board_of, is_own}

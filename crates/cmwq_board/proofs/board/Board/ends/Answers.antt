@@ -1,4 +1,4 @@
-use Rattle.std.specs.Prelude.{◌≡◌, ◌≢◌, ◌<◌, ◌+◌, ◌∷◌, ℕ, List, Some, length, slice_index_or, true}
+use Rattle.std.specs.Prelude.{◌≡◌, ◌<◌, ◌+◌, List, Some, length, slice_index_or, true}
 use Rattle.std.proofs.Common.{ap, ◌∙◌, refl, sym, subst}
 use Rattle.std.specs.List.{list_any}
 use Rattle.cmwq_core.specs.History.{History}

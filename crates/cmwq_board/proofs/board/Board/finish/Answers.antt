@@ -1,6 +1,4 @@
-use Rattle.std.specs.Prelude.{◌≡◌, Some}
-use Rattle.std.proofs.Common.{ap, ◌∙◌, refl, sym, subst}
-use Rattle.cmwq_dispatch.specs.Dispatched.{past_now}
+use Rattle.std.proofs.Common.{ap, refl, subst}
 use Rattle.cmwq_model.specs.declared.entry.Entry.{Entry}
 use Rattle.cmwq_model.specs.declared.id.Who.TheVariants.{Worker}
 use Rattle.cmwq_state.specs.Tails.{Tailed}

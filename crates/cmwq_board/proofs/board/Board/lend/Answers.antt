@@ -1,4 +1,4 @@
-use Rattle.std.specs.Prelude.{◌≡◌, ◌≢◌, ◌<◌, ◌+◌, ℕ, List, Some, length, slice_index_or, true, if◌then◌else◌}
+use Rattle.std.specs.Prelude.{◌≡◌, ◌+◌, if◌then◌else◌}
 use Rattle.std.specs.List.{list_any}
 use Rattle.std.proofs.Common.{ap, ap₂, ◌∙◌, sym, subst}
 use Rattle.std.specs.Prelude.{slice_set}
@@ -11,7 +11,6 @@ use Rattle.cmwq_board.specs.Boarded.{Boarded}
 use Rattle.cmwq_board.specs.Lent.{drains, first_lent, is_left, tickets_held}
 use Rattle.cmwq_board.specs.Waits.{BeginsWait, Settles, begun_by, caller_at, firing_for, lending_by, sleeps_first}
 use Rattle.cmwq_board.specs.Waits.{with_firing}
-use Rattle.cmwq_board.specs.declared.lending.Lending.{Lending}
 use Rattle.cmwq_board.proofs.Begins.{firing_sleeps, first_is_free, lending_not_left, may_lend, no_begin_fault}
 use Rattle.cmwq_board.proofs.Places.{any_less, board_set}
 use Rattle.cmwq_board.proofs.board.Board.lend.Goals as goal

@@ -1,11 +1,10 @@
-use Rattle.std.specs.Prelude.{◌≡◌, ◌≤◌, List, max, min, replicate}
+use Rattle.std.specs.Prelude.{◌≤◌, List, max, min}
 use Rattle.std.proofs.Common.{ap, arith, sym, subst}
 use Rattle.cmwq_dispatch.specs.Dispatched.{Dispatched, is_new}
 use Rattle.cmwq_model.specs.declared.entry.Entry.{Entry}
 use Rattle.cmwq_state.specs.Tails.{Tailed}
 use Rattle.cmwq_board.specs.Boarded.{IsBoard, most_made}
 use Rattle.cmwq_board.specs.declared.lending.Lending.{Lending}
-use Rattle.cmwq_board.specs.declared.lending.Lending.TheVariants.{Free}
 use Rattle.cmwq_board.proofs.Places.{free_none_drains, free_none_left, new_board}
 use Rattle.cmwq_board.proofs.board.Board.new.Goals as goal
 

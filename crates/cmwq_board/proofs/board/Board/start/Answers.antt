@@ -1,7 +1,7 @@
 use Rattle.std.specs.Prelude.{◌≡◌}
-use Rattle.std.proofs.Common.{ap, ◌∙◌, refl, sym, subst}
+use Rattle.std.proofs.Common.{ap, ◌∙◌, refl, subst}
 use Rattle.cmwq_dispatch.specs.Asleep.{SleepOn}
-use Rattle.cmwq_dispatch.specs.Dispatched.{Dispatched, past_now}
+use Rattle.cmwq_dispatch.specs.Dispatched.{past_now}
 use Rattle.cmwq_model.specs.declared.call.Call.TheVariants as call
 use Rattle.cmwq_model.specs.declared.entry.Entry.{Entry}
 use Rattle.cmwq_model.specs.declared.id.Who.{Who}
