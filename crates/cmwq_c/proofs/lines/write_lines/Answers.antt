@@ -1,3 +1,4 @@
+-- One more line is written.
 use Rattle.std.proofs.Common.{◌≡◌, ◌+◌, ◌-◌, ap, arith, length, length-drop, length-take, ◌∙◌, drop}
 use borrow.Rule.Slice.PartMut.{put_mid, same_len_mid}
 use Rattle.cmwq_c.proofs.Growing.{line_more}

@@ -1,3 +1,4 @@
+-- Those that were looked at are told.
 use Rattle.cmwq_c.specs.Wakes.{caller_number, nobody_number}
 use Rattle.cmwq_c.proofs.Filled.{AreTold}
 use Rattle.cmwq_c.proofs.wakes.caller_numbers.Given as goal

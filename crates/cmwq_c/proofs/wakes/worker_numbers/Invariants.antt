@@ -1,3 +1,4 @@
+-- Those that were looked at are told.
 use Rattle.cmwq_c.specs.Wakes.{worker_numbers, nobody_numbers}
 use Rattle.cmwq_c.proofs.Filled.{AreTold}
 use Rattle.cmwq_c.proofs.wakes.worker_numbers.Given as goal

@@ -10,9 +10,10 @@ use Rattle.cmwq_c.proofs.board_session.BoardSession.call.Goals.{in-Ok, in-Err}
 pub returns-clause-calls : goal.returns-clause-calls
 returns-clause-calls c done =
     let after = c.call-called.new in
+    let before = c.self.view_is in
     let made = c.match-called in
     elim made.branch [
-      | in-Ok w ↦ subst₂ (λ o (b : Boarded). Calls o b after.self made.reply made.told) c.in-Some.ensures c.self.view_is (
+      | in-Ok w ↦ subst₂ (λ o (b : Boarded). Calls o b after.self made.reply made.told) c.in-Some.ensures before (
         record {
           before = c.new-wakes.result;
           after = after.wakes;

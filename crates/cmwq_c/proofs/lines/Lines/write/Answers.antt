@@ -1,3 +1,4 @@
+-- A line is written, or none is left.
 use Rattle.std.proofs.Common.{◌≡◌, List, arith, length, subst}
 use Rattle.cmwq_c.specs.BoardStatuses.{write_status}
 use Rattle.cmwq_c.specs.Common.{Entry}
