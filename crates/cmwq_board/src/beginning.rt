@@ -191,7 +191,7 @@ pub(crate) fn begins_wait(
     }
 }
 
-/// What a caller does whose call was answered so: it waits for its ticket, if it was given one.
+/// What a caller does whose call got this reply: it waits for its ticket, if it was given one.
 fn lending_by(run: Option<WorkerId>, slept: bool, ticket: Ticket, reply: Reply) -> Lending
     ensures { result ≡ lending_by run slept ticket reply }
 {

@@ -1,4 +1,4 @@
-//! A hub without threads: what its callers and workers are answered, who sleeps, and who is to be woken.
+//! A hub without threads: what its calls return, who sleeps, and who is to be woken.
 
 ghost use Rattle.std.specs.Prelude.{◌≡◌, ◌≤◌, IfOk, IfErr, OnErr, IsTrue, None, Some, [], false, is_ok, length, min};
 ghost use Rattle.std.specs.Prelude.{max, replicate, vec_capacity};

@@ -24,7 +24,7 @@ fn first_free(lent: &[Lending]) -> Option<usize>
     lent.iter().position(|lending| lending.is_free())
 }
 
-/// What a wait became whose call was answered so.
+/// What a wait became whose call got this reply.
 fn begun_by(caller: CallerId, reply: Reply) -> Begun
     ensures { result ≡ begun_by caller reply }
 {
@@ -95,7 +95,7 @@ impl Board {
         CallerId(self.first_lent() + place as u8)
     }
 
-    /// Whether what is said to wait is there: a caller, or the run of this worker.
+    /// Whether the worker has the run that is said to wait, if one is.
     fn has_its_run(&self, run: Option<WorkerId>) -> bool
         requires { is_there (layout_of self.now) run ≡ true }
         ensures { result ≡ has_its_run self.now run }
