@@ -281,6 +281,8 @@ static void test_timeouts(void)
     begun = cmwq_hub_now_(&hub);
     CHECK(cmwq_queue_work_on(&hub, 0, 0, 0) == 1 && cmwq_flush_work(&hub, 0, 30) == -CMWQ_TIMED_OUT);
     CHECK(cmwq_hub_now_(&hub) - begun >= 30000000);
+    while (cmwq_work_busy(&hub, 0) != 2)
+        usleep(100);
     CHECK(cmwq_cancel_work_sync(&hub, 0, 0) == -CMWQ_TIMED_OUT && cmwq_flush_work(&hub, 0, 0) == -CMWQ_NO_CALLER);
     __atomic_store_n(&gate_open, true, __ATOMIC_RELEASE);
     /* both tickets are ended by the hub then */

@@ -110,7 +110,9 @@ static void waits_with_timeouts()
         try { other.flush_for(5ms); } catch (const cmwq::failure &failure) { code = failure.code(); }
         if (again++ == 0) run.requeue_after(2ms);
     });
-    CHECK(item.queue() && !item.flush_for(10ms) && !a.flush_for(0ms) && !item.cancel_sync_for(1ms) && item.is_running() && !item.is_pending());
+    CHECK(item.queue());
+    while (!item.is_running()) std::this_thread::sleep_for(1ms);
+    CHECK(!item.flush_for(10ms) && !a.flush_for(0ms) && !item.cancel_sync_for(1ms) && item.is_running() && !item.is_pending());
     open = true;
     CHECK(a.flush_for(10s) && code == CMWQ_NO_TIMEOUT);
     CHECK(again == 1); // the cancel went on without its caller, and kept the run from booking its item
