@@ -1,417 +1,198 @@
-/* Each call of a board and of lines: on its happy path, refused, and on a closed handle. */
+/* Boards and lines: closed handles, handles closed twice, any numbers at all, too little space and too short buffers. At a fault nothing is written. */
 #include "check.h"
 
-/* One CPU with three workers a pool, two queues, four items; caller 0 is the shell's own, and 1 and 2 are lent. */
-static const struct cmwq_shape shape = {.room = 1000, .keep = 100, .items = 4, .cpus = 1, .workers = 3, .callers = 3};
-static const struct cmwq_queue queues[2] = {{.max_active = 2}, {.max_active = 2}};
+static struct cmwq_shape shape = {.room = 1 << 20, .keep = 0, .items = 3, .cpus = 2, .workers = 2, .callers = 4};
+static struct cmwq_queue queues[2] = {{.max_active = 2}, {.max_active = 1, .high = 1, .freezable = 1}};
 
-static const struct cmwq_who user = {CMWQ_CALLER, 0, 0};
+static struct cmwq_board board;
+static struct cmwq_lines lines;
 
-/* What a call that isn't done leaves as it was. */
-struct outputs {
-    struct cmwq_wakes wakes;
-    struct cmwq_reply reply;
-    struct cmwq_item state;
-    uint64_t number, now;
-    uint16_t item;
-    uint8_t party;
-};
+/* What the calls write, which is all 5 until one is done. */
+static struct { struct cmwq_reply reply; struct cmwq_wakes wakes; struct cmwq_item item; uint64_t number; uint16_t started; uint8_t party; } out, before;
 
-static struct outputs outputs, before;
-
-static bool nothing_is_written(void)
+static void reset(void)
 {
-    return memcmp(&outputs, &before, sizeof outputs) == 0;
+    memset(&out, 5, sizeof out);
+    before = out;
 }
 
-static void clear_outputs(void)
+static bool is_done(uint32_t status)
 {
-    memset(&outputs, 5, sizeof outputs);
-    before = outputs;
+    return status == CMWQ_OK || status == CMWQ_WAITS || status == CMWQ_RESTS || status == CMWQ_OVER || status == CMWQ_LOOK_AGAIN;
 }
 
-static struct cmwq_who worker(uint8_t index)
+/* The status is one of these (bits), and nothing was written at another than a done one. */
+static uint32_t wants(uint32_t status, uint64_t may)
 {
-    return (struct cmwq_who){CMWQ_WORKER, index, 0};
+    CHECK(status <= CMWQ_LOOK_AGAIN && may >> status & 1);
+    CHECK(is_done(status) || memcmp(&out, &before, sizeof out) == 0);
+    return status;
 }
 
-static struct cmwq_call call_of(struct cmwq_who who, uint8_t kind, uint16_t item, uint8_t queue)
+#define BIT(status) ((uint64_t)1 << (status))
+
+static const uint64_t call_faults = BIT(CMWQ_REFUSED) | BIT(CMWQ_FULL) | BIT(CMWQ_CROWDED) | BIT(CMWQ_STOPPED) | BIT(CMWQ_FAILED);
+
+static void closed(void)
 {
-    return (struct cmwq_call){.item = item, .kind = kind, .queue = queue, .who = who};
-}
-
-static uint32_t call(struct cmwq_board *board, struct cmwq_who who, uint8_t kind, uint16_t item, uint8_t queue)
-{
-    struct cmwq_call made = call_of(who, kind, item, queue);
-
-    clear_outputs();
-    return cmwq_board_call(board, &made, &outputs.reply, &outputs.wakes);
-}
-
-static uint32_t begin(struct cmwq_board *board, struct cmwq_who who, uint8_t kind, uint16_t item, uint8_t queue)
-{
-    struct cmwq_call made = call_of(who, kind, item, queue);
-
-    clear_outputs();
-    return cmwq_board_begin(board, &made, &outputs.party, &outputs.reply, &outputs.wakes);
-}
-
-static uint32_t start(struct cmwq_board *board, struct cmwq_who who)
-{
-    clear_outputs();
-    return cmwq_board_start(board, &who, &outputs.item, &outputs.number, &outputs.wakes);
-}
-
-static uint32_t finish(struct cmwq_board *board, struct cmwq_who who)
-{
-    clear_outputs();
-    return cmwq_board_finish(board, &who, &outputs.wakes);
-}
-
-static uint32_t end(struct cmwq_board *board, uint8_t party)
-{
-    clear_outputs();
-    return cmwq_board_end(board, party, &outputs.wakes);
-}
-
-static uint32_t leave(struct cmwq_board *board, uint8_t party)
-{
-    clear_outputs();
-    return cmwq_board_leave(board, party, &outputs.wakes);
-}
-
-static uint32_t advance(struct cmwq_board *board, uint8_t caller, uint32_t ticks)
-{
-    clear_outputs();
-    return cmwq_board_advance(board, caller, ticks, &outputs.now, &outputs.wakes);
-}
-
-static uint32_t look_at(struct cmwq_board *board, uint16_t item)
-{
-    clear_outputs();
-    return cmwq_board_item(board, item, &outputs.state);
-}
-
-static bool names_nobody(void)
-{
-    return outputs.wakes.workers[0].kind == CMWQ_NOBODY && outputs.wakes.callers[0] == CMWQ_NOBODY &&
-           !outputs.wakes.all_workers && !outputs.wakes.all_callers;
-}
-
-static bool names_worker(uint8_t index)
-{
-    struct cmwq_who first = outputs.wakes.workers[0];
-
-    return first.kind == CMWQ_WORKER && first.index == index && first.cpu == 0 &&
-           outputs.wakes.workers[1].kind == CMWQ_NOBODY;
-}
-
-static bool names_caller(uint8_t caller)
-{
-    return outputs.wakes.callers[0] == caller && outputs.wakes.callers[1] == CMWQ_NOBODY;
-}
-
-static void open_board(struct cmwq_board *board, uint32_t keep, uint8_t lent)
-{
-    struct cmwq_shape kept = shape;
-
-    kept.keep = keep;
-    CHECK(cmwq_board_open(board, &kept, queues, 2, lent) == CMWQ_OK);
-    CHECK(board->live && board->at);
-}
-
-/* All that the board keeps, with a buffer of this size, begins with these lines. */
-static void hands_out(struct cmwq_board *board, struct cmwq_lines *lines, size_t room, const char *wanted)
-{
-    char text[8192];
-    size_t len = 0, written;
-
-    CHECK(cmwq_board_hand_out(board, lines) == CMWQ_OK);
-    do {
-        CHECK(len + room <= sizeof text);
-        CHECK(cmwq_lines_write(lines, (uint8_t *)text + len, room, &written) == CMWQ_OK);
-        len += written;
-    } while (written);
-    CHECK(len == strlen(wanted) && memcmp(text, wanted, len) == 0);
-}
-
-static void closed_calls(struct cmwq_board *board)
-{
-    struct cmwq_lines lines = {0};
-    uint8_t out[CMWQ_LINE];
+    struct cmwq_call call = {.kind = CMWQ_QUEUE}, wait = {.kind = CMWQ_FLUSH};
+    struct cmwq_who worker = {CMWQ_WORKER, 0, 0};
+    uint8_t text[CMWQ_LINE];
     size_t written = 77;
 
-    CHECK(call(board, user, CMWQ_QUEUE, 0, 0) == CMWQ_CLOSED && nothing_is_written());
-    CHECK(start(board, worker(0)) == CMWQ_CLOSED && nothing_is_written());
-    CHECK(finish(board, worker(0)) == CMWQ_CLOSED && nothing_is_written());
-    CHECK(begin(board, user, CMWQ_FLUSH, 0, 0) == CMWQ_CLOSED && nothing_is_written());
-    CHECK(end(board, 1) == CMWQ_CLOSED && nothing_is_written());
-    CHECK(leave(board, 1) == CMWQ_CLOSED && nothing_is_written());
-    CHECK(advance(board, 0, 1) == CMWQ_CLOSED && nothing_is_written());
-    CHECK(look_at(board, 0) == CMWQ_CLOSED && nothing_is_written());
-    CHECK(cmwq_board_stop(board, &outputs.wakes) == CMWQ_CLOSED && nothing_is_written());
-    CHECK(cmwq_board_fail(board, &outputs.wakes) == CMWQ_CLOSED && nothing_is_written());
-    CHECK(cmwq_board_time(board) == 0 && cmwq_board_due(board) == UINT64_MAX);
-    CHECK(cmwq_board_is_over(board) && cmwq_board_len(board) == 0);
-    CHECK(cmwq_lines_open(&lines, board) == CMWQ_CLOSED && !lines.live);
-    CHECK(cmwq_board_hand_out(board, &lines) == CMWQ_CLOSED);
-    CHECK(cmwq_lines_write(&lines, out, sizeof out, &written) == CMWQ_CLOSED && written == 77);
-    CHECK(cmwq_lines_forget(&lines) == CMWQ_CLOSED);
+    reset();
+    wants(cmwq_board_call(&board, &call, &out.reply, &out.wakes), BIT(CMWQ_CLOSED));
+    wants(cmwq_board_start(&board, &worker, &out.started, &out.number, &out.wakes), BIT(CMWQ_CLOSED));
+    wants(cmwq_board_finish(&board, &worker, &out.wakes), BIT(CMWQ_CLOSED));
+    wants(cmwq_board_begin(&board, &wait, &out.party, &out.reply, &out.wakes), BIT(CMWQ_CLOSED));
+    wants(cmwq_board_end(&board, 1, &out.wakes), BIT(CMWQ_CLOSED));
+    wants(cmwq_board_leave(&board, 1, &out.wakes), BIT(CMWQ_CLOSED));
+    wants(cmwq_board_advance(&board, 0, 1, &out.number, &out.wakes), BIT(CMWQ_CLOSED));
+    wants(cmwq_board_item(&board, 0, &out.item), BIT(CMWQ_CLOSED));
+    wants(cmwq_board_stop(&board, &out.wakes), BIT(CMWQ_CLOSED));
+    wants(cmwq_board_fail(&board, &out.wakes), BIT(CMWQ_CLOSED));
+    CHECK(cmwq_board_time(&board) == 0 && cmwq_board_due(&board) == UINT64_MAX && cmwq_board_is_over(&board) && cmwq_board_len(&board) == 0);
+    CHECK(cmwq_board_hand_out(&board, &lines) == CMWQ_CLOSED && cmwq_lines_open(&lines, &board) == CMWQ_CLOSED);
+    CHECK(cmwq_lines_write(&lines, text, sizeof text, &written) == CMWQ_CLOSED && written == 77 && cmwq_lines_forget(&lines) == CMWQ_CLOSED);
+    cmwq_board_close(&board);
     cmwq_lines_close(&lines);
-    cmwq_board_close(board);
-    CHECK(!board->live);
 }
 
-static void opens_and_closes(void)
+static void shapes(void)
 {
-    struct cmwq_board board = {0};
-    struct cmwq_shape none = shape;
-
-    closed_calls(&board);
-    none.items = 0;
-    CHECK(cmwq_board_open(&board, &none, queues, 2, 1) == CMWQ_REFUSED);
-    CHECK(cmwq_board_open(&board, &shape, queues, 0, 1) == CMWQ_REFUSED);
-    CHECK(cmwq_board_open(&board, &shape, queues, 2, 4) == CMWQ_REFUSED);
-    CHECK(!board.live && !board.at);
-    open_board(&board, 100, 3);
-    CHECK(call(&board, user, CMWQ_QUEUE, 0, 0) == CMWQ_REFUSED); /* all callers are lent */
-    open_board(&board, 100, 0);
-    CHECK(begin(&board, user, CMWQ_FLUSH, 0, 0) == CMWQ_NO_CALLER && nothing_is_written());
-    CHECK(cmwq_board_open(&board, &none, queues, 2, 1) == CMWQ_REFUSED && board.live);
-    cmwq_board_close(&board);
-    cmwq_board_close(&board);
-    closed_calls(&board);
-}
-
-/* A caller flushes a queue, and sleeps until the item has ended. */
-static void a_flush(void)
-{
-    struct cmwq_board board = {0};
-    struct cmwq_lines lines = {0};
-    uint8_t out[CMWQ_LINE];
+    struct cmwq_shape wrong[] = {shape, shape, shape, shape, shape, shape, shape};
+    uint8_t text[256];
     size_t written = 77;
 
-    open_board(&board, 100, 2);
-    CHECK(start(&board, worker(0)) == CMWQ_RESTS && names_nobody());
-    CHECK(call(&board, user, CMWQ_QUEUE, 0, 0) == CMWQ_OK && outputs.reply.kind == CMWQ_YES);
-    CHECK(outputs.reply.number == 0 && names_worker(0));
-    CHECK(look_at(&board, 0) == CMWQ_OK && outputs.state.pending == CMWQ_PENDING_QUEUED && !outputs.state.runs);
-    CHECK(start(&board, worker(0)) == CMWQ_OK && outputs.item == 0 && outputs.number == 0);
-    CHECK(look_at(&board, 0) == CMWQ_OK && outputs.state.pending == CMWQ_NOT_PENDING && outputs.state.runs);
-    CHECK(outputs.state.worker.kind == CMWQ_WORKER && outputs.state.worker.index == 0 && outputs.state.run == 0);
-    CHECK(start(&board, worker(0)) == CMWQ_NOT_NOW && nothing_is_written());
-    CHECK(finish(&board, worker(1)) == CMWQ_NOT_NOW && nothing_is_written());
-    CHECK(finish(&board, worker(0)) == CMWQ_OK);
-    cmwq_board_close(&board);
-
-    open_board(&board, 100, 2);
-    CHECK(call(&board, user, CMWQ_QUEUE, 0, 0) == CMWQ_OK);
-    CHECK(start(&board, worker(0)) == CMWQ_OK);
-    CHECK(begin(&board, user, CMWQ_FLUSH_ITEM, 1, 0) == CMWQ_OK && outputs.reply.kind == CMWQ_IDLE);
-    CHECK(outputs.party == before.party);
-    CHECK(begin(&board, user, CMWQ_FLUSH, 0, 0) == CMWQ_WAITS && outputs.party == 1);
-    CHECK(outputs.reply.kind == CMWQ_TICKET && outputs.reply.number == 3);
-    CHECK(end(&board, 1) == CMWQ_WAITS && names_nobody());
-    CHECK(end(&board, 2) == CMWQ_NOT_NOW && nothing_is_written());
-    CHECK(end(&board, 0) == CMWQ_REFUSED && end(&board, 3) == CMWQ_REFUSED && nothing_is_written());
-    CHECK(finish(&board, worker(0)) == CMWQ_OK && names_caller(1));
-    CHECK(end(&board, 1) == CMWQ_OK);
-    CHECK(end(&board, 1) == CMWQ_NOT_NOW && nothing_is_written());
-
-    CHECK(cmwq_lines_open(&lines, &board) == CMWQ_OK && lines.live);
-    hands_out(&board, &lines, 100,
-              "c0 0 queue 0 0 0 = yes 0\n"
-              "w0n0 0 take = started 0 enlist 1\n"
-              "c1 0 flush_item 1 = idle\n"
-              "c1 1 flush 0 = ticket 3\n"
-              "w0n0 1 finish = finished 0\n"
-              "c1 2 end 3 = done\n");
-    CHECK(call(&board, user, CMWQ_QUEUE, 2, 1) == CMWQ_OK && call(&board, user, CMWQ_CANCEL, 2, 0) == CMWQ_OK);
-    CHECK(outputs.reply.kind == CMWQ_CANCELLED && cmwq_board_len(&board) == 8);
-    CHECK(cmwq_board_hand_out(&board, &lines) == CMWQ_OK);
-    CHECK(cmwq_lines_write(&lines, out, 3, &written) == CMWQ_SHORT && written == 77);
-    CHECK(cmwq_lines_write(&lines, out, 30, &written) == CMWQ_OK && written == 25);
-    CHECK(call(&board, user, CMWQ_FREEZE, 0, 0) == CMWQ_OK && outputs.reply.kind == CMWQ_FROZEN);
-    CHECK(cmwq_board_hand_out(&board, &lines) == CMWQ_REFUSED);
-    CHECK(cmwq_lines_forget(&lines) == CMWQ_OK);
-    hands_out(&board, &lines, CMWQ_LINE, "c0 3 freeze = frozen\n");
-    cmwq_lines_close(&lines);
-    cmwq_lines_close(&lines);
-    CHECK(cmwq_board_hand_out(&board, &lines) == CMWQ_CLOSED && !lines.live);
-    cmwq_board_close(&board);
-}
-
-/* Runs that wait: for themselves, for another, and for each other. */
-static void runs_that_wait(void)
-{
-    struct cmwq_board board = {0};
-
-    open_board(&board, 100, 1);
-    CHECK(call(&board, user, CMWQ_QUEUE, 0, 0) == CMWQ_OK && call(&board, user, CMWQ_QUEUE, 1, 1) == CMWQ_OK);
-    CHECK(begin(&board, worker(0), CMWQ_FLUSH_ITEM, 1, 0) == CMWQ_NOT_NOW && nothing_is_written());
-    CHECK(start(&board, worker(0)) == CMWQ_OK && outputs.item == 0);
-    CHECK(begin(&board, worker(0), CMWQ_FLUSH_ITEM, 0, 0) == CMWQ_ITSELF && nothing_is_written());
-    CHECK(begin(&board, worker(0), CMWQ_FLUSH_ITEM, 1, 0) == CMWQ_WAITS && outputs.party == 2);
-    CHECK(begin(&board, user, CMWQ_FLUSH_ITEM, 1, 0) == CMWQ_NO_CALLER && nothing_is_written());
-    CHECK(leave(&board, 2) == CMWQ_NOT_NOW && nothing_is_written());
-    CHECK(end(&board, 2) == CMWQ_WAITS);
-    CHECK(start(&board, worker(1)) == CMWQ_OK && outputs.item == 1 && outputs.number == 1);
-    CHECK(begin(&board, worker(1), CMWQ_FLUSH_ITEM, 0, 0) == CMWQ_DEADLOCK && nothing_is_written());
-    CHECK(finish(&board, worker(0)) == CMWQ_NOT_NOW && nothing_is_written());
-    CHECK(finish(&board, worker(1)) == CMWQ_OK && names_caller(2));
-    CHECK(end(&board, 2) == CMWQ_OK);
-    CHECK(call(&board, worker(0), CMWQ_SLEEP, 0, 0) == CMWQ_OK && outputs.reply.kind == CMWQ_SLEPT);
-    CHECK(call(&board, worker(0), CMWQ_WAKE, 0, 0) == CMWQ_OK && outputs.reply.kind == CMWQ_WOKE);
-    CHECK(finish(&board, worker(0)) == CMWQ_OK);
-    cmwq_board_close(&board);
-}
-
-/* Time goes by, a drain holds a timer back, and the board is stopped. */
-static void time_goes_by(void)
-{
-    struct cmwq_board board = {0};
-    struct cmwq_lines lines = {0};
-    struct cmwq_call delay = {.number = 3, .item = 0, .kind = CMWQ_DELAY, .who = {CMWQ_CALLER, 0, 0}};
-
-    open_board(&board, 0, 2);
-    CHECK(cmwq_lines_open(&lines, &board) == CMWQ_OK);
-    CHECK(cmwq_board_time(&board) == 0 && cmwq_board_due(&board) == UINT64_MAX);
-    clear_outputs();
-    CHECK(cmwq_board_call(&board, &delay, &outputs.reply, &outputs.wakes) == CMWQ_OK);
-    CHECK(outputs.reply.kind == CMWQ_BOOKED && outputs.reply.number == 3 && cmwq_board_due(&board) == 3);
-    CHECK(look_at(&board, 0) == CMWQ_OK && outputs.state.pending == CMWQ_PENDING_TIMER && outputs.state.number == 3);
-    CHECK(call(&board, user, CMWQ_QUEUE, 1, 0) == CMWQ_OK);
-    CHECK(start(&board, worker(0)) == CMWQ_OK && outputs.item == 1);
-    CHECK(begin(&board, user, CMWQ_DRAIN, 0, 0) == CMWQ_WAITS && outputs.party == 1);
-    CHECK(cmwq_board_due(&board) == UINT64_MAX);
-    CHECK(advance(&board, 1, 5) == CMWQ_REFUSED && nothing_is_written());
-    CHECK(advance(&board, 0, 5) == CMWQ_CROWDED && nothing_is_written());
-    CHECK(cmwq_board_hand_out(&board, &lines) == CMWQ_OK && cmwq_lines_forget(&lines) == CMWQ_OK);
-    CHECK(advance(&board, 0, 5) == CMWQ_OK && outputs.now == 5 && cmwq_board_time(&board) == 5);
-    CHECK(cmwq_board_stop(&board, &outputs.wakes) == CMWQ_OK);
-    CHECK(outputs.wakes.all_workers && outputs.wakes.all_callers && !cmwq_board_is_over(&board));
-    CHECK(call(&board, user, CMWQ_QUEUE, 2, 0) == CMWQ_STOPPED && nothing_is_written());
-    CHECK(begin(&board, user, CMWQ_FLUSH, 0, 0) == CMWQ_STOPPED && nothing_is_written());
-    CHECK(advance(&board, 0, 5) == CMWQ_STOPPED && nothing_is_written());
-    CHECK(finish(&board, worker(0)) == CMWQ_OK);
-    CHECK(end(&board, 1) == CMWQ_CROWDED && nothing_is_written());
-    CHECK(cmwq_board_hand_out(&board, &lines) == CMWQ_OK && cmwq_lines_forget(&lines) == CMWQ_OK);
-    CHECK(end(&board, 1) == CMWQ_OK);
-    CHECK(look_at(&board, 0) == CMWQ_OK && outputs.state.pending == CMWQ_PENDING_QUEUED && outputs.state.number == 7);
-    CHECK(start(&board, worker(0)) == CMWQ_OK && outputs.item == 0 && outputs.number == 7);
-    CHECK(finish(&board, worker(0)) == CMWQ_OK && outputs.wakes.all_workers && cmwq_board_is_over(&board));
-    CHECK(start(&board, worker(1)) == CMWQ_OVER && names_nobody());
-    CHECK(look_at(&board, 4) == CMWQ_REFUSED && nothing_is_written());
-    cmwq_lines_close(&lines);
-    cmwq_board_close(&board);
-}
-
-/* A wait that is left, and a board that fails. */
-static void a_wait_is_left(void)
-{
-    struct cmwq_board board = {0};
-
-    open_board(&board, 100, 1);
-    CHECK(call(&board, user, CMWQ_QUEUE, 0, 0) == CMWQ_OK && start(&board, worker(0)) == CMWQ_OK);
-    CHECK(begin(&board, user, CMWQ_CANCEL_SYNC, 0, 0) == CMWQ_WAITS && outputs.party == 2);
-    CHECK(outputs.reply.kind == CMWQ_TICKET_NO && outputs.reply.number == 2);
-    CHECK(leave(&board, 1) == CMWQ_REFUSED && nothing_is_written());
-    CHECK(leave(&board, 2) == CMWQ_OK && names_nobody());
-    CHECK(leave(&board, 2) == CMWQ_NOT_NOW && nothing_is_written());
-    CHECK(finish(&board, worker(0)) == CMWQ_OK);
-    CHECK(cmwq_board_len(&board) >= 5); /* the ticket is ended too */
-    CHECK(call(&board, user, CMWQ_QUEUE, 0, 0) == CMWQ_OK && start(&board, worker(0)) == CMWQ_OK);
-    CHECK(begin(&board, user, CMWQ_CANCEL_SYNC, 0, 0) == CMWQ_WAITS);
-    CHECK(cmwq_board_fail(&board, &outputs.wakes) == CMWQ_OK && outputs.wakes.all_workers);
-    CHECK(end(&board, 2) == CMWQ_FAILED && leave(&board, 2) == CMWQ_FAILED && nothing_is_written());
-    CHECK(call(&board, user, CMWQ_QUEUE, 0, 0) == CMWQ_FAILED && finish(&board, worker(0)) == CMWQ_FAILED);
-    CHECK(begin(&board, user, CMWQ_FLUSH, 0, 0) == CMWQ_FAILED && advance(&board, 0, 1) == CMWQ_FAILED);
-    CHECK(nothing_is_written() && cmwq_board_is_over(&board));
-    CHECK(start(&board, worker(1)) == CMWQ_OVER && names_nobody());
-    cmwq_board_close(&board);
-}
-
-/* Numbers outside the shape, calls of other functions, and a board without room. */
-static void refused_calls(void)
-{
-    static const struct cmwq_who strangers[] = {
-        {CMWQ_CALLER, 3, 0}, {CMWQ_WORKER, 3, 0}, {CMWQ_WORKER, 0, 1}, {3, 0, 0},
-    };
-    static const uint8_t others[] = {
-        CMWQ_TICK, CMWQ_FIRE, CMWQ_FLUSH, CMWQ_DRAIN, CMWQ_END, CMWQ_TAKE, CMWQ_FINISH, 21, 255,
-    };
-    struct cmwq_board board = {0};
-    struct cmwq_shape small = shape;
-
-    open_board(&board, 100, 2);
-    for (size_t i = 0; i < sizeof strangers / sizeof *strangers; i++) {
-        CHECK(call(&board, strangers[i], CMWQ_QUEUE, 0, 0) == CMWQ_REFUSED && nothing_is_written());
-        CHECK(start(&board, strangers[i]) == CMWQ_REFUSED && nothing_is_written());
-        CHECK(finish(&board, strangers[i]) == CMWQ_REFUSED && nothing_is_written());
+    wrong[0].cpus = 0;
+    wrong[1].cpus = 65;
+    wrong[2].workers = 0;
+    wrong[3].workers = 65;
+    wrong[4].items = 0;
+    wrong[5].callers = 0;
+    wrong[6].room = ((uint64_t)1 << 62) + 1;
+    for (size_t k = 0; k < sizeof wrong / sizeof *wrong; k++) {
+        CHECK(cmwq_board_open(&board, &wrong[k], queues, 2, 0) == CMWQ_REFUSED && !board.live);
+        CHECK(cmwq_head(&wrong[k], queues, 2, text, sizeof text, &written) == CMWQ_REFUSED && written == 77);
     }
-    CHECK(start(&board, user) == CMWQ_REFUSED && finish(&board, user) == CMWQ_REFUSED);
-    for (size_t i = 0; i < sizeof others / sizeof *others; i++)
-        CHECK(call(&board, user, others[i], 0, 0) == CMWQ_REFUSED && nothing_is_written());
-    CHECK(call(&board, (struct cmwq_who){CMWQ_CALLER, 1, 0}, CMWQ_QUEUE, 0, 0) == CMWQ_REFUSED);
-    CHECK(call(&board, user, CMWQ_QUEUE, 4, 0) == CMWQ_REFUSED && call(&board, user, CMWQ_QUEUE, 0, 2) == CMWQ_REFUSED);
-    CHECK(begin(&board, user, CMWQ_QUEUE, 0, 0) == CMWQ_REFUSED);
-    CHECK(begin(&board, user, CMWQ_FLUSH, 0, 2) == CMWQ_REFUSED && nothing_is_written());
-    CHECK(begin(&board, worker(3), CMWQ_FLUSH, 0, 0) == CMWQ_REFUSED && nothing_is_written());
-    CHECK(advance(&board, 3, 1) == CMWQ_REFUSED && cmwq_board_len(&board) == 0);
-    /* the index of a caller that waits isn't read */
-    CHECK(begin(&board, (struct cmwq_who){CMWQ_CALLER, 77, 0}, CMWQ_FLUSH_ITEM, 0, 0) == CMWQ_OK);
+    CHECK(cmwq_board_open(&board, &shape, queues, 2, 5) == CMWQ_REFUSED && !board.live);
+    CHECK(cmwq_board_open(&board, &shape, queues, 0, 2) == CMWQ_REFUSED && !board.live);
+    for (size_t len = 0; len < 60; len++) {
+        static const char head[] = "history 3\nshape 2 2 4 3 1048576\nwq 2 -\nwq 1 hf\n";
+        uint32_t status = cmwq_head(&shape, queues, 2, text, len, &written);
 
-    small.room = 1;
-    CHECK(cmwq_board_open(&board, &small, queues, 2, 1) == CMWQ_OK);
-    CHECK(call(&board, user, CMWQ_QUEUE, 0, 0) == CMWQ_FULL && nothing_is_written());
-    CHECK(begin(&board, user, CMWQ_FLUSH, 0, 0) == CMWQ_FULL && nothing_is_written());
-    CHECK(call(&board, user, CMWQ_FREEZE, 0, 0) == CMWQ_FULL && nothing_is_written()); /* its thaw is owed */
-    CHECK(call(&board, user, CMWQ_CANCEL, 0, 0) == CMWQ_OK && outputs.reply.kind == CMWQ_NO);
-    CHECK(call(&board, user, CMWQ_CANCEL, 0, 0) == CMWQ_FULL && nothing_is_written());
-    CHECK(advance(&board, 0, 1) == CMWQ_FULL && nothing_is_written());
+        CHECK(status == (len < sizeof head - 1 ? (uint32_t)CMWQ_SHORT : (uint32_t)CMWQ_OK));
+        CHECK(status != CMWQ_OK || (written == sizeof head - 1 && !memcmp(text, head, written)));
+    }
+}
+
+static void texts(void)
+{
+    struct cmwq_call call = {.kind = CMWQ_QUEUE};
+    struct cmwq_lines other = {0};
+    struct cmwq_board larger = {0};
+    struct cmwq_shape more = shape;
+    uint8_t text[2 * CMWQ_LINE];
+    size_t written = 77;
+
+    CHECK(cmwq_board_open(&board, &shape, queues, 2, 2) == CMWQ_OK && cmwq_lines_open(&lines, &board) == CMWQ_OK);
+    CHECK(cmwq_lines_write(&lines, text, 0, &written) == CMWQ_OK && written == 0);
+    reset();
+    for (int k = 0; k < 10; k++) /* as many as two calls may make, and no more */
+        wants(cmwq_board_call(&board, &call, &out.reply, &out.wakes), BIT(CMWQ_OK));
+    reset();
+    wants(cmwq_board_call(&board, &call, &out.reply, &out.wakes), BIT(CMWQ_CROWDED));
+    CHECK(cmwq_board_hand_out(&board, &lines) == CMWQ_OK);
+    wants(cmwq_board_call(&board, &call, &out.reply, &out.wakes), BIT(CMWQ_OK));
+    CHECK(cmwq_board_hand_out(&board, &lines) == CMWQ_REFUSED && cmwq_lines_write(&lines, text, 10, &written) == CMWQ_SHORT && written == 0);
+    for (int k = 0; k < 10; k++) { /* a line at a time */
+        CHECK(cmwq_lines_write(&lines, text, 30, &written) == CMWQ_OK && written > 20 && text[written - 1] == '\n');
+        CHECK(memcmp(text, k ? "c0 1 queue 0 0 0 = no\n" : "c0 0 queue 0 0 0 = yes 0\n", 4 - (k > 1)) == 0);
+    }
+    CHECK(cmwq_lines_write(&lines, text, sizeof text, &written) == CMWQ_OK && written == 0);
+    CHECK(cmwq_board_hand_out(&board, &lines) == CMWQ_OK && cmwq_lines_forget(&lines) == CMWQ_OK);
+    CHECK(cmwq_lines_write(&lines, text, sizeof text, &written) == CMWQ_OK && written == 0 && cmwq_board_hand_out(&board, &lines) == CMWQ_OK);
+    more.keep = 100;
+    CHECK(cmwq_board_open(&larger, &more, queues, 2, 2) == CMWQ_OK && cmwq_board_hand_out(&larger, &lines) == CMWQ_REFUSED);
+    CHECK(cmwq_lines_open(&other, &larger) == CMWQ_OK && cmwq_board_hand_out(&board, &other) == CMWQ_OK && cmwq_board_len(&board) == 11);
+    cmwq_board_close(&larger);
+    cmwq_lines_close(&other);
+    cmwq_lines_close(&other);
+    cmwq_lines_close(&lines);
+    cmwq_board_close(&board);
     cmwq_board_close(&board);
 }
 
-/* The lines that begin a history, and with those of the entries a whole one. */
-static void a_history(void)
+static void fill(uint64_t *seed, void *at, size_t size)
 {
-    static const char wanted[] = "history 3\n";
-    struct cmwq_board board = {0};
-    struct cmwq_lines lines = {0};
-    struct cmwq_shape none = shape;
-    char text[4096];
-    uint8_t verdict[CMWQ_LINE];
-    size_t head = 77, len, written;
+    for (size_t k = 0; k < size; k++) /* mostly small numbers */
+        ((uint8_t *)at)[k] = (uint8_t)(next_random(seed) % (next_random(seed) % 4 ? 4 : 256));
+}
 
-    none.cpus = 0;
-    memset(text, 9, sizeof text);
-    CHECK(cmwq_head(&none, queues, 2, (uint8_t *)text, sizeof text, &head) == CMWQ_REFUSED && head == 77);
-    CHECK(cmwq_head(&shape, queues, 2, (uint8_t *)text, 10, &head) == CMWQ_SHORT && head == 77 && text[0] == 9);
-    CHECK(cmwq_head(&shape, queues, 2, (uint8_t *)text, sizeof text, &head) == CMWQ_OK);
-    CHECK(head > strlen(wanted) && memcmp(text, wanted, strlen(wanted)) == 0 && text[head - 1] == '\n');
-    open_board(&board, 100, 2);
-    CHECK(cmwq_lines_open(&lines, &board) == CMWQ_OK);
-    CHECK(call(&board, user, CMWQ_QUEUE, 0, 0) == CMWQ_OK && start(&board, worker(0)) == CMWQ_OK);
-    CHECK(finish(&board, worker(0)) == CMWQ_OK);
-    CHECK(cmwq_board_hand_out(&board, &lines) == CMWQ_OK);
-    CHECK(cmwq_lines_write(&lines, (uint8_t *)text + head, sizeof text - head, &written) == CMWQ_OK);
-    len = head + written;
-    len += (size_t)sprintf(text + len, "end %u\n", (unsigned)cmwq_board_len(&board));
-    CHECK(cmwq_check((const uint8_t *)text, len, verdict, sizeof verdict, &written) == CMWQ_OK);
-    CHECK(written == strlen("legal 3\n") && memcmp(verdict, "legal 3\n", written) == 0);
+/* Calls of any bytes at all. */
+static void any_bytes(uint64_t seed)
+{
+    struct cmwq_call call;
+    struct cmwq_who who;
+    uint64_t now = 0;
+
+    CHECK(cmwq_board_open(&board, &shape, queues, 2, 2) == CMWQ_OK && cmwq_lines_open(&lines, &board) == CMWQ_OK);
+    for (int k = 0; k < 2000; k++) {
+        uint64_t len = cmwq_board_len(&board);
+        uint32_t status = CMWQ_OK;
+
+        fill(&seed, &call, sizeof call);
+        fill(&seed, &who, sizeof who);
+        call.kind = (uint8_t)(next_random(&seed) % 23);
+        reset();
+        switch (next_random(&seed) % 10) {
+        case 0: case 1: case 2:
+            status = wants(cmwq_board_call(&board, &call, &out.reply, &out.wakes), call_faults | BIT(CMWQ_OK));
+            break;
+        case 3:
+            status = wants(cmwq_board_start(&board, &who, &out.started, &out.number, &out.wakes),
+                           BIT(CMWQ_OK) | BIT(CMWQ_RESTS) | BIT(CMWQ_OVER) | BIT(CMWQ_REFUSED) | BIT(CMWQ_CROWDED) | BIT(CMWQ_NOT_NOW));
+            break;
+        case 4:
+            status = wants(cmwq_board_finish(&board, &who, &out.wakes),
+                           BIT(CMWQ_OK) | BIT(CMWQ_REFUSED) | BIT(CMWQ_FULL) | BIT(CMWQ_CROWDED) | BIT(CMWQ_FAILED) | BIT(CMWQ_NOT_NOW));
+            break;
+        case 5: case 6:
+            status = wants(cmwq_board_begin(&board, &call, &out.party, &out.reply, &out.wakes),
+                           call_faults | BIT(CMWQ_OK) | BIT(CMWQ_WAITS) | BIT(CMWQ_NOT_NOW) | BIT(CMWQ_ITSELF) | BIT(CMWQ_DEADLOCK) | BIT(CMWQ_NO_CALLER));
+            break;
+        case 7:
+            status = wants(cmwq_board_end(&board, call.item & 255, &out.wakes), BIT(CMWQ_OK) | BIT(CMWQ_WAITS) | BIT(CMWQ_LOOK_AGAIN) | BIT(CMWQ_OVER) |
+                           BIT(CMWQ_REFUSED) | BIT(CMWQ_CROWDED) | BIT(CMWQ_FAILED) | BIT(CMWQ_NOT_NOW));
+            break;
+        case 8:
+            status = wants(cmwq_board_leave(&board, call.item & 255, &out.wakes), BIT(CMWQ_OK) | BIT(CMWQ_REFUSED) | BIT(CMWQ_FAILED) | BIT(CMWQ_NOT_NOW));
+            break;
+        default:
+            status = wants(cmwq_board_advance(&board, call.item & 255, call.number & 1023, &out.number, &out.wakes), call_faults | BIT(CMWQ_OK));
+            CHECK(status != CMWQ_OK || (out.number >= now && out.number == cmwq_board_time(&board)));
+            now = cmwq_board_time(&board);
+        }
+        CHECK(is_done(status) || cmwq_board_len(&board) == len);
+        reset();
+        wants(cmwq_board_item(&board, call.item, &out.item), BIT(CMWQ_OK) | BIT(CMWQ_REFUSED));
+        if (next_random(&seed) % 4 == 0 || status == CMWQ_CROWDED)
+            CHECK(cmwq_board_hand_out(&board, &lines) == CMWQ_OK && cmwq_lines_forget(&lines) == CMWQ_OK);
+        if (k == 1500 && next_random(&seed) % 2)
+            CHECK(cmwq_board_stop(&board, &out.wakes) == CMWQ_OK && out.wakes.all_workers && out.wakes.all_callers);
+        if (k == 1800 && next_random(&seed) % 2)
+            CHECK(cmwq_board_fail(&board, &out.wakes) == CMWQ_OK && out.wakes.all_workers && cmwq_board_is_over(&board));
+    }
     cmwq_lines_close(&lines);
     cmwq_board_close(&board);
 }
 
 int main(void)
 {
-    CHECK(cmwq_version() == CMWQ_VERSION);
-    opens_and_closes();
-    a_flush();
-    runs_that_wait();
-    time_goes_by();
-    a_wait_is_left();
-    refused_calls();
-    a_history();
+    closed();
+    shapes();
+    texts();
+    for (uint64_t seed = 1; seed <= 100; seed++)
+        any_bytes(seed * 0x9e3779b97f4a7c15);
     return 0;
 }
