@@ -189,6 +189,14 @@ fn replies(rt: &(impl Abort + AllocGlobal), board: &mut Board, wanted: &[Reply])
     assert!(rt; board.hand_out(&mut entries).is_err());
 }
 
+/// So many entries that change nothing else.
+fn cancels(rt: &impl Abort, board: &mut Board, entries: u8) {
+    for _ in 0..entries {
+        let (reply, _) = call(rt, board, USER, Call::Cancel { item: ItemId(2) });
+        assert!(rt; matches!(reply, Some(Reply::No)));
+    }
+}
+
 #[test]
 fn a_drain_fires_what_it_held_back_also_once_it_was_stopped(rt: HostRuntime) {
     let mut board = board(&rt, 0, 1);
@@ -208,16 +216,21 @@ fn a_drain_fires_what_it_held_back_also_once_it_was_stopped(rt: HostRuntime) {
     assert!(rt; waits(begun, 1));
     assert!(rt; board.due().is_none());
     assert!(rt; board.advance(CallerId(1), 5, &mut wakes).err() == Some(BoardFault::Refused));
-    // the item and the drain's own caller take more space than is left
+    // the items and the drain's own caller may take more space than is left
+    cancels(&rt, &mut board, 3);
     assert!(rt; board.advance(CallerId(0), 5, &mut wakes).err() == Some(BoardFault::Crowded));
     let wanted = [
         Reply::Booked(3),
         Reply::Yes(1),
         Reply::StartedEnlist(1, 1),
         Reply::Ticket(3),
+        Reply::No,
+        Reply::No,
+        Reply::No,
     ];
     replies(&rt, &mut board, &wanted);
     assert!(rt; board.advance(CallerId(0), 5, &mut wakes) == Ok(5));
+    cancels(&rt, &mut board, 5);
     board.stop(&mut wakes);
     assert!(rt; !board.is_over());
     assert!(rt; board.call(USER, queue(2, 0), &mut wakes).err() == Some(BoardFault::Closed));
@@ -234,13 +247,21 @@ fn a_drain_fires_what_it_held_back_also_once_it_was_stopped(rt: HostRuntime) {
     assert!(rt; !board.is_over());
     let (ended, named) = end(&mut board, 1);
     assert!(rt; ended == Err(BoardFault::Crowded) && named.callers[0].is_none());
-    let wanted = [Reply::Now(5), Reply::Finished(1)];
+    let wanted = [
+        Reply::Now(5),
+        Reply::No,
+        Reply::No,
+        Reply::No,
+        Reply::No,
+        Reply::No,
+        Reply::Finished(1),
+    ];
     replies(&rt, &mut board, &wanted);
     let (ended, _) = end(&mut board, 1);
     assert!(rt; ended == Ok(Ended::Done));
     assert!(rt; !board.is_over());
     let state = board.item(ItemId(0)).expect(&rt, "an item");
-    assert!(rt; matches!(state.pending, Pending::Queued { number: 7, .. }) && state.run.is_none());
+    assert!(rt; matches!(state.pending, Pending::Queued { number: 15, .. }) && state.run.is_none());
     runs(&rt, &mut board, 0, 0);
     let state = board.item(ItemId(0)).expect(&rt, "an item");
     assert!(rt; matches!(state.pending, Pending::No));
