@@ -157,7 +157,8 @@ pub(crate) fn begins_wait(
     requires kept { tail.old.all ≡ dispatch.old.history.entries }
     requires space { length tail.old.all + 3 ≤ tail.old.room + tail.old.given }
     requires held { tickets_held (past_now dispatch.old) caller.0 ≡ [] }
-    ensures waits { BeginsWait run caller call result.reply result.number dispatch.old dispatch.new wakes.old wakes.new }
+    ensures waits { BeginsWait run caller call result.reply result.number dispatch.old dispatch.new wakes.old
+        wakes.new }
     ensures lending { result.lending ≡ lending_by run (sleeps_first dispatch.old run)
         (record { caller = caller; call = call; number = result.number }) result.reply }
     ensures kept { tail.new ≡ record tail.old { all = dispatch.new.history.entries } }

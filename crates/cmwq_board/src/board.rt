@@ -6,7 +6,8 @@ ghost use Rattle.cmwq_model.specs.Prelude.{IsLegal};
 ghost use Rattle.cmwq_dispatch.specs.Asleep.{NobodySleeps};
 ghost use Rattle.cmwq_dispatch.specs.Dispatched.{Stands, is_new, is_over};
 ghost use Rattle.cmwq_dispatch.specs.Naming.{NamesAll, NamesMore};
-ghost use Rattle.cmwq_board.specs.Boarded.{IsBoard, board_of, failed, handed_out, is_new_board, is_own, kept_in, layout_of};
+ghost use Rattle.cmwq_board.specs.Boarded.{IsBoard, board_of, failed, handed_out, is_new_board, is_own, kept_in};
+ghost use Rattle.cmwq_board.specs.Boarded.{layout_of};
 ghost use Rattle.cmwq_board.specs.Boarded.{least_kept, most_made, past_of_board, stopped, with_asleep};
 ghost use Rattle.cmwq_board.specs.Lent.{drains, first_lent, is_left};
 ghost use Rattle.std.specs.List.{list_any};
@@ -137,8 +138,8 @@ fn new_lent(alloc: Global, shape: &Shape, lent: u8) -> Result<Vec<Lending>, Allo
 
 impl Board {
     /// A board with no entries, which keeps so many entries at a time, or as many as two calls may make if that is
-    /// more. The last `lent` callers of the shape, or all if it has fewer, are lent to waits, and the others are the user's
-    /// own. No later call takes memory; the error says that it ran out.
+    /// more. The last `lent` callers of the shape, or all if it has fewer, are lent to waits, and the others are the
+    /// user's own. No later call takes memory; the error says that it ran out.
     pub fn new(alloc: Global, shape: &Shape, kept: u32, lent: u8) -> Result<Board, NoMemory>
         ensures new { IfOk result (λ board. board ≡ is_new_board shape.now kept (min lent shape.now.callers)
             board.dispatch.asleep) }

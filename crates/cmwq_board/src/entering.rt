@@ -1,6 +1,7 @@
 //! Entries are made, and kept until they are handed out.
 
-ghost use Rattle.std.specs.Prelude.{◌≡◌, ◌≢◌, ◌<◌, ◌≤◌, ◌+◌, ◌∷◌, ℕ, IfOk, IsTrue, OnErr, [], false, is_ok, length, true};
+ghost use Rattle.std.specs.Prelude.{◌≡◌, ◌≢◌, ◌<◌, ◌≤◌, ◌+◌, ◌∷◌, ℕ, IfOk, IsTrue, OnErr, [], false, is_ok, length};
+ghost use Rattle.std.specs.Prelude.{true};
 ghost use Rattle.std.specs.Prelude.{IfSome, Some, is_some};
 ghost use Rattle.cmwq_core.specs.History.{IsItemOf, next_entry, takes};
 ghost use Rattle.cmwq_theory_wakes.specs.Starting.{would_start};

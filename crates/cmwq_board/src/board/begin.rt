@@ -2,8 +2,9 @@
 
 ghost use Rattle.std.specs.Prelude.{◌≡◌, ◌<◌, IfErr, IfOk, None, OnErr, Some, is_some, length, true};
 ghost use Rattle.cmwq_board.specs.Boarded.{has_space, layout_of};
-ghost use Rattle.cmwq_board.specs.Waits.{Begins, begin_fault, begun_by, caller_at, early_fault, first_free, has_its_run};
-ghost use Rattle.cmwq_board.specs.Waits.{has_room_for, is_there, lent_fault, more_made, may_sleep, room_fault, stuck_now};
+ghost use Rattle.cmwq_board.specs.Waits.{Begins, begin_fault, begun_by, caller_at, early_fault, first_free};
+ghost use Rattle.cmwq_board.specs.Waits.{has_its_run, has_room_for, is_there, lent_fault, more_made, may_sleep};
+ghost use Rattle.cmwq_board.specs.Waits.{room_fault, stuck_now};
 ghost use Rattle.cmwq_model.specs.Prelude.{fits, has_numbers};
 ghost use Rattle.cmwq_model.specs.declared.id.Who.TheVariants as who;
 
