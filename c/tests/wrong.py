@@ -1,9 +1,9 @@
 #!/usr/bin/env python3
-"""Wrong shells, each of which a test must find: wrong.py LIBRARY [NAME..]
+"""Wrong shells, each of which a test must find: wrong.py LIBRARY [--quick | NAME..]
 
 A wrong shell is an edit of cmwq_shell.h or cmwq_hub.h. Each is built with the tests `stress` and `faults`, in a folder
-of its own. The first that fails, or does not end in time, has found it. CC names the compiler. The last line is
-`N passed, M failed`.
+of its own. The first that fails, or does not end in time, has found it. With --quick a few are tried. CC names the
+compiler. The last line is `N passed, M failed`.
 """
 import concurrent.futures
 import os
@@ -19,6 +19,10 @@ AT_ONCE, SECONDS = 2, 60
 
 # The tests, with their arguments: 200 rounds, from the first on, of at most 5 seconds each.
 TESTS = (("stress", ["200", "0", "5"]), ("faults", []))
+
+# Those that are tried by --quick.
+QUICK = ("a wake is dropped", "the wakes of a call are noted in a second hold", "a sleeper does not look before it sleeps",
+         "the lock is let go too early", "numbers are cut off")
 
 # Names, headers, what stands there, and what stands there instead. A sanitizer where one is needed to see it.
 EDITS = (
@@ -226,6 +230,7 @@ def found_by(library, name, header, old, new, sanitizer=None):
 
 def main():
     library, names, failed = sys.argv[1], sys.argv[2:], 0
+    names = QUICK if names == ["--quick"] else names
     edits = [it for it in EDITS if not names or it[0] in names]
     test = found_by(library, "no edit", "shell", "", "")
     if test:
