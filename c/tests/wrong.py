@@ -21,8 +21,8 @@ AT_ONCE, SECONDS = 2, 60
 TESTS = (("stress", ["200", "0", "5"]), ("faults", []))
 
 # Those that are tried by --quick.
-QUICK = ("a wake is dropped", "the wakes of a call are noted in a second hold", "a sleeper does not look before it sleeps",
-         "the lock is let go too early", "numbers are cut off")
+QUICK = ("a wake is dropped", "the wakes of a call are noted in a second hold",
+         "a sleeper does not look before it sleeps", "the lock is let go too early", "numbers are cut off")
 
 # Names, headers, what stands there, and what stands there instead. A sanitizer where one is needed to see it.
 EDITS = (
