@@ -19,8 +19,8 @@ use Rattle.cmwq_rt.specs.declared.wait_fault.WaitFault.{WaitFault}
 use Rattle.cmwq_rt.specs.declared.wait_fault.WaitFault.TheVariants as wait_fault
 
 -- A history that the run may leave: it is legal, each caller's entries follow its script but for so many calls in all
--- that had no room, each worker's are runs in which items did their actions, nobody else has any, and nothing active is
--- left behind.
+-- that had no room, those of each caller that is lent are of whole waits of runs, each worker's are runs in which items
+-- did their actions, nobody else has any, and nothing active is left behind.
 abbrev pub RunLeaves : Run → ℕ → List Entry → Type 0
 RunLeaves r full history = IsLeft r.layout (plays r.does r.layout) r.callers r.waits full history
 

@@ -117,7 +117,9 @@ impl<'a> Interpreter<'a> {
         ensures later { Later context.old.participant context.new.participant }
         ensures done { IfOk result
             (λ _. (context.new.fault ≡ None)
-            × Acts N.layout (actions.Call call) context.old.participant context.new.participant) }
+            × Acts N.layout context.old.item (actions.Call call) context.old.participant
+            context.new.participant) }
+        ensures item { context.new.item ≡ context.old.item }
         ensures broke { IfErr result (λ f. context.new.fault ≡ Some f) }
     {
         if !is_own(call) || !context.shape().has_numbers(call) {
@@ -140,6 +142,7 @@ impl<'a> Interpreter<'a> {
         ensures later { Later context.old.participant context.new.participant }
         ensures done { IfOk result
             (λ _. (context.new.fault ≡ None) × SleepsOnce N.layout context.old.participant context.new.participant) }
+        ensures item { context.new.item ≡ context.old.item }
         ensures broke { IfErr result (λ f. context.new.fault ≡ Some f) }
     {
         let asleep = context.sleep();
@@ -159,7 +162,9 @@ impl<'a> Interpreter<'a> {
         requires { context.old.fault ≡ None }
         ensures later { Later context.old.participant context.new.participant }
         ensures done { IfOk result
-            (λ _. (context.new.fault ≡ None) × Acts N.layout action context.old.participant context.new.participant) }
+            (λ _. (context.new.fault ≡ None)
+            × Acts N.layout context.old.item action context.old.participant context.new.participant) }
+        ensures item { context.new.item ≡ context.old.item }
         ensures broke { IfErr result (λ f. context.new.fault ≡ Some f) }
     {
         match action {
@@ -183,7 +188,7 @@ impl<'a> Interpreter<'a> {
         ensures later { Later context.old.participant context.new.participant }
         ensures done { IfOk result
             (λ _. (context.new.fault ≡ None)
-            × ActInTurn N.layout actions.now context.old.participant context.new.participant) }
+            × ActInTurn N.layout context.old.item actions.now context.old.participant context.new.participant) }
         ensures broke { IfErr result (λ f. context.new.fault ≡ Some f) }
     {
         for k in 0..actions.len() {

@@ -6,6 +6,7 @@ use Rattle.cmwq_engine.specs.Common.{Result, Ok, Err, IfOk, IfErr, Worker, Worke
 use Rattle.cmwq_engine.specs.Common.{IsLegal, View, newcomer, made_by, worker_by_number, Behavior, HasWorked}
 use Rattle.cmwq_engine.specs.Common.{RunsInTurn, breaks_off, IsPrefix, Conduct, Roster, caller_numbered}
 use Rattle.cmwq_monitor.specs.Held.{active_in}
+use Rattle.cmwq_rt.specs.Lent.{HasOnlyWaited}
 use Rattle.cmwq_monitor.specs.declared.fault.RunFault.{RunFault}
 use Rattle.cmwq_monitor.specs.declared.fault.RunFault.TheVariants.{Full, Unfinished, NoPlace}
 use Rattle.cmwq_engine.specs.declared.ends.CallerEnd.{CallerEnd}
@@ -45,6 +46,18 @@ pub record AreNewcomers (s : Layout) (first : ℕ) (callers : List View) : Type 
 -- callers from this one on have no entry in a history
 pub record AreSilent (s : Layout) (first : ℕ) (history : List Entry) : Type 0 where
   pub none : (k : ℕ) → first ≤ k → k < s.callers → made_by (caller_numbered k) history ≡ []
+
+-- a caller that was lent has made the entries of whole waits of runs, and has no other entries in a history
+pub record WaitedIn (s : Layout) (k : ℕ) (history : List Entry) : Type 0 where
+  pub last : View
+  pub waited : HasOnlyWaited s last
+  pub who : last.who ≡ caller_numbered k
+  pub older : IsPrefix last.seen history
+  pub own : serial_of (past_of history) (caller_numbered k) ≡ last.serial
+
+-- so have this many callers, from this one on
+pub record AllWaited (s : Layout) (first many : ℕ) (history : List Entry) : Type 0 where
+  pub each : (k : ℕ) → first ≤ k → k < first + many → WaitedIn s k history
 
 -- what a worker's thread has done to its worker
 abbrev pub WorkedFrom : Layout → Behavior → View → View → Type 0
@@ -112,12 +125,13 @@ EndsAll s does calls r (Ok ends) = HaveRun s does calls r ends
 EndsAll s does calls r (Err f) = FailsAs s calls r f
 
 -- A history that a run leaves: it is legal, each caller that has a thread did what it should, but for so many calls in
--- all that had no room, each worker's entries are runs of items, callers that aren't used have none, and nothing active
--- is left.
+-- all that had no room, the entries of each caller that is lent are those of whole waits of runs, each worker's entries
+-- are runs of items, other callers have none, and nothing active is left.
 pub record IsLeft (s : Layout) (does : Behavior) (calls : Conduct) (r : Roster) (full : ℕ) (history : List Entry) : Type
     0 where
   pub legal : IsLegal s (past_of history)
   pub called : AllCalled s calls 0 r.threads full history
+  pub waited : AllWaited s r.threads r.lent history
   pub worked : AllWorked s does history
   pub silent : AreSilent s (used r) history
   pub finished : active_in s history ≡ 0

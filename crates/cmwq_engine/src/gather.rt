@@ -1,21 +1,23 @@
 //! Puts together what the threads gave back.
-ghost use Rattle.std.specs.Prelude.{◌≡◌, ◌⊎◌, ℕ, ◌+◌, length, true, IfOk, IfErr};
+ghost use Rattle.std.specs.Prelude.{◌≡◌, ◌⊎◌, ℕ, ◌+◌, length, true, slice_get, Some, IfOk, IfErr, IfSome};
 ghost use Rattle.cmwq_model.specs.declared.id.WorkerId as ids;
 ghost use Rattle.cmwq_model.specs.declared.id.Who.TheVariants as whos;
 ghost use Rattle.cmwq_monitor.specs.Held.{active_in};
-ghost use Rattle.cmwq_monitor.specs.Participants.{newcomer};
+ghost use Rattle.cmwq_monitor.specs.Participants.{View, newcomer};
 ghost use Rattle.cmwq_monitor.specs.declared.fault.RunFault.TheVariants.{Unfinished};
+ghost use Rattle.cmwq_rt.specs.Lent.{HasOnlyWaited};
 ghost use Rattle.cmwq_rt.specs.Places.{shares};
 ghost use Rattle.cmwq_rt.specs.Running.{breaks_off};
-ghost use Rattle.cmwq_engine.specs.Ended.{AllCalled, AllWorked, AreNewcomers, AreSilent, CalledAt, CalledIn};
-ghost use Rattle.cmwq_engine.specs.Ended.{HaveCalled, HaveRun, HaveWorked, IsUnfinished, WorkedFrom, WorkedIn};
+ghost use Rattle.cmwq_engine.specs.Conduct.{caller_numbered};
+ghost use Rattle.cmwq_engine.specs.Ended.{AllCalled, AllWaited, AllWorked, AreNewcomers, AreSilent, CalledAt, CalledIn};
+ghost use Rattle.cmwq_engine.specs.Ended.{HaveCalled, HaveRun, HaveWorked, IsUnfinished, WaitedIn, WorkedFrom, WorkedIn};
 ghost use Rattle.cmwq_engine.specs.Ended.{is_silent, used};
 
 use crate::crew::Crew;
 use crate::ends::{CallerEnd, WorkerEnd};
 use cmwq_monitor::Monitor;
 use cmwq_rt::ending::{settle_caller, settle_worker, share_of_caller, share_of_worker};
-use cmwq_rt::{Caller, HubName, RunFault, Work};
+use cmwq_rt::{Caller, HubName, LentCaller, RunFault, Work};
 use std::sync::ledger::Share;
 
 /// All threads, after they have ended, the callers that were lent, those that weren't used, and what no participant got
@@ -24,7 +26,7 @@ use std::sync::ledger::Share;
 pub struct Ends<N: HubName> {
     pub callers: Vec<CallerEnd<N>>,
     pub workers: Vec<WorkerEnd<N>>,
-    pub lent: Vec<Caller<N>>,
+    pub lent: Vec<LentCaller<N>>,
     pub idle: Vec<Caller<N>>,
     pub rest: Share<N>,
 }
@@ -155,26 +157,71 @@ fn gather_workers<N: HubName, W: Work>(
     Ok(answered)
 }
 
-/// The callers that were lent: how many entries they made.
+/// Where the lent caller stands whose number is this one after so many.
+fn place_of<N: HubName>(lent: &[LentCaller<N>], first: usize, after: usize) -> Option<usize>
+    ensures found { IfSome result (λ i. (v : View) × (slice_get lent.now i ≡ Some v)
+        × (v.who ≡ caller_numbered (first + after))) }
+{
+    for i in 0..lent.len() {
+        let number = usize::from(lent[i].number());
+        if number >= first && number - first == after {
+            return Some(i);
+        }
+    }
+    None
+}
+
+/// Takes it out.
+fn take_lent<N: HubName>(
+    lent: &mut Vec<LentCaller<N>>,
+    first: usize,
+    after: usize,
+) -> Option<Caller<N>>
+    ensures who { IfSome result (λ c. (c.who ≡ caller_numbered (first + after)) × HasOnlyWaited N.layout c) }
+    ensures one { IfSome result (λ _. length lent.old.items ≡ length lent.new.items + 1) }
+{
+    let place = place_of(lent.as_slice(), first, after)?;
+    let caller = lent.swap_remove(place);
+    caller.into_caller().ok()
+}
+
+/// One of them more: how many entries it made.
+fn gather_waited<N: HubName>(
+    monitor: &Monitor<N>,
+    caller: Caller<N>,
+    all: &mut Share<N>,
+) -> Result<u64, RunFault>
+    ensures share { IfOk result (λ n. (all.new.parts ≡ all.old.parts + 1) × (all.new.amount ≡ all.old.amount + n)) }
+    ensures fault { IfErr result (λ f. is_silent f ≡ true) }
+    ensures waited { IfOk result (λ _. (k : ℕ) → (caller.who ≡ caller_numbered k) → HasOnlyWaited N.layout caller
+        → WaitedIn N.layout k monitor.now.history) }
+{
+    let mut caller = caller;
+    settle_caller(&mut caller, monitor)?;
+    let made = caller.serial();
+    all.merge(share_of_caller(caller));
+    Ok(made)
+}
+
+/// The callers that were lent, whose numbers come after so many: how many entries they made. Each has only waited.
 fn gather_lent<N: HubName>(
     monitor: &Monitor<N>,
-    lent: Vec<Caller<N>>,
+    lent: Vec<LentCaller<N>>,
+    first: usize,
     all: &mut Share<N>,
 ) -> Result<u64, RunFault>
     ensures share { IfOk result (λ n. (all.new.parts ≡ all.old.parts + length lent.items)
         × (all.new.amount ≡ all.old.amount + n)) }
     ensures fault { IfErr result (λ f. is_silent f ≡ true) }
+    ensures waited { IfOk result (λ _. AllWaited N.layout first (length lent.items) monitor.now.history) }
 {
     let mut lent = lent;
     let mut answered = 0u64;
-    for _ in 0..lent.len() {
-        let Some(caller) = lent.pop() else {
-            unreachable!()
+    for after in 0..lent.len() {
+        let Some(caller) = take_lent(&mut lent, first, after) else {
+            return Err(RunFault::NoMemory { ticket: None });
         };
-        let mut caller = caller;
-        settle_caller(&mut caller, monitor)?;
-        answered = added(answered, caller.serial())?;
-        all.merge(share_of_caller(caller));
+        answered = added(answered, gather_waited(monitor, caller, all)?)?;
     }
     Ok(answered)
 }
@@ -218,6 +265,8 @@ pub(crate) fn gather<N: HubName, C: Crew, W: Work>(
     ensures counted { IfOk result (λ t. t.answered ≡ length monitor.old.history) }
     ensures called { IfOk result
         (λ t. AllCalled N.layout (C.calls crew.now) 0 (C.roles crew.now N.layout).threads t.full monitor.old.history) }
+    ensures waited { IfOk result (λ _. AllWaited N.layout (C.roles crew.now N.layout).threads
+        (C.roles crew.now N.layout).lent monitor.old.history) }
     ensures worked { IfOk result (λ _. AllWorked N.layout (W.does work.now N.layout) monitor.old.history) }
     ensures silent { IfOk result (λ _. AreSilent N.layout (used (C.roles crew.now N.layout)) monitor.old.history) }
     ensures finished { IfOk result (λ _. active_in N.layout monitor.old.history ≡ 0) }
@@ -233,9 +282,10 @@ pub(crate) fn gather<N: HubName, C: Crew, W: Work>(
         rest,
     } = ends;
     let mut all = rest;
+    let threads = callers.len();
     let (made, full) = gather_callers(monitor, callers, crew, &mut all)?;
     let worked = gather_workers(monitor, workers, work, &mut all)?;
-    let waited = gather_lent(monitor, lent, &mut all)?;
+    let waited = gather_lent(monitor, lent, threads, &mut all)?;
     gather_idle(monitor, idle, crew, &mut all)?;
     if monitor.active_count() != 0 {
         return Err(RunFault::Unfinished);

@@ -9,7 +9,7 @@ use crate::gather::{Ends, Tally, gather};
 use crate::start::{idle_callers, lend_callers, start_callers, start_workers};
 use cmwq_monitor::Rest;
 use cmwq_rt::ending::into_monitor;
-use cmwq_rt::{Caller, Hub, HubName, HubParts, Lent, Participants, RunFault, Work};
+use cmwq_rt::{Hub, HubName, HubParts, Lent, LentCaller, Participants, RunFault, Work};
 use std::alloc::Global;
 use std::marker::Brand;
 use std::sync::Wait;
@@ -177,7 +177,7 @@ fn run_in_scope<
 /// The ends of all threads with the callers that were lent, all of which are back as nobody waits.
 fn with_lent<N: HubName>(
     ends: Ends<N>,
-    callers: Vec<Caller<N>>,
+    callers: Vec<LentCaller<N>>,
     lent: u8,
 ) -> Result<Ends<N>, RunFault>
     ensures all { IfOk result (λ e. (e ≡ record ends { lent = callers }) × (length callers.items ≡ lent)) }

@@ -12,7 +12,7 @@ ghost use Rattle.cmwq_engine.specs.Ended.{AreNewcomers, CalledAt, FailsAs, Worke
 use crate::crew::Crew;
 use crate::ends::{CallerEnd, Calls, RunsWork, WorkerEnd, call_all, work_all};
 use cmwq_model::Shape;
-use cmwq_rt::{Caller, Hub, HubName, Lent, Participants, RunFault, Work, Worker};
+use cmwq_rt::{Caller, Hub, HubName, Lent, LentCaller, Participants, RunFault, Work, Worker};
 use std::alloc::Global;
 use std::marker::PhantomData;
 use std::snapshot::Snapshot;
@@ -109,7 +109,7 @@ pub(crate) fn lend_callers<N: HubName, R: Wait>(
             Ok(caller) => caller,
             Err(fault) => return Err(fault),
         };
-        lent.give(rt, caller);
+        lent.give(rt, LentCaller::new(caller));
     }
     Ok(())
 }

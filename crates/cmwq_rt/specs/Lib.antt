@@ -7,4 +7,5 @@ pub mod Starting
 pub mod Running
 pub mod Batches
 pub mod Waiting
+pub mod Lent
 pub mod Prelude

@@ -24,3 +24,4 @@ pub use Rattle.cmwq_rt.specs.Starting.{HasStarted}
 pub use Rattle.cmwq_rt.specs.Running.{Running, fault_after, breaks_off, MakesOne, Behavior, RunsItem, EndsRun}
 pub use Rattle.cmwq_rt.specs.Running.{RunsInTurn, HasWorked, IsNextStart}
 pub use Rattle.cmwq_rt.specs.Waiting.{SleepsThrough, HasWaited, is_refusal, IsOfRun, fault_after_wait}
+pub use Rattle.cmwq_rt.specs.Lent.{HasOnlyWaited, WaitsInTurn}

@@ -36,7 +36,7 @@ pub use cmwq_publish::HubName;
 pub use completion::Completion;
 pub use gates::{Gate, Gates};
 pub use hub::Hub;
-pub use lent::Lent;
+pub use lent::{Lent, LentCaller};
 pub use participants::Participants;
 pub use parts::HubParts;
 pub use wait_fault::WaitFault;

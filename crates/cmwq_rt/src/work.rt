@@ -531,6 +531,7 @@ impl<'a, N: HubName, R: Wait> RunCtx<'a, N, R> {
         requires callers { is_callers call ≡ true }
         requires numbers { has_numbers N.layout call ≡ true }
         requires waits { is_tick call ≡ false }
+        requires kind { is_wait call ≡ true }
         ensures later { Later self.old.participant self.new.participant }
         ensures waited { IfOk result
             (λ reply. SleepsThrough N.layout self.old.participant call reply self.new.participant) }

@@ -5,7 +5,7 @@ use Rattle.cmwq_monitor.specs.Held.{active_in}
 use Rattle.cmwq_monitor.specs.declared.fault.RunFault.{RunFault}
 use Rattle.cmwq_monitor.specs.declared.fault.RunFault.TheVariants.{Full, NoPlace, Unfinished}
 use Rattle.cmwq_rt.proofs.Following.{follows_later}
-use Rattle.cmwq_engine.specs.Ended.{CalledIn, AllCalled, AreSilent, IsRestOfLeft}
+use Rattle.cmwq_engine.specs.Ended.{CalledIn, AllCalled, AllWaited, AreSilent, IsRestOfLeft}
 use Rattle.cmwq_engine.specs.Ended.{FailsAs as CrewFails, IsLeft as CrewLeaves}
 use Rattle.cmwq_engine.specs.declared.crew.Roster.{Roster}
 use Rattle.cmwq_rt_journal.specs.Journaled.{WritesLeft}
@@ -72,6 +72,7 @@ pub leaves : (s : Layout) (does : Behavior) (all : List (Vec Call Global)) (lent
 leaves s does all lent full h left = record {
   legal = left.legal;
   follow = all_follow s all full h left.called;
+  waited = subst (λ (n : ℕ). AllWaited s n lent h) (sym (length-map all (λ x. x.items))) left.waited;
   worked = left.worked;
   silent = subst (λ (n : ℕ). AreSilent s n h) (same_number all lent) left.silent;
   finished = left.finished;

@@ -20,11 +20,13 @@ use Rattle.cmwq_engine.specs.declared.gather.Tally.{Tally}
 use Rattle.cmwq_monitor.specs.declared.fault.RunFault.{RunFault}
 use Rattle.cmwq_service.specs.declared.fault.Fault.{Fault}
 use Rattle.cmwq_service.specs.Calls.{GoesOn}
-use Rattle.cmwq_service.specs.Serving.{Conduct, HasCalled, CalledIn, IsRestOfServed, IsServed, own_callers}
+use Rattle.cmwq_service.specs.Serving.{Conduct, HasCalled, CalledIn, HasOnlyTicked, IsRestOfServed, IsServed}
+use Rattle.cmwq_service.specs.Serving.{TickedIn, own_callers}
 
 -- what the callers of a service do, as a crew
 abbrev pub calls_of : ℕ → Conduct → CrewConduct
-calls_of waits does s k full v = k + own_callers + waits < s.callers → ∥ HasCalled s does k v ∥₁
+calls_of waits does s k full v = (k + own_callers + waits < s.callers → ∥ HasCalled s does k v ∥₁)
+    × (k + own_callers + waits ≡ s.callers → HasOnlyTicked s (newcomer (caller_numbered k)) v)
 
 -- and which callers it uses
 abbrev pub roles_of : ℕ → Layout → Roster
@@ -57,7 +59,7 @@ served s waits does k full h x called =
 
 called_in : (s : Layout) (waits : ℕ) (does : Conduct) (k full : ℕ) (h : List Entry)
     → HasDone s (calls_of waits does) k full h → k + own_callers + waits < s.callers → ∥ CalledIn s does k h ∥₁
-called_in s waits does k full h x own = ∥∥₁_map (x.did own) (served s waits does k full h x)
+called_in s waits does k full h x own = ∥∥₁_map (x.did.0 own) (served s waits does k full h x)
 
 -- each of so many callers, from this one on
 called_from : (s : Layout) (waits : ℕ) (does : Conduct) (first many full : ℕ) (h : List Entry)
@@ -72,6 +74,28 @@ called_from s waits does first (suc many) full h (a, b, here, rest, sum) (suc j)
     subst (λ (k : ℕ). ∥ CalledIn s does k h ∥₁) same
     (called_from s waits does (suc first) many b h rest j (omega (arith, few)) (omega (arith, own)))
 
+-- the caller that stands so far behind one of these
+called_at : (s : Layout) (calls : CrewConduct) (first many full : ℕ) (h : List Entry)
+    → AllCalled s calls first many full h → (j : ℕ) → j < many → (n : ℕ) × HasDone s calls (first + j) n h
+called_at s calls first zero full h all j few = absurd (omega (arith, few))
+called_at s calls first (suc many) full h (a, b, here, rest, sum) zero few =
+    let same : first ≡ first + 0 = omega arith in
+    subst (λ (k : ℕ). (n : ℕ) × HasDone s calls k n h) same (a, here)
+called_at s calls first (suc many) full h (a, b, here, rest, sum) (suc j) few =
+    let same : suc first + j ≡ first + suc j = omega arith in
+    subst (λ (k : ℕ). (n : ℕ) × HasDone s calls k n h) same
+    (called_at s calls (suc first) many b h rest j (omega (arith, few)))
+
+-- the clock's entries in the whole history are those of its ticks
+ticked_in : (s : Layout) (waits : ℕ) (does : Conduct) (k full : ℕ) (h : List Entry)
+    → HasDone s (calls_of waits does) k full h → k + own_callers + waits ≡ s.callers → TickedIn s k h
+ticked_in s waits does k full h x is = record {
+  last = x.last;
+  ticked = x.did.1 is;
+  older = x.older;
+  own = x.own;
+}
+
 pub is_served : (s : Layout) (waits : ℕ) (does : Layout → Behavior) (calls : Conduct) (full : ℕ) (h : List Entry)
     → IsLeft s (does s) (calls_of waits calls) (roles_of waits s) full h → IsServed s waits calls does h
 is_served s waits does calls full h left = record {
@@ -82,6 +106,13 @@ is_served s waits does calls full h left = record {
       subst (λ (n : ℕ). ∥ CalledIn s calls n h ∥₁) same
       (called_from s waits calls 0 (s.callers - waits) full h left.called k (omega (arith, own))
       (omega (arith, own))));
+  ticked = (λ k is.
+      let same : 0 + k ≡ k = omega arith in
+      let few : k < s.callers - waits = omega (arith, is) in
+      let at = called_at s (calls_of waits calls) 0 (s.callers - waits) full h left.called k few in
+      subst (λ (n : ℕ). n + own_callers + waits ≡ s.callers → TickedIn s n h) same
+      (ticked_in s waits calls (0 + k) at.0 h at.1) is);
+  waited = left.waited;
   worked = left.worked;
 }
 
@@ -109,15 +140,27 @@ served_outcome s waits does calls first es ended (Ok t) same left =
 served_outcome s waits does calls first es ended (Err f) same left = tt
 
 -- what is told to the hub's other threads
-pub told_called : (s : Layout) (waits : ℕ) (does : Conduct) (k : ℕ) (v : View) (o : Result (Unit {0}) Fault)
-    (told : Result ℕ RunFault) → OnOk told (o ≡ Ok tt) → OnOk o (∥ HasCalled s does k v ∥₁)
+pub told_called : (s : Layout) (waits : ℕ) (does : Conduct) (k all : ℕ) (v : View) (o : Result (Unit {0}) Fault)
+    (told : Result ℕ RunFault) → all ≡ s.callers - waits - own_callers → k < all → OnOk told (o ≡ Ok tt)
+    → OnOk o (∥ HasCalled s does k v ∥₁) → IfOk told (λ full. calls_of waits does s k full v)
+told_called s waits does k all v o (Ok n) is less ok called =
+    (λ own. subst (λ r. OnOk r (∥ HasCalled s does k v ∥₁)) ok called, λ same. absurd (omega (arith, is, less, same)))
+told_called s waits does k all v o (Err f) is less ok called = tt
+
+pub told_ticked : (s : Layout) (waits : ℕ) (does : Conduct) (k all : ℕ) (a v : View) (o : Result (Unit {0}) Fault)
+    (told : Result ℕ RunFault) → all ≡ s.callers - waits - own_callers → k ≡ all → OnOk told (o ≡ Ok tt)
+    → a ≡ newcomer (caller_numbered k) → OnOk o (HasOnlyTicked s a v)
     → IfOk told (λ full. calls_of waits does s k full v)
-told_called s waits does k v o (Ok n) ok called = λ own. subst (λ r. OnOk r (∥ HasCalled s does k v ∥₁)) ok called
-told_called s waits does k v o (Err f) ok called = tt
+told_ticked s waits does k all a v o (Ok n) is same ok fresh ticked = (
+  λ own. absurd (omega (arith, is, same, own)),
+  λ last. subst (λ b. HasOnlyTicked s b v) fresh (subst (λ r. OnOk r (HasOnlyTicked s a v)) ok ticked),
+)
+told_ticked s waits does k all a v o (Err f) is same ok fresh ticked = tt
 
 pub told_of_helper : (s : Layout) (waits : ℕ) (does : Conduct) (k all : ℕ) (v : View) (told : Result ℕ RunFault)
-    → all ≡ s.callers - waits - own_callers → all ≤ k → IfOk told (λ full. calls_of waits does s k full v)
-told_of_helper s waits does k all v (Ok n) is more = λ own. absurd (omega (arith, is, more, own))
+    → all ≡ s.callers - waits - own_callers → all < k → IfOk told (λ full. calls_of waits does s k full v)
+told_of_helper s waits does k all v (Ok n) is more =
+    (λ own. absurd (omega (arith, is, more, own)), λ same. absurd (omega (arith, is, more, same)))
 told_of_helper s waits does k all v (Err f) is more = tt
 
 pub nothing_made : (s : Layout) (es : List Entry) → es ≡ [] → IsReliable s (past_of es)

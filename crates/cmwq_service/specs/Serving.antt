@@ -1,11 +1,15 @@
 -- What the run of a service leaves.
-use Rattle.std.specs.Prelude.{◌≡◌, ◌+◌, ◌<◌, ℕ, List, drop}
+use Rattle.std.specs.Prelude.{◌≡◌, ◌+◌, ◌-◌, ◌<◌, ℕ, List, drop}
+use Rattle.std.proofs.Common.{zero, suc}
 use mathlib.Core.List.{IsPrefix}
-use Rattle.cmwq_model.specs.Prelude.{Layout, past_of}
+use Rattle.cmwq_model.specs.Prelude.{Layout, past_of, serial_of}
+use Rattle.cmwq_model.specs.declared.call.Call.TheVariants as call
+use Rattle.cmwq_model.specs.declared.reply.Reply.{Reply}
+use Rattle.cmwq_monitor.specs.Whole.{Completes}
 use Rattle.cmwq_model.specs.declared.entry.Entry.{Entry}
 use Rattle.cmwq_rt.specs.Running.{Behavior}
 use Rattle.cmwq_engine.specs.Conduct.{caller_numbered}
-use Rattle.cmwq_engine.specs.Ended.{AllWorked}
+use Rattle.cmwq_engine.specs.Ended.{AllWaited, AllWorked}
 use Rattle.cmwq_core.specs.Relied.{IsReliable}
 use Rattle.cmwq_monitor.specs.Held.{active_in}
 use Rattle.cmwq_monitor.specs.Participants.{View, Gains, newcomer, made_by}
@@ -33,14 +37,35 @@ pub record CalledIn (s : Layout) (calls : Conduct) (k : ℕ) (history : List Ent
   pub older : IsPrefix last.seen history
   pub own : made_by (caller_numbered k) history ≡ entries
 
+-- so many ticks, one after another, each with the fires that it made
+abbrev pub TicksInTurn : Layout → ℕ → View → View → Type 0
+TicksInTurn s zero v w = w ≡ v
+TicksInTurn s (suc n) v w = (before : View) × (r : Reply) × TicksInTurn s n v before
+    × Completes s before (call.Tick 1) r w
+
+-- a caller has made the entries of ticks, and no others
+pub record HasOnlyTicked (s : Layout) (v w : View) : Type 0 where
+  pub ticks : ℕ
+  pub in_turn : TicksInTurn s ticks v w
+
+-- This caller's entries in a history are those of ticks, and it has no others there.
+pub record TickedIn (s : Layout) (k : ℕ) (history : List Entry) : Type 0 where
+  pub last : View
+  pub ticked : HasOnlyTicked s (newcomer (caller_numbered k)) last
+  pub older : IsPrefix last.seen history
+  pub own : serial_of (past_of history) (caller_numbered k) ≡ last.serial
+
 -- A history that a service leaves, whose shape's last callers, so many, are lent to runs that wait: all that a user
 -- relies on holds of it, no active queueing is open at its end, each of its callers did what the service says and made
--- no other entries, and each worker's entries are runs, in each of which its item did what the service says.
+-- no other entries, the clock made ticks alone, the entries of each caller that is lent are those of whole waits of
+-- runs, and each worker's entries are runs, in each of which its item did what the service says.
 pub record IsServed (s : Layout) (waits : ℕ) (calls : Conduct) (does : Layout → Behavior) (history : List Entry) : Type
     0 where
   pub reliable : IsReliable s (past_of history)
   pub finished : active_in s history ≡ 0
   pub called : (k : ℕ) → k + own_callers + waits < s.callers → ∥ CalledIn s calls k history ∥₁
+  pub ticked : (k : ℕ) → k + own_callers + waits ≡ s.callers → TickedIn s k history
+  pub waited : AllWaited s (s.callers - waits) waits history
   pub worked : AllWorked s (does s) history
 
 -- what a hub kept of a history that a service leaves, after its first so many entries

@@ -39,6 +39,7 @@ fn give_all<S: Service>(
         → IfOk result (λ history. IsServed s waits S.calls S.does history.items) }
     ensures stopped { (s : Layout) → IsRest s rest.first rest.entries.items
         → IfErr result (λ stopped. IsReliable s (past_of stopped.history.items)) }
+    ensures whole { rest.first ≡ 0 → IfErr result (λ stopped. stopped.history ≡ rest.entries) }
 {
     let Rest { first, entries } = rest;
     // no journal took any
