@@ -1,5 +1,5 @@
 -- What the run of a service leaves.
-use Rattle.std.specs.Prelude.{◌≡◌, ◌+◌, ◌-◌, ◌<◌, ℕ, List, drop}
+use Rattle.std.specs.Prelude.{◌≡◌, ◌⊎◌, ◌+◌, ◌-◌, ◌<◌, ℕ, List, drop}
 use Rattle.std.proofs.Common.{zero, suc}
 use mathlib.Core.List.{IsPrefix}
 use Rattle.cmwq_model.specs.Prelude.{Layout, past_of, serial_of}
@@ -18,6 +18,14 @@ use Rattle.cmwq_service.specs.Calls.{Continues}
 -- what a caller of this place does in a hub of this shape, as a relation of what it saw at first and at last
 abbrev pub Conduct : Type 1
 Conduct = ℕ → Layout → View → View → Type 0
+
+-- what the caller does that comes at the end
+abbrev pub Ending : Type 1
+Ending = Layout → View → View → Type 0
+
+-- it made nothing, or it did so
+abbrev pub may_end : Ending → Conduct
+may_end ends k s v w = (w ≡ v) ⊎ ends s v w
 
 -- how many callers of a shape are the library's own: the one that comes at the end, and that of the clock
 abbrev pub own_callers : ℕ
@@ -57,20 +65,22 @@ pub record TickedIn (s : Layout) (k : ℕ) (history : List Entry) : Type 0 where
 
 -- A history that a service leaves, whose shape's last callers, so many, are lent to runs that wait: all that a user
 -- relies on holds of it, no active queueing is open at its end, each of its callers did what the service says and made
--- no other entries, the clock made ticks alone, the entries of each caller that is lent are those of whole waits of
--- runs, and each worker's entries are runs, in each of which its item did what the service says.
-pub record IsServed (s : Layout) (waits : ℕ) (calls : Conduct) (does : Layout → Behavior) (history : List Entry) : Type
-    0 where
+-- no other entries, the clock made ticks alone, the last caller made nothing or did what the service says of its end,
+-- the entries of each caller that is lent are those of whole waits of runs, and each worker's entries are runs, in each
+-- of which its item did what the service says.
+pub record IsServed (s : Layout) (waits : ℕ) (calls : Conduct) (ends : Ending) (does : Layout → Behavior)
+    (history : List Entry) : Type 0 where
   pub reliable : IsReliable s (past_of history)
   pub finished : active_in s history ≡ 0
   pub called : (k : ℕ) → k + own_callers + waits < s.callers → ∥ CalledIn s calls k history ∥₁
   pub ticked : (k : ℕ) → k + own_callers + waits ≡ s.callers → TickedIn s k history
+  pub ended : (k : ℕ) → k + 1 + waits ≡ s.callers → ∥ CalledIn s (may_end ends) k history ∥₁
   pub waited : AllWaited s (s.callers - waits) waits history
   pub worked : AllWorked s (does s) history
 
 -- what a hub kept of a history that a service leaves, after its first so many entries
-pub record IsRestOfServed (s : Layout) (waits : ℕ) (calls : Conduct) (does : Layout → Behavior) (first : ℕ)
-    (rest : List Entry) : Type 0 where
+pub record IsRestOfServed (s : Layout) (waits : ℕ) (calls : Conduct) (ends : Ending) (does : Layout → Behavior)
+    (first : ℕ) (rest : List Entry) : Type 0 where
   pub history : List Entry
-  pub served : IsServed s waits calls does history
+  pub served : IsServed s waits calls ends does history
   pub rest_is : rest ≡ drop first history

@@ -5,7 +5,7 @@ ghost use Rattle.cmwq_rt.specs.Later.{Later};
 ghost use Rattle.cmwq_rt.specs.Running.{breaks_off};
 ghost use Rattle.cmwq_engine.specs.Conduct.{caller_numbered};
 ghost use Rattle.cmwq_service.specs.Calls.{GoesOn};
-ghost use Rattle.cmwq_service.specs.Serving.{HasCalled, HasOnlyTicked, own_callers};
+ghost use Rattle.cmwq_service.specs.Serving.{HasCalled, HasOnlyTicked, may_end, own_callers};
 
 use crate::builder::OWN_CALLERS;
 use crate::client::{Client, HubClient};
@@ -215,7 +215,9 @@ impl<'s, S: Service, R: Wait + Clock> Serving<'s, S, R> {
     }
 
     /// What comes when the service's callers have ended, if none of them gave up. Then the service is over.
-    fn end_all<N: HubName, C: Client>(&self, hub: &Hub<N>, client: &mut C) -> Result<(), Fault> {
+    fn end_all<N: HubName, C: Client>(&self, hub: &Hub<N>, client: &mut C) -> Result<(), Fault>
+        ensures { OnOk result (may_end S.ends 0 C.layout (C.view client.old) (C.view client.new)) }
+    {
         if self.signal.have_left(self.rt, hub) {
             self.service.end(self.rt, client)?;
         }
@@ -257,7 +259,8 @@ fn end_from<'s, B: Start, N: HubName, S: Service, R: Wait + Clock>(
     caller: Caller<N>,
 ) -> (Caller<N>, Result<(), Fault>)
     requires { caller ≡ B.start }
-    ensures { GoesOn B.start result.0 }
+    ensures goes { GoesOn B.start result.0 }
+    ensures did { OnOk result.1 (may_end S.ends 0 N.layout B.start result.0) }
 {
     let mut client: HubClient<N, B, R> = HubClient::new(serving.rt, hub, caller);
     let outcome = serving.end_all(hub, &mut client);
@@ -268,9 +271,13 @@ fn end_once<'s, N: HubName, S: Service, R: Wait + Clock>(
     serving: &Serving<'s, S, R>,
     hub: &Hub<N>,
     caller: Caller<N>,
+    number: u8,
 ) -> (Caller<N>, Result<(), Fault>)
-    ensures { result.0.who ≡ caller.who }
+    requires { caller ≡ newcomer (caller_numbered number) }
+    ensures same { result.0.who ≡ caller_numbered number }
+    ensures ended { OnOk result.1 (∥ HasCalled N.layout (may_end S.ends) number result.0 ∥₁) }
 {
+    let _number = number;
     end_from::<Brand, N, S, R>(serving, hub, caller)
 }
 
@@ -278,12 +285,13 @@ impl<'s, S: Service, R: Wait + Clock> Crew for Serving<'s, S, R> {
     ghost use Rattle.std.specs.Prelude.{◌≡◌, ◌+◌, ◌-◌, ◌<◌};
     ghost use Rattle.cmwq_monitor.specs.Participants.{newcomer};
     ghost use Rattle.cmwq_engine.specs.Conduct.{caller_numbered};
-    ghost use Rattle.cmwq_service.specs.Serving.{HasCalled, HasOnlyTicked, own_callers};
+    ghost use Rattle.cmwq_service.specs.Serving.{HasCalled, HasOnlyTicked, may_end, own_callers};
 
     ghost roles = { λ p s. record { threads = s.callers - p.waits; lent = p.waits } };
 
     ghost calls = { λ p s k _ v. (k + own_callers + p.waits < s.callers → ∥ HasCalled s S.calls k v ∥₁)
-        × (k + own_callers + p.waits ≡ s.callers → HasOnlyTicked s (newcomer (caller_numbered k)) v) };
+        × (k + own_callers + p.waits ≡ s.callers → HasOnlyTicked s (newcomer (caller_numbered k)) v)
+        × (k + 1 + p.waits ≡ s.callers → ∥ HasCalled s (may_end S.ends) k v ∥₁) };
 
     fn roster(&self, shape: &Shape) -> Roster {
         Roster {
@@ -292,7 +300,8 @@ impl<'s, S: Service, R: Wait + Clock> Crew for Serving<'s, S, R> {
         }
     }
 
-    #[tactic(auto, using(crate::proofs::Ending::told_called, crate::proofs::Ending::told_ticked, crate::proofs::Ending::told_of_helper))]
+    #[tactic(auto, using(crate::proofs::Ending::told_called, crate::proofs::Ending::told_ticked,
+        crate::proofs::Ending::told_ended))]
     fn call<N: HubName, Q: Wait>(
         &self,
         _rt: &Q,
@@ -311,7 +320,7 @@ impl<'s, S: Service, R: Wait + Clock> Crew for Serving<'s, S, R> {
             let (caller, outcome) = tick_once(self, hub, caller);
             return (caller, self.told(outcome));
         }
-        let (caller, outcome) = end_once(self, hub, caller);
+        let (caller, outcome) = end_once(self, hub, caller, number);
         (caller, self.told(outcome))
     }
 
