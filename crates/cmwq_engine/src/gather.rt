@@ -10,14 +10,14 @@ ghost use Rattle.cmwq_rt.specs.Places.{shares};
 ghost use Rattle.cmwq_rt.specs.Running.{breaks_off};
 ghost use Rattle.cmwq_engine.specs.Conduct.{caller_numbered};
 ghost use Rattle.cmwq_engine.specs.Ended.{AllCalled, AllWaited, AllWorked, AreNewcomers, AreSilent, CalledAt, CalledIn};
-ghost use Rattle.cmwq_engine.specs.Ended.{HaveCalled, HaveRun, HaveWorked, IsUnfinished, WaitedIn, WorkedFrom, WorkedIn};
-ghost use Rattle.cmwq_engine.specs.Ended.{is_silent, used};
+ghost use Rattle.cmwq_engine.specs.Ended.{HaveCalled, HaveRun, HaveWorked, IsUnfinished, WaitedIn, WorkedFrom};
+ghost use Rattle.cmwq_engine.specs.Ended.{WorkedIn, is_silent, used};
 
 use crate::crew::Crew;
 use crate::ends::{CallerEnd, WorkerEnd};
 use cmwq_monitor::Monitor;
 use cmwq_rt::ending::{settle_caller, settle_worker, share_of_caller, share_of_worker};
-use cmwq_rt::{Caller, HubName, LentCaller, RunFault, Work};
+use cmwq_rt::{Caller, HubName, LeftOut, LentCaller, RunFault, Work};
 use std::sync::ledger::Share;
 
 /// All threads, after they have ended, the callers that were lent, those that weren't used, and what no participant got
@@ -31,12 +31,13 @@ pub struct Ends<N: HubName> {
     pub rest: Share<N>,
 }
 
-/// How many entries all callers and workers of a run count as theirs, and how many calls were left out for want of
-/// room.
+/// How many entries all callers and workers of a run count as theirs, how many calls were left out for want of room,
+/// and how many waits runs left out.
 #[derive(Clone, Copy, Debug, PartialEq, Eq)]
 pub struct Tally {
     pub answered: u64,
     pub full: u64,
+    pub left_out: LeftOut,
 }
 
 /// The sum, which is below 2^64 as far as counts go.
@@ -105,56 +106,59 @@ fn gather_callers<N: HubName, C: Crew>(
     Ok((answered, full))
 }
 
-/// One worker more: how many entries it made.
+/// One worker more: how many entries it made, and how many waits its runs left out.
 fn gather_worker<N: HubName, W: Work>(
     monitor: &Monitor<N>,
     end: WorkerEnd<N>,
     work: &W,
     all: &mut Share<N>,
-) -> Result<u64, RunFault>
-    ensures share { IfOk result (λ n. (all.new.parts ≡ all.old.parts + 1) × (all.new.amount ≡ all.old.amount + n)) }
+) -> Result<(u64, LeftOut), RunFault>
+    ensures share { IfOk result (λ t. (all.new.parts ≡ all.old.parts + 1) × (all.new.amount ≡ all.old.amount + t.0)) }
     ensures fault { IfErr end.outcome (λ f. breaks_off f ≡ true) → IfErr result (λ f. is_silent f ≡ true) }
-    ensures worked { IfOk result (λ _. (x : ids.WorkerId)
-        → IfOk end.outcome (λ _. WorkedFrom N.layout (W.does work.now N.layout) (newcomer (whos.Worker x)) end.worker)
-        → WorkedIn N.layout (W.does work.now N.layout) x monitor.now.history) }
+    ensures worked { IfOk result (λ t. (x : ids.WorkerId)
+        → IfOk end.outcome
+        (λ w. WorkedFrom N.layout (W.does work.now N.layout) w.left_out (newcomer (whos.Worker x)) end.worker)
+        → WorkedIn N.layout (W.does work.now N.layout) x t.1 monitor.now.history) }
 {
     let _work = work;
     let WorkerEnd { worker, outcome } = end;
     let mut worker = worker;
     match outcome {
-        Ok(_) => {
+        Ok(worked) => {
             settle_worker(&mut worker, monitor)?;
             let made = worker.serial();
             all.merge(share_of_worker(worker));
-            Ok(made)
+            Ok((made, worked.left_out))
         }
         Err(fault) => Err(fault),
     }
 }
 
-/// All workers, the last one first.
+/// All workers, the last one first: how many entries they made, and how many waits their runs left out.
 fn gather_workers<N: HubName, W: Work>(
     monitor: &Monitor<N>,
     workers: Vec<WorkerEnd<N>>,
     work: &W,
     all: &mut Share<N>,
-) -> Result<u64, RunFault>
+) -> Result<(u64, LeftOut), RunFault>
     requires { HaveWorked N.layout (W.does work.now N.layout) workers.items }
-    ensures share { IfOk result (λ n. (all.new.parts ≡ all.old.parts + length workers.items)
-        × (all.new.amount ≡ all.old.amount + n)) }
+    ensures share { IfOk result (λ t. (all.new.parts ≡ all.old.parts + length workers.items)
+        × (all.new.amount ≡ all.old.amount + t.0)) }
     ensures fault { IfErr result (λ f. is_silent f ≡ true) }
-    ensures worked { IfOk result (λ _. AllWorked N.layout (W.does work.now N.layout) monitor.now.history) }
+    ensures worked { IfOk result (λ t. AllWorked N.layout (W.does work.now N.layout) t.1 monitor.now.history) }
 {
     let mut workers = workers;
     let mut answered = 0u64;
+    let mut left_out = LeftOut::none();
     for _ in 0..workers.len() {
         let Some(end) = workers.pop() else {
             unreachable!()
         };
-        let made = gather_worker(monitor, end, work, all)?;
+        let (made, of_worker) = gather_worker(monitor, end, work, all)?;
         answered = added(answered, made)?;
+        left_out = of_worker.plus(left_out);
     }
-    Ok(answered)
+    Ok((answered, left_out))
 }
 
 /// Where the lent caller stands whose number is this one after so many.
@@ -252,7 +256,7 @@ fn gather_idle<N: HubName, C: Crew>(
     Ok(())
 }
 
-/// What all count, which the ledger says is the history, and the calls that were left out.
+/// What all count, which the ledger says is the history, and the calls and the waits that were left out.
 pub(crate) fn gather<N: HubName, C: Crew, W: Work>(
     monitor: &mut Monitor<N>,
     ends: Ends<N>,
@@ -267,7 +271,7 @@ pub(crate) fn gather<N: HubName, C: Crew, W: Work>(
         (λ t. AllCalled N.layout (C.calls crew.now) 0 (C.roles crew.now N.layout).threads t.full monitor.old.history) }
     ensures waited { IfOk result (λ _. AllWaited N.layout (C.roles crew.now N.layout).threads
         (C.roles crew.now N.layout).lent monitor.old.history) }
-    ensures worked { IfOk result (λ _. AllWorked N.layout (W.does work.now N.layout) monitor.old.history) }
+    ensures worked { IfOk result (λ t. AllWorked N.layout (W.does work.now N.layout) t.left_out monitor.old.history) }
     ensures silent { IfOk result (λ _. AreSilent N.layout (used (C.roles crew.now N.layout)) monitor.old.history) }
     ensures finished { IfOk result (λ _. active_in N.layout monitor.old.history ≡ 0) }
     ensures fails { IfErr result
@@ -284,7 +288,7 @@ pub(crate) fn gather<N: HubName, C: Crew, W: Work>(
     let mut all = rest;
     let threads = callers.len();
     let (made, full) = gather_callers(monitor, callers, crew, &mut all)?;
-    let worked = gather_workers(monitor, workers, work, &mut all)?;
+    let (worked, left_out) = gather_workers(monitor, workers, work, &mut all)?;
     let waited = gather_lent(monitor, lent, threads, &mut all)?;
     gather_idle(monitor, idle, crew, &mut all)?;
     if monitor.active_count() != 0 {
@@ -293,5 +297,9 @@ pub(crate) fn gather<N: HubName, C: Crew, W: Work>(
     monitor.audit(&mut all);
     let of_threads = added(made, worked)?;
     let answered = added(of_threads, waited)?;
-    Ok(Tally { answered, full })
+    Ok(Tally {
+        answered,
+        full,
+        left_out,
+    })
 }

@@ -4,6 +4,7 @@ pub mod Places
 pub mod Scripts
 pub mod Ending
 pub mod Starting
+pub mod Sums
 pub mod Running
 pub mod Batches
 pub mod Waiting

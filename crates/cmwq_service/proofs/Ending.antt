@@ -10,7 +10,7 @@ use Rattle.cmwq_model.specs.declared.entry.Entry.{Entry}
 use Rattle.cmwq_model.proofs.Growing.{nothing_is_legal}
 use Rattle.cmwq_monitor.proofs.Entries.{made_length, made_same}
 use Rattle.cmwq_monitor.specs.Participants.{View, newcomer, made_by}
-use Rattle.cmwq_rt.specs.Running.{Behavior}
+use Rattle.cmwq_rt.specs.declared.left_out.LeftOut.{LeftOut}
 use Rattle.cmwq_engine.specs.Conduct.{caller_numbered}
 use Rattle.cmwq_engine.specs.Conduct.{Conduct as CrewConduct}
 use Rattle.cmwq_engine.specs.Ended.{AllCalled, IsLeft, IsRest, IsRestOfLeft}
@@ -21,7 +21,7 @@ use Rattle.cmwq_monitor.specs.declared.fault.RunFault.{RunFault}
 use Rattle.cmwq_service.specs.declared.fault.Fault.{Fault}
 use Rattle.cmwq_service.specs.Calls.{GoesOn}
 use Rattle.cmwq_service.specs.Serving.{CalledIn, Conduct, HasCalled, HasOnlyTicked, IsRestOfServed, IsServed}
-use Rattle.cmwq_service.specs.Serving.{TickedIn, may_end, own_callers}
+use Rattle.cmwq_service.specs.Serving.{ItemConduct, TickedIn, behaves, may_end, own_callers}
 use Rattle.cmwq_service.specs.Serving.{Ending as EndConduct}
 
 -- what the callers of a service do, as a crew
@@ -82,10 +82,11 @@ ticked_in : (s : Layout) (calls : CrewConduct) (k full : ℕ) (h : List Entry) (
     → HasOnlyTicked s (newcomer (caller_numbered k)) x.last → TickedIn s k h
 ticked_in s calls k full h x ticked = record { last = x.last; ticked = ticked; older = x.older; own = x.own }
 
-pub is_served : (s : Layout) (waits : ℕ) (does : Layout → Behavior) (calls : Conduct) (ends : EndConduct) (full : ℕ)
-    (h : List Entry) → IsLeft s (does s) (calls_of waits calls ends) (roles_of waits s) full h
+pub is_served : (s : Layout) (waits : ℕ) (does : ItemConduct) (calls : Conduct) (ends : EndConduct) (full : ℕ)
+    (l : LeftOut) (h : List Entry)
+    → IsLeft s (behaves does s) (calls_of waits calls ends) (roles_of waits s) full l h
     → IsServed s waits calls ends does h
-is_served s waits does calls ends full h left =
+is_served s waits does calls ends full l h left =
     let crew = calls_of waits calls ends in
     let many = s.callers - waits in
     record {
@@ -101,31 +102,33 @@ is_served s waits does calls ends full h left =
           let at = called_at s crew many full h left.called k (omega (arith, is)) in
           ∥∥₁_map (at.1.did.1.1 is) (served s crew (may_end ends) k at.0 h at.1));
       waited = left.waited;
-      worked = left.worked;
+      worked = (l, left.worked);
     }
 
-pub rest_of_served : (s : Layout) (waits : ℕ) (does : Layout → Behavior) (calls : Conduct) (ends : EndConduct)
-    (entries full first : ℕ) (es : List Entry)
-    → IsRestOfLeft s (does s) (calls_of waits calls ends) (roles_of waits s) entries full first es
+pub rest_of_served : (s : Layout) (waits : ℕ) (does : ItemConduct) (calls : Conduct) (ends : EndConduct)
+    (entries full : ℕ) (l : LeftOut) (first : ℕ) (es : List Entry)
+    → IsRestOfLeft s (behaves does s) (calls_of waits calls ends) (roles_of waits s) entries full l first es
     → IsRestOfServed s waits calls ends does first es
-rest_of_served s waits does calls ends entries full first es rest =
+rest_of_served s waits does calls ends entries full l first es rest =
     record {
       history = rest.history;
-      served = is_served s waits does calls ends full rest.history rest.left;
+      served = is_served s waits does calls ends full l rest.history rest.left;
       rest_is =
           rest.rest_is;
     }
 
 -- how a service ended whose hub's threads ended so
-pub served_outcome : (s : Layout) (waits : ℕ) (does : Layout → Behavior) (calls : Conduct) (ends : EndConduct)
+pub served_outcome : (s : Layout) (waits : ℕ) (does : ItemConduct) (calls : Conduct) (ends : EndConduct)
     (first : ℕ) (es : List Entry) (ended : Result Tally RunFault) (o : Result Tally Fault)
     → IfOk o (λ t. ended ≡ Ok t)
-    → IfOk ended (λ t. IsRestOfLeft s (does s) (calls_of waits calls ends) (roles_of waits s) t.answered t.full first es)
+    → IfOk ended (λ t. IsRestOfLeft s (behaves does s) (calls_of waits calls ends) (roles_of waits s) t.answered t.full
+    t.left_out first es)
     → OnOk o (IsRestOfServed s waits calls ends does first es)
 served_outcome s waits does calls ends first es ended (Ok t) same left =
-    rest_of_served s waits does calls ends t.answered t.full first es
+    rest_of_served s waits does calls ends t.answered t.full t.left_out first es
     (subst (λ r.
-    IfOk r (λ t. IsRestOfLeft s (does s) (calls_of waits calls ends) (roles_of waits s) t.answered t.full first es))
+    IfOk r (λ t. IsRestOfLeft s (behaves does s) (calls_of waits calls ends) (roles_of waits s) t.answered t.full
+    t.left_out first es))
     same left)
 served_outcome s waits does calls ends first es ended (Err f) same left = tt
 
@@ -176,7 +179,7 @@ whole_rest s first es none rest =
     subst (λ xs. IsReliable s (past_of xs)) (all_is_rest rest.history es first rest.rest_is none)
     (reliable s (past_of rest.history) rest.legal)
 
-pub whole_served : (s : Layout) (waits : ℕ) (calls : Conduct) (ends : EndConduct) (does : Layout → Behavior)
+pub whole_served : (s : Layout) (waits : ℕ) (calls : Conduct) (ends : EndConduct) (does : ItemConduct)
     (first : ℕ) (es : List Entry) → first ≡ 0 → IsRestOfServed s waits calls ends does first es
     → IsServed s waits calls ends does es
 whole_served s waits calls ends does first es none rest =

@@ -7,7 +7,9 @@ use Rattle.cmwq_model.specs.declared.call.Call.TheVariants as call
 use Rattle.cmwq_model.specs.declared.reply.Reply.{Reply}
 use Rattle.cmwq_monitor.specs.Whole.{Completes}
 use Rattle.cmwq_model.specs.declared.entry.Entry.{Entry}
+use Rattle.cmwq_model.specs.declared.id.ItemId.{ItemId}
 use Rattle.cmwq_rt.specs.Running.{Behavior}
+use Rattle.cmwq_rt.specs.declared.left_out.LeftOut.{LeftOut}
 use Rattle.cmwq_engine.specs.Conduct.{caller_numbered}
 use Rattle.cmwq_engine.specs.Ended.{AllWaited, AllWorked}
 use Rattle.cmwq_core.specs.Relied.{IsReliable}
@@ -22,6 +24,15 @@ Conduct = ℕ → Layout → View → View → Type 0
 -- what the caller does that comes at the end
 abbrev pub Ending : Type 1
 Ending = Layout → View → View → Type 0
+
+-- what one run of an item does in a hub of this shape, as a relation of what its worker saw when it began and when it
+-- had ended
+abbrev pub ItemConduct : Type 1
+ItemConduct = Layout → ItemId → View → View → Type 0
+
+-- so it does, however many waits it left out
+abbrev pub behaves : ItemConduct → Layout → Behavior
+behaves does s item l v w = does s item v w
 
 -- it made nothing, or it did so
 abbrev pub may_end : Ending → Conduct
@@ -68,7 +79,7 @@ pub record TickedIn (s : Layout) (k : ℕ) (history : List Entry) : Type 0 where
 -- no other entries, the clock made ticks alone, the last caller made nothing or did what the service says of its end,
 -- the entries of each caller that is lent are those of whole waits of runs, and each worker's entries are runs, in each
 -- of which its item did what the service says.
-pub record IsServed (s : Layout) (waits : ℕ) (calls : Conduct) (ends : Ending) (does : Layout → Behavior)
+pub record IsServed (s : Layout) (waits : ℕ) (calls : Conduct) (ends : Ending) (does : ItemConduct)
     (history : List Entry) : Type 0 where
   pub reliable : IsReliable s (past_of history)
   pub finished : active_in s history ≡ 0
@@ -76,10 +87,10 @@ pub record IsServed (s : Layout) (waits : ℕ) (calls : Conduct) (ends : Ending)
   pub ticked : (k : ℕ) → k + own_callers + waits ≡ s.callers → TickedIn s k history
   pub ended : (k : ℕ) → k + 1 + waits ≡ s.callers → ∥ CalledIn s (may_end ends) k history ∥₁
   pub waited : AllWaited s (s.callers - waits) waits history
-  pub worked : AllWorked s (does s) history
+  pub worked : (l : LeftOut) × AllWorked s (behaves does s) l history
 
 -- what a hub kept of a history that a service leaves, after its first so many entries
-pub record IsRestOfServed (s : Layout) (waits : ℕ) (calls : Conduct) (ends : Ending) (does : Layout → Behavior)
+pub record IsRestOfServed (s : Layout) (waits : ℕ) (calls : Conduct) (ends : Ending) (does : ItemConduct)
     (first : ℕ) (rest : List Entry) : Type 0 where
   pub history : List Entry
   pub served : IsServed s waits calls ends does history

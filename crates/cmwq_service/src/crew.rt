@@ -300,8 +300,7 @@ impl<'s, S: Service, R: Wait + Clock> Crew for Serving<'s, S, R> {
         }
     }
 
-    #[tactic(auto, using(crate::proofs::Ending::told_called, crate::proofs::Ending::told_ticked,
-        crate::proofs::Ending::told_ended))]
+    #[tactic(auto, using(crate::proofs::Ending::told_called, crate::proofs::Ending::told_ticked, crate::proofs::Ending::told_ended))]
     fn call<N: HubName, Q: Wait>(
         &self,
         _rt: &Q,
@@ -330,7 +329,9 @@ impl<'s, S: Service, R: Wait + Clock> Crew for Serving<'s, S, R> {
 }
 
 impl<'s, S: Service, R: Wait + Clock> Work for Serving<'s, S, R> {
-    ghost does = { λ _. S.does };
+    ghost use Rattle.cmwq_service.specs.Serving.{behaves};
+
+    ghost does = { λ _. behaves S.does };
 
     fn run<N: HubName, Q: Wait>(&self, item: ItemId, context: &mut RunCtx<N, Q>) {
         let outcome = run_in(self.rt, self.service, item, context);

@@ -13,9 +13,7 @@ use std::time::{Clock, Duration};
 /// so that all threads come to their end, and `run` answers the first one.
 pub trait Service {
     ghost use Rattle.std.specs.Prelude.{OnOk};
-    ghost use Rattle.cmwq_model.specs.Prelude.{Layout};
-    ghost use Rattle.cmwq_rt.specs.Running.{Behavior};
-    ghost use Rattle.cmwq_service.specs.Serving.{Conduct, Ending, may_end};
+    ghost use Rattle.cmwq_service.specs.Serving.{Conduct, Ending, ItemConduct, may_end};
 
     /// What a caller does, by its place, as a relation of its first and its last view. The history that `run` returns
     /// has it. A service that leaves it out states nothing.
@@ -27,7 +25,7 @@ pub trait Service {
 
     /// What one run of an item does, as a relation of its worker's first and last view. The history that `run` returns
     /// has it of each run. A service that leaves it out states nothing.
-    ghost does: { Layout → Behavior } = { λ _ _ _ _. Unit {0} };
+    ghost does: { ItemConduct } = { λ _ _ _ _. Unit {0} };
 
     /// Runs an item, in a worker's thread, once for each start of one of its queueings (the kernel's `work_func_t`).
     fn run<R: Wait + Clock, C: Context>(

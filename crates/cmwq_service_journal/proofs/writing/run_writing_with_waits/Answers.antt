@@ -17,4 +17,4 @@ returns-in-Ok-run_with_journal-clause-whole g c =
     let old = g.O.Sink.written c.args.output.now in
     let new = g.O.Sink.written c.run_with_journal.new.output in
     subst (λ (n : ℕ). WritesServed s n calls ends does entries old new) c.in-Ok.ensures
-    (writes_served s c.in-Ok.serving.waits does calls ends entries _ old new c.in-Ok-run_with_journal.ensures.whole)
+    (writes_served s c.in-Ok.serving.waits does calls ends entries _ _ old new c.in-Ok-run_with_journal.ensures.whole)

@@ -13,6 +13,7 @@ loop-k-preserved g c =
       later_trans v m w inv.0 c.in_ok-act.ensures.later,
       c.in_ok-act.ensures.done.0,
       c.in_ok-act.ensures.item ∙ inv.2,
-      act_next g.N.HubName.layout c.args.context.now.item c.loop-k.context.item c.args.actions.now c.loop-k.k _ v m w
-          lt inv.3 inv.2 c.in_ok-act.ensures.done.1,
+      act_next g.N.HubName.layout c.args.context.now.item c.loop-k.context.item c.args.actions.now c.loop-k.k _
+          c.args.context.now.left_out c.loop-k.context.left_out c.act.new.context.left_out v m w lt inv.3 inv.2
+          c.in_ok-act.ensures.done.1,
     )

@@ -7,5 +7,5 @@ abbrev pub invariant-loop-k : goal.invariant-loop-k
 invariant-loop-k g l =
     Later l.fn.context.participant l.context.participant × (l.context.fault ≡ None)
     × (l.context.item ≡ l.fn.context.item)
-    × ActInTurn g.N.HubName.layout l.fn.context.item (take l.k l.fn.actions) l.fn.context.participant
-    l.context.participant
+    × ActInTurn g.N.HubName.layout l.fn.context.item (take l.k l.fn.actions) l.fn.context.left_out l.context.left_out
+    l.fn.context.participant l.context.participant
