@@ -97,10 +97,10 @@ is_served s waits does calls ends full l h left =
           ∥∥₁_map (at.1.did.0 own) (served s crew calls k at.0 h at.1));
       ticked = (λ k is.
           let at = called_at s crew many full h left.called k (omega (arith, is)) in
-          ticked_in s crew k at.0 h at.1 (at.1.did.1.0 is));
+          ticked_in s crew k at.0 h at.1 (at.1.did.1 is));
       ended = (λ k is.
           let at = called_at s crew many full h left.called k (omega (arith, is)) in
-          ∥∥₁_map (at.1.did.1.1 is) (served s crew (may_end ends) k at.0 h at.1));
+          ∥∥₁_map (at.1.did.2 is) (served s crew (may_end ends) k at.0 h at.1));
       waited = left.waited;
       worked = (l, left.worked);
     }
@@ -144,27 +144,28 @@ told_called s waits does ends k all v o (Ok n) is less ok called = (
 )
 told_called s waits does ends k all v o (Err f) is less ok called = tt
 
-pub told_ticked : (s : Layout) (waits : ℕ) (does : Conduct) (ends : EndConduct) (k all : ℕ) (a v : View)
-    (o : Result (Unit {0}) Fault) (told : Result ℕ RunFault) → all ≡ s.callers - waits - own_callers → k ≡ all
-    → k < s.callers - waits → OnOk told (o ≡ Ok tt) → a ≡ newcomer (caller_numbered k)
-    → OnOk o (HasOnlyTicked s a v) → IfOk told (λ full. calls_of waits does ends s k full v)
-told_ticked s waits does ends k all a v o (Ok n) is same there ok fresh ticked = (
-  λ own. absurd (omega (arith, is, same, own)),
-  λ clock. subst (λ b. HasOnlyTicked s b v) fresh (subst (λ r. OnOk r (HasOnlyTicked s a v)) ok ticked),
-  λ last. absurd (omega (arith, is, same, there, last)),
-)
-told_ticked s waits does ends k all a v o (Err f) is same there ok fresh ticked = tt
-
-pub told_ended : (s : Layout) (waits : ℕ) (does : Conduct) (ends : EndConduct) (k all : ℕ) (v : View)
-    (o : Result (Unit {0}) Fault) (told : Result ℕ RunFault) → all ≡ s.callers - waits - own_callers → all < k
-    → OnOk told (o ≡ Ok tt) → OnOk o (∥ HasCalled s (may_end ends) k v ∥₁)
+pub told_ticked : (s : Layout) (waits : ℕ) (does : Conduct) (ends : EndConduct) (k all threads : ℕ) (a v : View)
+    (o : Result (Unit {0}) Fault) (told : Result ℕ RunFault) → all ≡ s.callers - waits - own_callers
+    → threads ≡ s.callers - waits → all ≤ k → k + 1 < threads → OnOk told (o ≡ Ok tt)
+    → a ≡ newcomer (caller_numbered k) → OnOk o (HasOnlyTicked s a v)
     → IfOk told (λ full. calls_of waits does ends s k full v)
-told_ended s waits does ends k all v o (Ok n) is more ok ended = (
+told_ticked s waits does ends k all threads a v o (Ok n) is many more less ok fresh ticked = (
   λ own. absurd (omega (arith, is, more, own)),
-  λ same. absurd (omega (arith, is, more, same)),
+  λ clock. subst (λ b. HasOnlyTicked s b v) fresh (subst (λ r. OnOk r (HasOnlyTicked s a v)) ok ticked),
+  λ last. absurd (omega (arith, many, less, last)),
+)
+told_ticked s waits does ends k all threads a v o (Err f) is many more less ok fresh ticked = tt
+
+pub told_ended : (s : Layout) (waits : ℕ) (does : Conduct) (ends : EndConduct) (k all threads : ℕ) (v : View)
+    (o : Result (Unit {0}) Fault) (told : Result ℕ RunFault) → all ≡ s.callers - waits - own_callers
+    → threads ≡ s.callers - waits → all ≤ k → threads ≤ k + 1 → OnOk told (o ≡ Ok tt)
+    → OnOk o (∥ HasCalled s (may_end ends) k v ∥₁) → IfOk told (λ full. calls_of waits does ends s k full v)
+told_ended s waits does ends k all threads v o (Ok n) is many more most ok ended = (
+  λ own. absurd (omega (arith, is, more, own)),
+  λ same. absurd (omega (arith, many, most, same)),
   λ last. subst (λ r. OnOk r (∥ HasCalled s (may_end ends) k v ∥₁)) ok ended,
 )
-told_ended s waits does ends k all v o (Err f) is more ok ended = tt
+told_ended s waits does ends k all threads v o (Err f) is many more most ok ended = tt
 
 pub nothing_made : (s : Layout) (es : List Entry) → es ≡ [] → IsReliable s (past_of es)
 nothing_made s es none =

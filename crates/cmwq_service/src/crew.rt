@@ -308,6 +308,7 @@ impl<'s, S: Service, R: Wait + Clock> Crew for Serving<'s, S, R> {
         caller: Caller<N>,
         number: u8,
     ) -> (Caller<N>, Result<u32, RunFault>) {
+        let threads = thread_callers(hub.shape(), self.waits);
         let all = service_callers(hub.shape(), self.waits);
         if number < all {
             let (caller, outcome) = call_once(self.rt, hub, self.service, caller, number);
@@ -315,7 +316,8 @@ impl<'s, S: Service, R: Wait + Clock> Crew for Serving<'s, S, R> {
             self.signal.leave(self.rt, hub);
             return (caller, told);
         }
-        if number == all {
+        // the last one comes at the end, also in a hub that has no more than one
+        if number + 1 < threads {
             let (caller, outcome) = tick_once(self, hub, caller);
             return (caller, self.told(outcome));
         }
