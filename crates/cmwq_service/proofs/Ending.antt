@@ -4,7 +4,7 @@ use Rattle.std.specs.Prelude.{OnOk, IfOk, ◌+◌, ◌-◌, ◌<◌, ◌≤◌}
 use Rattle.std.proofs.Math.Logic.{∥∥₁_map}
 use Rattle.cmwq_core.specs.Relied.{IsReliable}
 use Rattle.cmwq_core.proofs.Relied.{reliable}
-use Rattle.cmwq_model.specs.Prelude.{Layout, past_of, serial_of}
+use Rattle.cmwq_model.specs.Prelude.{Layout, past_of}
 unfoldable use Rattle.cmwq_model.specs.Prelude.{IsLegal}
 use Rattle.cmwq_model.specs.declared.entry.Entry.{Entry}
 use Rattle.cmwq_model.proofs.Growing.{nothing_is_legal}

@@ -1,5 +1,5 @@
 -- What the clock has made.
-use Rattle.std.proofs.Common.{◌≡◌, suc, refl}
+use Rattle.std.proofs.Common.{suc, refl}
 use Rattle.cmwq_model.specs.Prelude.{Layout}
 use Rattle.cmwq_model.specs.declared.call.Call.TheVariants as call
 use Rattle.cmwq_model.specs.declared.reply.Reply.{Reply}

@@ -92,7 +92,8 @@ pub fn run_served<'s, S: Service + Send + Sync, R: Threads + Wait + Sync, Q: Wai
     parts: HubParts,
     serving: &Serving<'s, S, Q>,
 ) -> Result<Vec<Entry>, Stopped>
-    ensures served { IfOk result (λ history. IsServed parts.shape serving.now.waits S.calls S.ends S.does history.items) }
+    ensures served { IfOk result
+        (λ history. IsServed parts.shape serving.now.waits S.calls S.ends S.does history.items) }
     ensures stopped { IfErr result (λ stopped. IsReliable parts.shape (past_of stopped.history.items)) }
 {
     let (rest, outcome) = run_parts(rt, alloc, parts, serving);

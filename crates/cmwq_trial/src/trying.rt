@@ -226,7 +226,8 @@ pub fn trial_with<S: Service + Send + Sync, R: Threads + Wait + Sync>(
     setup: &Setup,
     seed: u64,
 ) -> Result<Tried, Failure>
-    ensures served { IfOk result (λ tried. IsServed shape.now setup.now.waits S.calls S.ends S.does tried.history.items) }
+    ensures served { IfOk result
+        (λ tried. IsServed shape.now setup.now.waits S.calls S.ends S.does tried.history.items) }
     ensures failed { IfErr result (λ failure. IsReliableOf shape.now failure × (seed_of failure ≡ seed)) }
 {
     match turnstile_of(alloc, shape, setup, seed) {
