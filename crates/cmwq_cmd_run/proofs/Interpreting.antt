@@ -2,7 +2,7 @@
 use Rattle.cmwq_cmd_run.specs.Common.{◌≡◌, ◌∙◌, ℕ, ◌+◌, ◌<◌, List, [], ◌∷◌, ◌++◌, length, take, get_or, refl, sym}
 use Rattle.cmwq_cmd_run.specs.Common.{subst, inl, inr, Result, Ok, Err, IfOk, IfErr, Option, None, true, false, is_own}
 use Rattle.cmwq_cmd_run.specs.Common.{is_workers, Call, Layout, View, Refused, RunFault, Full, fault_after, has_numbers}
-use Rattle.cmwq_cmd_run.specs.Common.{Action}
+use Rattle.cmwq_cmd_run.specs.Common.{Action, LeftOut, no_waits}
 use Rattle.std.proofs.lemmas.List.{take_more}
 use Rattle.cmwq_model.specs.declared.reply.Reply.{Reply}
 use Rattle.cmwq_model.specs.declared.call.Call.TheVariants as call
@@ -10,21 +10,32 @@ use Rattle.cmwq_monitor.specs.Calls.{Extends}
 use Rattle.std.specs.Prelude.{◌⊎◌}
 use Rattle.cmwq_json_script.specs.declared.action.Action.TheVariants as action
 use Rattle.cmwq_rt.specs.Running.{MakesOne}
-use Rattle.cmwq_rt.specs.Waiting.{HadNoRoom, HasWaited, fault_after_wait, is_refusal, is_wait}
+use Rattle.cmwq_rt.specs.Waiting.{HadNoRoom, HasWaited, MayNotWait, fault_after_wait, is_refusal, is_wait}
+use Rattle.cmwq_rt.specs.Waiting.{left_out_after}
+use Rattle.cmwq_model.specs.declared.id.ItemId.{ItemId}
 use Rattle.cmwq_rt.specs.declared.wait_fault.WaitFault.{WaitFault}
 use Rattle.cmwq_rt.specs.declared.wait_fault.WaitFault.TheVariants as waits
 use Rattle.cmwq_cmd_run.specs.Interpreted.{Acts, ActInTurn, MakesIfRoom, SleepsOnce, WaitsIfMay}
 
 -- one action more
-act_more : (s : Layout) (xs : List Action) (a : Action) (v m w : View) → ActInTurn s xs v m → Acts s a m w
-    → ActInTurn s (xs ++ a ∷ []) v w
-act_more s [] a v m w same acts = (w, subst (λ u. Acts s a u w) same acts, refl)
-act_more s (b ∷ bs) a v m w (next, first, rest) acts = (next, first, act_more s bs a next m w rest acts)
+act_more : (s : Layout) (item : ItemId) (xs : List Action) (a : Action) (old middle new : LeftOut) (v m w : View)
+    → ActInTurn s item xs old middle v m → Acts s item a middle new m w → ActInTurn s item (xs ++ a ∷ []) old new v w
+act_more s item [] a old middle new v m w (same, none) acts = (
+  new,
+  w,
+  subst (λ l. Acts s item a l new v w) none (subst (λ u. Acts s item a middle new u w) same acts),
+  (refl, refl),
+)
+act_more s item (b ∷ bs) a old middle new v m w (between, next, first, rest) acts =
+    (between, next, first, act_more s item bs a between middle new next m w rest acts)
 
-pub act_next : (s : Layout) (xs : List Action) (k : ℕ) (d : Action) (v m w : View) → k < length xs
-    → ActInTurn s (take k xs) v m → Acts s (get_or xs k d) m w → ActInTurn s (take (k + 1) xs) v w
-act_next s xs k d v m w lt before acts =
-    rw (take_more xs k d lt) (act_more s (take k xs) (get_or xs k d) v m w before acts)
+pub act_next : (s : Layout) (item now : ItemId) (xs : List Action) (k : ℕ) (d : Action) (old middle new : LeftOut)
+    (v m w : View) → k < length xs → ActInTurn s item (take k xs) old middle v m → now ≡ item
+    → Acts s now (get_or xs k d) middle new m w → ActInTurn s item (take (k + 1) xs) old new v w
+act_next s item now xs k d old middle new v m w lt before same acts =
+    rw (take_more xs k d lt)
+    (act_more s item (take k xs) (get_or xs k d) old middle new v m w before
+    (subst (λ i. Acts s i (get_or xs k d) middle new m w) same acts))
 
 -- what answered, or had no room, made its entry if there was room
 made_if_room : (s : Layout) (c : Call) (v w : View) (answer : Result Reply RunFault)
@@ -59,47 +70,63 @@ slept_if s v m w r answer (Ok u) before middle after asleep made refused full no
     slept s v m w r answer before middle after asleep made refused full none kept is
 slept_if s v m w r answer (Err f) before middle after asleep made refused full none kept is = tt
 
--- what is left of a wait that was made, was refused or had no room, and the run has met no fault
-left_out : (s : Layout) (c : Call) (v w : View) (f : WaitFault) (before after : Option RunFault)
-    → (is_refusal f ≡ true → (w ≡ v) ⊎ MakesOne s v call.Wake w) → (f ≡ waits.Run Full → HadNoRoom s v w)
+-- a wait that was refused or had no room is counted, and the run has met no fault
+was_left_out : (s : Layout) (item : ItemId) (c : Call) (v w : View) (f : WaitFault) (before after : Option RunFault)
+    (old new : LeftOut) → (is_refusal f ≡ true → (w ≡ v) ⊎ MakesOne s v call.Wake w)
+    → (f ≡ waits.Run Full → HadNoRoom s v w)
+    → MayNotWait s (record { item = item; participant = v; fault = None; left_out = no_waits }) c f
     → (is_refusal f ≡ true) ⊎ (f ≡ waits.Run Full)
-    → before ≡ None → after ≡ fault_after_wait (Err f) before → (after ≡ None) × WaitsIfMay s v c w
-left_out s c v w waits.Itself before after refused full passes none is = (is ∙ none, inr (inl (refused refl)))
-left_out s c v w waits.Deadlock before after refused full passes none is = (is ∙ none, inr (inl (refused refl)))
-left_out s c v w waits.NoCaller before after refused full passes none is = (is ∙ none, inr (inl (refused refl)))
-left_out s c v w (waits.Run f) before after refused full (inl never) none is = absurd (cc never)
-left_out s c v w (waits.Run f) before after refused full (inr same) none is =
-    (subst (λ e. after ≡ fault_after_wait (Err e) before) same is ∙ none, inr (inr (full same)))
+    → before ≡ None → after ≡ fault_after_wait (Err f) before → new ≡ left_out_after (Err f) old
+    → (after ≡ None) × WaitsIfMay s item old new v c w
+was_left_out s item c v w waits.Itself before after old new refused full why passes none is counts =
+    (is ∙ none, inr (inl ((refused refl, (waits.Itself, refl, why)), counts)))
+was_left_out s item c v w waits.Deadlock before after old new refused full why passes none is counts =
+    (is ∙ none, inr (inl ((refused refl, (waits.Deadlock, refl, why)), counts)))
+was_left_out s item c v w waits.NoCaller before after old new refused full why passes none is counts =
+    (is ∙ none, inr (inl ((refused refl, (waits.NoCaller, refl, why)), counts)))
+was_left_out s item c v w (waits.Run f) before after old new refused full why (inl never) none is counts =
+    absurd (cc never)
+was_left_out s item c v w (waits.Run f) before after old new refused full why (inr same) none is counts = (
+  subst (λ e. after ≡ fault_after_wait (Err e) before) same is ∙ none,
+  inr (inr (full same, subst (λ e. new ≡ left_out_after (Err e) old) same counts)),
+)
 
-waits_or_not : (s : Layout) (c : Call) (v w : View) (answer : Result Reply WaitFault) (before after : Option RunFault)
+waits_or_not : (s : Layout) (item : ItemId) (c : Call) (v w : View) (answer : Result Reply WaitFault)
+    (before after : Option RunFault) (old new : LeftOut)
     → IfOk answer (λ r. HasWaited s v c r w)
     → IfErr answer (λ f. is_refusal f ≡ true → (w ≡ v) ⊎ MakesOne s v call.Wake w)
     → IfErr answer (λ f. f ≡ waits.Run Full → HadNoRoom s v w)
+    → IfErr answer (MayNotWait s (record { item = item; participant = v; fault = None; left_out = no_waits }) c)
     → IfErr answer (λ f. (is_refusal f ≡ true) ⊎ (f ≡ waits.Run Full))
-    → before ≡ None → after ≡ fault_after_wait answer before → (after ≡ None) × WaitsIfMay s v c w
-waits_or_not s c v w (Ok r) before after waited refused full passes none is = (is ∙ none, inl (r, waited))
-waits_or_not s c v w (Err f) before after waited refused full passes none is =
-    left_out s c v w f before after refused full passes none is
+    → before ≡ None → after ≡ fault_after_wait answer before → new ≡ left_out_after answer old
+    → (after ≡ None) × WaitsIfMay s item old new v c w
+waits_or_not s item c v w (Ok r) before after old new waited refused full why passes none is counts =
+    (is ∙ none, inl (r, waited, counts))
+waits_or_not s item c v w (Err f) before after old new waited refused full why passes none is counts =
+    was_left_out s item c v w f before after old new refused full why passes none is counts
 
 -- an action that waits
-acts_by_wait : (s : Layout) (c : Call) (v w : View) → is_own c ≡ true → has_numbers s c ≡ true → is_workers c ≡ false
-    → WaitsIfMay s v c w
-    → Acts s (action.Call c) v w
-acts_by_wait s c v w own numbers other left = rw own (rw numbers (rw other left))
+acts_by_wait : (s : Layout) (item : ItemId) (c : Call) (old new : LeftOut) (v w : View) → is_own c ≡ true
+    → has_numbers s c ≡ true → is_workers c ≡ false → WaitsIfMay s item old new v c w
+    → Acts s item (action.Call c) old new v w
+acts_by_wait s item c old new v w own numbers other left = rw own (rw numbers (rw other left))
 
-pub waits_if_may : (s : Layout) (c : Call) (v w : View) (answer : Result Reply WaitFault)
-    (passed : Result (Unit {0}) RunFault)
-    (before after : Option RunFault) → is_own c ≡ true → has_numbers s c ≡ true → is_workers c ≡ false
+pub waits_if_may : (s : Layout) (item : ItemId) (c : Call) (v w : View) (answer : Result Reply WaitFault)
+    (passed : Result (Unit {0}) RunFault) (before after : Option RunFault) (old new : LeftOut)
+    → is_own c ≡ true → has_numbers s c ≡ true → is_workers c ≡ false
     → IfOk answer (λ r. HasWaited s v c r w)
     → IfErr answer (λ f. is_refusal f ≡ true → (w ≡ v) ⊎ MakesOne s v call.Wake w)
     → IfErr answer (λ f. f ≡ waits.Run Full → HadNoRoom s v w)
+    → IfErr answer (MayNotWait s (record { item = item; participant = v; fault = None; left_out = no_waits }) c)
     → IfOk passed (λ _. IfErr answer (λ f. (is_refusal f ≡ true) ⊎ (f ≡ waits.Run Full)))
-    → before ≡ None → after ≡ fault_after_wait answer before
-    → IfOk passed (λ _. (after ≡ None) × Acts s (action.Call c) v w)
-waits_if_may s c v w answer (Ok u) before after own numbers other waited refused full passes none is =
-    let left = waits_or_not s c v w answer before after waited refused full passes none is in
-    (left.0, acts_by_wait s c v w own numbers other left.1)
-waits_if_may s c v w answer (Err f) before after own numbers other waited refused full passes none is = tt
+    → before ≡ None → after ≡ fault_after_wait answer before → new ≡ left_out_after answer old
+    → IfOk passed (λ _. (after ≡ None) × Acts s item (action.Call c) old new v w)
+waits_if_may s item c v w answer (Ok u) before after old new own numbers other waited refused full why passes none is
+    counts =
+    let left = waits_or_not s item c v w answer before after old new waited refused full why passes none is counts in
+    (left.0, acts_by_wait s item c old new v w own numbers other left.1)
+waits_if_may s item c v w answer (Err f) before after old new own numbers other waited refused full why passes none is
+    counts = tt
 
 -- a call that items make and workers don't is one by which a run waits
 pub own_waits : (c : Call) → is_own c ≡ true → is_workers c ≡ false → is_wait c ≡ true

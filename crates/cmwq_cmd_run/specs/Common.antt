@@ -14,3 +14,5 @@ pub use Rattle.cmwq_monitor.specs.Participants.{View}
 pub use Rattle.cmwq_monitor.specs.declared.fault.RunFault.{RunFault}
 pub use Rattle.cmwq_monitor.specs.declared.fault.RunFault.TheVariants.{Full}
 pub use Rattle.cmwq_rt.specs.Running.{Behavior, MakesOne, fault_after}
+pub use Rattle.cmwq_rt.specs.Sums.{no_waits, one_refused, one_without_room}
+pub use Rattle.cmwq_rt.specs.declared.left_out.LeftOut.{LeftOut}

@@ -1,9 +1,12 @@
 -- What a run of an item makes: what its actions make, in their order.
-use Rattle.std.specs.Prelude.{◌≡◌, ◌⊎◌, ◌&&◌, ◌∷◌}
+use Rattle.std.specs.Prelude.{◌≡◌, ◌⊎◌, ◌&&◌, ◌∷◌, true, None}
 use Rattle.cmwq_cmd_run.specs.Common.{List, [], MatchBool, MatchOption, slice_get, Call, Layout, has_numbers}
-use Rattle.cmwq_cmd_run.specs.Common.{is_workers, View, Refused, Full, Behavior, MakesOne, Action, is_own}
+use Rattle.cmwq_cmd_run.specs.Common.{is_workers, View, Refused, Full, Behavior, MakesOne, Action, is_own, LeftOut}
+use Rattle.cmwq_cmd_run.specs.Common.{no_waits, one_refused, one_without_room}
 use Rattle.cmwq_model.specs.declared.reply.Reply.{Reply}
-use Rattle.cmwq_rt.specs.Waiting.{HadNoRoom, HasWaited, IsAwake}
+use Rattle.cmwq_rt.specs.Waiting.{HadNoRoom, HasWaited, IsAwake, MayNotWait, is_refusal}
+use Rattle.cmwq_rt.specs.declared.wait_fault.WaitFault.{WaitFault}
+use Rattle.cmwq_model.specs.declared.id.ItemId.{ItemId}
 use Rattle.cmwq_model.specs.declared.call.Call.TheVariants as call
 use Rattle.cmwq_json_script.specs.declared.action.Action.TheVariants as action
 
@@ -16,25 +19,40 @@ abbrev pub SleepsOnce : Layout → View → View → Type 0
 SleepsOnce s v w = ((asleep : View) × MakesOne s v call.Sleep asleep × MakesIfRoom s asleep call.Wake w)
     ⊎ Refused s v call.Sleep Full w
 
--- A wait: by a caller that was lent to the run the call was made while it slept; or it was refused; or there was no
--- room for it.
-abbrev pub WaitsIfMay : Layout → View → Call → View → Type 0
-WaitsIfMay s v c w = ((r : Reply) × HasWaited s v c r w) ⊎ IsAwake s v w ⊎ HadNoRoom s v w
+-- The wait of an item's run was refused, with nothing made, but that a run that was asleep woke. There was a reason: it
+-- was for the run itself, or it could never end, as was found under the lock; or it might have ended, and no caller was
+-- left to be lent.
+abbrev pub IsRefused : Layout → ItemId → View → Call → View → Type 0
+IsRefused s item v c w = IsAwake s v w × ((f : WaitFault) × (is_refusal f ≡ true)
+    × MayNotWait s (record { item = item; participant = v; fault = None; left_out = no_waits }) c f)
+
+-- A wait of a run that had left out so many, `old`, and then has left out `new`: by a caller that was lent to the run
+-- the call was made while it slept; or it was refused; or there was no room for it.
+abbrev pub WaitsIfMay : Layout → ItemId → LeftOut → LeftOut → View → Call → View → Type 0
+WaitsIfMay s item old new v c w = ((r : Reply) × HasWaited s v c r w × (new ≡ old))
+    ⊎ (IsRefused s item v c w × (new ≡ one_refused old))
+    ⊎ (HadNoRoom s v w × (new ≡ one_without_room old))
 
 -- what a call of an item makes: its worker makes it, or the run waits
-abbrev pub Calls : Layout → View → Call → View → Type 0
-Calls s v c w = MatchBool (is_workers c) (MakesIfRoom s v c w) (WaitsIfMay s v c w)
+abbrev pub Calls : Layout → ItemId → LeftOut → LeftOut → View → Call → View → Type 0
+Calls s item old new v c w =
+    MatchBool (is_workers c) (MakesIfRoom s v c w × (new ≡ old)) (WaitsIfMay s item old new v c w)
 
--- One action: a call that makes no sense of a run is left out, and a gate is opened without an entry.
-abbrev pub Acts : Layout → Action → View → View → Type 0
-Acts s (action.Call c) v w = MatchBool (is_own c && has_numbers s c) (Calls s v c w) (w ≡ v)
-Acts s (action.Open gate) v w = w ≡ v
-Acts s (action.SleepAt gate) v w = SleepsOnce s v w
+-- One action of an item: a call that makes no sense of a run is left out, and a gate is opened without an entry.
+abbrev pub Acts : Layout → ItemId → Action → LeftOut → LeftOut → View → View → Type 0
+Acts s item (action.Call c) old new v w =
+    MatchBool (is_own c && has_numbers s c) (Calls s item old new v c w) ((w ≡ v) × (new ≡ old))
+Acts s item (action.Open gate) old new v w = (w ≡ v) × (new ≡ old)
+Acts s item (action.SleepAt gate) old new v w = SleepsOnce s v w × (new ≡ old)
 
-abbrev pub ActInTurn : Layout → List Action → View → View → Type 0
-ActInTurn s [] v w = w ≡ v
-ActInTurn s (first ∷ rest) v w = (next : View) × Acts s first v next × ActInTurn s rest next w
+-- actions in turn, of a run that had left out so many waits, `old`, and then has left out `new`
+abbrev pub ActInTurn : Layout → ItemId → List Action → LeftOut → LeftOut → View → View → Type 0
+ActInTurn s item [] old new v w = (w ≡ v) × (new ≡ old)
+ActInTurn s item (first ∷ rest) old new v w = (middle : LeftOut) × (next : View) × Acts s item first old middle v next
+    × ActInTurn s item rest middle new next w
 
 -- what the items of a script do, by their numbers
 abbrev pub plays : List (List Action) → Layout → Behavior
-plays does s item v w = MatchOption (slice_get does item.0) (w ≡ v) (λ actions. ActInTurn s actions v w)
+plays does s item l v w =
+    MatchOption (slice_get does item.0) ((w ≡ v) × (l ≡ no_waits))
+    (λ actions. ActInTurn s item actions no_waits l v w)

@@ -1,8 +1,8 @@
 -- What `run` reads, writes and answers.
-use Rattle.std.specs.Prelude.{◌≡◌, ◌⊎◌}
+use Rattle.std.specs.Prelude.{◌≡◌, ◌⊎◌, ◌+◌, ◌==◌, if◌then◌else◌}
 use Rattle.cmwq_cmd_run.specs.Common.{ℕ, zero, suc, IfSome, List, Result, Ok, Err, Option}
-use Rattle.cmwq_cmd_run.specs.Common.{None, Some, slice_get, MatchOption, Keeps, Appends, IsLegal, past_of, Says, IsNoJson}
-use Rattle.cmwq_cmd_run.specs.Common.{IsLong, RunFault, Run, run_said}
+use Rattle.cmwq_cmd_run.specs.Common.{Some, slice_get, MatchOption, Keeps, Appends, IsLegal, past_of, Says, IsNoJson}
+use Rattle.cmwq_cmd_run.specs.Common.{IsLong, LeftOut, RunFault, Run, run_said}
 use Rattle.cmwq_io.specs.Moves.{AppendsFront}
 use Rattle.cmwq_model.specs.declared.entry.Entry.{Entry}
 use Rattle.cmwq_text.specs.HistoryText.{text_of_format}
@@ -15,14 +15,12 @@ use Rattle.cmwq_cmd_run.specs.declared.failure.Failure.{Failure}
 use Rattle.cmwq_cmd_run.specs.declared.refusals.RefusedWaits.{RefusedWaits}
 use Rattle.cmwq_cmd_run.specs.declared.run.Done.{Done}
 use Rattle.cmwq_cmd_run.specs.declared.failure.Failure.TheVariants as failure
-use Rattle.cmwq_rt.specs.declared.wait_fault.WaitFault.{WaitFault}
-use Rattle.cmwq_rt.specs.declared.wait_fault.WaitFault.TheVariants as wait_fault
 
 -- A history that the run may leave: it is legal, each caller's entries follow its script but for so many calls in all
--- that had no room, each worker's are runs in which items did their actions, nobody else has any, and nothing active is
--- left behind.
-abbrev pub RunLeaves : Run → ℕ → List Entry → Type 0
-RunLeaves r full history = IsLeft r.layout (plays r.does r.layout) r.callers r.waits full history
+-- that had no room, those of each caller that is lent are of whole waits of runs, each worker's are runs in which items
+-- did their actions but for so many waits in all, nobody else has any, and nothing active is left behind.
+abbrev pub RunLeaves : Run → ℕ → LeftOut → List Entry → Type 0
+RunLeaves r full l history = IsLeft r.layout (plays r.does r.layout) r.callers r.waits full l history
 
 -- its text, in the format of the run
 abbrev pub text_of : Run → List Entry → List ℕ
@@ -31,12 +29,12 @@ text_of r history = text_of_format r.version r.layout history
 -- ---- what a run writes
 
 -- such a history, whole
-abbrev pub Writes : Run → ℕ → Option (List ℕ) → Option (List ℕ) → Type 0
-Writes r full old new = (history : List Entry) × RunLeaves r full history × Appends old new (text_of r history)
+abbrev pub Writes : Run → ℕ → LeftOut → Option (List ℕ) → Option (List ℕ) → Type 0
+Writes r full l old new = (history : List Entry) × RunLeaves r full l history × Appends old new (text_of r history)
 
 -- a front of it
 abbrev pub RunWritesFront : Run → Option (List ℕ) → Option (List ℕ) → Type 0
-RunWritesFront r old new = (full : ℕ) × (history : List Entry) × RunLeaves r full history
+RunWritesFront r old new = (full : ℕ) × (l : LeftOut) × (history : List Entry) × RunLeaves r full l history
     × AppendsFront old new (text_of r history)
 
 -- Where it breaks off: nothing; but with a journal, which writes as it goes, a front of a legal history, which it need
@@ -71,20 +69,26 @@ abbrev pub FailsOn : Run → Failure → Type 0
 FailsOn r (failure.Input fault.NoMemory) = Unit {0}
 FailsOn r (failure.Input f) = ⊥
 FailsOn r (failure.Run n) = FailsOf r (failure.Run n)
-FailsOn r (failure.Gate name full) = IsNamed r.gates name.bytes × ((history : List Entry) × RunLeaves r full history)
+FailsOn r (failure.Gate name full) = IsNamed r.gates name.bytes
+    × ((l : LeftOut) × (history : List Entry) × RunLeaves r full l history)
 
--- the item whose wait was refused first is one of the run's
-abbrev pub IsOf : Run → RefusedWaits → Type 0
-IsOf r waits = IsNamed r.names waits.item.bytes
+-- how many waits are told of: those that had no room if there are any, and else those that were refused
+abbrev pub told_count : LeftOut → ℕ
+told_count l = if l.without_room == 0 then l.refused else l.without_room
+
+-- the item whose wait is told is one of the run's, and so many more were left out for such a reason
+abbrev pub IsOf : Run → LeftOut → RefusedWaits → Type 0
+IsOf r l waits = IsNamed r.names waits.item.bytes × (waits.more + 1 ≡ told_count l)
 
 -- How the run of a script ends: it writes a history, or a failure stopped it. A gate is told of a run that came to its
 -- end, whose history a journal has written.
 abbrev pub ScriptEnds : Run → Option (List ℕ) → Option (List ℕ) → Result Done Failure → Type 0
-ScriptEnds r old new (Ok done) = Writes r done.full old new × IfSome done.refused (IsOf r)
+ScriptEnds r old new (Ok done) = Writes r done.full done.left_out old new × IfSome done.told (IsOf r done.left_out)
 ScriptEnds r old new (Err (failure.Input fault.WriteFault)) =
     MatchOption r.journal (RunWritesFront r old new) (λ kept. RunBreaksOff r old new)
 ScriptEnds r old new (Err (failure.Gate name full)) =
-    FailsOn r (failure.Gate name full) × MatchOption r.journal (Keeps old new) (λ kept. Writes r full old new)
+    FailsOn r (failure.Gate name full)
+    × MatchOption r.journal (Keeps old new) (λ kept. (l : LeftOut) × Writes r full l old new)
 ScriptEnds r old new (Err f) = FailsOn r f × RunBreaksOff r old new
 
 -- the text says a script, whose run ends so
@@ -108,15 +112,15 @@ failure_status (failure.Input f) = fault_status f
 failure_status (failure.Run n) = 5
 failure_status (failure.Gate name full) = 1
 
-abbrev pub wait_status : WaitFault → ℕ
-wait_status (wait_fault.Run f) = 4
-wait_status f = 6
+-- of so many calls and waits that had no room, and so many waits that were refused
+abbrev pub left_out_status : ℕ → ℕ → ℕ
+left_out_status zero zero = 0
+left_out_status zero (suc refused) = 6
+left_out_status (suc without_room) refused = 4
 
-abbrev pub done_status : ℕ → Option RefusedWaits → ℕ
-done_status zero None = 0
-done_status zero (Some waits) = wait_status waits.fault
-done_status (suc n) left_out = 4
+abbrev pub done_status : Done → ℕ
+done_status done = left_out_status (done.full + done.left_out.without_room) done.left_out.refused
 
 abbrev pub run_status : Result Done Failure → ℕ
-run_status (Ok done) = done_status done.full done.refused
+run_status (Ok done) = done_status done
 run_status (Err f) = failure_status f

@@ -1,5 +1,6 @@
 //! The work functions of a script: what each item does when it runs.
-ghost use Rattle.std.specs.Prelude.{◌≡◌, ◌⊎◌, true, false, map, string_bytes, IfOk, IfErr, IfSome, None, Some, Err};
+ghost use Rattle.std.specs.Prelude.{◌≡◌, ◌⊎◌, ◌+◌, true, false, map, string_bytes, IfOk, IfErr, IfSome, None, Some};
+ghost use Rattle.std.specs.Prelude.{Err};
 ghost use Rattle.cmwq_monitor.specs.Faults.{is_full};
 ghost use Rattle.cmwq_monitor.specs.declared.fault.RunFault.TheVariants.{Full};
 ghost use Rattle.cmwq_rt.specs.Later.{Later};
@@ -8,12 +9,12 @@ ghost use Rattle.cmwq_rt.specs.declared.wait_fault.WaitFault.TheVariants as wait
 ghost use Rattle.cmwq_json_script.specs.Scripts.{is_own};
 ghost use Rattle.cmwq_json_script.specs.declared.action.Action.TheVariants as actions;
 ghost use Rattle.cmwq_cmd_run.specs.Interpreted.{Acts, ActInTurn, SleepsOnce};
-ghost use Rattle.cmwq_cmd_run.specs.Run.{IsNamed};
+ghost use Rattle.cmwq_cmd_run.specs.Run.{IsNamed, told_count};
 
 use crate::refusals::{ActionId, Refusals, RefusedWaits};
 use cmwq_json_script::Action;
 use cmwq_model::{Call, ItemId, Reply};
-use cmwq_rt::{Gate, Gates, HubName, RunCtx, RunFault, WaitFault, Work};
+use cmwq_rt::{Gate, Gates, HubName, LeftOut, RunCtx, RunFault, WaitFault, Work};
 use std::sync::Wait;
 
 /// Runs an item by doing its actions, one after another.
@@ -70,14 +71,15 @@ impl<'a> Interpreter<'a> {
         self.gates.was_missed(rt, gate)
     }
 
-    /// What is told of the waits that were refused, if any were, by these names of the items.
-    pub fn refused<R: Wait>(&self, rt: &R, names: &[String]) -> Option<RefusedWaits>
-        ensures { IfSome result (λ waits. IsNamed (map string_bytes names.now) waits.item.bytes) }
+    /// What is told where so many waits were left out, by these names of the items.
+    pub fn told<R: Wait>(&self, rt: &R, names: &[String], left_out: LeftOut) -> Option<RefusedWaits>
+        ensures named { IfSome result (λ waits. IsNamed (map string_bytes names.now) waits.item.bytes) }
+        ensures count { IfSome result (λ waits. waits.more + 1 ≡ told_count left_out) }
     {
-        self.refusals.told(rt, names)
+        self.refusals.told(rt, names, left_out)
     }
 
-    /// A wait that is refused, or for which there is no room, is left out, and counted.
+    /// A wait that is refused, or for which there is no room, is left out, and noted.
     fn unless_refused<R: Wait>(
         &self,
         rt: &R,
@@ -117,7 +119,9 @@ impl<'a> Interpreter<'a> {
         ensures later { Later context.old.participant context.new.participant }
         ensures done { IfOk result
             (λ _. (context.new.fault ≡ None)
-            × Acts N.layout (actions.Call call) context.old.participant context.new.participant) }
+            × Acts N.layout context.old.item (actions.Call call) context.old.left_out context.new.left_out
+            context.old.participant context.new.participant) }
+        ensures item { context.new.item ≡ context.old.item }
         ensures broke { IfErr result (λ f. context.new.fault ≡ Some f) }
     {
         if !is_own(call) || !context.shape().has_numbers(call) {
@@ -140,6 +144,8 @@ impl<'a> Interpreter<'a> {
         ensures later { Later context.old.participant context.new.participant }
         ensures done { IfOk result
             (λ _. (context.new.fault ≡ None) × SleepsOnce N.layout context.old.participant context.new.participant) }
+        ensures item { context.new.item ≡ context.old.item }
+        ensures left_out { context.new.left_out ≡ context.old.left_out }
         ensures broke { IfErr result (λ f. context.new.fault ≡ Some f) }
     {
         let asleep = context.sleep();
@@ -159,7 +165,10 @@ impl<'a> Interpreter<'a> {
         requires { context.old.fault ≡ None }
         ensures later { Later context.old.participant context.new.participant }
         ensures done { IfOk result
-            (λ _. (context.new.fault ≡ None) × Acts N.layout action context.old.participant context.new.participant) }
+            (λ _. (context.new.fault ≡ None)
+            × Acts N.layout context.old.item action context.old.left_out context.new.left_out
+            context.old.participant context.new.participant) }
+        ensures item { context.new.item ≡ context.old.item }
         ensures broke { IfErr result (λ f. context.new.fault ≡ Some f) }
     {
         match action {
@@ -183,7 +192,8 @@ impl<'a> Interpreter<'a> {
         ensures later { Later context.old.participant context.new.participant }
         ensures done { IfOk result
             (λ _. (context.new.fault ≡ None)
-            × ActInTurn N.layout actions.now context.old.participant context.new.participant) }
+            × ActInTurn N.layout context.old.item actions.now context.old.left_out context.new.left_out
+            context.old.participant context.new.participant) }
         ensures broke { IfErr result (λ f. context.new.fault ≡ Some f) }
     {
         for k in 0..actions.len() {

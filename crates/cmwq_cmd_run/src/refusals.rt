@@ -1,10 +1,10 @@
-//! Waits of runs that were refused, and what is told of them.
-ghost use Rattle.std.specs.Prelude.{◌≡◌, map, string_bytes, IfSome};
-ghost use Rattle.cmwq_cmd_run.specs.Run.{IsNamed, wait_status};
+//! Waits of runs that were left out, and what is told of them.
+ghost use Rattle.std.specs.Prelude.{◌≡◌, ◌+◌, map, string_bytes, IfSome};
+ghost use Rattle.cmwq_cmd_run.specs.Run.{IsNamed, told_count};
 
 use arrayvec::ArrayString;
 use cmwq_model::ItemId;
-use cmwq_rt::WaitFault;
+use cmwq_rt::{LeftOut, WaitFault};
 use std::fmt;
 use std::fmt::{Display, Formatter, Write};
 use std::sync::{Mutex, Wait};
@@ -19,69 +19,68 @@ pub struct ActionId {
     pub action: usize,
 }
 
-/// The first of some waits, if there is any, and how many there are.
-#[derive(Clone, Copy, Drop)]
-struct Tally {
-    first: Option<(ActionId, WaitFault)>,
-    count: u64,
-}
+/// A wait that was left out: by which action, and why.
+type Refusal = (ActionId, WaitFault);
 
-const NONE: Tally = Tally {
-    first: None,
-    count: 0,
-};
-
-/// The waits that were left out so far, under locks: those that had no room, and those that were refused.
+/// The first of the waits that were left out so far, under locks: of those that had no room, and of those that were
+/// refused.
 #[derive(Drop)]
 pub struct Refusals {
-    without_room: Mutex<Tally>,
-    refused: Mutex<Tally>,
+    without_room: Mutex<Option<Refusal>>,
+    refused: Mutex<Option<Refusal>>,
 }
 
 impl Refusals {
     /// No wait.
     pub fn new() -> Refusals {
         Refusals {
-            without_room: Mutex::new(NONE),
-            refused: Mutex::new(NONE),
+            without_room: Mutex::new(None),
+            refused: Mutex::new(None),
         }
     }
 
     /// One more, by the action at this place.
     pub fn add<R: Wait>(&self, rt: &R, place: ActionId, fault: WaitFault) {
-        let tally = match fault {
+        let first = match fault {
             WaitFault::Run { .. } => &self.without_room,
             WaitFault::Itself | WaitFault::Deadlock | WaitFault::NoCaller => &self.refused,
         };
-        let mut tally = tally.lock(rt);
-        if tally.first.is_none() {
-            tally.first = Some((place, fault));
+        let mut first = first.lock(rt);
+        if first.is_none() {
+            *first = Some((place, fault));
         }
-        tally.count = tally.count.saturating_add(1);
     }
 
-    /// Those that had no room if there are any, and else those that were refused.
-    fn tally<R: Wait>(&self, rt: &R) -> Tally {
-        let without_room = *self.without_room.lock(rt);
-        if without_room.first.is_some() {
-            return without_room;
-        }
-        *self.refused.lock(rt)
-    }
-
-    /// What is told of them, if there are any, by these names of the items.
-    pub fn told<R: Wait>(&self, rt: &R, names: &[String]) -> Option<RefusedWaits>
-        ensures { IfSome result (λ waits. IsNamed (map string_bytes names.now) waits.item.bytes) }
+    /// What is told where so many were left out, by these names of the items: of those that had no room if there are
+    /// any, and else of those that were refused.
+    pub fn told<R: Wait>(&self, rt: &R, names: &[String], left_out: LeftOut) -> Option<RefusedWaits>
+        ensures named { IfSome result (λ waits. IsNamed (map string_bytes names.now) waits.item.bytes) }
+        ensures count { IfSome result (λ waits. waits.more + 1 ≡ told_count left_out) }
     {
-        let Tally { first, count } = self.tally(rt);
+        let first = match left_out.without_room {
+            0 => *self.refused.lock(rt),
+            _ => *self.without_room.lock(rt),
+        };
         let (place, fault) = first?;
+        let more = told_count(left_out).checked_sub(1)?;
         let name = names.get(usize::from(place.item.0))?;
         Some(RefusedWaits {
             item: ItemName::from(name.as_str()).ok()?,
             action: place.action,
             fault,
-            more: count.saturating_sub(1),
+            more,
         })
+    }
+}
+
+/// How many waits are told of, where so many were left out.
+fn told_count(left_out: LeftOut) -> u64
+    ensures { result ≡ told_count left_out }
+{
+    if left_out.without_room == 0 {
+        left_out.refused
+    } else {
+        left_out.without_room
     }
 }
 
@@ -92,18 +91,6 @@ pub struct RefusedWaits {
     pub action: usize,
     pub fault: WaitFault,
     pub more: u64,
-}
-
-impl RefusedWaits {
-    /// The exit status that tells of them: 4 no room, 6 refused.
-    pub fn status(&self) -> u8
-        ensures { result ≡ wait_status self.now.fault }
-    {
-        match self.fault {
-            WaitFault::Run { .. } => 4,
-            WaitFault::Itself | WaitFault::Deadlock | WaitFault::NoCaller => 6,
-        }
-    }
 }
 
 impl Display for RefusedWaits {

@@ -17,7 +17,8 @@ use cmwq_history::{tell_full, write_history};
 use cmwq_io::{Sink, Source, tell};
 use cmwq_json::{Fault, read_value};
 use cmwq_json_script::{Script, read_script};
-use cmwq_rt_scripts::{Report, Unwritten, run_scripts_lending, run_scripts_with_journal};
+use cmwq_rt::LeftOut;
+use cmwq_rt_scripts::{Report, Unwritten, Written, run_scripts_lending, run_scripts_with_journal};
 use std::alloc::Global;
 use std::sync::Wait;
 use std::thread::Threads;
@@ -28,8 +29,10 @@ use std::time::Clock;
 pub struct Done {
     /// How many calls were left out for want of room.
     pub full: u64,
-    /// The waits that were left out, if any were: those for want of room, or else those that were refused.
-    pub refused: Option<RefusedWaits>,
+    /// How many waits of runs were left out.
+    pub left_out: LeftOut,
+    /// What is told of those waits, if there are any: of those for want of room, or else of those that were refused.
+    pub told: Option<RefusedWaits>,
 }
 
 /// The first gate, in the order of their first use, that a run passed after it had looked at it in vain.
@@ -54,7 +57,7 @@ fn run_script<R: Threads + Wait + Sync>(
 ) -> Result<Report, Failure>
     requires may { MayRun script.now }
     requires plays { interpreter.now.does.now ≡ script.now.does.items }
-    ensures leaves { IfOk result (λ r. RunLeaves (run_of script.now) r.full r.history.items) }
+    ensures leaves { IfOk result (λ r. RunLeaves (run_of script.now) r.full r.left_out r.history.items) }
     ensures failed { IfErr result (λ f. FailsOn (run_of script.now) f) }
 {
     let (shape, callers) = (&script.shape, &script.callers);
@@ -94,7 +97,8 @@ fn run_and_write<O: Sink, R: Threads + Wait + Sync>(
     match write_history(output, script.version, &script.shape, &report.history) {
         Ok(()) => Ok(Done {
             full: report.full,
-            refused: interpreter.refused(rt, &script.names),
+            left_out: report.left_out,
+            told: interpreter.told(rt, &script.names, report.left_out),
         }),
         Err(_) => Err(Failure::Input(Fault::WriteFault)),
     }
@@ -118,7 +122,7 @@ fn run_with_journal<O: Sink, R: Threads + Wait + Clock + Sync>(
 {
     let interpreter = Interpreter::new(&script.does);
     let (shape, callers) = (&script.shape, &script.callers);
-    let full = match run_scripts_with_journal(
+    let Written { full, left_out, .. } = match run_scripts_with_journal(
         rt,
         alloc,
         shape,
@@ -128,7 +132,7 @@ fn run_with_journal<O: Sink, R: Threads + Wait + Clock + Sync>(
         kept,
         output,
     ) {
-        Ok(written) => written.full,
+        Ok(written) => written,
         Err(Unwritten::Sink) => return Err(Failure::Input(Fault::WriteFault)),
         Err(Unwritten::Run(fault)) => return Err(Failure::from(fault)),
     };
@@ -139,7 +143,8 @@ fn run_with_journal<O: Sink, R: Threads + Wait + Clock + Sync>(
         }),
         None => Ok(Done {
             full,
-            refused: interpreter.refused(rt, &script.names),
+            left_out,
+            told: interpreter.told(rt, &script.names, left_out),
         }),
     }
 }
@@ -224,7 +229,7 @@ pub fn run_run<S: Source, O: Sink, E: Sink, R: Threads + Wait + Clock + Sync>(
 /// Tells what was left out of a history: calls for want of room, or else waits for want of it, or else waits that were
 /// refused.
 fn tell_done<E: Sink>(done: &Done, errors: &mut E) {
-    match (done.full, done.refused) {
+    match (done.full, done.told) {
         (0, None) => {}
         (0, Some(waits)) => tell(errors, waits),
         (left_out, _) => tell_full(errors, left_out),
@@ -248,12 +253,14 @@ fn status(ended: &Result<Done, Failure>) -> u8
     }
 }
 
+/// 0 where no call and no wait was left out, 4 where some had no room, and 6 where some waits were refused.
 fn status_of(done: &Done) -> u8
-    ensures { result ≡ done_status done.now.full done.now.refused }
+    ensures { result ≡ done_status done.now }
 {
-    match (done.full, done.refused) {
-        (0, None) => 0,
-        (0, Some(waits)) => waits.status(),
+    let left_out = done.left_out;
+    match (done.full, left_out.without_room, left_out.refused) {
+        (0, 0, 0) => 0,
+        (0, 0, _) => 6,
         _ => 4,
     }
 }

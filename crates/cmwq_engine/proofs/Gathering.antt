@@ -2,11 +2,13 @@
 use Rattle.cmwq_engine.specs.Common.{◌≡◌, ◌⊎◌, ℕ, zero, suc, ◌+◌, ◌<◌, ◌≤◌, Bool, true, false, List, [], ◌∷◌, ◌++◌}
 use Rattle.cmwq_engine.specs.Common.{length, refl, sym, ap, ◌∙◌, subst, inl, inr, ⊎_elim, arith, ◌-◌, Some, None}
 use Rattle.cmwq_engine.specs.Common.{nat_lt, slice_get, IsPrefix, WorkerId, Entry, Layout, serial_of, past_of, View}
-use Rattle.cmwq_engine.specs.Common.{made_by, newcomer, worker_by_number, next_after, Conduct, caller_numbered}
+use Rattle.cmwq_engine.specs.Common.{made_by, newcomer, worker_by_number, Behavior, Conduct, LeftOut, Worker, plus}
+use Rattle.cmwq_engine.specs.Common.{caller_numbered}
 use Rattle.std.proofs.lemmas.Bool.{ltb-true, ltb-false}
 use Rattle.cmwq_monitor.specs.Settled.{Settles}
 use Rattle.cmwq_monitor.proofs.Entries.{made_length, made_same}
-use Rattle.cmwq_engine.specs.Ended.{CalledAt, CalledIn, AllCalled}
+use Rattle.cmwq_engine.specs.Ended.{AllCalled, AllWorkedFrom, CalledAt, CalledIn, WorkedFrom, WorkedIn}
+use Rattle.cmwq_monitor.proofs.Beginnings.{prefix_trans}
 
 pushed : {X : Type 0} (xs : List X) (e x : X) (k : ℕ) → slice_get (xs ++ e ∷ []) k ≡ Some x
     → (slice_get xs k ≡ Some x) ⊎ ((k ≡ length xs) × (e ≡ x))
@@ -46,26 +48,6 @@ one_before P n m one rest k le lt = test (nat_lt n k) refl
         let same : n ≡ k = (let more = ltb-false n k is in omega (arith, le, more)) in
         subst P same one
 
--- after the last worker there is none
-none_behind : (s : Layout) (n d : ℕ) → worker_by_number s n ≡ None → worker_by_number s (n + d) ≡ None
-none_behind s n zero none =
-    let same : n ≡ n + 0 = omega arith in
-    subst (λ m. worker_by_number s m ≡ None) same none
-none_behind s n (suc d) none =
-    let next : suc (n + d) ≡ n + suc d = omega arith in
-    subst (λ m. worker_by_number s m ≡ None) next (ap (next_after s) (none_behind s n d none))
-
-pub worker_within : (s : Layout) (n k : ℕ) (x : WorkerId) → worker_by_number s n ≡ None → worker_by_number s k ≡ Some x
-    → k < n
-worker_within s n k x none is = test (nat_lt k n) refl
-  where
-    test : (b : Bool) → nat_lt k n ≡ b → k < n
-    test true less = ltb-true k n less
-    test false more =
-        let le = ltb-false k n more in
-        let sum : n + (k - n) ≡ k = omega (arith, le) in
-        absurd (cc (sym is ∙ ap (worker_by_number s) (sym sum) ∙ none_behind s n (k - n) none))
-
 none_made : (xs : List Entry) → length xs ≡ 0 → xs ≡ []
 none_made [] is = refl
 none_made (x ∷ xs) is = absurd (cc is)
@@ -88,6 +70,26 @@ called_in s calls k full v w h called settled = record {
   older = settled.1;
   own = subst (λ x. serial_of (past_of h) x ≡ v.serial) called.0 settled.2;
 }
+
+-- the whole history has no more entries of the worker than it has made
+pub worked_in : (s : Layout) (does : Behavior) (x : WorkerId) (l : LeftOut) (v w : View) (h : List Entry)
+    → WorkedFrom s does l (newcomer (Worker x)) v → Settles h v w → WorkedIn s does x l h
+worked_in s does x l v w h (who, (n, last, runs, settled)) settles = record {
+  runs = n;
+  last = last;
+  in_turn = runs;
+  older = prefix_trans last.seen v.seen h settled.1 settles.1;
+  own = subst (λ a. serial_of (past_of h) a ≡ v.serial) who settles.2 ∙ ap (λ (u : View). u.serial) settled.0;
+}
+
+-- one worker more, from the last to the first
+pub one_worked : (s : Layout) (does : Behavior) (k n many : ℕ) (x : WorkerId) (one others all : LeftOut)
+    (h : List Entry) → n ≡ suc k → all ≡ plus one others → worker_by_number s k ≡ Some x → WorkedIn s does x one h
+    → AllWorkedFrom s does n many others h → AllWorkedFrom s does k (many + 1) all h
+one_worked s does k n many x one others all h next sum at worked rest =
+    let more : suc many ≡ many + 1 = omega arith in
+    subst (λ (m : ℕ). AllWorkedFrom s does k m all h) more
+    (x, one, others, at, worked, subst (λ (m : ℕ). AllWorkedFrom s does m many others h) next rest, sum)
 
 -- one caller more, from the last to the first
 pub one_called : (s : Layout) (calls : Conduct) (k n many one full all : ℕ) (h : List Entry) → n ≡ suc k

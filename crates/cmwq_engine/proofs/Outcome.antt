@@ -1,8 +1,12 @@
 -- How a run ends.
 use Rattle.std.proofs.Common.{true≢false}
 use Rattle.cmwq_engine.specs.Common.{◌≡◌, sym, subst, true, length, Result, Ok, Err, IfOk, IfErr, Layout, Behavior}
-use Rattle.cmwq_engine.specs.Common.{Conduct, Roster}
-use Rattle.cmwq_engine.specs.Ended.{EndsAll, FailsAs, HaveEnded, HaveRun, is_silent}
+use Rattle.cmwq_engine.specs.Common.{Conduct, Roster, Entry, List, drop, past_of, ℕ}
+unfoldable use Rattle.cmwq_engine.specs.Common.{IsLegal}
+use Rattle.cmwq_engine.specs.Ended.{AllCalled, AllWaited, AllWorked, AreSilent, EndsAll, FailsAs, HaveEnded, HaveRun}
+use Rattle.cmwq_engine.specs.Ended.{IsRestOfLeft, is_silent, used}
+use Rattle.cmwq_engine.specs.declared.gather.Tally.{Tally}
+use Rattle.cmwq_monitor.specs.Held.{active_in}
 use Rattle.cmwq_engine.specs.declared.gather.Ends.{Ends}
 use Rattle.cmwq_monitor.specs.declared.fault.RunFault.{RunFault}
 use Rattle.cmwq_monitor.specs.declared.fault.RunFault.TheVariants.{Full, NoPlace, Unfinished}
@@ -39,3 +43,25 @@ ends_with_lent s does calls r ends all (Ok e) ended is back silent =
       back.1,
     )
 ends_with_lent s does calls r ends all (Err f) ended is back silent = fails_silently s calls r f silent
+
+-- what the threads gave back, and what the hub kept, are those of a history that a run leaves
+pub rest_left : (s : Layout) (does : Behavior) (calls : Conduct) (r : Roster) (o : Result Tally RunFault)
+    (h : List Entry) (first : ℕ) (rest : List Entry) → IsLegal s (past_of h) → rest ≡ drop first h
+    → IfOk o (λ t. t.answered ≡ length h) → IfOk o (λ t. AllCalled s calls 0 r.threads t.full h)
+    → IfOk o (λ _. AllWaited s r.threads r.lent h) → IfOk o (λ t. AllWorked s does t.left_out h)
+    → IfOk o (λ _. AreSilent s (used r) h) → IfOk o (λ _. active_in s h ≡ 0)
+    → IfOk o (λ t. IsRestOfLeft s does calls r t.answered t.full t.left_out first rest)
+rest_left s does calls r (Ok t) h first rest legal is counted called waited worked silent finished = record {
+  history = h;
+  left = record {
+    legal = legal;
+    called = called;
+    waited = waited;
+    worked = worked;
+    silent = silent;
+    finished = finished;
+  };
+  counted = counted;
+  rest_is = is;
+}
+rest_left s does calls r (Err f) h first rest legal is counted called waited worked silent finished = tt

@@ -12,6 +12,8 @@ pub use Rattle.cmwq_model.specs.declared.id.Who.TheVariants.{Worker}
 pub use Rattle.cmwq_model.specs.declared.id.WorkerId.{WorkerId}
 pub use Rattle.cmwq_monitor.specs.Participants.{View, made_by, newcomer}
 pub use Rattle.cmwq_rt.specs.Places.{Places, after_worker, next_after, worker_by_number}
+pub use Rattle.cmwq_rt.specs.Sums.{no_waits, plus}
+pub use Rattle.cmwq_rt.specs.declared.left_out.LeftOut.{LeftOut}
 pub use Rattle.cmwq_rt.specs.Running.{Behavior, HasWorked, RunsInTurn, breaks_off}
 pub use Rattle.cmwq_engine.specs.Conduct.{Conduct, caller_numbered}
 pub use Rattle.cmwq_engine.specs.declared.crew.Roster.{Roster}

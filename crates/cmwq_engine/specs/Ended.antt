@@ -4,8 +4,10 @@ use Rattle.std.specs.Prelude.{◌≡◌, ◌+◌, ◌<◌, ◌≤◌}
 use Rattle.cmwq_engine.specs.Common.{ℕ, zero, suc, List, [], length, drop, slice_get, Some, None, Bool, true, false}
 use Rattle.cmwq_engine.specs.Common.{Result, Ok, Err, IfOk, IfErr, Worker, WorkerId, Entry, Layout, serial_of, past_of}
 use Rattle.cmwq_engine.specs.Common.{IsLegal, View, newcomer, made_by, worker_by_number, Behavior, HasWorked}
-use Rattle.cmwq_engine.specs.Common.{RunsInTurn, breaks_off, IsPrefix, Conduct, Roster, caller_numbered}
+use Rattle.cmwq_engine.specs.Common.{RunsInTurn, breaks_off, IsPrefix, Conduct, Roster, caller_numbered, LeftOut, plus}
+use Rattle.cmwq_engine.specs.Common.{no_waits}
 use Rattle.cmwq_monitor.specs.Held.{active_in}
+use Rattle.cmwq_rt.specs.Lent.{HasOnlyWaited}
 use Rattle.cmwq_monitor.specs.declared.fault.RunFault.{RunFault}
 use Rattle.cmwq_monitor.specs.declared.fault.RunFault.TheVariants.{Full, Unfinished, NoPlace}
 use Rattle.cmwq_engine.specs.declared.ends.CallerEnd.{CallerEnd}
@@ -46,28 +48,49 @@ pub record AreNewcomers (s : Layout) (first : ℕ) (callers : List View) : Type 
 pub record AreSilent (s : Layout) (first : ℕ) (history : List Entry) : Type 0 where
   pub none : (k : ℕ) → first ≤ k → k < s.callers → made_by (caller_numbered k) history ≡ []
 
--- what a worker's thread has done to its worker
-abbrev pub WorkedFrom : Layout → Behavior → View → View → Type 0
-WorkedFrom s does v w = (w.who ≡ v.who) × HasWorked s does v w
+-- a caller that was lent has made the entries of whole waits of runs, and has no other entries in a history
+pub record WaitedIn (s : Layout) (k : ℕ) (history : List Entry) : Type 0 where
+  pub last : View
+  pub waited : HasOnlyWaited s last
+  pub who : last.who ≡ caller_numbered k
+  pub older : IsPrefix last.seen history
+  pub own : serial_of (past_of history) (caller_numbered k) ≡ last.serial
+
+-- so have this many callers, from this one on
+pub record AllWaited (s : Layout) (first many : ℕ) (history : List Entry) : Type 0 where
+  pub each : (k : ℕ) → first ≤ k → k < first + many → WaitedIn s k history
+
+-- what a worker's thread has done to its worker, whose runs left out so many waits
+abbrev pub WorkedFrom : Layout → Behavior → LeftOut → View → View → Type 0
+WorkedFrom s does l v w = (w.who ≡ v.who) × HasWorked s does l v w
 
 -- one end for each worker of the shape, in order: who gave no fault has worked
 pub record HaveWorked {N : Type 0} (s : Layout) (does : Behavior) (ends : List (WorkerEnd N)) : Type 0 where
   pub all : worker_by_number s (length ends) ≡ None
   pub faults : (k : ℕ) (e : WorkerEnd N) → slice_get ends k ≡ Some e → IfErr e.outcome (λ f. breaks_off f ≡ true)
-  pub worked : (k : ℕ) (e : WorkerEnd N) → slice_get ends k ≡ Some e → (x : WorkerId) → worker_by_number s k ≡ Some x
-      → IfOk e.outcome (λ _. WorkedFrom s does (newcomer (Worker x)) e.worker)
+  pub worked : (k : ℕ) (e : WorkerEnd N) → slice_get ends k ≡ Some e
+      → (x : WorkerId) × (worker_by_number s k ≡ Some x)
+      × IfOk e.outcome (λ t. WorkedFrom s does t.left_out (newcomer (Worker x)) e.worker)
 
--- a worker's runs in a history are so many, each does what its item does, and it has no other entries there
-pub record WorkedIn (s : Layout) (does : Behavior) (x : WorkerId) (history : List Entry) : Type 0 where
+-- a worker's runs in a history are so many, each does what its item does, all together left out so many waits, and it
+-- has no other entries there
+pub record WorkedIn (s : Layout) (does : Behavior) (x : WorkerId) (l : LeftOut) (history : List Entry) : Type 0 where
   pub runs : ℕ
   pub last : View
-  pub in_turn : RunsInTurn s does runs (newcomer (Worker x)) last
+  pub in_turn : RunsInTurn s does runs l (newcomer (Worker x)) last
   pub older : IsPrefix last.seen history
   pub own : serial_of (past_of history) (Worker x) ≡ last.serial
 
+-- so have this many workers, from this one on up to the last, and their runs left out so many waits in all
+abbrev pub AllWorkedFrom : Layout → Behavior → ℕ → ℕ → LeftOut → List Entry → Type 0
+AllWorkedFrom s does k zero l history = (worker_by_number s k ≡ None) × (l ≡ no_waits)
+AllWorkedFrom s does k (suc many) l history = (x : WorkerId) × (one others : LeftOut)
+    × (worker_by_number s k ≡ Some x) × WorkedIn s does x one history
+    × AllWorkedFrom s does (suc k) many others history × (l ≡ plus one others)
+
 -- so have all workers
-pub record AllWorked (s : Layout) (does : Behavior) (history : List Entry) : Type 0 where
-  pub each : (k : ℕ) (x : WorkerId) → worker_by_number s k ≡ Some x → WorkedIn s does x history
+abbrev pub AllWorked : Layout → Behavior → LeftOut → List Entry → Type 0
+AllWorked s does l history = (many : ℕ) × AllWorkedFrom s does 0 many l history
 
 -- all callers did what they should, and yet an active queueing is open in the history
 abbrev pub IsUnfinished : Layout → Conduct → ℕ → List Entry → Type 0
@@ -112,13 +135,14 @@ EndsAll s does calls r (Ok ends) = HaveRun s does calls r ends
 EndsAll s does calls r (Err f) = FailsAs s calls r f
 
 -- A history that a run leaves: it is legal, each caller that has a thread did what it should, but for so many calls in
--- all that had no room, each worker's entries are runs of items, callers that aren't used have none, and nothing active
--- is left.
-pub record IsLeft (s : Layout) (does : Behavior) (calls : Conduct) (r : Roster) (full : ℕ) (history : List Entry) : Type
-    0 where
+-- all that had no room, the entries of each caller that is lent are those of whole waits of runs, each worker's entries
+-- are runs of items, which left out so many waits in all, other callers have none, and nothing active is left.
+pub record IsLeft (s : Layout) (does : Behavior) (calls : Conduct) (r : Roster) (full : ℕ) (l : LeftOut)
+    (history : List Entry) : Type 0 where
   pub legal : IsLegal s (past_of history)
   pub called : AllCalled s calls 0 r.threads full history
-  pub worked : AllWorked s does history
+  pub waited : AllWaited s r.threads r.lent history
+  pub worked : AllWorked s does l history
   pub silent : AreSilent s (used r) history
   pub finished : active_in s history ≡ 0
 
@@ -129,9 +153,9 @@ pub record IsRest (s : Layout) (first : ℕ) (rest : List Entry) : Type 0 where
   pub legal : IsLegal s (past_of history)
   pub rest_is : rest ≡ drop first history
 
-pub record IsRestOfLeft (s : Layout) (does : Behavior) (calls : Conduct) (r : Roster) (entries full first : ℕ)
-    (rest : List Entry) : Type 0 where
+pub record IsRestOfLeft (s : Layout) (does : Behavior) (calls : Conduct) (r : Roster) (entries full : ℕ) (l : LeftOut)
+    (first : ℕ) (rest : List Entry) : Type 0 where
   pub history : List Entry
-  pub left : IsLeft s does calls r full history
+  pub left : IsLeft s does calls r full l history
   pub counted : entries ≡ length history
   pub rest_is : rest ≡ drop first history

@@ -150,7 +150,7 @@ pub fn end_with<N: HubName, C: Crew, W: Work, R: Wait>(
     requires ends { HaveRun N.layout (W.does work.now N.layout) (C.calls crew.now) (C.roles crew.now N.layout) ends }
     ensures left { IfOk result
         (λ c. IsLeft N.layout (W.does work.now N.layout) (C.calls crew.now) (C.roles crew.now N.layout) c.tally.full
-        journal.old.seen) }
+        c.tally.left_out journal.old.seen) }
     ensures counted { IfOk result (λ c. c.tally.answered ≡ length journal.old.seen) }
     ensures same { OnOk result (journal.new.seen ≡ journal.old.seen) }
     ensures rest { IfOk result (λ c. c.rest.entries.items ≡ []) }

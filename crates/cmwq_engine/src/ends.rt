@@ -6,7 +6,7 @@ ghost use Rattle.cmwq_engine.specs.Conduct.{caller_numbered};
 ghost use Rattle.cmwq_engine.specs.Ended.{CalledAt, WorkedFrom};
 
 use crate::crew::Crew;
-use cmwq_rt::{Caller, Hub, HubName, Lent, RunFault, Work, Worker, turns};
+use cmwq_rt::{Caller, Hub, HubName, Lent, RunFault, Work, Worked, Worker, turns};
 use std::marker::PhantomData;
 use std::snapshot::Snapshot;
 use std::sync::Wait;
@@ -49,15 +49,15 @@ impl<N: HubName, W: Work> Promise<WorkerEnd<N>> for RunsWork<N, W> {
     ghost use Rattle.cmwq_engine.specs.Ended.{WorkedFrom};
 
     ghost kept_by = { λ p r. IfOk r.outcome
-        (λ _. WorkedFrom N.layout (W.does p.work.value N.layout) p.worker.value r.worker)
+        (λ t. WorkedFrom N.layout (W.does p.work.value N.layout) t.left_out p.worker.value r.worker)
         × IfErr r.outcome (λ f. breaks_off f ≡ true) };
 }
 
-/// A worker whose loop has ended, with the entries that it made.
+/// A worker whose loop has ended, with how many entries it made, and how many waits its runs left out.
 #[derive(Drop)]
 pub struct WorkerEnd<N: HubName> {
     pub worker: Worker<N>,
-    pub outcome: Result<u64, RunFault>,
+    pub outcome: Result<Worked, RunFault>,
 }
 
 /// All come to their end: calls that are made or wait from then on answer a fault, and the crew is told.
@@ -120,12 +120,13 @@ pub(crate) fn work_all<'a, N: HubName, C: Crew, W: Work, R: Wait>(
     work: &W,
     worker: Worker<N>,
 ) -> WorkerEnd<N>
-    ensures worked { IfOk result.outcome (λ _. WorkedFrom N.layout (W.does work.now N.layout) worker result.worker) }
+    ensures worked { IfOk result.outcome
+        (λ t. WorkedFrom N.layout (W.does work.now N.layout) t.left_out worker result.worker) }
     ensures fault { IfErr result.outcome (λ f. breaks_off f ≡ true) }
 {
     let mut worker = worker;
     turns::worker_comes(rt, hub, &worker);
-    let outcome = hub.work_lent(rt, &mut worker, work, lent);
+    let outcome = hub.work_counting(rt, &mut worker, work, lent);
     stop_at(rt, hub, crew, &outcome);
     turns::goes(rt, hub);
     WorkerEnd { worker, outcome }

@@ -9,7 +9,7 @@ use crate::gather::{Ends, Tally, gather};
 use crate::start::{idle_callers, lend_callers, start_callers, start_workers};
 use cmwq_monitor::Rest;
 use cmwq_rt::ending::into_monitor;
-use cmwq_rt::{Caller, Hub, HubName, HubParts, Lent, Participants, RunFault, Work};
+use cmwq_rt::{Hub, HubName, HubParts, Lent, LentCaller, Participants, RunFault, Work};
 use std::alloc::Global;
 use std::marker::Brand;
 use std::sync::Wait;
@@ -177,7 +177,7 @@ fn run_in_scope<
 /// The ends of all threads with the callers that were lent, all of which are back as nobody waits.
 fn with_lent<N: HubName>(
     ends: Ends<N>,
-    callers: Vec<Caller<N>>,
+    callers: Vec<LentCaller<N>>,
     lent: u8,
 ) -> Result<Ends<N>, RunFault>
     ensures all { IfOk result (λ e. (e ≡ record ends { lent = callers }) × (length callers.items ≡ lent)) }
@@ -247,7 +247,7 @@ fn end_hub<N: HubName, C: Crew, W: Work, R: Wait>(
     ensures rest { IsRest N.layout result.0.first result.0.entries.items }
     ensures left { IfOk result.1
         (λ t. IsRestOfLeft N.layout (W.does work.now N.layout) (C.calls crew.now) (C.roles crew.now N.layout) t.answered
-        t.full result.0.first result.0.entries.items) }
+        t.full t.left_out result.0.first result.0.entries.items) }
     ensures fails { IfErr result.1 (FailsAs N.layout (C.calls crew.now) (C.roles crew.now N.layout)) }
 {
     let mut monitor = into_monitor(hub);
@@ -281,7 +281,7 @@ fn run_parts<
     ensures rest { IsRest N.layout result.0.first result.0.entries.items }
     ensures left { IfOk result.1
         (λ t. IsRestOfLeft N.layout (W.does work.now N.layout) (C.calls crew.now) (C.roles crew.now N.layout) t.answered
-        t.full result.0.first result.0.entries.items) }
+        t.full t.left_out result.0.first result.0.entries.items) }
     ensures fails { IfErr result.1 (FailsAs N.layout (C.calls crew.now) (C.roles crew.now N.layout)) }
 {
     let (hub, participants) = Hub::<N>::open(parts);
@@ -308,7 +308,7 @@ pub fn run<'x, C: Crew + Sync, W: Work + Sync, R: Threads + Wait + Sync>(
     ensures rest { IsRest parts.shape result.0.first result.0.entries.items }
     ensures left { IfOk result.1
         (λ t. IsRestOfLeft parts.shape (W.does work.now parts.shape) (C.calls crew.now) (C.roles crew.now parts.shape)
-        t.answered t.full result.0.first result.0.entries.items) }
+        t.answered t.full t.left_out result.0.first result.0.entries.items) }
     ensures fails { IfErr result.1 (FailsAs parts.shape (C.calls crew.now) (C.roles crew.now parts.shape)) }
 {
     run_parts::<Brand, C, W, R>(rt, alloc, parts, crew, work)

@@ -12,7 +12,7 @@ ghost use Rattle.cmwq_engine.specs.Ended.{AreNewcomers, CalledAt, FailsAs, Worke
 use crate::crew::Crew;
 use crate::ends::{CallerEnd, Calls, RunsWork, WorkerEnd, call_all, work_all};
 use cmwq_model::Shape;
-use cmwq_rt::{Caller, Hub, HubName, Lent, Participants, RunFault, Work, Worker};
+use cmwq_rt::{Caller, Hub, HubName, Lent, LentCaller, Participants, RunFault, Work, Worker};
 use std::alloc::Global;
 use std::marker::PhantomData;
 use std::snapshot::Snapshot;
@@ -109,7 +109,7 @@ pub(crate) fn lend_callers<N: HubName, R: Wait>(
             Ok(caller) => caller,
             Err(fault) => return Err(fault),
         };
-        lent.give(rt, caller);
+        lent.give(rt, LentCaller::new(caller));
     }
     Ok(())
 }
@@ -145,7 +145,7 @@ fn start_worker<
         promise,
         move || -> WorkerEnd<N>
             ensures { IfOk result.outcome
-                (λ _. WorkedFrom N.layout (W.does work.entry.now N.layout) worker result.worker)
+                (λ t. WorkedFrom N.layout (W.does work.entry.now N.layout) t.left_out worker result.worker)
                 × IfErr result.outcome (λ f. breaks_off f ≡ true) }
         { work_all(rt, hub, lent, crew, work, worker) },
     );
@@ -178,9 +178,9 @@ pub(crate) fn start_workers<
     ensures all { IfOk result (λ hs. (worker_by_number N.layout (length hs.items) ≡ None)
         × (participants.new.workers ≡ participants.old.workers + length hs.items)
         × (participants.new.callers ≡ participants.old.callers)) }
-    ensures each { IfOk result (λ hs. (k : ℕ) (h : _) → slice_get hs.items k ≡ Some h → (x : ids.WorkerId)
-        → worker_by_number N.layout k ≡ Some x → (h.promise.worker.value ≡ newcomer (whos.Worker x))
-        × (h.promise.work.value ≡ work.now)) }
+    ensures each { IfOk result (λ hs. (k : ℕ) (h : _) → slice_get hs.items k ≡ Some h
+        → (x : ids.WorkerId) × (worker_by_number N.layout k ≡ Some x)
+        × (h.promise.worker.value ≡ newcomer (whos.Worker x)) × (h.promise.work.value ≡ work.now)) }
 {
     let mut threads = Vec::new(alloc);
     for _ in 0..=most_workers(hub.shape()) {

@@ -5,3 +5,4 @@ pub mod Placing
 pub mod Following
 pub mod Running
 pub mod Sleeping
+pub mod Lending

@@ -4,7 +4,9 @@ pub mod Places
 pub mod Scripts
 pub mod Ending
 pub mod Starting
+pub mod Sums
 pub mod Running
 pub mod Batches
 pub mod Waiting
+pub mod Lent
 pub mod Prelude

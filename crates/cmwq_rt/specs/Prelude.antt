@@ -21,6 +21,9 @@ pub use Rattle.cmwq_rt.specs.Places.{AreCounts, IsNextPlace}
 pub use Rattle.cmwq_rt.specs.Scripts.{Follows, HasFollowed, HasStopped}
 pub use Rattle.cmwq_rt.specs.Ending.{EndsAs, OneIsStranger}
 pub use Rattle.cmwq_rt.specs.Starting.{HasStarted}
+pub use Rattle.cmwq_rt.specs.Sums.{added, no_waits, plus, one_refused, one_without_room}
 pub use Rattle.cmwq_rt.specs.Running.{Running, fault_after, breaks_off, MakesOne, Behavior, RunsItem, EndsRun}
 pub use Rattle.cmwq_rt.specs.Running.{RunsInTurn, HasWorked, IsNextStart}
 pub use Rattle.cmwq_rt.specs.Waiting.{SleepsThrough, HasWaited, is_refusal, IsOfRun, fault_after_wait}
+pub use Rattle.cmwq_rt.specs.Waiting.{left_out_after}
+pub use Rattle.cmwq_rt.specs.Lent.{HasOnlyWaited, WaitsInTurn}

@@ -1,7 +1,7 @@
 -- Waits of runs, and what they leave.
 use Rattle.std.specs.Prelude.{◌≡◌, ◌⊎◌, ◌==◌, ◌++◌, ◌∷◌, [], Some, None}
-use Rattle.cmwq_rt.specs.Common.{Bool, true, false, Option, Result, Err, IsPrefix, Call, Reply, Layout, View, Refused}
-use Rattle.cmwq_rt.specs.Common.{made_by, is_caller, is_full, Completes, RunFault, Full}
+use Rattle.cmwq_rt.specs.Common.{Bool, true, false, Option, Result, Ok, Err, IsPrefix, Call, Reply, Layout, View}
+use Rattle.cmwq_rt.specs.Common.{Refused, made_by, is_caller, is_full, Completes, RunFault, Full}
 use Rattle.cmwq_model.specs.declared.call.Call.TheVariants as call
 use Rattle.cmwq_model.specs.Prelude.{past_of}
 use Rattle.cmwq_model.specs.declared.id.ItemId.{ItemId}
@@ -9,6 +9,8 @@ use Rattle.cmwq_monitor.specs.Calls.{own_entry}
 use Rattle.cmwq_monitor.specs.Held.{Held, refusal_at}
 use Rattle.cmwq_monitor.specs.Steps.{InStep}
 use Rattle.cmwq_rt.specs.Running.{MakesOne, Running, breaks_off, fault_after}
+use Rattle.cmwq_rt.specs.Sums.{one_refused, one_without_room}
+use Rattle.cmwq_rt.specs.declared.left_out.LeftOut.{LeftOut}
 use Rattle.cmwq_waits.specs.HeldUp.{AreWaiting}
 use Rattle.cmwq_waits.specs.declared.waits.Stuck.{Stuck}
 use Rattle.cmwq_waits.specs.declared.waits.Stuck.TheVariants as stuck
@@ -80,6 +82,13 @@ IsOfRun f = Unit {0}
 abbrev pub fault_after_wait : Result Reply WaitFault → Option RunFault → Option RunFault
 fault_after_wait (Err (Run f)) old = fault_after (Err f) old
 fault_after_wait r old = old
+
+-- how many waits a run has left out after a wait has returned
+abbrev pub left_out_after : Result Reply WaitFault → LeftOut → LeftOut
+left_out_after (Ok r) old = old
+left_out_after (Err (Run Full)) old = one_without_room old
+left_out_after (Err (Run f)) old = old
+left_out_after (Err f) old = one_refused old
 
 -- why it was refused, where that is a matter of what waits for what
 abbrev pub stuck_of : WaitFault → Option Stuck

@@ -4,7 +4,8 @@ ghost use Rattle.std.specs.List.{list_all};
 ghost use mathlib.Core.List.{IsPrefix};
 ghost use Rattle.cmwq_model.specs.Prelude.{has_numbers, is_callers, past_of, IsLegal, bits};
 ghost use Rattle.cmwq_model.specs.declared.call.Call.TheVariants as calls;
-ghost use Rattle.cmwq_monitor.specs.Participants.{Agree, Gains, is_caller, made_by};
+ghost use Rattle.cmwq_model.specs.declared.id.Who.TheVariants as whos;
+ghost use Rattle.cmwq_monitor.specs.Participants.{Agree, Gains, is_caller, made_by, newcomer};
 ghost use Rattle.cmwq_monitor.specs.Calls.{Extends};
 ghost use Rattle.cmwq_monitor.specs.Faults.{Refused, IsStranger};
 ghost use Rattle.cmwq_monitor.specs.Whole.{Completes, BrokeOff, is_tick, ticket_in_reply};
@@ -69,6 +70,23 @@ impl<N: HubName> Caller<N> {
         ensures stranger { IfErr result (λ f. (self.new ≡ self.old) × IsStranger self.old f) }
     {
         monitor.settle(&mut self.participant)
+    }
+
+    /// Whether it has made no entry and seen none.
+    pub(crate) fn is_new(&self) -> bool
+        ensures { result ≡ true → self.now ≡ newcomer self.now.who }
+    {
+        self.participant.serial() == 0 && self.participant.seen() == 0
+    }
+
+    /// Its number among the callers.
+    pub(crate) fn number(&self) -> u8
+        ensures { self.now.who ≡ whos.Caller (record { 0 = result }) }
+    {
+        match self.participant.who() {
+            Who::Caller(caller) => caller.0,
+            Who::Worker(_) => unreachable!(),
+        }
     }
 
     pub(crate) fn participant(&self) -> &Participant<N>

@@ -12,14 +12,13 @@ ghost use Rattle.cmwq_rt.specs.Later.{Later};
 ghost use Rattle.cmwq_rt.specs.Running.{MakesOne, breaks_off};
 ghost use Rattle.cmwq_monitor.specs.Held.{refusal_at};
 ghost use Rattle.cmwq_rt.specs.Waiting.{IsOfRun, MakesNothing, SleepsThrough, TellsWhy, WasAllowed, WasLookedAt};
-ghost use Rattle.cmwq_rt.specs.Waiting.{is_refusal};
+ghost use Rattle.cmwq_rt.specs.Waiting.{is_refusal, is_wait};
 ghost use Rattle.cmwq_waits.specs.HeldUp.{AreWaiting};
 ghost use Rattle.cmwq_rt.specs.declared.wait_fault.WaitFault.TheVariants as waits;
 
-use crate::caller::Caller;
 use crate::hold::Hold;
 use crate::hub::Hub;
-use crate::lent::Lent;
+use crate::lent::{Lent, LentCaller};
 use crate::wait_fault::{WaitFault, fault_of};
 use crate::work::with_room;
 use cmwq_model::{Call, Reply};
@@ -54,7 +53,7 @@ fn begin_wait<N: HubName, R: Wait>(
     worker: &mut Participant<N>,
     lent: Option<&Lent<N>>,
     call: Call,
-) -> Result<Caller<N>, WaitFault>
+) -> Result<LentCaller<N>, WaitFault>
     requires worker { is_caller worker.old.who ≡ false }
     requires callers { is_callers call ≡ true }
     requires numbers { has_numbers N.layout call ≡ true }
@@ -129,6 +128,7 @@ impl<N: HubName> Hub<N> {
         requires callers { is_callers call ≡ true }
         requires numbers { has_numbers N.layout call ≡ true }
         requires waits { is_tick call ≡ false }
+        requires kind { is_wait call ≡ true }
         ensures waited { IfOk result (λ reply. SleepsThrough N.layout worker.old call reply worker.new) }
         ensures refused { IfErr result (λ f. is_refusal f ≡ true → worker.new ≡ worker.old) }
         ensures stuck { IfErr result (TellsWhy N.layout worker.old call) }
@@ -160,13 +160,14 @@ impl<N: HubName> Hub<N> {
         rt: &R,
         hold: Hold<'a, N>,
         worker: &mut Participant<N>,
-        caller: &mut Caller<N>,
+        caller: &mut LentCaller<N>,
         call: Call,
     ) -> (Hold<'a, N>, Result<Reply, WaitFault>)
         requires worker { is_caller worker.old.who ≡ false }
         requires callers { is_callers call ≡ true }
         requires numbers { has_numbers N.layout call ≡ true }
         requires waits { is_tick call ≡ false }
+        requires kind { is_wait call ≡ true }
         ensures completes { IfOk result.1 (λ reply. Completes N.layout caller.old call reply caller.new) }
         ensures nothing_yet { IfOk result.1
             (λ _. made_by caller.old.who hold.entry.monitor.value.history ≡ made_by caller.old.who caller.old.seen) }

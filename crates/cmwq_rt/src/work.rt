@@ -12,8 +12,9 @@ ghost use Rattle.cmwq_rt.specs.Batches.{MakesBatch, StopsBatch, fault_after_batc
 ghost use Rattle.cmwq_rt.specs.Later.{Later};
 ghost use Rattle.cmwq_rt.specs.Starting.{HasStarted};
 ghost use Rattle.cmwq_rt.specs.Running.{RunsItem, MakesOne, fault_after, breaks_off};
+ghost use Rattle.cmwq_rt.specs.Sums.{no_waits};
 ghost use Rattle.cmwq_rt.specs.Waiting.{HadNoRoom, HasWaited, MakesNothing, MayNotWait, SleepsThrough, TellsWhy};
-ghost use Rattle.cmwq_rt.specs.Waiting.{fault_after_wait, is_for_itself, is_refusal, is_wait};
+ghost use Rattle.cmwq_rt.specs.Waiting.{fault_after_wait, is_for_itself, is_refusal, is_wait, left_out_after};
 ghost use Rattle.cmwq_rt.specs.declared.wait_fault.WaitFault.TheVariants as waits;
 ghost use Rattle.cmwq_monitor.specs.Whole.{is_tick};
 
@@ -21,6 +22,7 @@ use crate::batch::BatchFault;
 use crate::caller::Caller;
 use crate::completion::Completion;
 use crate::hub::Hub;
+use crate::left_out::LeftOut;
 use crate::lent::Lent;
 use crate::wait_fault::WaitFault;
 use cmwq_model::{Call, CpuId, ItemId, QueueId, Reply, Shape};
@@ -31,7 +33,8 @@ use std::marker::Model;
 use std::sync::Wait;
 
 /// What a work function is given: it makes calls by its worker. Contracts see the item, who runs it, its serial and the
-/// history that it has seen, and the fault that a call of this run has answered, if any but want of room was.
+/// history that it has seen, the fault that a call of this run has answered, if any but want of room was, and how many
+/// waits the run has left out.
 #[derive(Drop)]
 pub struct RunCtx<'a, N: HubName, R> {
     rt: &'a R,
@@ -41,6 +44,7 @@ pub struct RunCtx<'a, N: HubName, R> {
     item: ItemId,
     is_asleep: bool,
     fault: Option<RunFault>,
+    left_out: LeftOut,
 }
 
 impl<'a, N: HubName, R> Model for RunCtx<'a, N, R> {
@@ -50,7 +54,7 @@ impl<'a, N: HubName, R> Model for RunCtx<'a, N, R> {
 
     ghost Value = { Running };
 
-    ghost view = { λ c. record { item = c.item; participant = c.participant; fault = c.fault } };
+    ghost view = { λ c. record { item = c.item; participant = c.participant; fault = c.fault; left_out = c.left_out } };
 
     ghost invariant = { λ c. (is_caller c.participant.who ≡ false) × IfSome c.fault (λ f. breaks_off f ≡ true) };
 }
@@ -62,10 +66,11 @@ pub trait Work {
     ghost use Rattle.cmwq_rt.specs.Later.{Later};
     ghost use Rattle.cmwq_rt.specs.Starting.{HasStarted};
     ghost use Rattle.cmwq_rt.specs.Running.{Behavior};
+    ghost use Rattle.cmwq_rt.specs.Sums.{no_waits};
 
-    /// What one run of an item does in a hub of this shape: `Hub::work` carries it into the history. Nothing is said
-    /// where it is left out.
-    ghost does: { Self → Layout → Behavior } = { λ _ _ _ _ _. Unit {0} };
+    /// What one run of an item does in a hub of this shape, where it left out so many waits: `Hub::work` carries it
+    /// into the history. Nothing is said where it is left out.
+    ghost does: { Self → Layout → Behavior } = { λ _ _ _ _ _ _. Unit {0} };
 
     /// Runs an item, once for each start of one of its queueings. A run in which a call answered a fault other than
     /// want of room may break off: its worker answers that fault.
@@ -74,9 +79,10 @@ pub trait Work {
         requires started { HasStarted context.old.participant item }
         requires own { context.old.item ≡ item }
         requires fresh { context.old.fault ≡ None }
+        requires empty { context.old.left_out ≡ no_waits }
         ensures later { Later context.old.participant context.new.participant }
         ensures done { context.new.fault ≡ None
-            → does self.now N.layout item context.old.participant context.new.participant };
+            → does self.now N.layout item context.new.left_out context.old.participant context.new.participant };
 }
 
 /// How many of a batch of so many calls were made.
@@ -178,6 +184,7 @@ impl<'a, N: HubName, R: Wait> RunCtx<'a, N, R> {
         ensures refused { IfErr result (λ f. Refused N.layout self.old.participant call f self.new.participant) }
         ensures fault { self.new.fault ≡ fault_after result self.old.fault }
         ensures item { self.new.item ≡ self.old.item }
+        ensures left_out { self.new.left_out ≡ self.old.left_out }
     {
         let _who = self.participant.who();
         let answer = self.hub.call(self.rt, &mut self.participant, call);
@@ -210,6 +217,7 @@ impl<'a, N: HubName, R: Wait> RunCtx<'a, N, R> {
             self.new.participant) }
         ensures fault { self.new.fault ≡ fault_after_batch result self.old.fault }
         ensures item { self.new.item ≡ self.old.item }
+        ensures left_out { self.new.left_out ≡ self.old.left_out }
     {
         let _who = self.participant.who();
         let answer = self
@@ -234,6 +242,7 @@ impl<'a, N: HubName, R: Wait> RunCtx<'a, N, R> {
             (λ f. Refused N.layout self.old.participant (calls.Queue item queue cpu) f self.new.participant) }
         ensures fault { self.new.fault ≡ fault_after result self.old.fault }
         ensures item { self.new.item ≡ self.old.item }
+        ensures left_out { self.new.left_out ≡ self.old.left_out }
     {
         self.make(Call::Queue { item, queue, cpu })
     }
@@ -258,6 +267,7 @@ impl<'a, N: HubName, R: Wait> RunCtx<'a, N, R> {
             (λ f. Refused N.layout self.old.participant (calls.Delay item queue cpu ticks) f self.new.participant) }
         ensures fault { self.new.fault ≡ fault_after result self.old.fault }
         ensures item { self.new.item ≡ self.old.item }
+        ensures left_out { self.new.left_out ≡ self.old.left_out }
     {
         self.make(Call::Delay {
             item,
@@ -287,6 +297,7 @@ impl<'a, N: HubName, R: Wait> RunCtx<'a, N, R> {
             (λ f. Refused N.layout self.old.participant (calls.Modify item queue cpu ticks) f self.new.participant) }
         ensures fault { self.new.fault ≡ fault_after result self.old.fault }
         ensures item { self.new.item ≡ self.old.item }
+        ensures left_out { self.new.left_out ≡ self.old.left_out }
     {
         self.make(Call::Modify {
             item,
@@ -309,6 +320,7 @@ impl<'a, N: HubName, R: Wait> RunCtx<'a, N, R> {
             (λ f. Refused N.layout self.old.participant (calls.Cancel item) f self.new.participant) }
         ensures fault { self.new.fault ≡ fault_after result self.old.fault }
         ensures item { self.new.item ≡ self.old.item }
+        ensures left_out { self.new.left_out ≡ self.old.left_out }
     {
         self.make(Call::Cancel { item })
     }
@@ -325,6 +337,7 @@ impl<'a, N: HubName, R: Wait> RunCtx<'a, N, R> {
         ensures refused { IfErr result (λ f. Refused N.layout self.old.participant calls.Sleep f self.new.participant) }
         ensures fault { self.new.fault ≡ fault_after result self.old.fault }
         ensures item { self.new.item ≡ self.old.item }
+        ensures left_out { self.new.left_out ≡ self.old.left_out }
     {
         self.make(Call::Sleep)
     }
@@ -340,6 +353,7 @@ impl<'a, N: HubName, R: Wait> RunCtx<'a, N, R> {
         ensures refused { IfErr result (λ f. Refused N.layout self.old.participant calls.Wake f self.new.participant) }
         ensures fault { self.new.fault ≡ fault_after result self.old.fault }
         ensures item { self.new.item ≡ self.old.item }
+        ensures left_out { self.new.left_out ≡ self.old.left_out }
     {
         self.make(Call::Wake)
     }
@@ -356,12 +370,14 @@ impl<'a, N: HubName, R: Wait> RunCtx<'a, N, R> {
         ensures later { Later self.old.participant self.new.participant }
         ensures waited { IfOk result
             (λ reply. HasWaited N.layout self.old.participant (calls.FlushItem item) reply self.new.participant) }
-        ensures itself { item.0 ≡ self.old.item.0 → (result ≡ Err waits.Itself) × (self.new ≡ self.old) }
+        ensures itself { item.0 ≡ self.old.item.0 → (result ≡ Err waits.Itself)
+            × (self.new.participant ≡ self.old.participant) }
         ensures refused { IfErr result (λ f. is_refusal f ≡ true → (self.new.participant ≡ self.old.participant)
             ⊎ MakesOne N.layout self.old.participant calls.Wake self.new.participant) }
         ensures stuck { IfErr result (MayNotWait N.layout self.old (calls.FlushItem item)) }
         ensures fault { self.new.fault ≡ fault_after_wait result self.old.fault }
         ensures item { self.new.item ≡ self.old.item }
+        ensures left_out { self.new.left_out ≡ left_out_after result self.old.left_out }
     {
         self.wait(Call::FlushItem { item })
     }
@@ -376,12 +392,14 @@ impl<'a, N: HubName, R: Wait> RunCtx<'a, N, R> {
         ensures later { Later self.old.participant self.new.participant }
         ensures waited { IfOk result
             (λ reply. HasWaited N.layout self.old.participant (calls.CancelSync item) reply self.new.participant) }
-        ensures itself { item.0 ≡ self.old.item.0 → (result ≡ Err waits.Itself) × (self.new ≡ self.old) }
+        ensures itself { item.0 ≡ self.old.item.0 → (result ≡ Err waits.Itself)
+            × (self.new.participant ≡ self.old.participant) }
         ensures refused { IfErr result (λ f. is_refusal f ≡ true → (self.new.participant ≡ self.old.participant)
             ⊎ MakesOne N.layout self.old.participant calls.Wake self.new.participant) }
         ensures stuck { IfErr result (MayNotWait N.layout self.old (calls.CancelSync item)) }
         ensures fault { self.new.fault ≡ fault_after_wait result self.old.fault }
         ensures item { self.new.item ≡ self.old.item }
+        ensures left_out { self.new.left_out ≡ left_out_after result self.old.left_out }
     {
         self.wait(Call::CancelSync { item })
     }
@@ -400,6 +418,7 @@ impl<'a, N: HubName, R: Wait> RunCtx<'a, N, R> {
         ensures stuck { IfErr result (MayNotWait N.layout self.old (calls.FlushDelayed item)) }
         ensures fault { self.new.fault ≡ fault_after_wait result self.old.fault }
         ensures item { self.new.item ≡ self.old.item }
+        ensures left_out { self.new.left_out ≡ left_out_after result self.old.left_out }
     {
         self.wait(Call::FlushDelayed { item })
     }
@@ -419,6 +438,7 @@ impl<'a, N: HubName, R: Wait> RunCtx<'a, N, R> {
         ensures stuck { IfErr result (MayNotWait N.layout self.old (calls.Flush queue)) }
         ensures fault { self.new.fault ≡ fault_after_wait result self.old.fault }
         ensures item { self.new.item ≡ self.old.item }
+        ensures left_out { self.new.left_out ≡ left_out_after result self.old.left_out }
     {
         self.wait(Call::Flush { queue })
     }
@@ -438,6 +458,7 @@ impl<'a, N: HubName, R: Wait> RunCtx<'a, N, R> {
         ensures stuck { IfErr result (MayNotWait N.layout self.old (calls.Drain queue)) }
         ensures fault { self.new.fault ≡ fault_after_wait result self.old.fault }
         ensures item { self.new.item ≡ self.old.item }
+        ensures left_out { self.new.left_out ≡ left_out_after result self.old.left_out }
     {
         self.wait(Call::Drain { queue })
     }
@@ -456,7 +477,8 @@ impl<'a, N: HubName, R: Wait> RunCtx<'a, N, R> {
         ensures later { Later self.old.participant self.new.participant }
         ensures waited { IfOk result
             (λ reply. HasWaited N.layout self.old.participant call reply self.new.participant) }
-        ensures itself { is_for_itself self.old.item call ≡ true → (result ≡ Err waits.Itself) × (self.new ≡ self.old) }
+        ensures itself { is_for_itself self.old.item call ≡ true → (result ≡ Err waits.Itself)
+            × (self.new.participant ≡ self.old.participant) }
         ensures refused { IfErr result (λ f. is_refusal f ≡ true → (self.new.participant ≡ self.old.participant)
             ⊎ MakesOne N.layout self.old.participant calls.Wake self.new.participant) }
         ensures stuck { IfErr result (MayNotWait N.layout self.old call) }
@@ -464,11 +486,11 @@ impl<'a, N: HubName, R: Wait> RunCtx<'a, N, R> {
             (λ f. f ≡ waits.Run Full → HadNoRoom N.layout self.old.participant self.new.participant) }
         ensures fault { self.new.fault ≡ fault_after_wait result self.old.fault }
         ensures item { self.new.item ≡ self.old.item }
+        ensures left_out { self.new.left_out ≡ left_out_after result self.old.left_out }
     {
-        if is_for_itself(self.item, call) {
-            return Err(WaitFault::Itself);
-        }
-        self.wait_lent(call)
+        let answer = self.wait_uncounted(call);
+        self.count(&answer);
+        answer
     }
 }
 
@@ -483,6 +505,36 @@ fn is_for_itself(own: ItemId, call: Call) -> bool
 }
 
 impl<'a, N: HubName, R: Wait> RunCtx<'a, N, R> {
+    /// Counts the wait that was answered so, if it was left out.
+    fn count(&mut self, answer: &Result<Reply, WaitFault>)
+        ensures { self.new ≡ record self.old { left_out = left_out_after answer.now self.old.left_out } }
+    {
+        self.left_out = self.left_out.after(answer);
+    }
+
+    /// Waits as `wait` does, and counts nothing.
+    fn wait_uncounted(&mut self, call: Call) -> Result<Reply, WaitFault>
+        requires waits { is_wait call ≡ true }
+        requires numbers { has_numbers N.layout call ≡ true }
+        ensures later { Later self.old.participant self.new.participant }
+        ensures waited { IfOk result
+            (λ reply. HasWaited N.layout self.old.participant call reply self.new.participant) }
+        ensures itself { is_for_itself self.old.item call ≡ true → (result ≡ Err waits.Itself) × (self.new ≡ self.old) }
+        ensures refused { IfErr result (λ f. is_refusal f ≡ true → (self.new.participant ≡ self.old.participant)
+            ⊎ MakesOne N.layout self.old.participant calls.Wake self.new.participant) }
+        ensures stuck { IfErr result (MayNotWait N.layout self.old call) }
+        ensures full { IfErr result
+            (λ f. f ≡ waits.Run Full → HadNoRoom N.layout self.old.participant self.new.participant) }
+        ensures fault { self.new.fault ≡ fault_after_wait result self.old.fault }
+        ensures item { self.new.item ≡ self.old.item }
+        ensures left_out { self.new.left_out ≡ self.old.left_out }
+    {
+        if is_for_itself(self.item, call) {
+            return Err(WaitFault::Itself);
+        }
+        self.wait_lent(call)
+    }
+
     /// Waits by a caller that is lent to the run.
     #[tactic(auto, using(crate::proofs::Sleeping::waits_by_caller))]
     fn wait_lent(&mut self, call: Call) -> Result<Reply, WaitFault>
@@ -498,6 +550,7 @@ impl<'a, N: HubName, R: Wait> RunCtx<'a, N, R> {
             (λ f. f ≡ waits.Run Full → HadNoRoom N.layout self.old.participant self.new.participant) }
         ensures fault { self.new.fault ≡ fault_after_wait result self.old.fault }
         ensures item { self.new.item ≡ self.old.item }
+        ensures left_out { self.new.left_out ≡ self.old.left_out }
     {
         match self.be_awake() {
             Ok(()) => self.wait_awake(call),
@@ -516,6 +569,7 @@ impl<'a, N: HubName, R: Wait> RunCtx<'a, N, R> {
             → Refused N.layout self.old.participant calls.Wake Full self.new.participant) }
         ensures fault { IfErr result (λ f. self.new.fault ≡ fault_after_wait (Err (waits.Run f)) self.old.fault) }
         ensures item { self.new.item ≡ self.old.item }
+        ensures left_out { self.new.left_out ≡ self.old.left_out }
     {
         if !self.is_asleep {
             return Ok(());
@@ -531,6 +585,7 @@ impl<'a, N: HubName, R: Wait> RunCtx<'a, N, R> {
         requires callers { is_callers call ≡ true }
         requires numbers { has_numbers N.layout call ≡ true }
         requires waits { is_tick call ≡ false }
+        requires kind { is_wait call ≡ true }
         ensures later { Later self.old.participant self.new.participant }
         ensures waited { IfOk result
             (λ reply. SleepsThrough N.layout self.old.participant call reply self.new.participant) }
@@ -540,6 +595,7 @@ impl<'a, N: HubName, R: Wait> RunCtx<'a, N, R> {
             (λ f. f ≡ waits.Run Full → MakesNothing N.layout self.old.participant self.new.participant) }
         ensures fault { self.new.fault ≡ fault_after_wait result self.old.fault }
         ensures item { self.new.item ≡ self.old.item }
+        ensures left_out { self.new.left_out ≡ self.old.left_out }
     {
         let _who = self.participant.who();
         let answer = self
@@ -560,23 +616,25 @@ impl<'a, N: HubName, R: Wait> RunCtx<'a, N, R> {
 }
 
 impl<'a, N: HubName, R: Wait> RunCtx<'a, N, R> {
-    /// Wakes a run that came back asleep. One that a fault broke off answers it.
+    /// Wakes a run that came back asleep, and answers how many waits it left out. One that a fault broke off answers
+    /// that.
     #[tactic(auto, using(crate::proofs::Later::later_self, crate::proofs::Running::refused_breaks_off))]
-    fn end_run(&mut self) -> Result<(), RunFault>
+    fn end_run(&mut self) -> Result<LeftOut, RunFault>
         ensures later { Later self.old.participant self.new.participant }
         ensures fault { IfErr result (λ f. breaks_off f ≡ true) }
-        ensures whole { IfOk result (λ _. self.old.fault ≡ None) }
+        ensures whole { IfOk result (λ l. (self.old.fault ≡ None) × (l ≡ self.old.left_out)) }
         ensures wakes { IfOk result (λ _. (self.new.participant ≡ self.old.participant)
             ⊎ MakesOne N.layout self.old.participant calls.Wake self.new.participant) }
     {
         if let Some(fault) = self.fault {
             return Err(fault);
         }
+        let left_out = self.left_out;
         if !self.is_asleep {
-            return Ok(());
+            return Ok(left_out);
         }
         match self.wake() {
-            Ok(_) => Ok(()),
+            Ok(_) => Ok(left_out),
             Err(fault) => Err(with_room(fault)),
         }
     }
@@ -594,7 +652,8 @@ pub(crate) fn with_room(fault: RunFault) -> RunFault
     }
 }
 
-/// Runs an item in a context that has the worker's participant, and gives the participant back.
+/// Runs an item in a context that has the worker's participant, and gives the participant back. It answers how many
+/// waits the run left out.
 fn run_once<N: HubName, R: Wait, W: Work>(
     rt: &R,
     hub: &Hub<N>,
@@ -602,12 +661,12 @@ fn run_once<N: HubName, R: Wait, W: Work>(
     lent: Option<&Lent<N>>,
     work: &W,
     item: ItemId,
-) -> (Participant<N>, Result<(), RunFault>)
+) -> (Participant<N>, Result<LeftOut, RunFault>)
     requires worker { is_caller participant.who ≡ false }
     requires item { item.0 < N.layout.items }
     requires started { HasStarted participant item }
     ensures later { Later participant result.0 }
-    ensures ran { IfOk result.1 (λ _. RunsItem N.layout (W.does work.now N.layout) item participant result.0) }
+    ensures ran { IfOk result.1 (λ l. RunsItem N.layout (W.does work.now N.layout) item l participant result.0) }
     ensures fault { IfErr result.1 (λ f. breaks_off f ≡ true) }
 {
     let mut context = RunCtx {
@@ -618,6 +677,7 @@ fn run_once<N: HubName, R: Wait, W: Work>(
         item,
         is_asleep: false,
         fault: None,
+        left_out: LeftOut::none(),
     };
     work.run::<N, R>(item, &mut context);
     let ended = context.end_run();
@@ -629,6 +689,7 @@ fn run_once<N: HubName, R: Wait, W: Work>(
         item: _,
         is_asleep: _,
         fault: _,
+        left_out: _,
     } = context;
     (participant, ended)
 }
@@ -641,21 +702,22 @@ pub(crate) fn run_in<N: HubName, R: Wait, W: Work>(
     lent: Option<&Lent<N>>,
     work: &W,
     item: ItemId,
-) -> Result<(), RunFault>
+) -> Result<LeftOut, RunFault>
     requires worker { is_caller participant.old.who ≡ false }
     requires item { item.0 < N.layout.items }
     requires started { HasStarted participant.old item }
     ensures later { Later participant.old participant.new }
-    ensures ran { IfOk result (λ _. RunsItem N.layout (W.does work.now N.layout) item participant.old participant.new) }
+    ensures ran { IfOk result
+        (λ l. RunsItem N.layout (W.does work.now N.layout) item l participant.old participant.new) }
     ensures fault { IfErr result (λ f. breaks_off f ≡ true) }
 {
     replace_with(
         participant,
         lent,
-        |participant, lent| -> (Participant<N>, Result<(), RunFault>)
+        |participant, lent| -> (Participant<N>, Result<LeftOut, RunFault>)
             requires { (is_caller participant.who ≡ false) × (item.0 < N.layout.items) × HasStarted participant item }
             ensures { Later participant result.0
-                × IfOk result.1 (λ _. RunsItem N.layout (W.does work.entry.now N.layout) item participant result.0)
+                × IfOk result.1 (λ l. RunsItem N.layout (W.does work.entry.now N.layout) item l participant result.0)
                 × IfErr result.1 (λ f. breaks_off f ≡ true) }
         { run_once(rt, hub, participant, lent, work, item) },
     )

@@ -8,8 +8,10 @@ ghost use Rattle.cmwq_monitor.specs.Faults.{IsStranger};
 ghost use Rattle.cmwq_rt.specs.Later.{Later};
 ghost use Rattle.cmwq_rt.specs.Running.{EndsRun, HasWorked, IsNextStart, breaks_off};
 ghost use Rattle.cmwq_monitor.specs.Settled.{Settles};
+ghost use Rattle.cmwq_rt.specs.declared.left_out.LeftOut as sums;
 
 use crate::hub::Hub;
+use crate::left_out::LeftOut;
 use crate::lent::Lent;
 use crate::work::{Work, run_in, with_room};
 use cmwq_model::{Call, ItemId};
@@ -78,6 +80,13 @@ impl<N: HubName> Worker<N> {
     }
 }
 
+/// What a worker's loop did: how many entries it made, and how many waits its runs left out.
+#[derive(Clone, Copy, Debug, PartialEq, Eq)]
+pub struct Worked {
+    pub entries: u64,
+    pub left_out: LeftOut,
+}
+
 impl<N: HubName> Hub<N> {
     /// A worker's loop (`worker_thread`): it starts what it may start, runs the work function once for each start, and
     /// goes when the hub is closed and no active queueing is open, as it then sees. It answers how many entries it
@@ -93,14 +102,18 @@ impl<N: HubName> Hub<N> {
         work: &W,
     ) -> Result<u64, RunFault>
         ensures fault { IfErr result (λ f. breaks_off f ≡ true) }
-        ensures worked { IfOk result (λ _. HasWorked N.layout (W.does work.now N.layout) worker.old worker.new) }
+        ensures worked { IfOk result
+            (λ _. (l : sums.LeftOut) × HasWorked N.layout (W.does work.now N.layout) l worker.old worker.new) }
         ensures idle { IfOk result (λ _. active_in N.layout worker.new.seen ≡ 0) }
         ensures count { IfOk result (λ n. worker.new.serial ≡ worker.old.serial + n) }
         ensures seen { IsPrefix worker.old.seen worker.new.seen }
         ensures legal { IsLegal N.layout (past_of worker.new.seen) }
         ensures same { worker.new.who ≡ worker.old.who }
     {
-        self.loop_on(rt, worker, None, work)
+        match self.loop_on(rt, worker, None, work) {
+            Ok(worked) => Ok(worked.entries),
+            Err(fault) => Err(fault),
+        }
     }
 
     /// The same. Runs may wait, by callers that are lent to them meanwhile.
@@ -115,9 +128,36 @@ impl<N: HubName> Hub<N> {
         lent: &'a Lent<N>,
     ) -> Result<u64, RunFault>
         ensures fault { IfErr result (λ f. breaks_off f ≡ true) }
-        ensures worked { IfOk result (λ _. HasWorked N.layout (W.does work.now N.layout) worker.old worker.new) }
+        ensures worked { IfOk result
+            (λ _. (l : sums.LeftOut) × HasWorked N.layout (W.does work.now N.layout) l worker.old worker.new) }
         ensures idle { IfOk result (λ _. active_in N.layout worker.new.seen ≡ 0) }
         ensures count { IfOk result (λ n. worker.new.serial ≡ worker.old.serial + n) }
+        ensures seen { IsPrefix worker.old.seen worker.new.seen }
+        ensures legal { IsLegal N.layout (past_of worker.new.seen) }
+        ensures same { worker.new.who ≡ worker.old.who }
+    {
+        match self.loop_on(rt, worker, Some(lent), work) {
+            Ok(worked) => Ok(worked.entries),
+            Err(fault) => Err(fault),
+        }
+    }
+
+    /// The same. It answers too how many waits the runs left out.
+    ///
+    /// # Errors
+    /// Those of `work`.
+    pub fn work_counting<'a, R: Wait, W: Work>(
+        &'a self,
+        rt: &'a R,
+        worker: &mut Worker<N>,
+        work: &W,
+        lent: &'a Lent<N>,
+    ) -> Result<Worked, RunFault>
+        ensures fault { IfErr result (λ f. breaks_off f ≡ true) }
+        ensures worked { IfOk result
+            (λ t. HasWorked N.layout (W.does work.now N.layout) t.left_out worker.old worker.new) }
+        ensures idle { IfOk result (λ _. active_in N.layout worker.new.seen ≡ 0) }
+        ensures count { IfOk result (λ t. worker.new.serial ≡ worker.old.serial + t.entries) }
         ensures seen { IsPrefix worker.old.seen worker.new.seen }
         ensures legal { IsLegal N.layout (past_of worker.new.seen) }
         ensures same { worker.new.who ≡ worker.old.who }
@@ -125,18 +165,19 @@ impl<N: HubName> Hub<N> {
         self.loop_on(rt, worker, Some(lent), work)
     }
 
-    /// Runs one item after another until the hub is over, and counts the entries.
+    /// Runs one item after another until the hub is over, and counts the entries and the waits that runs left out.
     fn loop_on<'a, R: Wait, W: Work>(
         &'a self,
         rt: &'a R,
         worker: &mut Worker<N>,
         lent: Option<&'a Lent<N>>,
         work: &W,
-    ) -> Result<u64, RunFault>
+    ) -> Result<Worked, RunFault>
         ensures fault { IfErr result (λ f. breaks_off f ≡ true) }
-        ensures worked { IfOk result (λ _. HasWorked N.layout (W.does work.now N.layout) worker.old worker.new) }
+        ensures worked { IfOk result
+            (λ t. HasWorked N.layout (W.does work.now N.layout) t.left_out worker.old worker.new) }
         ensures idle { IfOk result (λ _. active_in N.layout worker.new.seen ≡ 0) }
-        ensures count { IfOk result (λ n. worker.new.serial ≡ worker.old.serial + n) }
+        ensures count { IfOk result (λ t. worker.new.serial ≡ worker.old.serial + t.entries) }
         ensures seen { IsPrefix worker.old.seen worker.new.seen }
         ensures legal { IsLegal N.layout (past_of worker.new.seen) }
         ensures same { worker.new.who ≡ worker.old.who }
@@ -146,7 +187,10 @@ impl<N: HubName> Hub<N> {
         let last = worker.participant.serial();
         let _legal = worker.participant.seen();
         match ended {
-            Ok(()) => Ok(last - first),
+            Ok(left_out) => Ok(Worked {
+                entries: last - first,
+                left_out,
+            }),
             Err(fault) => {
                 self.fail(rt);
                 Err(fault)
@@ -154,27 +198,29 @@ impl<N: HubName> Hub<N> {
         }
     }
 
-    /// One run after another.
+    /// One run after another. It answers how many waits they left out.
     fn run_all<'a, R: Wait, W: Work>(
         &'a self,
         rt: &'a R,
         participant: &mut Participant<N>,
         lent: Option<&'a Lent<N>>,
         work: &W,
-    ) -> Result<(), RunFault>
+    ) -> Result<LeftOut, RunFault>
         requires { is_caller participant.old.who ≡ false }
         ensures fault { IfErr result (λ f. breaks_off f ≡ true) }
         ensures worked { IfOk result
-            (λ _. HasWorked N.layout (W.does work.now N.layout) participant.old participant.new) }
+            (λ l. HasWorked N.layout (W.does work.now N.layout) l participant.old participant.new) }
         ensures idle { IfOk result (λ _. active_in N.layout participant.new.seen ≡ 0) }
         ensures later { Later participant.old participant.new }
     {
         let mut next = self.until_start(rt, self.lock(rt), participant)?;
+        let mut left_out = LeftOut::none();
         for _ in rt.forever() {
             let Some(item) = next else {
-                return Ok(());
+                return Ok(left_out);
             };
-            run_in(rt, self, participant, lent, work, item)?;
+            let of_run = run_in(rt, self, participant, lent, work, item)?;
+            left_out = left_out.plus(of_run);
             next = self.go_on(rt, participant)?;
         }
         unreachable!()

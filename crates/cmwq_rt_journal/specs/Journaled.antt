@@ -2,6 +2,7 @@
 use Rattle.std.specs.Prelude.{◌≡◌}
 use Rattle.cmwq_text.specs.HistoryText.{text_of_format}
 use Rattle.cmwq_rt.specs.Running.{Behavior}
+use Rattle.cmwq_rt.specs.declared.left_out.LeftOut.{LeftOut}
 use Rattle.cmwq_engine.specs.Conduct.{Conduct}
 use Rattle.cmwq_engine.specs.declared.crew.Roster.{Roster}
 use Rattle.cmwq_engine.specs.Ended.{FailsAs, IsLeft, is_silent}
@@ -10,8 +11,9 @@ use Rattle.cmwq_rt_journal.specs.declared.fault.Unwritten.{Unwritten}
 use Rattle.cmwq_rt_journal.specs.declared.fault.Unwritten.TheVariants as unwritten
 
 -- the whole text of a history that the run leaves, of so many entries
-abbrev pub WritesLeft : Layout → Behavior → Conduct → Roster → ℕ → ℕ → Option (List ℕ) → Option (List ℕ) → Type 0
-WritesLeft s does calls r entries full a b = (history : List Entry) × IsLeft s does calls r full history
+abbrev pub WritesLeft : Layout → Behavior → Conduct → Roster → ℕ → ℕ → LeftOut → Option (List ℕ) → Option (List ℕ)
+    → Type 0
+WritesLeft s does calls r entries full l a b = (history : List Entry) × IsLeft s does calls r full l history
     × (entries ≡ length history) × Appends a b (text_of_format 3 s history)
 
 -- it says nothing of what callers and workers did

@@ -84,7 +84,7 @@ fn end_run<N: HubName, C: Crew, W: Work, R: Wait, O: Sink>(
     ensures whole { IfOk result (λ t. (start : Option (List ℕ))
         → HasKept N.layout beside.journal.seen start (O.written output.old) beside.kept
         → WritesLeft N.layout (W.does work.now N.layout) (C.calls crew.now) (C.roles crew.now N.layout) t.answered
-        t.full start (O.written output.new)) }
+        t.full t.left_out start (O.written output.new)) }
     ensures flushed { OnOk result (O.held output.new ≡ 0) }
     ensures front { OnErr result ((start : Option (List ℕ))
         → HasKept N.layout beside.journal.seen start (O.written output.old) beside.kept
@@ -142,7 +142,7 @@ fn run_parts<
     requires spare { spare.items ≡ [] }
     ensures whole { IfOk result
         (λ t. WritesLeft N.layout (W.does work.now N.layout) (C.calls crew.now) (C.roles crew.now N.layout) t.answered
-        t.full (O.written output.old) (O.written output.new)) }
+        t.full t.left_out (O.written output.old) (O.written output.new)) }
     ensures flushed { OnOk result (O.held output.new ≡ 0) }
     ensures front { OnErr result (WritesFront N.layout (O.written output.old) (O.written output.new)) }
     ensures tells { IfErr result (TellsOf N.layout (C.calls crew.now) (C.roles crew.now N.layout)) }
@@ -187,7 +187,7 @@ pub fn run_with_journal<
     requires { C.fits crew.now shape.now }
     ensures whole { IfOk result
         (λ t. WritesLeft shape.now (W.does work.now shape.now) (C.calls crew.now) (C.roles crew.now shape.now)
-        t.answered t.full (O.written output.old) (O.written output.new)) }
+        t.answered t.full t.left_out (O.written output.old) (O.written output.new)) }
     ensures flushed { OnOk result (O.held output.new ≡ 0) }
     ensures front { OnErr result (WritesFront shape.now (O.written output.old) (O.written output.new)) }
     ensures tells { IfErr result (TellsOf shape.now (C.calls crew.now) (C.roles crew.now shape.now)) }

@@ -5,7 +5,7 @@ use Rattle.cmwq_monitor.specs.Held.{active_in}
 use Rattle.cmwq_monitor.specs.declared.fault.RunFault.{RunFault}
 use Rattle.cmwq_monitor.specs.declared.fault.RunFault.TheVariants.{Full, NoPlace, Unfinished}
 use Rattle.cmwq_rt.proofs.Following.{follows_later}
-use Rattle.cmwq_engine.specs.Ended.{CalledIn, AllCalled, AreSilent, IsRestOfLeft}
+use Rattle.cmwq_engine.specs.Ended.{CalledIn, AllCalled, AllWaited, AreSilent, IsRestOfLeft}
 use Rattle.cmwq_engine.specs.Ended.{FailsAs as CrewFails, IsLeft as CrewLeaves}
 use Rattle.cmwq_engine.specs.declared.crew.Roster.{Roster}
 use Rattle.cmwq_rt_journal.specs.Journaled.{WritesLeft}
@@ -15,7 +15,7 @@ use Rattle.cmwq_rt_journal.specs.declared.fault.Unwritten.TheVariants as unwritt
 use Rattle.cmwq_rt_scripts.specs.Common.{◌≡◌, ◌+◌, ◌<◌, ◌∙◌, ◌∷◌, ℕ, zero, suc, List, [], Some, Option, Result, Ok, Err}
 use Rattle.cmwq_rt_scripts.specs.Common.{IfOk, IfErr, Vec, Global, length, map, drop, slice_get, refl, sym, ap, subst}
 use Rattle.cmwq_rt_scripts.specs.Common.{arith, IsPrefix, Call, Entry, Layout, serial_of, past_of, View, made_by}
-use Rattle.cmwq_rt_scripts.specs.Common.{Follows, Behavior, Appends, caller_numbered}
+use Rattle.cmwq_rt_scripts.specs.Common.{Follows, Behavior, Appends, LeftOut, caller_numbered}
 use Rattle.cmwq_rt_scripts.specs.Followed.{FollowedAt, follows}
 use Rattle.cmwq_rt_scripts.specs.Ended.{AllFollow, FailsAs, FollowsIn, IsLeft}
 use Rattle.cmwq_rt_scripts.specs.Journaled.{TellsOf, WritesAll}
@@ -67,11 +67,13 @@ all_follow s all full h so =
 same_number : (all : List (Vec Call Global)) (lent : ℕ) → length all + lent ≡ length (lists all) + lent
 same_number all lent = ap (λ n. n + lent) (sym (length-map all (λ x. x.items)))
 
-pub leaves : (s : Layout) (does : Behavior) (all : List (Vec Call Global)) (lent full : ℕ) (h : List Entry)
-    → CrewLeaves s does (follows all) (roles all lent) full h → IsLeft s does (lists all) lent full h
-leaves s does all lent full h left = record {
+pub leaves : (s : Layout) (does : Behavior) (all : List (Vec Call Global)) (lent full : ℕ) (l : LeftOut)
+    (h : List Entry) → CrewLeaves s does (follows all) (roles all lent) full l h
+    → IsLeft s does (lists all) lent full l h
+leaves s does all lent full l h left = record {
   legal = left.legal;
   follow = all_follow s all full h left.called;
+  waited = subst (λ (n : ℕ). AllWaited s n lent h) (sym (length-map all (λ x. x.items))) left.waited;
   worked = left.worked;
   silent = subst (λ (n : ℕ). AreSilent s n h) (same_number all lent) left.silent;
   finished = left.finished;
@@ -100,10 +102,11 @@ silent_of s all h silent =
     let none : length all + 0 ≡ length all = omega arith in
     subst (λ (n : ℕ). AreSilent s n h) (sym (same_number all 0) ∙ none) silent
 
-pub writes : (s : Layout) (does : Behavior) (all : List (Vec Call Global)) (lent entries full : ℕ)
-    (a b : Option (List ℕ)) → WritesLeft s does (follows all) (roles all lent) entries full a b
-    → WritesAll s does (lists all) lent entries full a b
-writes s does all lent entries full a b (h, left, many, text) = (h, leaves s does all lent full h left, many, text)
+pub writes : (s : Layout) (does : Behavior) (all : List (Vec Call Global)) (lent entries full : ℕ) (l : LeftOut)
+    (a b : Option (List ℕ)) → WritesLeft s does (follows all) (roles all lent) entries full l a b
+    → WritesAll s does (lists all) lent entries full l a b
+writes s does all lent entries full l a b (h, left, many, text) =
+    (h, leaves s does all lent full l h left, many, text)
 
 pub tells : (s : Layout) (all : List (Vec Call Global)) (lent : ℕ) (f : Unwritten)
     → CrewTells s (follows all) (roles all lent) f → TellsOf s (lists all) lent f

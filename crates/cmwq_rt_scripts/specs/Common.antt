@@ -14,5 +14,6 @@ pub use Rattle.cmwq_model.specs.declared.entry.Entry.{Entry}
 pub use Rattle.cmwq_monitor.specs.Participants.{View, made_by, newcomer}
 pub use Rattle.cmwq_rt.specs.Running.{Behavior}
 pub use Rattle.cmwq_rt.specs.Scripts.{Follows, HasFollowed}
+pub use Rattle.cmwq_rt.specs.declared.left_out.LeftOut.{LeftOut}
 pub use Rattle.cmwq_engine.specs.Conduct.{Conduct, caller_numbered}
 pub use Rattle.cmwq_text.specs.HistoryText.{text_of_format}

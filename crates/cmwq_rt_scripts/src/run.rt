@@ -16,20 +16,21 @@ use cmwq_engine::{Tally, run};
 use cmwq_io::Sink;
 use cmwq_model::{Call, Entry, Shape};
 use cmwq_monitor::Rest;
-use cmwq_rt::{HubParts, RunFault, Work};
+use cmwq_rt::{HubParts, LeftOut, RunFault, Work};
 use cmwq_rt_journal::{Unwritten, run_with_journal};
 use std::alloc::Global;
 use std::sync::Wait;
 use std::thread::Threads;
 use std::time::Clock;
 
-/// The history of a run on threads, how many entries its callers and workers count as theirs, and how many calls were
-/// left out for want of room.
+/// The history of a run on threads, how many entries its callers and workers count as theirs, how many calls were left
+/// out for want of room, and how many waits runs left out.
 #[derive(Drop)]
 pub struct Report {
     pub history: Vec<Entry>,
     pub answered: u64,
     pub full: u64,
+    pub left_out: LeftOut,
 }
 
 /// Runs scripts on a hub of these parts, whose shape is this one.
@@ -46,7 +47,7 @@ fn run_parts<'x, W: Work + Sync, R: Threads + Wait + Sync>(
     requires fits { AreFit parts.shape scripts.now }
     ensures left { IfOk result
         (λ r. IsLeft shape.now (W.does work.now shape.now) (map (λ s. s.items) scripts.now) lent r.full
-        r.history.items) }
+        r.left_out r.history.items) }
     ensures counted { IfOk result (λ r. r.answered ≡ length r.history.items) }
     ensures fails { IfErr result (FailsAs shape.now (map (λ s. s.items) scripts.now) lent) }
 {
@@ -69,6 +70,7 @@ fn run_parts<'x, W: Work + Sync, R: Threads + Wait + Sync>(
         history: entries,
         answered: tally.answered,
         full: tally.full,
+        left_out: tally.left_out,
     })
 }
 
@@ -91,7 +93,7 @@ pub fn run_scripts<'x, W: Work + Sync, R: Threads + Wait + Sync>(
     ensures legal { IfOk result (λ r. IsLegal shape.now (past_of r.history.items)) }
     ensures counted { IfOk result (λ r. r.answered ≡ length r.history.items) }
     ensures follow { IfOk result (λ r. AllFollow shape.now 0 (map (λ s. s.items) scripts.now) r.full r.history.items) }
-    ensures worked { IfOk result (λ r. AllWorked shape.now (W.does work.now shape.now) r.history.items) }
+    ensures worked { IfOk result (λ r. AllWorked shape.now (W.does work.now shape.now) r.left_out r.history.items) }
     ensures silent { IfOk result (λ r. AreSilent shape.now (length scripts.now) r.history.items) }
     ensures finished { IfOk result (λ r. active_in shape.now r.history.items ≡ 0) }
     ensures fails { IfErr result (λ f. FailsAs shape.now (map (λ s. s.items) scripts.now) 0 f) }
@@ -116,7 +118,7 @@ pub fn run_scripts_lending<'x, W: Work + Sync, R: Threads + Wait + Sync>(
     requires calls { All (λ s. All (IsScripted shape.now) s.items × (length s.items < 2 ^ 32)) scripts.now }
     ensures left { IfOk result
         (λ r. IsLeft shape.now (W.does work.now shape.now) (map (λ s. s.items) scripts.now) lent r.full
-        r.history.items) }
+        r.left_out r.history.items) }
     ensures counted { IfOk result (λ r. r.answered ≡ length r.history.items) }
     ensures fails { IfErr result (FailsAs shape.now (map (λ s. s.items) scripts.now) lent) }
 {
@@ -150,7 +152,7 @@ pub fn run_scripts_with_journal<'x, W: Work + Sync, R: Threads + Wait + Clock + 
     requires calls { All (λ s. All (IsScripted shape.now) s.items × (length s.items < 2 ^ 32)) scripts.now }
     ensures whole { IfOk result
         (λ w. WritesAll shape.now (W.does work.now shape.now) (map (λ s. s.items) scripts.now) lent w.answered w.full
-        (O.written output.old) (O.written output.new)) }
+        w.left_out (O.written output.old) (O.written output.new)) }
     ensures flushed { OnOk result (O.held output.new ≡ 0) }
     ensures front { OnErr result (WritesFront shape.now (O.written output.old) (O.written output.new)) }
     ensures tells { IfErr result (TellsOf shape.now (map (λ s. s.items) scripts.now) lent) }

@@ -1,2 +1,3 @@
 pub mod Continuing
 pub mod Ending
+pub mod Ticking

@@ -53,6 +53,11 @@ Unwaited s v c (Run f) w = Later v w
 Unwaited s v c (Own _) w = ⊥
 Unwaited s v c f w = (w ≡ v) ⊎ MakesOne s v call.Wake w
 
+-- the answer to a run that would wait for itself
+abbrev pub TellsItself : Result Reply Fault → Type 0
+TellsItself (Err (Itself _ _)) = Unit {0}
+TellsItself _ = ⊥
+
 -- the fault of a wait, as a service sees it
 abbrev pub IsFaultOfWait : WaitFault → Fault → Type 0
 IsFaultOfWait wait.Itself (Itself _ _) = Unit {0}

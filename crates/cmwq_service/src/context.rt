@@ -20,17 +20,21 @@ use std::sync::Wait;
 pub trait Context {
     ghost use Rattle.std.specs.Prelude.{◌≡◌, ◌≤◌, true, length, IfOk, IfErr, None};
     ghost use Rattle.cmwq_model.specs.declared.call.Call.TheVariants as calls;
-    ghost use Rattle.cmwq_model.specs.Prelude.{Layout, is_workers};
+    ghost use Rattle.cmwq_model.specs.Prelude.{Layout, has_numbers, is_workers};
+    ghost use Rattle.cmwq_model.specs.declared.id.ItemId as ids;
     ghost use Rattle.cmwq_monitor.specs.Calls.{Extends};
     ghost use Rattle.cmwq_monitor.specs.Participants.{View};
-    ghost use Rattle.cmwq_rt.specs.Waiting.{HasWaited, is_wait};
-    ghost use Rattle.cmwq_monitor.specs.declared.fault.RunFault.TheVariants.{NoMemory};
+    ghost use Rattle.cmwq_rt.specs.Waiting.{HadNoRoom, HasWaited, is_for_itself, is_wait};
+    ghost use Rattle.cmwq_monitor.specs.declared.fault.RunFault.TheVariants.{Full, NoMemory};
     ghost use Rattle.cmwq_rt.specs.Batches.{MakesBatch};
-    ghost use Rattle.cmwq_service.specs.Calls.{Denied, DeniedBatch, is_of_worker, Unwaited};
+    ghost use Rattle.cmwq_service.specs.Calls.{Denied, DeniedBatch, TellsItself, Unwaited, is_of_worker};
     ghost use Rattle.cmwq_service.specs.declared.fault.Fault.TheVariants.{Run};
 
     /// The shape of its hub.
     ghost layout: { Layout };
+
+    /// The item that runs.
+    ghost runs: { Self → ids.ItemId };
 
     /// Who it is, its serial and what it has seen.
     ghost view: { Self → View };
@@ -39,11 +43,16 @@ pub trait Context {
     fn shape(&self) -> &Shape
         ensures { result.now ≡ layout };
 
+    /// The item that runs.
+    fn item(&self) -> ItemId
+        ensures { result ≡ runs self.now };
+
     /// A call of the worker: one entry. Each method below makes its call by this one.
     fn make(&mut self, call: Call) -> Result<Reply, Fault>
         requires { is_workers call ≡ true }
         ensures made { IfOk result (λ reply. Extends layout (view self.old) call reply (view self.new)) }
-        ensures denied { IfErr result (λ f. Denied layout (view self.old) call f (view self.new)) };
+        ensures denied { IfErr result (λ f. Denied layout (view self.old) call f (view self.new)) }
+        ensures runs { runs self.new ≡ runs self.old };
 
     /// Makes calls of the worker, one after another: 64 at most in one hold of the hub's lock, which is faster than
     /// one hold for each. The reply of each is written to the place of the same number.
@@ -57,7 +66,8 @@ pub trait Context {
             (λ _. MakesBatch layout (view self.old) calls.now replies.old replies.new (view self.new)) }
         ensures denied { IfErr result
             (λ e. DeniedBatch (is_of_worker layout) layout (view self.old) calls.now e.made e.fault replies.old
-            replies.new (view self.new)) };
+            replies.new (view self.new)) }
+        ensures runs { runs self.new ≡ runs self.old };
 
     /// Waits, by a caller that the library lends to it. The run sleeps meanwhile, and wakes after it. Each method below
     /// waits by this one.
@@ -68,7 +78,11 @@ pub trait Context {
     fn wait(&mut self, call: Call) -> Result<Reply, Fault>
         requires { is_wait call ≡ true }
         ensures waited { IfOk result (λ reply. HasWaited layout (view self.old) call reply (view self.new)) }
-        ensures unwaited { IfErr result (λ f. Unwaited layout (view self.old) call f (view self.new)) };
+        ensures unwaited { IfErr result (λ f. Unwaited layout (view self.old) call f (view self.new)) }
+        ensures itself { is_for_itself (runs self.old) call ≡ true → has_numbers layout call ≡ true
+            → TellsItself result × (view self.new ≡ view self.old) }
+        ensures full { IfErr result (λ f. f ≡ Run Full → HadNoRoom layout (view self.old) (view self.new)) }
+        ensures runs { runs self.new ≡ runs self.old };
 
     /// Waits until another thread of the service completes it (`wait_for_completion`). This makes no entry: a run that
     /// is to let others of its pool start sleeps before, and wakes after it.
@@ -90,6 +104,7 @@ pub trait Context {
             (λ reply. Extends layout (view self.old) (calls.Queue item queue cpu) reply (view self.new)) }
         ensures denied { IfErr result
             (λ f. Denied layout (view self.old) (calls.Queue item queue cpu) f (view self.new)) }
+        ensures runs { runs self.new ≡ runs self.old }
     {
         self.make(Call::Queue { item, queue, cpu })
     }
@@ -106,6 +121,7 @@ pub trait Context {
             (λ reply. Extends layout (view self.old) (calls.Delay item queue cpu ticks) reply (view self.new)) }
         ensures denied { IfErr result
             (λ f. Denied layout (view self.old) (calls.Delay item queue cpu ticks) f (view self.new)) }
+        ensures runs { runs self.new ≡ runs self.old }
     {
         self.make(Call::Delay {
             item,
@@ -127,6 +143,7 @@ pub trait Context {
             (λ reply. Extends layout (view self.old) (calls.Modify item queue cpu ticks) reply (view self.new)) }
         ensures denied { IfErr result
             (λ f. Denied layout (view self.old) (calls.Modify item queue cpu ticks) f (view self.new)) }
+        ensures runs { runs self.new ≡ runs self.old }
     {
         self.make(Call::Modify {
             item,
@@ -140,6 +157,7 @@ pub trait Context {
     final fn cancel(&mut self, item: ItemId) -> Result<Reply, Fault>
         ensures made { IfOk result (λ reply. Extends layout (view self.old) (calls.Cancel item) reply (view self.new)) }
         ensures denied { IfErr result (λ f. Denied layout (view self.old) (calls.Cancel item) f (view self.new)) }
+        ensures runs { runs self.new ≡ runs self.old }
     {
         self.make(Call::Cancel { item })
     }
@@ -148,6 +166,7 @@ pub trait Context {
     final fn sleep(&mut self) -> Result<Reply, Fault>
         ensures made { IfOk result (λ reply. Extends layout (view self.old) calls.Sleep reply (view self.new)) }
         ensures denied { IfErr result (λ f. Denied layout (view self.old) calls.Sleep f (view self.new)) }
+        ensures runs { runs self.new ≡ runs self.old }
     {
         self.make(Call::Sleep)
     }
@@ -156,6 +175,7 @@ pub trait Context {
     final fn wake(&mut self) -> Result<Reply, Fault>
         ensures made { IfOk result (λ reply. Extends layout (view self.old) calls.Wake reply (view self.new)) }
         ensures denied { IfErr result (λ f. Denied layout (view self.old) calls.Wake f (view self.new)) }
+        ensures runs { runs self.new ≡ runs self.old }
     {
         self.make(Call::Wake)
     }
@@ -166,6 +186,10 @@ pub trait Context {
             (λ reply. HasWaited layout (view self.old) (calls.FlushItem item) reply (view self.new)) }
         ensures unwaited { IfErr result
             (λ f. Unwaited layout (view self.old) (calls.FlushItem item) f (view self.new)) }
+        ensures itself { is_for_itself (runs self.old) (calls.FlushItem item) ≡ true
+            → has_numbers layout (calls.FlushItem item) ≡ true → TellsItself result × (view self.new ≡ view self.old) }
+        ensures full { IfErr result (λ f. f ≡ Run Full → HadNoRoom layout (view self.old) (view self.new)) }
+        ensures runs { runs self.new ≡ runs self.old }
     {
         self.wait(Call::FlushItem { item })
     }
@@ -176,6 +200,8 @@ pub trait Context {
             (λ reply. HasWaited layout (view self.old) (calls.FlushDelayed item) reply (view self.new)) }
         ensures unwaited { IfErr result
             (λ f. Unwaited layout (view self.old) (calls.FlushDelayed item) f (view self.new)) }
+        ensures full { IfErr result (λ f. f ≡ Run Full → HadNoRoom layout (view self.old) (view self.new)) }
+        ensures runs { runs self.new ≡ runs self.old }
     {
         self.wait(Call::FlushDelayed { item })
     }
@@ -186,6 +212,10 @@ pub trait Context {
             (λ reply. HasWaited layout (view self.old) (calls.CancelSync item) reply (view self.new)) }
         ensures unwaited { IfErr result
             (λ f. Unwaited layout (view self.old) (calls.CancelSync item) f (view self.new)) }
+        ensures itself { is_for_itself (runs self.old) (calls.CancelSync item) ≡ true
+            → has_numbers layout (calls.CancelSync item) ≡ true → TellsItself result × (view self.new ≡ view self.old) }
+        ensures full { IfErr result (λ f. f ≡ Run Full → HadNoRoom layout (view self.old) (view self.new)) }
+        ensures runs { runs self.new ≡ runs self.old }
     {
         self.wait(Call::CancelSync { item })
     }
@@ -195,6 +225,8 @@ pub trait Context {
         ensures waited { IfOk result
             (λ reply. HasWaited layout (view self.old) (calls.Flush queue) reply (view self.new)) }
         ensures unwaited { IfErr result (λ f. Unwaited layout (view self.old) (calls.Flush queue) f (view self.new)) }
+        ensures full { IfErr result (λ f. f ≡ Run Full → HadNoRoom layout (view self.old) (view self.new)) }
+        ensures runs { runs self.new ≡ runs self.old }
     {
         self.wait(Call::Flush { queue })
     }
@@ -204,6 +236,8 @@ pub trait Context {
         ensures waited { IfOk result
             (λ reply. HasWaited layout (view self.old) (calls.Drain queue) reply (view self.new)) }
         ensures unwaited { IfErr result (λ f. Unwaited layout (view self.old) (calls.Drain queue) f (view self.new)) }
+        ensures full { IfErr result (λ f. f ≡ Run Full → HadNoRoom layout (view self.old) (view self.new)) }
+        ensures runs { runs self.new ≡ runs self.old }
     {
         self.wait(Call::Drain { queue })
     }
@@ -220,7 +254,8 @@ impl<'a, N: HubName, B: Start, R: Wait> HubContext<'a, N, B, R> {
     #[tactic(auto, using(crate::proofs::Continuing::after_self))]
     pub(crate) fn new(run: RunCtx<'a, N, R>) -> HubContext<'a, N, B, R>
         requires { run.participant ≡ B.start }
-        ensures { result.run.participant ≡ run.entry.participant }
+        ensures same { result.run.participant ≡ run.entry.participant }
+        ensures item { result.run.item ≡ run.entry.item }
     {
         HubContext {
             run,
@@ -241,10 +276,16 @@ impl<'a, N: HubName, B: Start, R: Wait> HubContext<'a, N, B, R> {
 impl<'a, N: HubName, B: Start, R: Wait> Context for HubContext<'a, N, B, R> {
     ghost layout = { N.layout };
 
+    ghost runs = { λ c. c.run.item };
+
     ghost view = { λ c. c.run.participant };
 
     fn shape(&self) -> &Shape {
         self.run.shape()
+    }
+
+    fn item(&self) -> ItemId {
+        self.run.item()
     }
 
     #[tactic(auto, using(crate::proofs::Continuing::after_later))]

@@ -5,7 +5,7 @@ ghost use Rattle.cmwq_rt.specs.Later.{Later};
 ghost use Rattle.cmwq_rt.specs.Running.{breaks_off};
 ghost use Rattle.cmwq_engine.specs.Conduct.{caller_numbered};
 ghost use Rattle.cmwq_service.specs.Calls.{GoesOn};
-ghost use Rattle.cmwq_service.specs.Serving.{HasCalled, own_callers};
+ghost use Rattle.cmwq_service.specs.Serving.{HasCalled, HasOnlyTicked, may_end, own_callers};
 
 use crate::builder::OWN_CALLERS;
 use crate::client::{Client, HubClient};
@@ -185,12 +185,15 @@ impl<'s, S: Service, R: Wait + Clock> Serving<'s, S, R> {
     }
 
     /// Hands in a tick each time so long has gone by, until the service is over.
+    #[tactic(auto, using(crate::proofs::Ticking::not_ticked, crate::proofs::Ticking::ticked_more))]
     fn tick_on<N: HubName, C: Client>(
         &self,
         hub: &Hub<N>,
         client: &mut C,
         time: Duration,
-    ) -> Result<(), Fault> {
+    ) -> Result<(), Fault>
+        ensures { OnOk result (HasOnlyTicked C.layout (C.view client.old) (C.view client.new)) }
+    {
         for _ in self.rt.forever() {
             if self.signal.is_over_within(self.rt, hub, time) {
                 return Ok(());
@@ -201,7 +204,10 @@ impl<'s, S: Service, R: Wait + Clock> Serving<'s, S, R> {
     }
 
     /// The thread of the clock, which ends at once where the service wants no ticks.
-    fn tick_all<N: HubName, C: Client>(&self, hub: &Hub<N>, client: &mut C) -> Result<(), Fault> {
+    #[tactic(auto, using(crate::proofs::Ticking::not_ticked))]
+    fn tick_all<N: HubName, C: Client>(&self, hub: &Hub<N>, client: &mut C) -> Result<(), Fault>
+        ensures { OnOk result (HasOnlyTicked C.layout (C.view client.old) (C.view client.new)) }
+    {
         match self.service.tick_every() {
             Some(time) => self.tick_on(hub, client, time),
             None => Ok(()),
@@ -209,7 +215,9 @@ impl<'s, S: Service, R: Wait + Clock> Serving<'s, S, R> {
     }
 
     /// What comes when the service's callers have ended, if none of them gave up. Then the service is over.
-    fn end_all<N: HubName, C: Client>(&self, hub: &Hub<N>, client: &mut C) -> Result<(), Fault> {
+    fn end_all<N: HubName, C: Client>(&self, hub: &Hub<N>, client: &mut C) -> Result<(), Fault>
+        ensures { OnOk result (may_end S.ends 0 C.layout (C.view client.old) (C.view client.new)) }
+    {
         if self.signal.have_left(self.rt, hub) {
             self.service.end(self.rt, client)?;
         }
@@ -218,43 +226,72 @@ impl<'s, S: Service, R: Wait + Clock> Serving<'s, S, R> {
     }
 }
 
-/// What the library's own caller does, by a client that begins where it stands.
-fn help_from<'s, B: Start, N: HubName, S: Service, R: Wait + Clock>(
+/// What the clock's caller does, by a client that begins where it stands.
+fn tick_from<'s, B: Start, N: HubName, S: Service, R: Wait + Clock>(
     serving: &Serving<'s, S, R>,
     hub: &Hub<N>,
     caller: Caller<N>,
-    is_clock: bool,
 ) -> (Caller<N>, Result<(), Fault>)
     requires { caller ≡ B.start }
-    ensures { GoesOn B.start result.0 }
+    ensures goes { GoesOn B.start result.0 }
+    ensures ticked { OnOk result.1 (HasOnlyTicked N.layout B.start result.0) }
 {
     let mut client: HubClient<N, B, R> = HubClient::new(serving.rt, hub, caller);
-    let outcome = if is_clock {
-        serving.tick_all(hub, &mut client)
-    } else {
-        serving.end_all(hub, &mut client)
-    };
+    let outcome = serving.tick_all(hub, &mut client);
     (client.into_caller(), outcome)
 }
 
-fn help_once<'s, N: HubName, S: Service, R: Wait + Clock>(
+fn tick_once<'s, N: HubName, S: Service, R: Wait + Clock>(
     serving: &Serving<'s, S, R>,
     hub: &Hub<N>,
     caller: Caller<N>,
-    is_clock: bool,
 ) -> (Caller<N>, Result<(), Fault>)
-    ensures { result.0.who ≡ caller.who }
+    ensures same { result.0.who ≡ caller.who }
+    ensures ticked { OnOk result.1 (HasOnlyTicked N.layout caller result.0) }
 {
-    help_from::<Brand, N, S, R>(serving, hub, caller, is_clock)
+    tick_from::<Brand, N, S, R>(serving, hub, caller)
+}
+
+/// What the caller does that comes at the end, by a client that begins where it stands.
+fn end_from<'s, B: Start, N: HubName, S: Service, R: Wait + Clock>(
+    serving: &Serving<'s, S, R>,
+    hub: &Hub<N>,
+    caller: Caller<N>,
+) -> (Caller<N>, Result<(), Fault>)
+    requires { caller ≡ B.start }
+    ensures goes { GoesOn B.start result.0 }
+    ensures did { OnOk result.1 (may_end S.ends 0 N.layout B.start result.0) }
+{
+    let mut client: HubClient<N, B, R> = HubClient::new(serving.rt, hub, caller);
+    let outcome = serving.end_all(hub, &mut client);
+    (client.into_caller(), outcome)
+}
+
+fn end_once<'s, N: HubName, S: Service, R: Wait + Clock>(
+    serving: &Serving<'s, S, R>,
+    hub: &Hub<N>,
+    caller: Caller<N>,
+    number: u8,
+) -> (Caller<N>, Result<(), Fault>)
+    requires { caller ≡ newcomer (caller_numbered number) }
+    ensures same { result.0.who ≡ caller_numbered number }
+    ensures ended { OnOk result.1 (∥ HasCalled N.layout (may_end S.ends) number result.0 ∥₁) }
+{
+    let _number = number;
+    end_from::<Brand, N, S, R>(serving, hub, caller)
 }
 
 impl<'s, S: Service, R: Wait + Clock> Crew for Serving<'s, S, R> {
-    ghost use Rattle.std.specs.Prelude.{◌+◌, ◌-◌, ◌<◌};
-    ghost use Rattle.cmwq_service.specs.Serving.{HasCalled, own_callers};
+    ghost use Rattle.std.specs.Prelude.{◌≡◌, ◌+◌, ◌-◌, ◌<◌};
+    ghost use Rattle.cmwq_monitor.specs.Participants.{newcomer};
+    ghost use Rattle.cmwq_engine.specs.Conduct.{caller_numbered};
+    ghost use Rattle.cmwq_service.specs.Serving.{HasCalled, HasOnlyTicked, may_end, own_callers};
 
     ghost roles = { λ p s. record { threads = s.callers - p.waits; lent = p.waits } };
 
-    ghost calls = { λ p s k _ v. k + own_callers + p.waits < s.callers → ∥ HasCalled s S.calls k v ∥₁ };
+    ghost calls = { λ p s k _ v. (k + own_callers + p.waits < s.callers → ∥ HasCalled s S.calls k v ∥₁)
+        × (k + own_callers + p.waits ≡ s.callers → HasOnlyTicked s (newcomer (caller_numbered k)) v)
+        × (k + 1 + p.waits ≡ s.callers → ∥ HasCalled s (may_end S.ends) k v ∥₁) };
 
     fn roster(&self, shape: &Shape) -> Roster {
         Roster {
@@ -263,6 +300,7 @@ impl<'s, S: Service, R: Wait + Clock> Crew for Serving<'s, S, R> {
         }
     }
 
+    #[tactic(auto, using(crate::proofs::Ending::told_called, crate::proofs::Ending::told_ticked, crate::proofs::Ending::told_ended))]
     fn call<N: HubName, Q: Wait>(
         &self,
         _rt: &Q,
@@ -270,6 +308,7 @@ impl<'s, S: Service, R: Wait + Clock> Crew for Serving<'s, S, R> {
         caller: Caller<N>,
         number: u8,
     ) -> (Caller<N>, Result<u32, RunFault>) {
+        let threads = thread_callers(hub.shape(), self.waits);
         let all = service_callers(hub.shape(), self.waits);
         if number < all {
             let (caller, outcome) = call_once(self.rt, hub, self.service, caller, number);
@@ -277,7 +316,12 @@ impl<'s, S: Service, R: Wait + Clock> Crew for Serving<'s, S, R> {
             self.signal.leave(self.rt, hub);
             return (caller, told);
         }
-        let (caller, outcome) = help_once(self, hub, caller, number == all);
+        // the last one comes at the end, also in a hub that has no more than one
+        if number + 1 < threads {
+            let (caller, outcome) = tick_once(self, hub, caller);
+            return (caller, self.told(outcome));
+        }
+        let (caller, outcome) = end_once(self, hub, caller, number);
         (caller, self.told(outcome))
     }
 
@@ -287,7 +331,9 @@ impl<'s, S: Service, R: Wait + Clock> Crew for Serving<'s, S, R> {
 }
 
 impl<'s, S: Service, R: Wait + Clock> Work for Serving<'s, S, R> {
-    ghost does = { λ _. S.does };
+    ghost use Rattle.cmwq_service.specs.Serving.{behaves};
+
+    ghost does = { λ _. behaves S.does };
 
     fn run<N: HubName, Q: Wait>(&self, item: ItemId, context: &mut RunCtx<N, Q>) {
         let outcome = run_in(self.rt, self.service, item, context);

@@ -35,10 +35,11 @@ fn give_all<S: Service>(
     outcome: Result<Tally, Fault>,
 ) -> Result<Vec<Entry>, Stopped>
     ensures served { (s : Layout) (waits : ℕ)
-        → OnOk outcome (IsRestOfServed s waits S.calls S.does rest.first rest.entries.items)
-        → IfOk result (λ history. IsServed s waits S.calls S.does history.items) }
+        → OnOk outcome (IsRestOfServed s waits S.calls S.ends S.does rest.first rest.entries.items)
+        → IfOk result (λ history. IsServed s waits S.calls S.ends S.does history.items) }
     ensures stopped { (s : Layout) → IsRest s rest.first rest.entries.items
         → IfErr result (λ stopped. IsReliable s (past_of stopped.history.items)) }
+    ensures whole { rest.first ≡ 0 → IfErr result (λ stopped. stopped.history ≡ rest.entries) }
 {
     let Rest { first, entries } = rest;
     // no journal took any
@@ -74,7 +75,7 @@ fn run_parts<'s, S: Service + Send + Sync, R: Threads + Wait + Sync, Q: Wait + C
 ) -> (Rest, Result<Tally, Fault>)
     ensures rest { IsRest parts.shape result.0.first result.0.entries.items }
     ensures served { OnOk result.1
-        (IsRestOfServed parts.shape serving.now.waits S.calls S.does result.0.first result.0.entries.items) }
+        (IsRestOfServed parts.shape serving.now.waits S.calls S.ends S.does result.0.first result.0.entries.items) }
 {
     let (rest, ended) = cmwq_engine::run(&*rt, alloc, parts, &*serving, &*serving);
     (rest, serving.outcome(ended))
@@ -91,7 +92,8 @@ pub fn run_served<'s, S: Service + Send + Sync, R: Threads + Wait + Sync, Q: Wai
     parts: HubParts,
     serving: &Serving<'s, S, Q>,
 ) -> Result<Vec<Entry>, Stopped>
-    ensures served { IfOk result (λ history. IsServed parts.shape serving.now.waits S.calls S.does history.items) }
+    ensures served { IfOk result
+        (λ history. IsServed parts.shape serving.now.waits S.calls S.ends S.does history.items) }
     ensures stopped { IfErr result (λ stopped. IsReliable parts.shape (past_of stopped.history.items)) }
 {
     let (rest, outcome) = run_parts(rt, alloc, parts, serving);
@@ -113,7 +115,7 @@ pub fn run<S: Service + Send + Sync, R: Threads + Wait + Clock + Sync>(
     shape: &Shape,
     service: &S,
 ) -> Result<Vec<Entry>, Stopped>
-    ensures served { IfOk result (λ history. IsServed shape.now 0 S.calls S.does history.items) }
+    ensures served { IfOk result (λ history. IsServed shape.now 0 S.calls S.ends S.does history.items) }
     ensures stopped { IfErr result (λ stopped. IsReliable shape.now (past_of stopped.history.items)) }
 {
     run_with_waits(rt, alloc, shape, service, 0)
@@ -131,7 +133,7 @@ pub fn run_with_waits<S: Service + Send + Sync, R: Threads + Wait + Clock + Sync
     service: &S,
     waits: u8,
 ) -> Result<Vec<Entry>, Stopped>
-    ensures served { IfOk result (λ history. IsServed shape.now waits S.calls S.does history.items) }
+    ensures served { IfOk result (λ history. IsServed shape.now waits S.calls S.ends S.does history.items) }
     ensures stopped { IfErr result (λ stopped. IsReliable shape.now (past_of stopped.history.items)) }
 {
     let serving = match Serving::new(rt, service, shape, waits) {
@@ -155,7 +157,7 @@ pub fn run_dropping<S: Service + Send + Sync, R: Threads + Wait + Clock + Sync>(
     shape: &Shape,
     service: &S,
 ) -> Result<(), Fault>
-    ensures { OnOk result ((history : List entries.Entry) × IsServed shape.now 0 S.calls S.does history) }
+    ensures { OnOk result ((history : List entries.Entry) × IsServed shape.now 0 S.calls S.ends S.does history) }
 {
     run_dropping_with_waits(rt, alloc, shape, service, 0)
 }
@@ -171,7 +173,7 @@ pub fn run_dropping_with_waits<S: Service + Send + Sync, R: Threads + Wait + Clo
     service: &S,
     waits: u8,
 ) -> Result<(), Fault>
-    ensures { OnOk result ((history : List entries.Entry) × IsServed shape.now waits S.calls S.does history) }
+    ensures { OnOk result ((history : List entries.Entry) × IsServed shape.now waits S.calls S.ends S.does history) }
 {
     let serving = Serving::new(rt, service, shape, waits)?;
     match HubParts::dropping(rt, alloc, shape, readers_of(shape, service)) {

@@ -13,17 +13,19 @@ use std::time::{Clock, Duration};
 /// so that all threads come to their end, and `run` answers the first one.
 pub trait Service {
     ghost use Rattle.std.specs.Prelude.{OnOk};
-    ghost use Rattle.cmwq_model.specs.Prelude.{Layout};
-    ghost use Rattle.cmwq_rt.specs.Running.{Behavior};
-    ghost use Rattle.cmwq_service.specs.Serving.{Conduct};
+    ghost use Rattle.cmwq_service.specs.Serving.{Conduct, Ending, ItemConduct, may_end};
 
     /// What a caller does, by its place, as a relation of its first and its last view. The history that `run` returns
     /// has it. A service that leaves it out states nothing.
     ghost calls: { Conduct } = { λ _ _ _ _. Unit {0} };
 
+    /// What the caller does that comes at the end, if it makes an entry, as a relation of its first and its last view.
+    /// The history that `run` returns has it. A service that leaves it out states nothing.
+    ghost ends: { Ending } = { λ _ _ _. Unit {0} };
+
     /// What one run of an item does, as a relation of its worker's first and last view. The history that `run` returns
     /// has it of each run. A service that leaves it out states nothing.
-    ghost does: { Layout → Behavior } = { λ _ _ _ _. Unit {0} };
+    ghost does: { ItemConduct } = { λ _ _ _ _. Unit {0} };
 
     /// Runs an item, in a worker's thread, once for each start of one of its queueings (the kernel's `work_func_t`).
     fn run<R: Wait + Clock, C: Context>(
@@ -46,7 +48,9 @@ pub trait Service {
 
     /// What comes when all callers have ended, by a caller of its own, before the hub is closed. Nothing, where it is
     /// left out.
-    fn end<R: Wait + Clock, C: Client>(&self, rt: &R, client: &mut C) -> Result<(), Fault> {
+    fn end<R: Wait + Clock, C: Client>(&self, rt: &R, client: &mut C) -> Result<(), Fault>
+        ensures { OnOk result (may_end ends 0 C.layout (C.view client.old) (C.view client.new)) }
+    {
         let (_, _) = (rt, client);
         Ok(())
     }

@@ -48,7 +48,7 @@ pub fn run_writing<S: Service + Send + Sync, R: Threads + Wait + Clock + Sync, O
     output: &mut O,
 ) -> Result<u64, Unwritten>
     ensures whole { IfOk result
-        (λ n. WritesServed shape.now 0 S.calls S.does n (O.written output.old) (O.written output.new)) }
+        (λ n. WritesServed shape.now 0 S.calls S.ends S.does n (O.written output.old) (O.written output.new)) }
     ensures flushed { OnOk result (O.held output.new ≡ 0) }
     ensures front { OnErr result (WritesFront shape.now (O.written output.old) (O.written output.new)) }
     ensures sink { IsErrOf result unwritten.Sink → Rises (O.troubles output.old) (O.troubles output.new) }
@@ -70,7 +70,7 @@ pub fn run_writing_with_waits<S: Service + Send + Sync, R: Threads + Wait + Cloc
     output: &mut O,
 ) -> Result<u64, Unwritten>
     ensures whole { IfOk result
-        (λ n. WritesServed shape.now waits S.calls S.does n (O.written output.old) (O.written output.new)) }
+        (λ n. WritesServed shape.now waits S.calls S.ends S.does n (O.written output.old) (O.written output.new)) }
     ensures flushed { OnOk result (O.held output.new ≡ 0) }
     ensures front { OnErr result (WritesFront shape.now (O.written output.old) (O.written output.new)) }
     ensures sink { IsErrOf result unwritten.Sink → Rises (O.troubles output.old) (O.troubles output.new) }

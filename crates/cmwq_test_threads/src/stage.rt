@@ -7,7 +7,7 @@ use crate::sink::{Counted, Output, entries_of, is_legal, output};
 use crate::step::{Acted, act};
 use cmwq_model::{Counts, Entry, QueueShape, Reply, Shape, Who};
 use cmwq_rt::{
-    Caller, Hub, HubName, HubParts, Journal, Lent, Participants, Rest, RunFault, Worker,
+    Caller, Hub, HubName, HubParts, Journal, Lent, LentCaller, Participants, Rest, RunFault, Worker,
 };
 use cmwq_rt_journal::{JournalFault, drop_journal, end_journal, keep_journal};
 use std::alloc::Global;
@@ -305,7 +305,9 @@ fn lend<N: HubName>(
     let mut callers = Vec::new(rt.alloc());
     for _ in 0..many {
         let caller = participants.caller().expect(rt, "a caller");
-        callers.push(caller).expect(rt, "memory");
+        callers
+            .push(LentCaller::new(caller))
+            .expect(rt, "memory");
     }
     Lent::new(callers)
 }
@@ -366,7 +368,8 @@ fn play_under<
         made,
         taken,
     } = play_all(rt, &hub, &lent, participants, scene);
-    for caller in lent.into_callers() {
+    for lent in lent.into_callers() {
+        let (Ok(caller) | Err(caller)) = lent.into_caller();
         callers.push(caller).expect(rt, "memory");
     }
     let rest = hub

@@ -162,7 +162,7 @@ pub(crate) fn try_at<S: Service + Send + Sync, R: Threads + Wait + Sync>(
     seed: u64,
     turnstile: Arc<Turnstile, Global>,
 ) -> Result<Tried, Failure>
-    ensures served { IfOk result (λ tried. IsServed shape.now waits S.calls S.does tried.history.items) }
+    ensures served { IfOk result (λ tried. IsServed shape.now waits S.calls S.ends S.does tried.history.items) }
     ensures failed { IfErr result (λ failure. IsReliableOf shape.now failure × (seed_of failure ≡ seed)) }
 {
     let Ok(shared) = Arc::try_clone(&turnstile) else {
@@ -204,7 +204,7 @@ pub fn trial<S: Service + Send + Sync, R: Threads + Wait + Sync>(
     service: &S,
     seed: u64,
 ) -> Result<Tried, Failure>
-    ensures served { IfOk result (λ tried. IsServed shape.now 0 S.calls S.does tried.history.items) }
+    ensures served { IfOk result (λ tried. IsServed shape.now 0 S.calls S.ends S.does tried.history.items) }
     ensures failed { IfErr result (λ failure. IsReliableOf shape.now failure × (seed_of failure ≡ seed)) }
 {
     let setup = UNIFORM;
@@ -226,7 +226,8 @@ pub fn trial_with<S: Service + Send + Sync, R: Threads + Wait + Sync>(
     setup: &Setup,
     seed: u64,
 ) -> Result<Tried, Failure>
-    ensures served { IfOk result (λ tried. IsServed shape.now setup.now.waits S.calls S.does tried.history.items) }
+    ensures served { IfOk result
+        (λ tried. IsServed shape.now setup.now.waits S.calls S.ends S.does tried.history.items) }
     ensures failed { IfErr result (λ failure. IsReliableOf shape.now failure × (seed_of failure ≡ seed)) }
 {
     match turnstile_of(alloc, shape, setup, seed) {

@@ -5,6 +5,7 @@ pub returns-in-Ok-journaled-clause-left : goal.returns-in-Ok-journaled-clause-le
 returns-in-Ok-journaled-clause-left g c = record {
   legal = search rules;
   called = search rules;
+  waited = search rules;
   worked = search rules;
   silent = search rules;
   finished = search rules;

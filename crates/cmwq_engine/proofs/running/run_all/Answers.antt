@@ -61,19 +61,23 @@ returns-clause-run g c =
             let within : k < length ws = (let l = len_workers in omega (arith, lt, l)) in
             subst (λ z. IfErr z.outcome (λ f. breaks_off f ≡ true)) (get_or_from_slice_get xs k e e at)
             (ended.each k e (subst (λ (n : ℕ). k < n) (sym of_workers.0) within)).1.kept.1);
-        worked = (λ k e at x there.
+        worked = (λ k e at.
             let lt = slice_get_within xs k e at in
             let within : k < length ws = (let l = len_workers in omega (arith, lt, l)) in
             let keeps = (ended.each k e (subst (λ (n : ℕ). k < n) (sym of_workers.0) within)).1 in
             let y = get_or xs k e in
             let h = keeps.handle in
             let started_at : slice_get ws k ≡ Some h = slice_get-get_or ws k h within ∙ ap Some (sym keeps.handle_is) in
-            let p = working.each k h started_at x there in
-            subst (λ z. IfOk z.outcome (λ _. WorkedFrom s does (newcomer (Worker x)) z.worker))
-            (get_or_from_slice_get xs k e e at)
-            (subst (λ v. IfOk y.outcome (λ _. WorkedFrom s does v y.worker)) p.0
-            (subst (λ w. IfOk y.outcome (λ _. WorkedFrom s (g.W.Work.does w s) h.promise.worker.value y.worker)) p.1
-            keeps.kept.0)));
+            let p = working.each k h started_at in (
+              p.0,
+              p.1,
+              subst (λ z. IfOk z.outcome (λ t. WorkedFrom s does t.left_out (newcomer (Worker p.0)) z.worker))
+                  (get_or_from_slice_get xs k e e at)
+                  (subst (λ v. IfOk y.outcome (λ t. WorkedFrom s does t.left_out v y.worker)) p.2
+                  (subst (λ w. IfOk y.outcome
+                  (λ t. WorkedFrom s (g.W.Work.does w s) t.left_out h.promise.worker.value y.worker)) p.3
+                  keeps.kept.0)),
+            ));
       };
       idle = subst (λ (n : ℕ). AreNewcomers s n c.in_ok-idle.idle.items) callers_are c.in_ok-idle.ensures.all;
       parts = (let a = c.into_rest.ensures.0 in

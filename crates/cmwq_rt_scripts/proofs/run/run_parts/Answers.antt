@@ -25,12 +25,16 @@ returns-clause-left g c =
     let entries = c.run-rest.result.0.entries.items in
     let rest =
     subst (λ o.
-    IfOk o (λ t. IsRestOfLeft s (does s) (follows all) (roles all c.args.lent) t.answered t.full first entries))
+    IfOk o
+    (λ t. IsRestOfLeft s (does s) (follows all) (roles all c.args.lent) t.answered t.full t.left_out first entries))
     c.in-Ok.is c.run-rest.ensures.left in
     let same = all_is_rest rest.history entries first rest.rest_is c.if-first-ne0.false in
-    let left = subst (λ h. CrewLeaves s (does s) (follows all) (roles all c.args.lent) tally.full h) same rest.left in
-    subst (λ (s : Layout). IsLeft s (does s) (map (λ x. x.items) all) c.args.lent tally.full entries) c.requires.shape
-    (leaves s (does s) all c.args.lent tally.full entries left)
+    let left =
+    subst (λ h. CrewLeaves s (does s) (follows all) (roles all c.args.lent) tally.full tally.left_out h) same
+    rest.left in
+    subst (λ (s : Layout). IsLeft s (does s) (map (λ x. x.items) all) c.args.lent tally.full tally.left_out entries)
+    c.requires.shape
+    (leaves s (does s) all c.args.lent tally.full tally.left_out entries left)
 
 pub returns-clause-counted : goal.returns-clause-counted
 returns-clause-counted g c =
@@ -41,6 +45,6 @@ returns-clause-counted g c =
     let entries = c.run-rest.result.0.entries.items in
     let rest =
     subst (λ o.
-    IfOk o (λ t. IsRestOfLeft s does (follows all) (roles all c.args.lent) t.answered t.full first entries))
+    IfOk o (λ t. IsRestOfLeft s does (follows all) (roles all c.args.lent) t.answered t.full t.left_out first entries))
     c.in-Ok.is c.run-rest.ensures.left in
     rest.counted ∙ ap length (all_is_rest rest.history entries first rest.rest_is c.if-first-ne0.false)

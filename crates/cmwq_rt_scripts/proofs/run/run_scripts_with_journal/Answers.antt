@@ -5,7 +5,8 @@ pub returns-clause-whole : goal.returns-clause-whole
 returns-clause-whole g c =
     let s = c.args.shape.now in
     if_ok _ _ c.run_with_journal.result
-    (λ w x. writes s (g.W.Work.does c.args.work.now s) c.args.scripts.now c.args.lent w.answered w.full _ _ x)
+    (λ w x. writes s (g.W.Work.does c.args.work.now s) c.args.scripts.now c.args.lent w.answered w.full w.left_out
+    _ _ x)
     c.run_with_journal.ensures.whole
 
 pub returns-clause-tells : goal.returns-clause-tells

@@ -6,10 +6,11 @@ use Rattle.cmwq_service.proofs.running.give_all.Goals as goal
 
 pub returns-in-Ok-clause-served : goal.returns-in-Ok-clause-served
 returns-in-Ok-clause-served g c s waits rest =
-    whole_served s waits g.S.Service.calls g.S.Service.does c.args.rest.first c.args.rest.entries.items
+    whole_served s waits g.S.Service.calls g.S.Service.ends g.S.Service.does c.args.rest.first c.args.rest.entries.items
     c.if-first-ne0.false
     (subst (λ o.
-    OnOk o (IsRestOfServed s waits g.S.Service.calls g.S.Service.does c.args.rest.first c.args.rest.entries.items))
+    OnOk o (IsRestOfServed s waits g.S.Service.calls g.S.Service.ends g.S.Service.does c.args.rest.first
+    c.args.rest.entries.items))
     c.in-Ok.is rest)
 
 pub returns-in-Err-clause-stopped : goal.returns-in-Err-clause-stopped

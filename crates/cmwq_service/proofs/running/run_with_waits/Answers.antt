@@ -8,10 +8,12 @@ use Rattle.cmwq_service.proofs.running.run_with_waits.Goals as goal
 pub returns-in-Ok-keeping_all-clause-served : goal.returns-in-Ok-keeping_all-clause-served
 returns-in-Ok-keeping_all-clause-served g c =
     subst (λ (s : Layout). IfOk c.run_served.result
-    (λ history. IsServed s c.args.waits g.S.Service.calls g.S.Service.does history.items)) c.in-Ok-keeping_all.ensures.shape
+    (λ history. IsServed s c.args.waits g.S.Service.calls g.S.Service.ends g.S.Service.does history.items))
+    c.in-Ok-keeping_all.ensures.shape
     (subst (λ w.
     IfOk c.run_served.result
-    (λ history. IsServed c.in-Ok-keeping_all.parts.shape w g.S.Service.calls g.S.Service.does history.items))
+    (λ history. IsServed c.in-Ok-keeping_all.parts.shape w g.S.Service.calls g.S.Service.ends g.S.Service.does
+    history.items))
     c.in-Ok.ensures c.run_served.ensures.served)
 
 pub returns-in-Ok-keeping_all-clause-stopped : goal.returns-in-Ok-keeping_all-clause-stopped

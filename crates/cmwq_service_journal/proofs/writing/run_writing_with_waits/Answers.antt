@@ -11,9 +11,10 @@ pub returns-in-Ok-run_with_journal-clause-whole : goal.returns-in-Ok-run_with_jo
 returns-in-Ok-run_with_journal-clause-whole g c =
     let s = c.args.shape.now in
     let calls = g.S.Service.calls in
+    let ends = g.S.Service.ends in
     let does = g.S.Service.does in
     let entries = c.in-Ok-run_with_journal.tally.answered in
     let old = g.O.Sink.written c.args.output.now in
     let new = g.O.Sink.written c.run_with_journal.new.output in
-    subst (λ (n : ℕ). WritesServed s n calls does entries old new) c.in-Ok.ensures
-    (writes_served s c.in-Ok.serving.waits does calls entries _ old new c.in-Ok-run_with_journal.ensures.whole)
+    subst (λ (n : ℕ). WritesServed s n calls ends does entries old new) c.in-Ok.ensures
+    (writes_served s c.in-Ok.serving.waits does calls ends entries _ _ old new c.in-Ok-run_with_journal.ensures.whole)

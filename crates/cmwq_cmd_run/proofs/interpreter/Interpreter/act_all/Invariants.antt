@@ -6,4 +6,6 @@ use Rattle.cmwq_cmd_run.proofs.interpreter.Interpreter.act_all.Given as goal
 abbrev pub invariant-loop-k : goal.invariant-loop-k
 invariant-loop-k g l =
     Later l.fn.context.participant l.context.participant × (l.context.fault ≡ None)
-    × ActInTurn g.N.HubName.layout (take l.k l.fn.actions) l.fn.context.participant l.context.participant
+    × (l.context.item ≡ l.fn.context.item)
+    × ActInTurn g.N.HubName.layout l.fn.context.item (take l.k l.fn.actions) l.fn.context.left_out l.context.left_out
+    l.fn.context.participant l.context.participant

@@ -22,7 +22,19 @@ loop-preserved g c =
       (
         suc n,
         ended,
-        (before, started, ran, c.in-Some-next.item, runs, starts.1, c.in_ok-run_in.ensures.ran, ends),
+        (
+          before,
+          started,
+          ran,
+          c.in-Some-next.item,
+          c.loop.left_out,
+          c.in_ok-of_run.of_run,
+          runs,
+          starts.1,
+          c.in_ok-of_run.ensures.ran,
+          ends,
+          c.plus-left_out.ensures,
+        ),
         after,
       ),
     )

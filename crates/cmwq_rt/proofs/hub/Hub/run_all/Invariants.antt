@@ -8,5 +8,5 @@ invariant-loop g l =
     let s = g.N.HubName.layout in
     (goal.iterator-loop g).can_next l.iterator' × (goal.iterator-loop g).is_finite l.iterator'
     × Later l.fn.participant l.participant × (is_caller l.participant.who ≡ false)
-    × ((n : ℕ) × (ended : View) × RunsInTurn s (g.W.Work.does l.fn.work s) n l.fn.participant ended
+    × ((n : ℕ) × (ended : View) × RunsInTurn s (g.W.Work.does l.fn.work s) n l.left_out l.fn.participant ended
     × IsNextStart s ended l.next l.participant)
