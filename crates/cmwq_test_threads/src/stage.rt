@@ -305,9 +305,7 @@ fn lend<N: HubName>(
     let mut callers = Vec::new(rt.alloc());
     for _ in 0..many {
         let caller = participants.caller().expect(rt, "a caller");
-        callers
-            .push(LentCaller::new(caller))
-            .expect(rt, "memory");
+        callers.push(LentCaller::new(caller)).expect(rt, "memory");
     }
     Lent::new(callers)
 }
