@@ -1,5 +1,6 @@
 -- Lists of what has been renumbered.
-use Rattle.cmwq_alike.specs.Common.{◌≡◌, ◌&&◌, suc, length, Bool, true, false, List, [], ◌∷◌, ◌++◌, filter, find, count_by, map}
+use Rattle.cmwq_alike.specs.Common.{◌≡◌, ◌&&◌, suc, length, Bool, true, false}
+use Rattle.cmwq_alike.specs.Common.{List, [], ◌∷◌, ◌++◌, filter, find, count_by, map}
 use Rattle.cmwq_alike.specs.Common.{option_map, arith, refl}
 use Rattle.cmwq_alike.specs.Common.{ap, ap₂, AllByRecursion, count_by-cons}
 
