@@ -1,5 +1,6 @@
 -- What is active after a call, and the worklists.
 use Rattle.std.specs.Prelude.{◌&&◌, ◌||◌, ◌++◌}
+use Rattle.cmwq_alike.specs.Common.{map-append}
 use Rattle.cmwq_alike.specs.Common.{◌≡◌, ℕ, Bool, true, not, nat_lt, List, ◌∷◌, filter, map, count_by, Some, is_at}
 use Rattle.cmwq_alike.specs.Common.{refl, sym, ap, ap₂, ◌∙◌, subst, ⊎_elim, found}
 use Rattle.cmwq_alike.specs.Common.{AllByRecursion, all_in, of_in, In, in_mapped, in_filter, Entry, Queueing, Layout}
@@ -19,7 +20,7 @@ use Rattle.cmwq_theory_steps.proofs.Worklist.{worklist_is}
 use Rattle.cmwq_theory_steps.proofs.WorklistSteps.{worklists_go_on}
 use Rattle.cmwq_theory_steps.proofs.Starts.{starts_next}
 use Rattle.cmwq_theory_steps.proofs.Unstarted.{next_unstarted}
-use Rattle.cmwq_alike.proofs.Lemmas.{filter_mapped, count_mapped, map_alike, map_append}
+use Rattle.cmwq_alike.proofs.Lemmas.{filter_mapped, count_mapped, map_alike}
 use Rattle.cmwq_alike.proofs.Numbers.{at_alike, old_stays, new_is, open_matters, ended_stays, started_by, each_stays}
 use Rattle.cmwq_alike.proofs.Opens.{open_go_on_alike, all_survive}
 use Rattle.cmwq_alike.proofs.Orders.{open_old, order_stays}
@@ -135,6 +136,6 @@ module _ {s : Layout} {f : ℕ → ℕ} {past other : List Entry} {e d : Entry} 
       (ap (filter (is_in s p)) newly_alike
       ∙ filter_mapped (queueing_by (next_by f past other)) (is_in s p) (is_in s p) (newly_active s past e)
       (all_in _ (newly_active s past e) (λ x i. refl)))
-      ∙ (sym (map_append (queueing_by (next_by f past other)) (filter (is_left past e) (worklist s past p))
+      ∙ (sym (map-append (queueing_by (next_by f past other)) (filter (is_left past e) (worklist s past p))
       (filter (is_in s p) (newly_active s past e)))
       ∙ ap (map (queueing_by (next_by f past other))) (sym (worklists_go_on s past e p k.legal))))

@@ -1,5 +1,6 @@
 -- The bookings that stand after a call.
 use Rattle.std.specs.Prelude.{◌<◌, ◌&&◌, ◌++◌}
+use Rattle.cmwq_alike.specs.Common.{map-append}
 use Rattle.cmwq_alike.specs.Common.{◌≡◌, ℕ, Bool, true, false, not, List, [], ◌∷◌, length, filter, map, Option, Some}
 use Rattle.cmwq_alike.specs.Common.{None, option_map, option_and_then, option_or, option_to_list, is_at}
 use Rattle.cmwq_alike.specs.Common.{arith, refl, sym, ap, ap₂, ◌∙◌, AllByRecursion, All_map, All_append, all_in, Entry}
@@ -11,7 +12,7 @@ unfoldable use Rattle.cmwq_model.specs.Prelude.{bookings}
 use Rattle.cmwq_lemmas.proofs.Lists.{of_option}
 use Rattle.cmwq_alike.specs.Alike.{call_by, unnumbered, next_by, IsStep}
 use Rattle.cmwq_theory_steps.proofs.Standing.{booking_after, made_for, due_settles}
-use Rattle.cmwq_alike.proofs.Lemmas.{filter_mapped, map_append}
+use Rattle.cmwq_alike.proofs.Lemmas.{filter_mapped}
 use Rattle.cmwq_alike.proofs.Opens.{same_item}
 use Rattle.cmwq_alike.proofs.Rest.{settles_by, due_by, made_by}
 
@@ -117,7 +118,7 @@ module _ {s : Layout} {f : ℕ → ℕ} {past other : List Entry} {e d : Entry} 
       ++ option_to_list (option_map unnumbered (booking_of c (length p)))
   unnumbered_go_on p c =
       ap (map unnumbered) (standing_go_on p c)
-      ∙ (map_append unnumbered (filter (is_unsettled c) (standing_bookings p))
+      ∙ (map-append unnumbered (filter (is_unsettled c) (standing_bookings p))
       (option_to_list (booking_of c (length p)))
       ∙ ap₂ (λ xs ys. xs ++ ys) (plain c (standing_bookings p)) (listed (booking_of c (length p))))
 

@@ -1,8 +1,8 @@
 -- Lists of what has been renumbered.
-use Rattle.cmwq_alike.specs.Common.{◌≡◌, ◌&&◌, suc, length, Bool, true, false}
-use Rattle.cmwq_alike.specs.Common.{List, [], ◌∷◌, ◌++◌, filter, find, count_by, map}
+use Rattle.cmwq_alike.specs.Common.{◌≡◌, ◌&&◌, Bool, true, false}
+use Rattle.cmwq_alike.specs.Common.{List, [], ◌∷◌, filter, find, count_by, map}
 use Rattle.cmwq_alike.specs.Common.{option_map, arith, refl}
-use Rattle.cmwq_alike.specs.Common.{ap, ap₂, AllByRecursion, count_by-cons}
+use Rattle.cmwq_alike.specs.Common.{ap₂, AllByRecursion, count_by-cons}
 
 pub filter_mapped : {X Y : Type 0} (g : X → Y) (p : Y → Bool) (q : X → Bool) (xs : List X)
     → AllByRecursion (λ x. p (g x) ≡ q x) xs → filter p (map g xs) ≡ map g (filter q xs)
@@ -23,14 +23,6 @@ count_mapped g p q (x ∷ xs) h =
 pub map_alike : {X Y : Type 0} (g h : X → Y) (xs : List X) → AllByRecursion (λ x. g x ≡ h x) xs → map g xs ≡ map h xs
 map_alike g h [] same = refl
 map_alike g h (x ∷ xs) same = ap₂ (λ y ys. y ∷ ys) same.0 (map_alike g h xs same.1)
-
-pub map_append : {X Y : Type 0} (g : X → Y) (xs ys : List X) → map g (xs ++ ys) ≡ map g xs ++ map g ys
-map_append g [] ys = refl
-map_append g (x ∷ xs) ys = ap (λ zs. g x ∷ zs) (map_append g xs ys)
-
-pub length_mapped : {X Y : Type 0} (g : X → Y) (xs : List X) → length (map g xs) ≡ length xs
-length_mapped g [] = refl
-length_mapped g (x ∷ xs) = ap suc (length_mapped g xs)
 
 -- a part need be the same only where the other holds
 pub both_parts : (a b c : Bool) → (a ≡ true → b ≡ c) → (a && b) ≡ (a && c)

@@ -1,5 +1,6 @@
 -- Calls that are made of both.
 use Rattle.std.specs.Prelude.{◌+◌, ◌&&◌, nat_le}
+use Rattle.cmwq_alike.specs.Common.{length-map}
 use Rattle.cmwq_alike.specs.Common.{◌≡◌, ℕ, true, not, List, ◌∷◌, suc, length, count_by, refl, sym, ap, ap₂, ◌∙◌, arith}
 use Rattle.cmwq_alike.specs.Common.{range_with_len}
 use Rattle.cmwq_alike.specs.Common.{All_each, all_in, of_in, count_by-same, Entry, Layout, Who, Call}
@@ -10,7 +11,7 @@ use Rattle.cmwq_model.specs.Prelude.{entry_for, has_time, most_time, room_needed
 use Rattle.cmwq_model.specs.declared.call.Call.TheVariants as call
 use Rattle.cmwq_alike.specs.Alike.{queueing_by, ticket_by, call_by, next_by, IsAlike, IsStep, Asks, AnswersAreAlike}
 use Rattle.cmwq_alike.specs.Alike.{CallsGoOnAlike, OwedAreAlike, RoomIsAlike}
-use Rattle.cmwq_alike.proofs.Lemmas.{count_mapped, length_mapped}
+use Rattle.cmwq_alike.proofs.Lemmas.{count_mapped}
 use Rattle.cmwq_alike.proofs.Numbers.{old_stays}
 use Rattle.cmwq_alike.proofs.Orders.{ticket_below}
 use Rattle.cmwq_alike.proofs.Looks.{has_alike, asleep_alike, booked_alike}
@@ -37,7 +38,7 @@ owed_alike s f past other legal a =
     count_by-same (is_booked other) (is_booked past) (range_with_len 0 s.items)
     (All_each _ (range_with_len 0 s.items) (booked_alike a legal)) in
     let ticket_alike : length (unended_tickets other) ≡ length (unended_tickets past) =
-    ap length a.tickets ∙ length_mapped (ticket_by f) (unended_tickets past) in
+    ap length a.tickets ∙ length-map (unended_tickets past) (ticket_by f) in
     rw (open_alike, run_alike, sleep_alike, book_alike, ticket_alike, a.frozen) refl
 
 pub fits_alike : (s : Layout) (g : ℕ → ℕ) (who : Who) (c : Call) → fits s who (call_by g c) ≡ fits s who c

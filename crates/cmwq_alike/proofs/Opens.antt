@@ -1,5 +1,6 @@
 -- What is open after a call is alike.
 use Rattle.std.specs.Prelude.{◌∷◌, ◌++◌, if◌then◌else◌}
+use Rattle.cmwq_alike.specs.Common.{map-append}
 use Rattle.cmwq_alike.specs.Common.{◌≡◌, ℕ, Bool, true, false, List, filter, map, Option, Some, None, option_map}
 use Rattle.cmwq_alike.specs.Common.{option_and_then, option_map_or, option_or, option_to_list, is_at, arith, refl, sym}
 use Rattle.cmwq_alike.specs.Common.{ap, ap₂, ◌∙◌}
@@ -12,7 +13,7 @@ use Rattle.cmwq_alike.specs.Common.{place_called, booking, item_run}
 use Rattle.cmwq_alike.specs.Alike.{queueing_by, reply_by, call_by, start_by, unnumbered, Matters, next_by, IsStep}
 use Rattle.cmwq_theory_steps.specs.Endings.{survives}
 use Rattle.cmwq_theory_steps.proofs.Endings.{open_go_on}
-use Rattle.cmwq_alike.proofs.Lemmas.{filter_mapped, map_alike, map_append}
+use Rattle.cmwq_alike.proofs.Lemmas.{filter_mapped, map_alike}
 use Rattle.cmwq_alike.proofs.Numbers.{at_alike, each_stays, new_is, finished_matters, cancelled_matters}
 use Rattle.cmwq_alike.proofs.Numbers.{finished_by, cancelled_by, replaces_by, opens_by, each_matters, ended_stays}
 
@@ -127,6 +128,6 @@ open_go_on_alike s f past other e d k =
     (λ x. survives other d (queueing_by f x) ≡ survives past e x) _ (still_open past)
     (λ x h j. ap (survives other d) (sym h) ∙ j) (each_stays f past other) (all_survive k)))
     (ap option_to_list (same_opening k) ∙ listed (next_by f past other) (opening past e))
-    ∙ (sym (map_append (queueing_by (next_by f past other)) (filter (survives past e) (still_open past))
+    ∙ (sym (map-append (queueing_by (next_by f past other)) (filter (survives past e) (still_open past))
     (option_to_list (opening past e)))
     ∙ ap (map (queueing_by (next_by f past other))) (sym (open_go_on s past e k.legal))))

@@ -1,5 +1,6 @@
 -- The unended tickets after a call.
 use Rattle.std.specs.Prelude.{◌&&◌, ◌++◌, if◌then◌else◌}
+use Rattle.cmwq_alike.specs.Common.{map-append}
 use Rattle.cmwq_alike.specs.Common.{◌≡◌, ℕ, Bool, true, false, not, List, ◌∷◌, length, filter, map, Option, Some, None}
 use Rattle.cmwq_alike.specs.Common.{option_map}
 use Rattle.cmwq_alike.specs.Common.{option_to_list, arith, refl, sym, ap, ap₂, ◌∙◌, inr, subst, found}
@@ -15,7 +16,7 @@ use Rattle.cmwq_theory_steps.proofs.TicketSteps.{unended_go_on, is_done_reply}
 use Rattle.cmwq_theory_steps.proofs.Reasons.{done_reason}
 use Rattle.cmwq_theory_steps.proofs.Causes.{cause_of}
 use Rattle.cmwq_theory_steps.proofs.Inversions.{answer_is}
-use Rattle.cmwq_alike.proofs.Lemmas.{filter_mapped, map_alike, map_append}
+use Rattle.cmwq_alike.proofs.Lemmas.{filter_mapped, map_alike}
 use Rattle.cmwq_alike.proofs.Numbers.{old_stays, new_is, same_tests}
 use Rattle.cmwq_alike.proofs.Orders.{ticket_below}
 
@@ -115,6 +116,6 @@ module _ {s : Layout} {f : ℕ → ℕ} {past other : List Entry} {e d : Entry} 
       (ticket_below past t.number (in_mapped ticket_number (unended_tickets past) t
       (in_filter (is_kept e) (unended_tickets past) t i).0))))))))
       (ap option_to_list ticket_alike ∙ listed (ticket_in e (length past)))
-      ∙ (sym (map_append (ticket_by (next_by f past other)) (filter (is_kept e) (unended_tickets past))
+      ∙ (sym (map-append (ticket_by (next_by f past other)) (filter (is_kept e) (unended_tickets past))
       (option_to_list (ticket_in e (length past))))
       ∙ ap (map (ticket_by (next_by f past other))) (sym (unended_go_on s past e k.legal))))

@@ -6,7 +6,7 @@ pub use Rattle.std.proofs.Common.{zero, zero-add, ℕ, ◌&&◌, ◌++◌, ◌+�
 pub use Rattle.std.proofs.lemmas.Bool.{and_parts, cases_lt, eq-eqb, eqb-true, false_from_ne_true, le-ltb, lt-ltb}
 pub use Rattle.std.proofs.lemmas.Bool.{ltb-false, ltb-true, or_right}
 pub use Rattle.std.proofs.lemmas.Bool.Decides.{eqb_tells, nat_tests}
-pub use Rattle.std.proofs.lemmas.List.{length-take}
+pub use Rattle.std.proofs.lemmas.List.{length-map, length-take, map-append}
 pub use Rattle.std.proofs.lemmas.List.Elements.{All-from_recursion, Contains-append_left, Contains-append_right}
 pub use Rattle.std.proofs.lemmas.List.Elements.{filter-append}
 pub use Rattle.std.proofs.lemmas.List.Filters.{length-filter_both, sum_by-filter_both}
