@@ -174,11 +174,12 @@ static inline int cmwq_hub_close(struct cmwq_hub *hub)
         if (party->started) pthread_join(party->thread, NULL);
     pthread_mutex_lock(&hub->lock);
     while (hub->inside) pthread_cond_wait(&hub->changed, &hub->lock);
+    /* no call makes an entry any more; but calls are still refused, by the board, under the lock */
+    status = snprintf(last, sizeof last, "end %llu\n", (unsigned long long)cmwq_board_len(&hub->board));
     hub->over = true;
     cmwq_hub_name_(hub, hub->journal);
     cmwq_hub_unlock_(hub);
     if (hub->journal->started) pthread_join(hub->journal->thread, NULL);
-    status = snprintf(last, sizeof last, "end %llu\n", (unsigned long long)cmwq_board_len(&hub->board));
     if (hub->is.journal && !hub->deaf)
         hub->deaf = !hub->is.journal(hub->is.journal_data, last, (size_t)status);
     pthread_mutex_lock(&hub->lock);

@@ -1,8 +1,8 @@
 #!/usr/bin/env python3
 """Wrong shells, each of which a test must find: wrong.py LIBRARY [--quick | NAME..]
 
-A wrong shell is an edit of cmwq_shell.h or cmwq_hub.h. Each is built with the tests `stress` and `faults`, in a folder
-of its own. The first that fails, or does not end in time, has found it. With --quick a few are tried. CC names the
+A wrong shell is an edit of cmwq_shell.h or cmwq_hub.h. Each is built with the tests `stress`, `faults` and `ends`, in a
+folder of its own. The first that fails, or does not end in time, has found it. With --quick a few are tried. CC names the
 compiler. The last line is `N passed, M failed`.
 """
 import concurrent.futures
@@ -18,7 +18,7 @@ C = os.path.join(os.path.dirname(os.path.realpath(__file__)), "..")
 AT_ONCE, SECONDS = 2, 60
 
 # The tests, with their arguments: 200 rounds, from the first on, of at most 5 seconds each.
-TESTS = (("stress", ["200", "0", "5"]), ("faults", []))
+TESTS = (("stress", ["200", "0", "5"]), ("faults", []), ("ends", []))
 
 # Those that are tried by --quick.
 QUICK = ("a wake is dropped", "the wakes of a call are noted in a second hold",
@@ -133,6 +133,15 @@ EDITS = (
         "shell",
         "    cmwq_hub_note_(hub, cmwq_board_stop(&hub->board, &hub->wakes));\n",
         "",
+    ),
+    (
+        "the journal's end is counted without the lock",
+        "hub",
+        "    if (hub->is.journal && !hub->deaf)\n"
+        "        hub->deaf =",
+        "    status = snprintf(last, sizeof last, \"end %llu\\n\", (unsigned long long)cmwq_board_len(&hub->board));\n"
+        "    if (hub->is.journal && !hub->deaf)\n"
+        "        hub->deaf =",
     ),
     (
         "the hub is freed under who is in it",
