@@ -1,9 +1,9 @@
 #!/usr/bin/env python3
 """Wrong shells, each of which a test must find: wrong.py LIBRARY [--quick | NAME..]
 
-A wrong shell is an edit of cmwq_shell.h or cmwq_hub.h. Each is built with the tests `stress`, `faults` and `ends`, in a
-folder of its own. The first that fails, or does not end in time, has found it. With --quick a few are tried. CC names the
-compiler. The last line is `N passed, M failed`.
+A wrong shell is an edit of cmwq_shell.h or cmwq_hub.h. Each is built with the tests `stress`, `faults` and `ends`, in
+a folder of its own. The first that fails, or does not end in time, has found it. With --quick a few are tried. CC
+names the compiler. The last line is `N passed, M failed`.
 """
 import concurrent.futures
 import os
