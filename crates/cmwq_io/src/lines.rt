@@ -181,14 +181,18 @@ impl Lines {
         }
     }
 
-    fn ahead(&self) -> &[u8]
+    /// The bytes read ahead.
+    #[inline(always)]
+    pub fn ahead(&self) -> &[u8]
         ensures value { result.now ≡ self.now }
         ensures size { length result.now ≤ 65536 }
     {
         &self.bytes[self.start..self.end]
     }
 
-    fn consume(&mut self, count: usize)
+    /// Takes so many of the bytes read ahead off what is left.
+    #[inline(always)]
+    pub fn consume(&mut self, count: usize)
         requires { count ≤ length self.old }
         ensures { self.new ≡ drop count self.old }
     {
