@@ -7,3 +7,4 @@ pub mod CallsSpelled
 pub mod Again
 pub mod Sound
 pub mod Whole
+pub mod UsualLines

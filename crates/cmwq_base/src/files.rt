@@ -12,6 +12,7 @@ use crate::gather::Listed;
 use crate::reading::read_file;
 use crate::refusal::Refusal;
 use crate::stage::FileLine;
+use crate::usual::{read_usual_call, read_usual_entry};
 use cmwq_io::Source;
 use cmwq_model::{Call, Entry, QueueShape, Shape, Who};
 use std::alloc::Global;
@@ -31,7 +32,10 @@ impl FileLine for (Who, Call) {
 
     #[inline(always)]
     fn read(version: u8, line: &[u8]) -> Option<Self> {
-        cmwq_text::read_call_of_format(version, line)
+        match read_usual_call(version, line) {
+            Some(call) => Some(call),
+            None => cmwq_text::read_call_of_format(version, line),
+        }
     }
 
     fn needs_end(_version: u8) -> bool {
@@ -60,7 +64,10 @@ impl FileLine for Entry {
 
     #[inline(always)]
     fn read(version: u8, line: &[u8]) -> Option<Self> {
-        cmwq_text::read_entry_of_format(version, line)
+        match read_usual_entry(version, line) {
+            Some(entry) => Some(entry),
+            None => cmwq_text::read_entry_of_format(version, line),
+        }
     }
 
     fn needs_end(version: u8) -> bool {

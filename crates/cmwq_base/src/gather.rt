@@ -1,6 +1,7 @@
 //! What becomes of the lines of a file while it is read.
 
-use crate::stage::FileLine;
+use crate::refusal::Refusal;
+use crate::stage::{FileLine, add_item};
 use cmwq_model::{NoMemory, Shape};
 use std::alloc::Global;
 
@@ -10,6 +11,8 @@ pub trait Gather: Sized {
     ghost use Rattle.std.specs.Prelude.{◌≡◌, ◌<◌, ◌++◌, ◌∷◌, [], List, length, IfOk, OnOk, IsTrue};
     ghost use Rattle.cmwq_model.specs.Prelude.{Layout};
     ghost use Rattle.cmwq_text.specs.Formats.{most_lines};
+    ghost use Rattle.cmwq_base.specs.Files.{body, item_line};
+    ghost use Rattle.cmwq_base.specs.Gives.{GivesAs};
     ghost use Rattle.cmwq_base.specs.Lines.{IsNextLine};
 
     /// What a line says.
@@ -41,6 +44,19 @@ pub trait Gather: Sized {
         requires few { length (items self.old) < most_lines }
         ensures shape { OnOk result (layout self.new ≡ layout self.old) }
         ensures item { OnOk result (items self.new ≡ items self.old ++ item ∷ []) };
+
+    /// Takes what one line of the kind says, the `number`-th of the file. What gathers may compare the line with what it
+    /// expects, and not read it whole.
+    ///
+    /// # Errors
+    /// The refusal of the line, or `NoMemory`. What is gathered then is not said.
+    #[inline(always)]
+    fn add(&mut self, number: u64, version: u8, line: &[u8]) -> Result<(), Refusal>
+        ensures { GivesAs (λ _. body version (layout self.new) (items self.new)) result
+            (item_line Self.Item.kind number version (layout self.old) (items self.old) line.now) }
+    {
+        add_item(number, version, self, line)
+    }
 }
 
 /// The shape of a file and all that its lines say, in memory.

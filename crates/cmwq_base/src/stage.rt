@@ -102,7 +102,7 @@ impl<G: Gather + Drop> Stage<G> {
     {
         match self {
             Stage::Body { version, all } if end_in::<G::Item>(*version, line).is_none() => {
-                add_item(number, *version, all, line)
+                all.add(number, *version, line)
             }
             _ => {
                 *self = mem::replace(self, Stage::Begin).take(alloc, number, line)?;
@@ -243,10 +243,10 @@ fn with_queue<G: Gather>(
     }
 }
 
-/// Takes one line of the kind.
+/// Reads one line of the kind, and takes what it says, as `Gather::add` does.
 #[tactic(auto, unfolding(crate::specs::Files::item_line))]
 #[inline]
-fn add_item<G: Gather>(number: u64, version: u8, all: &mut G, line: &[u8]) -> Result<(), Refusal>
+pub fn add_item<G: Gather>(number: u64, version: u8, all: &mut G, line: &[u8]) -> Result<(), Refusal>
     ensures { GivesAs (λ _. body version (G.layout all.new) (G.items all.new)) result
         (item_line G.Item.kind number version (G.layout all.old) (G.items all.old) line.now) }
 {

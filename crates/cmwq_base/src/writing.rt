@@ -44,8 +44,10 @@ pub fn write_entries<W: Sink>(sink: &mut W, entries: &[Entry]) -> Result<(), Ref
     ensures grown { W.troubles sink.old ≤ W.troubles sink.new }
     ensures fault { OnErr result (Rises (W.troubles sink.old) (W.troubles sink.new)) }
 {
+    let mut line = LineText::new();
     for entry in entries {
-        write_entry(sink, entry)?;
+        spell_entry(&mut line, entry);
+        write_all(sink, line.as_bytes())?;
     }
     Ok(())
 }
