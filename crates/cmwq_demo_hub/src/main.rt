@@ -12,8 +12,8 @@ ghost use Rattle.cmwq_demo_hub.specs.Numbers.{HasNumbers};
 
 use anyhow::{Context, Result, ensure};
 use cmwq_rt::{
-    Call, Caller, Counts, CpuId, Entry, Hub, HubName, HubParts, ItemId, Participants, QueueId,
-    QueueShape, RunCtx, RunFault, Shape, Work, all_fit, check,
+    Call, Caller, Calls, Counts, CpuId, Entry, Hub, HubName, HubParts, ItemId, Participants,
+    QueueId, QueueShape, RunCtx, RunFault, Shape, Work, all_fit, check,
 };
 use std::marker::Brand;
 use std::sync::Wait;

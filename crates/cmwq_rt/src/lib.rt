@@ -7,6 +7,7 @@
 
 mod batch;
 mod caller;
+mod calls;
 mod completion;
 mod condvars;
 pub mod ending;
@@ -27,6 +28,7 @@ mod worker;
 
 pub use batch::BatchFault;
 pub use caller::Caller;
+pub use calls::{Calls, RunCalls};
 pub use cmwq_core::check;
 pub use cmwq_model::{
     Call, CallerId, Counts, CpuId, Entry, Illegal, ItemId, NoMemory, Number, PoolId, QueueId,

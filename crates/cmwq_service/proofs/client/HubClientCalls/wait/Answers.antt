@@ -1,5 +1,5 @@
 use Rattle.cmwq_service.proofs.Continuing.{goes_whole}
-use Rattle.cmwq_service.proofs.client.HubClientClient.whole.Goals as goal
+use Rattle.cmwq_service.proofs.client.HubClientCalls.wait.Goals as goal
 
 pub invariant_of-self : goal.invariant_of-self
 invariant_of-self g c = record {
