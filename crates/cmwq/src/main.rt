@@ -5,7 +5,7 @@
 use clap::error::ErrorKind;
 use cmwq_base::{BufferedSink, FromStd, Sink, Source};
 use cmwq_cli::{Asked, Schedules, Word, word_of};
-use cmwq_cmd_explore::{Task, run_explore};
+use cmwq_cmd_explore::{Seeding, Task, run_explore, run_follow, run_path};
 use cmwq_cmd_history::{run_step, run_step_live};
 use cmwq_cmd_run::run_run;
 use cmwq_explain::{Kept, explain_calls, explain_history, explain_unkept};
@@ -55,21 +55,44 @@ fn texts(alloc: Global, args: &[String]) -> Result<Vec<&str>, AllocError> {
     Ok(words)
 }
 
-/// What is asked of schedules.
-fn task_of(schedules: Schedules) -> Task {
-    match schedules {
-        Schedules::OfSeed { seed, pct } => Task::OfSeed { seed, pct },
-        Schedules::OfSeeds { times, pct } => Task::OfSeeds { times, pct },
-        Schedules::All { moves, histories } => Task::All { moves, histories },
-    }
+/// What is asked of schedules, unless a file says it.
+fn task_of(schedules: Schedules) -> Option<Task> {
+    Some(match schedules {
+        Schedules::OfSeed { seed, pct, moves } => Task::OfSeed {
+            seed,
+            seeding: Seeding { pct, moves },
+        },
+        Schedules::OfSeeds {
+            from,
+            times,
+            pct,
+            moves,
+        } => Task::OfSeeds {
+            first: from,
+            times,
+            seeding: Seeding { pct, moves },
+        },
+        Schedules::All {
+            moves,
+            plain,
+            first,
+        } => Task::All {
+            moves,
+            is_plain: plain,
+            is_first: first,
+        },
+        Schedules::Histories { moves } => Task::Histories { moves },
+        Schedules::Path | Schedules::Follow { .. } => return None,
+    })
 }
 
 /// Does what a word says, and shows how far it is if that goes to a terminal. A run's threads are made by the last
 /// handle, which `main` alone can give.
-fn run<S: Source, O: Sink, E: Sink, T: Threads + Wait + Clock + Sync>(
+fn run<S: Source, P: Source, O: Sink, E: Sink, T: Threads + Wait + Clock + Sync>(
     alloc: Global,
     asked: Asked,
     input: &mut S,
+    other: &mut P,
     output: &mut O,
     errors: &mut E,
     is_terminal: bool,
@@ -93,10 +116,13 @@ fn run<S: Source, O: Sink, E: Sink, T: Threads + Wait + Clock + Sync>(
         Word::Trace => run_trace(alloc, input, output, errors),
         Word::Replay => run_replay(alloc, input, output, errors),
         Word::Run => run_run(threads, alloc, input, output, errors, asked.explain),
-        Word::Explore { schedules } => {
-            let task = task_of(schedules);
-            run_explore(alloc, input, output, errors, task, is_terminal)
-        }
+        Word::Explore { schedules } => match (task_of(schedules), schedules) {
+            (Some(task), _) => run_explore(alloc, input, output, errors, task, is_terminal),
+            (None, Schedules::Follow { moves }) => {
+                run_follow(alloc, input, other, output, errors, moves)
+            }
+            (None, _) => run_path(alloc, input, other, output, errors),
+        },
     }
 }
 
@@ -147,6 +173,10 @@ fn run_asked<T: Threads + Wait + Clock + Sync>(rt: &HostRuntime, asked: Asked, t
         Ok(input) => FromStd::new(input),
         Err(error) => return not_opened(rt, asked.file.unwrap_or("-"), error.kind()),
     };
+    let mut other = match open(rt, asked.other) {
+        Ok(other) => FromStd::new(other),
+        Err(error) => return not_opened(rt, asked.other.unwrap_or("-"), error.kind()),
+    };
     let mut errors = FromStd::new(rt.stderr());
     let Ok(mut output) = BufferedSink::new(alloc, FromStd::new(rt.stdout())) else {
         return no_memory(rt);
@@ -161,6 +191,7 @@ fn run_asked<T: Threads + Wait + Clock + Sync>(rt: &HostRuntime, asked: Asked, t
         alloc,
         asked,
         &mut input,
+        &mut other,
         &mut output,
         &mut errors,
         is_terminal,

@@ -6,12 +6,14 @@ ghost use Rattle.cmwq_core.specs.History.{past_in};
 ghost use Rattle.cmwq_explore.specs.Machines as spec;
 
 use crate::place::Ticketed;
+use crate::play::copy_list;
 use cmwq_core::{Execution, Full};
 use cmwq_model::{
     Call, CallerId, Entry, ItemId, NoMemory, Number, Queueing, Reply, Shape, Who, WorkerId,
 };
 use std::alloc::{AllocError, Global};
 use std::marker::Model;
+use std::mem::swap;
 
 /// How many entries a run makes that waits: it sleeps, and it wakes.
 const SLEEP_AND_WAKE: u32 = 2;
@@ -22,6 +24,8 @@ pub struct Machine<'a> {
     shape: &'a Shape,
     execution: Execution,
     entries: Vec<Entry>,
+    /// What the entries of a copy are put into.
+    spare: Vec<Entry>,
 }
 
 impl<'a> Model for Machine<'a> {
@@ -133,7 +137,21 @@ impl<'a> Machine<'a> {
             shape,
             execution,
             entries: Vec::new(alloc),
+            spare: Vec::new(alloc),
         })
+    }
+
+    /// Becomes a copy of the other one, in the tables that it has. Where memory runs out it stays as it is.
+    pub fn copy_from(&mut self, other: &Machine<'a>) -> Result<(), AllocError>
+        ensures { IfOk result (λ _. self.new ≡ other.now) }
+    {
+        copy_list(&mut self.spare, &other.entries)?;
+        if self.execution.copy_from(&other.execution).is_err() {
+            return Err(AllocError);
+        }
+        self.shape = other.shape;
+        swap(&mut self.entries, &mut self.spare);
+        Ok(())
     }
 
     pub fn shape(&self) -> &'a Shape

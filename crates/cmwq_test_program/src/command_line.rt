@@ -48,24 +48,40 @@ fn subcommands_and_flags_are_read(rt: HostRuntime) {
     let of_seed = Schedules::OfSeed {
         seed: 7,
         pct: Some(3),
+        moves: None,
     };
     let of_seeds = Schedules::OfSeeds {
+        from: 2,
         times: 9,
         pct: None,
+        moves: Some(4),
     };
     let all = Schedules::All {
-        moves: Some(5),
-        histories: true,
+        moves: None,
+        plain: false,
+        first: true,
     };
+    let histories = Schedules::Histories { moves: Some(5) };
     for (words, schedules) in [
         (
             ["cmwq", "explore", "--seed", "7", "--pct=3"].as_slice(),
             of_seed,
         ),
-        (&["cmwq", "explore", "--times", "9"], of_seeds),
+        (
+            &[
+                "cmwq", "explore", "--times", "9", "--from", "2", "--moves", "4",
+            ],
+            of_seeds,
+        ),
+        (&["cmwq", "explore", "--all", "--first"], all),
         (
             &["cmwq", "explore", "--all", "--moves", "5", "--histories"],
-            all,
+            histories,
+        ),
+        (&["cmwq", "explore", "--path", "moves"], Schedules::Path),
+        (
+            &["cmwq", "explore", "--follow", "history"],
+            Schedules::Follow { moves: None },
         ),
     ] {
         let asked = word_of(rt.alloc(), words).expect(&rt, "a subcommand");
@@ -91,6 +107,12 @@ fn said(rt: &(impl Abort + AllocGlobal), words: &[&str]) -> (String, bool) {
     let text = format!(in rt.alloc(); "{error}").expect(rt, "memory");
     (text, error.use_stderr())
 }
+
+/// What is told of uses of `explore` that say of no kind, or of several, which schedules are meant.
+const EXPLORES: &str =
+    "error: cmwq explore takes one of --seed N, --times N, --all, --path FILE and --follow FILE: --times also with \
+    --from N, --seed and --times with --pct D and --moves N, --all with --moves N and either --histories or --plain \
+    and --first, --follow with --moves N\n\nUsage: cmwq <COMMAND>\n";
 
 /// Wrong uses, and what is told of each before the line that names `--help`.
 const WRONG_USES: [(&[&str], &str); 10] = [
@@ -127,16 +149,8 @@ const WRONG_USES: [(&[&str], &str); 10] = [
         &["cmwq", "chart", "--from", "x"],
         "error: invalid value 'x' for '--from <NUMBER>': invalid digit found in string\n",
     ),
-    (
-        &["cmwq", "explore"],
-        "error: explore takes one of --seed N, --times N and --all: the first two with --pct D, the last with \
-        --moves N and --histories\n\nUsage: cmwq <COMMAND>\n",
-    ),
-    (
-        &["cmwq", "explore", "--seed", "1", "--all"],
-        "error: explore takes one of --seed N, --times N and --all: the first two with --pct D, the last with \
-        --moves N and --histories\n\nUsage: cmwq <COMMAND>\n",
-    ),
+    (&["cmwq", "explore"], EXPLORES),
+    (&["cmwq", "explore", "--seed", "1", "--all"], EXPLORES),
     (
         &["cmwq", "chart", "--to"],
         "error: a value is required for '--to <NUMBER>' but none was supplied\n",

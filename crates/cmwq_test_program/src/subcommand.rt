@@ -1,7 +1,7 @@
 //! The subcommands that need no threads, over any source and sinks.
 
 use crate::same::same;
-use cmwq_cmd_explore::{Task, run_explore};
+use cmwq_cmd_explore::{Seeding, Task, run_explore};
 use cmwq_cmd_history::{run_step, run_step_live};
 use cmwq_history::{run_check, run_front_check, run_upgrade};
 use cmwq_io::{Memory, Sink, Source};
@@ -32,16 +32,26 @@ pub(crate) enum Subcommand {
 const WHOLE: Window = Window { from: 0, to: 100 };
 
 /// The schedule of a seed, those of four seeds, and all.
-const SEED: Task = Task::OfSeed { seed: 3, pct: None };
+const SEED: Task = Task::OfSeed {
+    seed: 3,
+    seeding: UNIFORM,
+};
 
 const SEEDS: Task = Task::OfSeeds {
+    first: 0,
     times: 4,
-    pct: None,
+    seeding: UNIFORM,
 };
 
 const ALL: Task = Task::All {
     moves: None,
-    histories: false,
+    is_plain: false,
+    is_first: false,
+};
+
+const UNIFORM: Seeding = Seeding {
+    pct: None,
+    moves: None,
 };
 
 impl Subcommand {
