@@ -12,7 +12,7 @@ use cmwq_explain::{Kept, explain_calls, explain_history, explain_unkept};
 use cmwq_explain_json::{explain_scenario, explain_script};
 use cmwq_history::{run_check, run_front_check, run_upgrade};
 use cmwq_replay::run_replay;
-use cmwq_views::{Window, run_chart, run_open, run_summary, run_trace};
+use cmwq_views::{Window, run_chart, run_open, run_page, run_summary, run_trace};
 use either::Either::{self, Left, Right};
 use std::alloc::{AllocError, Global};
 use std::fs::File;
@@ -86,6 +86,14 @@ fn task_of(schedules: Schedules) -> Option<Task> {
     })
 }
 
+/// The window from one entry up to another, or of the whole history where these are not given.
+fn window(from: Option<u64>, to: Option<u64>) -> Window {
+    Window {
+        from: from.unwrap_or(0),
+        to: to.unwrap_or(u64::MAX),
+    }
+}
+
 /// Does what a word says, and shows how far it is if that goes to a terminal. A run's threads are made by the last
 /// handle, which `main` alone can give.
 fn run<S: Source, P: Source, O: Sink, E: Sink, T: Threads + Wait + Clock + Sync>(
@@ -106,14 +114,9 @@ fn run<S: Source, P: Source, O: Sink, E: Sink, T: Threads + Wait + Clock + Sync>
         Word::Upgrade => run_upgrade(alloc, input, output, errors),
         Word::Summary => run_summary(alloc, input, output, errors),
         Word::Open { front } => run_open(alloc, input, output, errors, front),
-        Word::Chart { from, to } => {
-            let window = Window {
-                from: from.unwrap_or(0),
-                to: to.unwrap_or(u64::MAX),
-            };
-            run_chart(alloc, input, output, errors, window)
-        }
+        Word::Chart { from, to } => run_chart(alloc, input, output, errors, window(from, to)),
         Word::Trace => run_trace(alloc, input, output, errors),
+        Word::Page { from, to } => run_page(alloc, input, output, errors, window(from, to)),
         Word::Replay => run_replay(alloc, input, output, errors),
         Word::Run => run_run(threads, alloc, input, output, errors, asked.explain),
         Word::Explore { schedules } => match (task_of(schedules), schedules) {
@@ -136,6 +139,7 @@ fn explain<E: Sink>(alloc: Global, word: Word, status: u8, bytes: &[u8], errors:
         Word::Open { front } => explain_history(alloc, "open", status, bytes, front, errors),
         Word::Chart { .. } => explain_history(alloc, "chart", status, bytes, false, errors),
         Word::Trace => explain_history(alloc, "trace", status, bytes, false, errors),
+        Word::Page { .. } => explain_history(alloc, "page", status, bytes, false, errors),
         Word::Replay => explain_scenario(alloc, status, bytes, errors),
         Word::Run | Word::Explore { .. } => explain_script(alloc, status, bytes, errors),
     }

@@ -23,6 +23,8 @@ word_found found =
     else if bytes_eq found.0 (codes "chart")
     then Some (word.Chart (number_found (codes "from") found.1) (number_found (codes "to") found.1))
     else if bytes_eq found.0 (codes "trace") then Some word.Trace
+    else if bytes_eq found.0 (codes "page")
+    then Some (word.Page (number_found (codes "from") found.1) (number_found (codes "to") found.1))
     else if bytes_eq found.0 (codes "replay") then Some word.Replay
     else if bytes_eq found.0 (codes "run") then Some word.Run
     else if bytes_eq found.0 (codes "explore") then option_map word.Explore (schedules_of (options_found found.1))
@@ -96,11 +98,12 @@ abbrev pub with_numbers : App → List ℕ → List ℕ → List ℕ → App
 with_numbers a name first second =
     with_command a (with_rule (with_rule (new_app name) (number_rule first)) (number_rule second))
 
--- the words whose inputs are lines, of which `step` also has `--live`, `check` and `open` `--front`, and `chart`
--- `--from` and `--to`, and then those whose inputs are JSON
+-- the words whose inputs are lines, of which `step` also has `--live`, `check` and `open` `--front`, and `chart` and
+-- `page` `--from` and `--to`, and then those whose inputs are JSON
 abbrev pub with_lines : App
 with_lines =
-    with_word
+    with_numbers
+    (with_word
     (with_numbers
     (with_flagged
     (with_word
@@ -108,7 +111,8 @@ with_lines =
     (with_flagged (with_flagged without_words (codes "step") (codes "live")) (codes "check") (codes "front"))
     (codes "upgrade")) (codes "summary"))
     (codes "open") (codes "front"))
-    (codes "chart") (codes "from") (codes "to")) (codes "trace")
+    (codes "chart") (codes "from") (codes "to")) (codes "trace"))
+    (codes "page") (codes "from") (codes "to")
 
 -- an option with the name of a file: two dashes, its name and that
 abbrev pub file_option : List ℕ → Rule

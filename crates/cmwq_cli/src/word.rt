@@ -44,6 +44,13 @@ pub enum Word {
     },
     /// Writes the trace of a legal history.
     Trace,
+    /// Writes the page of a legal history.
+    Page {
+        /// At which entry it opens, if not at the first.
+        from: Option<u64>,
+        /// Up to which entry, without that one, if not to the end.
+        to: Option<u64>,
+    },
     /// Writes the table of a scenario.
     Replay,
     /// Runs a script on threads and writes its history.
@@ -248,6 +255,22 @@ each worker, and on it each of its runs and sleeps; and for each queue on each C
 how many are open and active, and of its width. The time is the number of the entry. Of an illegal history nothing is
 written, and the verdict goes to standard error.";
 
+/// What the help of `page` shows below its usage.
+const PAGE_HELP: &str = r"A history of any format, as `step` and `run` write it:
+
+  history 2
+  shape 1 2 1 3 100
+  wq 1 -
+  c0 0 queue 0 0 0 = yes 0
+  w0n0 0 take = started 0 enlist 1
+  w0n0 1 finish = finished 0
+
+gives one HTML file, which any browser shows, and which loads nothing from elsewhere. It has the rows of `chart`: marks
+and waits of callers, runs and sleeps of workers, and how many are open and active of each queue on each CPU. The wheel
+and the keys zoom and move, a click tells the line of an entry, filters show what is of one item, queue or caller, and
+tables have the same for screen readers. A million entries make a file of about 40 MB. Of an illegal history nothing is
+written, and the verdict goes to standard error.";
+
 /// What the help of `replay` shows below its usage.
 const SCENARIO_HELP: &str =
     r#"A scenario says which items are queued at 0 ms on one CPU, in this order, and of each how long it burns CPU,
@@ -348,6 +371,11 @@ fn word_found(name: &str, matches: &ArgMatches) -> Option<Word>
             to: number_found(matches, "to"),
         }),
         "trace" => Some(Word::Trace),
+        "page" => {
+            let from = number_found(matches, "from");
+            let to = number_found(matches, "to");
+            Some(Word::Page { from, to })
+        }
         "replay" => Some(Word::Replay),
         "run" => Some(Word::Run),
         "explore" => match options_found(matches).schedules() {
@@ -803,7 +831,17 @@ fn with_lines<'a>(alloc: Global) -> Result<Command<'a>, AllocError>
     };
     let command = with_numbers(alloc, command, "chart", about, PICTURE_HELP, from, to)?;
     let about = "Reads a history and writes its trace in JSON, if it is legal";
-    with_word(alloc, command, "trace", about, TRACE_HELP)
+    let command = with_word(alloc, command, "trace", about, TRACE_HELP)?;
+    let about = "Reads a history and writes it as an HTML page to zoom and search, if it is legal";
+    let from = Flag {
+        name: "from",
+        help: "Opens at this entry",
+    };
+    let to = Flag {
+        name: "to",
+        help: "Opens with the entries up to this one, without it",
+    };
+    with_numbers(alloc, command, "page", about, PAGE_HELP, from, to)
 }
 
 /// The program's command line, as `--help` shows it.

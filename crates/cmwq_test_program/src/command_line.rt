@@ -6,7 +6,7 @@ use cmwq_cli::{Schedules, Word, word_of};
 use std::process::Abort;
 
 /// Each subcommand without its flags.
-const WORDS: [(&str, Word); 9] = [
+const WORDS: [(&str, Word); 10] = [
     ("step", Word::Step { live: false }),
     ("check", Word::Check { front: false }),
     ("upgrade", Word::Upgrade),
@@ -20,6 +20,13 @@ const WORDS: [(&str, Word); 9] = [
         },
     ),
     ("trace", Word::Trace),
+    (
+        "page",
+        Word::Page {
+            from: None,
+            to: None,
+        },
+    ),
     ("replay", Word::Replay),
     ("run", Word::Run),
 ];
@@ -44,6 +51,10 @@ fn subcommands_and_flags_are_read(rt: HostRuntime) {
     let window = Word::Chart {
         from: Some(10),
         to: Some(40),
+    };
+    let opened_at = Word::Page {
+        from: Some(10),
+        to: None,
     };
     let of_seed = Schedules::OfSeed {
         seed: 7,
@@ -95,6 +106,7 @@ fn subcommands_and_flags_are_read(rt: HostRuntime) {
         (&["cmwq", "open", "--front"], Word::Open { front: true }),
         (&["cmwq", "step", "--live"], Word::Step { live: true }),
         (&["cmwq", "chart", "--from", "10", "--to=40"], window),
+        (&["cmwq", "page", "--from=10"], opened_at),
     ] {
         let asked = word_of(rt.alloc(), words).expect(&rt, "a subcommand");
         same(&rt, asked.word, word);
@@ -119,7 +131,7 @@ const WRONG_USES: [(&[&str], &str); 10] = [
     (
         &["cmwq"],
         "error: 'cmwq' requires a subcommand but one was not provided\n  \
-        [subcommands: step, check, upgrade, summary, open, chart, trace, replay, run, explore, help]\n\n\
+        [subcommands: step, check, upgrade, summary, open, chart, trace, page, replay, run, explore, help]\n\n\
         Usage: cmwq <COMMAND>\n",
     ),
     (
@@ -169,7 +181,7 @@ fn wrong_uses_are_told(rt: HostRuntime) {
 }
 
 /// Subcommands, what each does, and a line of its input that its help shows.
-const HELP: [(&str, &str, &str); 10] = [
+const HELP: [(&str, &str, &str); 11] = [
     (
         "step",
         "Reads call lines and writes the history of their answers",
@@ -205,6 +217,11 @@ const HELP: [(&str, &str, &str); 10] = [
         "trace",
         "Reads a history and writes its trace in JSON, if it is legal",
         "\n  w0n0 1 finish = finished 0\n",
+    ),
+    (
+        "page",
+        "Reads a history and writes it as an HTML page to zoom and search, if it is legal",
+        "\n      --from <NUMBER>  Opens at this entry\n",
     ),
     (
         "replay",

@@ -1,4 +1,5 @@
 pub mod Chart
+pub mod HistoryPage
 pub mod Trace
 pub mod Names
 pub mod Page

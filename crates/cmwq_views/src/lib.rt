@@ -1,7 +1,9 @@
-//! The subcommands that show a history: `chart`, `trace`, `summary` and `open`, over any source of bytes and any sinks.
+//! The subcommands that show a history: `chart`, `page`, `trace`, `summary` and `open`, over any source of bytes and
+//! any sinks.
 #![tactic(auto)]
 
 mod chart;
+mod history_page;
 mod name;
 mod number;
 mod open;
@@ -17,6 +19,7 @@ mod write;
 
 pub use chart::run_chart;
 pub use cmwq_chart_text::Window;
+pub use history_page::run_page;
 pub use name::kinds_are_named;
 pub use open::run_open;
 pub use summary::run_summary;
