@@ -15,6 +15,7 @@ use cmwq_replay::run_replay;
 use cmwq_views::{Window, run_chart, run_open, run_page, run_summary, run_trace};
 use either::Either::{self, Left, Right};
 use std::alloc::{AllocError, Global};
+use std::fmt::{self, Debug, Display, Formatter};
 use std::fs::File;
 use std::io::{self, IsTerminal, Stdin};
 use std::process::ExitCode;
@@ -159,12 +160,28 @@ fn open(rt: &HostRuntime, name: Option<&str>) -> io::Result<Either<Stdin, File>>
     }
 }
 
-/// Tells why a file cannot be read.
-fn not_opened(rt: &HostRuntime, name: &str, kind: io::ErrorKind) -> u8 {
-    let _ = match kind {
+/// A file's name, as text for a terminal: with control characters it is quoted, and these are escaped.
+struct FileName<'a>(&'a str);
+
+impl Display for FileName<'_> {
+    fn fmt<W: fmt::Write>(&self, f: &mut Formatter<W>) -> fmt::Result {
+        if self.0.chars().any(|letter| letter.is_control()) {
+            Debug::fmt(self.0, f)
+        } else {
+            Display::fmt(self.0, f)
+        }
+    }
+}
+
+/// Tells why a file cannot be read: what the system says, where it is none of the usual reasons.
+fn not_opened(rt: &HostRuntime, name: &str, error: &io::Error) -> u8 {
+    let name = FileName(name);
+    let _ = match error.kind() {
         io::ErrorKind::OutOfMemory => return no_memory(rt),
         io::ErrorKind::NotFound => eprintln!(rt; "cmwq: {name}: no such file or directory"),
-        kind => eprintln!(rt; "cmwq: {name}: {kind}"),
+        io::ErrorKind::PermissionDenied => eprintln!(rt; "cmwq: {name}: permission denied"),
+        io::ErrorKind::IsADirectory => eprintln!(rt; "cmwq: {name}: is a directory"),
+        _ => eprintln!(rt; "cmwq: {name}: {error}"),
     };
     REFUSED_INPUT
 }
@@ -175,11 +192,11 @@ fn run_asked<T: Threads + Wait + Clock + Sync>(rt: &HostRuntime, asked: Asked, t
     let alloc = rt.alloc();
     let input = match open(rt, asked.file) {
         Ok(input) => FromStd::new(input),
-        Err(error) => return not_opened(rt, asked.file.unwrap_or("-"), error.kind()),
+        Err(error) => return not_opened(rt, asked.file.unwrap_or("-"), &error),
     };
     let mut other = match open(rt, asked.other) {
         Ok(other) => FromStd::new(other),
-        Err(error) => return not_opened(rt, asked.other.unwrap_or("-"), error.kind()),
+        Err(error) => return not_opened(rt, asked.other.unwrap_or("-"), &error),
     };
     let mut errors = FromStd::new(rt.stderr());
     let Ok(mut output) = BufferedSink::new(alloc, FromStd::new(rt.stdout())) else {
