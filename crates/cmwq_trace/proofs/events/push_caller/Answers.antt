@@ -1,6 +1,6 @@
 use Rattle.cmwq_trace.specs.declared.event.Event.TheVariants.{Row}
 use Rattle.cmwq_trace.proofs.Mapped.{one_mapped}
-use Rattle.cmwq_trace.proofs.events.push_rows.Goals as goal
+use Rattle.cmwq_trace.proofs.events.push_caller.Goals as goal
 
 pub loop-row-preserved : goal.loop-row-preserved
 loop-row-preserved c =
