@@ -117,10 +117,6 @@ fn tell_refusal<T: FileLine + Drop>(
     input: Input,
     word: &str,
 ) {
-    if begins_json(bytes) {
-        tell_begun_json(text, input, word);
-        return;
-    }
     match refusal {
         Refusal::BadLine(number) | Refusal::BadShape(number) | Refusal::NoSuchId(number) => {
             if let Some(stage) = stage_before::<T>(alloc, bytes, number) {
@@ -135,27 +131,6 @@ fn tell_refusal<T: FileLine + Drop>(
     }
 }
 
-/// Whether an input begins as a script or a scenario does.
-fn begins_json(bytes: &[u8]) -> bool {
-    for byte in bytes {
-        if !byte.is_ascii_whitespace() {
-            return *byte == b'{';
-        }
-    }
-    false
-}
-
-/// Tells which words read scripts and scenarios, and what this one reads.
-fn tell_begun_json(text: &mut Text, input: Input, word: &str) {
-    text.place(1, 0);
-    text.say("this is JSON; run and explore read scripts, replay reads scenarios, and ");
-    text.say(word);
-    text.say(match input {
-        Input::Calls => " reads calls",
-        Input::History => " reads a history",
-    });
-}
-
 /// Tells what is missing where a file ends.
 fn tell_end<T: FileLine + Drop>(
     text: &mut Text,
@@ -164,7 +139,7 @@ fn tell_end<T: FileLine + Drop>(
     input: Input,
 ) {
     text.place(number, 0);
-    text.say("the input ends here; expected ");
+    text.say("here ends the input; expected is ");
     match stage {
         Stage::Begin | Stage::Opened { .. } => text.say("the shape, as \"shape 1 2 1 3 100\""),
         Stage::Head { queues, .. } if queues.is_empty() => text.say(
@@ -288,7 +263,7 @@ fn tell_last(text: &mut Text, version: u8, input: Input, before: u64) {
     if input == Input::Calls || version < 3 {
         text.say(": only a history of format 3 has a last line");
     } else {
-        text.say("; expected \"end ");
+        text.say("; expected is \"end ");
         text.number(before);
         text.say("\", after so many entries");
     }

@@ -54,9 +54,9 @@ pub fn tell_shape(
         text.place(number, 0);
         text.quoted(line);
         text.say(match input {
-            Input::Calls => " is not a first line of calls; there is \"calls 3\", or none",
+            Input::Calls => " is no first line of calls; there is \"calls 3\", or none",
             Input::History => {
-                " is not a first line of a history; there are \"history 2\" and \"history 3\", or none"
+                " is no first line of a history; there are \"history 2\" and \"history 3\", or none"
             }
         });
     } else {
@@ -79,6 +79,6 @@ pub fn tell_first_queue(text: &mut Text, number: u64, line: &[u8], version: u8, 
     } else {
         text.place(number, 0);
         text.quoted(line);
-        text.say(": expected the first queue, as \"wq 1 -\"");
+        text.say(": expected is the first queue, as \"wq 1 -\"");
     }
 }

@@ -74,7 +74,7 @@ pub fn tell_verdict(alloc: Global, text: &mut Text, version: u8, file: &Listed<E
     };
     text.place(number, start_of(line.as_bytes(), word));
     say_entry(text, entry);
-    text.say("; expected ");
+    text.say("; expected is ");
     say_entry(text, due);
 }
 

@@ -134,7 +134,7 @@ fn tell_word(text: &mut Text, wrong: Wrong<'_>, at: usize) {
     text.place(wrong.number, start_of(wrong.line, at));
     match word_at(wrong.line, at) {
         None => {
-            text.say("the line ends here; expected ");
+            text.say("here ends the line; expected is ");
             say_wanted(text, wrong, at);
         }
         Some(word) => {
@@ -167,7 +167,7 @@ fn say_number(text: &mut Text, wrong: Wrong<'_>, sample: &[u8], at: usize, word:
     let right = number_of(wanted).unwrap_or(0);
     if !are_digits(word) && !has_sign(word) {
         text.quoted(word);
-        text.say(" is not a number; expected ");
+        text.say(" is no number; expected is ");
         say_one(text, wrong, at, wanted);
         return;
     }
@@ -202,45 +202,21 @@ fn say_limit(
         _ => {
             text.say(": at most ");
             text.number(greatest(wrong.reader, sample, at, right));
-            say_long_limit(text, wrong, sample, at, number, right);
         }
-    }
-}
-
-/// Says which limit format 3 has, if a number is within that.
-fn say_long_limit(
-    text: &mut Text,
-    wrong: Wrong<'_>,
-    sample: &[u8],
-    at: usize,
-    number: Option<u64>,
-    right: u64,
-) {
-    let reader = Reader {
-        version: 3,
-        ..wrong.reader
-    };
-    let most = greatest(reader, sample, at, right);
-    match number {
-        Some(number) if wrong.reader.version < 3 && number <= most => {
-            text.say("; format 3 allows ");
-            text.number(most);
-        }
-        _ => {}
     }
 }
 
 /// What a name at this place is.
 fn role(wrong: Wrong<'_>, at: usize) -> &'static str {
     match (wrong.family, wrong.reader.form) {
-        (Family::Head, Form::Shape) if at == 0 => "a shape",
-        (Family::Head, _) if at == 0 => "a queue",
-        (Family::Head, _) => "valid as flags of a queue",
-        (_, _) if at == 0 => "a caller or a worker",
-        (Family::Replies, _) => "a reply",
-        (_, Form::Entry) if at == 2 => "a call",
-        (_, Form::Call) if at == 1 => "a call",
-        _ => "a word of a call",
+        (Family::Head, Form::Shape) if at == 0 => "shape",
+        (Family::Head, _) if at == 0 => "queue",
+        (Family::Head, _) => "flags of a queue",
+        (_, _) if at == 0 => "caller and no worker",
+        (Family::Replies, _) => "reply",
+        (_, Form::Entry) if at == 2 => "call",
+        (_, Form::Call) if at == 1 => "call",
+        _ => "word of a call",
     }
 }
 
@@ -261,7 +237,7 @@ fn tell_name(text: &mut Text, wrong: Wrong<'_>, at: usize, word: &[u8]) {
         text.say("\"?");
         return;
     }
-    text.say(" is not ");
+    text.say(" is no ");
     text.say(role(wrong, at));
     match nearest(wrong, at, word) {
         Some(sample) => {
@@ -270,7 +246,7 @@ fn tell_name(text: &mut Text, wrong: Wrong<'_>, at: usize, word: &[u8]) {
             text.say("\"?");
         }
         None => {
-            text.say("; expected ");
+            text.say("; expected is ");
             say_wanted(text, wrong, at);
         }
     }

@@ -260,8 +260,8 @@ pub fn tell_call(
         site.say(text);
         say_value(text, world, call)?;
         text.say(match maker {
-            Maker::Caller => ": expected an action, as [\"flush\",\"q0\"]",
-            Maker::Item => ": expected an action, as [\"cancel\",\"A\"]",
+            Maker::Caller => ": expected is an action, as [\"flush\",\"q0\"]",
+            Maker::Item => ": expected is an action, as [\"cancel\",\"A\"]",
         });
         return Ok(true);
     };
@@ -273,7 +273,7 @@ pub fn tell_call(
         _ => {
             site.say(text);
             text.quoted(word.as_str().as_bytes());
-            text.say(" is not an action");
+            text.say(" is no action");
             say_names(text, words.as_slice(), word.as_str());
             Ok(true)
         }
@@ -307,7 +307,7 @@ fn tell_arguments(
     match argument_of(number, arguments.len()) {
         Some(argument) => {
             site.say(text);
-            text.say("the action ends here; expected ");
+            text.say("here ends the action; expected is ");
             text.say(argument.wanted());
             Ok(true)
         }
@@ -324,8 +324,8 @@ fn tell_argument(
     argument: &Value,
 ) -> Result<bool, AllocError> {
     match slot.argument {
-        Argument::Item => tell_name(text, world, site, "items", " is not an item", argument),
-        Argument::Queue => tell_name(text, world, site, "queues", " is not a queue", argument),
+        Argument::Item => tell_name(text, world, site, "items", " is no item", argument),
+        Argument::Queue => tell_name(text, world, site, "queues", " is no queue", argument),
         Argument::Gate | Argument::Lock => tell_new_name(text, world, site, argument),
         Argument::Cpu => tell_cpu(text, world, site, argument),
         Argument::Ticks => tell_number(text, world, site, "ticks ", slot, argument),
@@ -345,7 +345,7 @@ fn tell_new_name(
     }
     site.say(text);
     say_value(text, world, argument)?;
-    text.say(": expected a name of 1 to 16 letters, digits and _");
+    text.say(": expected is a name of 1 to 16 letters, digits and _");
     Ok(true)
 }
 
@@ -414,7 +414,7 @@ fn tell_number(
     text.say(name);
     say_value(text, world, argument)?;
     match number {
-        None => text.say(" is not a whole number"),
+        None => text.say(" is no whole number"),
         Some(number) => say_limit(text, world, site.maker, slot, number)?,
     }
     Ok(true)

@@ -67,7 +67,7 @@ fn tell_input(
     let value = match Value::from_slice(alloc, bytes) {
         Ok(value) => value,
         Err(error) => {
-            tell_json(text, bytes, &error);
+            tell_json(text, &error);
             return Ok(());
         }
     };
@@ -76,7 +76,6 @@ fn tell_input(
             alloc,
             grammar,
             whole: &value,
-            is_long: false,
         };
         tell_refused(text, world, refused)?;
     }
@@ -95,14 +94,9 @@ fn refused_in(
     })
 }
 
-/// Tells where bytes are not JSON, and what the reader says of it; of calls and histories what reads them.
-fn tell_json(text: &mut Text, bytes: &[u8], error: &Error) {
+/// Tells where bytes are no JSON, and what the reader says of it.
+fn tell_json(text: &mut Text, error: &Error) {
     if error.is_memory() {
-        return;
-    }
-    let is_shape = bytes.starts_with(b"shape ");
-    if is_shape || bytes.starts_with(b"calls ") || bytes.starts_with(b"history ") {
-        text.say("this is not JSON; step reads calls, and check reads a history");
         return;
     }
     if let Ok(said) = spell(error) {

@@ -24,7 +24,7 @@ pub fn tell_list(
         text.say(key);
         text.say(" ");
         say_value(text, world, value)?;
-        text.say(": expected a list");
+        text.say(": expected is a list");
         return Ok(true);
     };
     match (place, world.grammar) {
@@ -67,7 +67,7 @@ fn tell_parts(
                     Trial::Element,
                     number,
                 )?,
-                None => text.say(" is not a whole number"),
+                None => text.say(" is no whole number"),
             }
             return Ok(true);
         }

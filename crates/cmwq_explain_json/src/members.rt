@@ -39,7 +39,7 @@ pub fn tell_object(
         path.say(text);
         text.say(": ");
         say_value(text, world, value)?;
-        text.say(" is not an object");
+        text.say(" is no object");
         return Ok(true);
     }
     if tell_key(text, world, place, path, value)?
@@ -93,7 +93,7 @@ fn tell_key(
             path.say(text);
             text.say(": ");
             text.quoted(key.as_str().as_bytes());
-            text.say(" is not a key");
+            text.say(" is no key");
             say_names(text, keys.as_slice(), key.as_str());
             return Ok(true);
         }
@@ -176,28 +176,6 @@ pub fn say_limit(
     } else {
         text.say(": at most ");
         text.number(world.greatest(place, key, trial, number)?);
-        if place == ObjectKind::Top {
-            say_long_limit(text, world, key, trial, number)?;
-        }
-    }
-    Ok(())
-}
-
-/// Says the limit that format 3 has for a number of the top, if the number is within that.
-fn say_long_limit(
-    text: &mut Text,
-    world: World<'_>,
-    key: &str,
-    trial: Trial<'_>,
-    number: u64,
-) -> Result<(), AllocError> {
-    let world = World {
-        is_long: true,
-        ..world
-    };
-    if world.fits_number(ObjectKind::Top, key, trial, number)? {
-        text.say("; \"format\":3 allows ");
-        text.number(world.greatest(ObjectKind::Top, key, trial, u64::MAX)?);
     }
     Ok(())
 }
@@ -212,19 +190,19 @@ fn say_wanted(
 ) -> Result<(), AllocError> {
     let (key, sample) = member;
     match sample {
-        "true" => text.say(": expected true or false"),
+        "true" => text.say(": expected is true or false"),
         "\"q\"" if place == ObjectKind::Item => {
             text.say(": there is no such queue");
             let names = names_in(world, "queues")?;
             say_names(text, names.as_slice(), found.as_str().unwrap_or(""));
         }
         _ if is_number(sample) => {
-            text.say(": expected a whole number, ");
+            text.say(": expected is a whole number, ");
             text.number(world.least(place, key, Trial::Number)?);
             text.say(" to ");
             text.number(world.greatest(place, key, Trial::Number, u64::MAX)?);
         }
-        _ => text.say(": expected a name of 1 to 16 letters, digits and _"),
+        _ => text.say(": expected is a name of 1 to 16 letters, digits and _"),
     }
     Ok(())
 }

@@ -11,8 +11,6 @@ pub struct World<'a> {
     pub alloc: Global,
     pub grammar: Grammar,
     pub whole: &'a Value,
-    /// Whether the limits are those of format 3, whatever the whole says.
-    pub is_long: bool,
 }
 
 impl World<'_> {
@@ -68,8 +66,6 @@ impl World<'_> {
             if *name == key {
                 is_before = false;
                 json.put_member(name, value);
-            } else if *name == "format" && self.is_long {
-                json.put_member(name, "3");
             } else if is_before || self.whole.get(*name).is_some() {
                 self.put_other(json, name, sample, is_before);
             }

@@ -36,7 +36,7 @@ pub fn tell_refused(text: &mut Text, world: World<'_>, refused: Refused) -> Resu
     match members.get(refused.index) {
         None => {
             text.say(list);
-            text.say(": there is none; expected at least one");
+            text.say(": there is none; expected is one at least");
             Ok(())
         }
         Some(member) => tell_member(text, world, place, path, members, member),
@@ -122,7 +122,7 @@ fn tell_caller(
         path.say(text);
         text.say(": ");
         say_value(text, world, caller)?;
-        text.say(": expected a list of actions");
+        text.say(": expected is a list of actions");
         return Ok(true);
     };
     if tell_count(text, world, Maker::Caller, path, actions.len())? {
