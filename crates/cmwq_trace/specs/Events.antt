@@ -1,6 +1,6 @@
 -- The events of a trace, in the Trace Event Format, and their texts. A time is the number of an entry.
 use Rattle.std.specs.Prelude.{ℕ, ◌+◌, ◌-◌, ◌*◌, Bool, true, false, if◌then◌else◌, List, [], ◌∷◌, ◌++◌, map, flat_map}
-use Rattle.std.specs.Prelude.{Option, Some, None, is_some, slice_get}
+use Rattle.std.specs.Prelude.{Option, Some, None, is_some, option_map, slice_get}
 use Rattle.std.specs.Option.{option_map_or}
 use Rattle.std.specs.List.{range_with_len}
 use Rattle.cmwq_model.specs.declared.entry.Entry.{Entry}
@@ -150,8 +150,11 @@ event_text end e = filled_template (event_template e) (event_numbers end e)
 abbrev pub cpu_event : ℕ → Event
 cpu_event c = event.Cpu (record { 0 = c })
 
+abbrev pub rows_events : CallerLane → List Event
+rows_events lane = map (event.Row lane.caller) (range_with_len 0 lane.rows)
+
 abbrev pub caller_events : CallerLane → List Event
-caller_events lane = event.Caller lane.caller ∷ map (event.Row lane.caller) (range_with_len 0 lane.rows)
+caller_events lane = event.Caller lane.caller ∷ rows_events lane
 
 abbrev pub names_of : ℕ → List CallerLane → List WorkerId → List Event
 names_of cpus callers lanes =
@@ -166,12 +169,15 @@ call_by (who.Worker w) sign = []
 abbrev pub call_events : Sign → List Event
 call_events sign = call_by sign.who sign
 
-abbrev pub arrow_from : Bar → Option Entry → List Event
-arrow_from bar (Some e) = event.Queued e.who bar.number ∷ event.Started bar ∷ []
+abbrev pub maker_of : List Entry → ℕ → Option Who
+maker_of entries number = option_map (λ e. e.who) (slice_get entries number)
+
+abbrev pub arrow_from : Bar → Option Who → List Event
+arrow_from bar (Some w) = event.Queued w bar.number ∷ event.Started bar ∷ []
 arrow_from bar None = []
 
 abbrev pub arrow_events : List Entry → Bar → List Event
-arrow_events entries bar = arrow_from bar (slice_get entries bar.number)
+arrow_events entries bar = arrow_from bar (maker_of entries bar.number)
 
 unfoldable pub events_of : Layout → List Entry → List CallerLane → List WorkerId → List Sign → List CallerWait → List Bar
     → List Sleep → List Level → List Event

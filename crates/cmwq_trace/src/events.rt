@@ -19,14 +19,22 @@ fn push_cpus(events: &mut Vec<Event>, cpus: u8) -> Result<(), AllocError>
     Ok(())
 }
 
+/// Names the rows of a caller's waits.
+fn push_rows(events: &mut Vec<Event>, lane: CallerLane) -> Result<(), AllocError>
+    ensures { OnOk result (events.new.items ≡ events.old.items ++ spec.rows_events lane) }
+{
+    for row in 0..lane.rows {
+        events.push(Event::Row(lane.caller, row))?;
+    }
+    Ok(())
+}
+
 /// Names a caller, and the rows of its waits.
 fn push_caller(events: &mut Vec<Event>, lane: CallerLane) -> Result<(), AllocError>
     ensures { OnOk result (events.new.items ≡ events.old.items ++ spec.caller_events lane) }
 {
     events.push(Event::Caller(lane.caller))?;
-    for row in 0..lane.rows {
-        events.push(Event::Row(lane.caller, row))?;
-    }
+    push_rows(events, lane)?;
     Ok(())
 }
 
@@ -67,13 +75,22 @@ fn push_calls(events: &mut Vec<Event>, signs: &[Sign]) -> Result<(), AllocError>
     Ok(())
 }
 
-/// Adds the arrow to the start of a run.
-fn push_arrow(events: &mut Vec<Event>, entries: &[Entry], bar: Bar) -> Result<(), AllocError>
-    ensures { OnOk result (events.new.items ≡ events.old.items ++ spec.arrow_events entries.now bar) }
+/// Who made the entry with this number.
+fn maker_of(entries: &[Entry], number: u64) -> Option<Who>
+    ensures { result ≡ spec.maker_of entries.now number }
 {
-    if let Some(entry) = entries.get(bar.number as usize) {
-        events.push(Event::Queued(entry.who, bar.number))?;
-        events.push(Event::Started(bar))?;
+    match entries.get(number as usize) {
+        Some(entry) => Some(entry.who),
+        None => None,
+    }
+}
+
+/// Adds the arrow from who made a queueing to the start of its run.
+fn push_arrow(events: &mut Vec<Event>, maker: Option<Who>, bar: Bar) -> Result<(), AllocError>
+    ensures { OnOk result (events.new.items ≡ events.old.items ++ spec.arrow_from bar maker) }
+{
+    if let Some(who) = maker {
+        events.extend_from_slice(&[Event::Queued(who, bar.number), Event::Started(bar)])?;
     }
     Ok(())
 }
@@ -87,7 +104,7 @@ fn push_arrows(
         (events.new.items ≡ events.old.items ++ flat_map (spec.arrow_events entries.now) bars.now) }
 {
     for bar in bars {
-        push_arrow(events, entries, *bar)?;
+        push_arrow(events, maker_of(entries, bar.number), *bar)?;
     }
     Ok(())
 }
