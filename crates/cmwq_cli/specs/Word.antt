@@ -98,20 +98,20 @@ abbrev pub with_numbers : App → List ℕ → List ℕ → List ℕ → App
 with_numbers a name first second =
     with_command a (with_rule (with_rule (new_app name) (number_rule first)) (number_rule second))
 
--- the words whose inputs are lines, of which `step` also has `--live`, `check` and `open` `--front`, and `chart` and
--- `page` `--from` and `--to`, and then those whose inputs are JSON
-abbrev pub with_lines : App
-with_lines =
-    with_numbers
-    (with_word
-    (with_numbers
-    (with_flagged
+-- the words whose inputs are lines and whose outputs are too, of which `step` also has `--live`, and `check` and `open`
+-- have `--front`; then those that draw a history, of which `chart` and `page` have `--from` and `--to`
+abbrev pub with_texts : App
+with_texts =
+    with_flagged
     (with_word
     (with_word
     (with_flagged (with_flagged without_words (codes "step") (codes "live")) (codes "check") (codes "front"))
     (codes "upgrade")) (codes "summary"))
-    (codes "open") (codes "front"))
-    (codes "chart") (codes "from") (codes "to")) (codes "trace"))
+    (codes "open") (codes "front")
+
+abbrev pub with_lines : App
+with_lines =
+    with_numbers (with_word (with_numbers with_texts (codes "chart") (codes "from") (codes "to")) (codes "trace"))
     (codes "page") (codes "from") (codes "to")
 
 -- an option with the name of a file: two dashes, its name and that

@@ -2,7 +2,7 @@ ghost use Rattle.std.specs.Prelude.{◌≡◌, codes, true, false, is_some, IfOk
 ghost use Rattle.clap.specs.Words.{kind_of, app_of, first_of, new_app, rule_of, found_of, rows_of, with_rule};
 ghost use Rattle.clap.specs.declared.builder.command.Command.TheViews.{out-Command as fields_of};
 ghost use Rattle.cmwq_cli.specs.Word.{Request, file_rule, request, with_command, without_words, with_word};
-ghost use Rattle.cmwq_cli.specs.Word.{with_flagged, with_lines, with_numbers, app, flag_rule, number_rule};
+ghost use Rattle.cmwq_cli.specs.Word.{with_flagged, with_lines, with_numbers, with_texts, app, flag_rule, number_rule};
 ghost use Rattle.cmwq_cli.specs.Word.{word_found, asked_found, texts, is_word_taken};
 ghost use Rattle.cmwq_cli.specs.Word.{word_matched, seeded_word, searching_word, explore_word, file_option};
 ghost use Rattle.cmwq_cli.specs.Explore.{count, has_searching, has_seeding, is_of_one_kind, of_all, of_path, of_seeds};
@@ -793,9 +793,9 @@ fn explore_word<'a>(alloc: Global) -> Result<Command<'a>, AllocError>
     with_file(alloc, word, "follow", help)
 }
 
-/// The program with the words whose inputs are lines.
-fn with_lines<'a>(alloc: Global) -> Result<Command<'a>, AllocError>
-    ensures { IfOk result (λ c. app_of c ≡ with_lines) }
+/// The program with the words whose inputs are lines and whose outputs are too.
+fn with_texts<'a>(alloc: Global) -> Result<Command<'a>, AllocError>
+    ensures { IfOk result (λ c. app_of c ≡ with_texts) }
 {
     let about = "Reads call lines and writes the history of their answers";
     let live = Flag {
@@ -819,7 +819,14 @@ fn with_lines<'a>(alloc: Global) -> Result<Command<'a>, AllocError>
         name: "front",
         help: FRONT_HELP,
     };
-    let command = with_flagged(alloc, command, "open", about, STANDING_HELP, front)?;
+    with_flagged(alloc, command, "open", about, STANDING_HELP, front)
+}
+
+/// The program with the words whose inputs are lines.
+fn with_lines<'a>(alloc: Global) -> Result<Command<'a>, AllocError>
+    ensures { IfOk result (λ c. app_of c ≡ with_lines) }
+{
+    let command = with_texts(alloc)?;
     let about = "Reads a history and writes its picture as SVG, if it is legal";
     let from = Flag {
         name: "from",

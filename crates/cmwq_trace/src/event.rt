@@ -203,7 +203,18 @@ fn cpu_numbers(cpu: CpuId) -> [u64; 10]
 fn caller_numbers(caller: CallerId) -> [u64; 10]
     ensures { result ≡ spec.caller_numbers caller }
 {
-    [caller.0.into(), caller_thread(caller), 0, 0, 0, 0, 0, 0, 0, 0]
+    [
+        caller.0.into(),
+        caller_thread(caller),
+        0,
+        0,
+        0,
+        0,
+        0,
+        0,
+        0,
+        0,
+    ]
 }
 
 fn row_numbers(caller: CallerId, row: u8) -> [u64; 10]

@@ -95,11 +95,7 @@ fn push_arrow(events: &mut Vec<Event>, maker: Option<Who>, bar: Bar) -> Result<(
     Ok(())
 }
 
-fn push_arrows(
-    events: &mut Vec<Event>,
-    entries: &[Entry],
-    bars: &[Bar],
-) -> Result<(), AllocError>
+fn push_arrows(events: &mut Vec<Event>, entries: &[Entry], bars: &[Bar]) -> Result<(), AllocError>
     ensures { OnOk result
         (events.new.items ≡ events.old.items ++ flat_map (spec.arrow_events entries.now) bars.now) }
 {
