@@ -20,7 +20,7 @@ use std::fs::File;
 use std::io::{self, IsTerminal, Stdin};
 use std::process::ExitCode;
 use std::sync::Wait;
-use std::thread::Threads;
+use std::thread::{self, Builder, Threads};
 use std::time::Clock;
 
 /// The exit status of input that is refused.
@@ -31,6 +31,10 @@ const WRONG_USE: u8 = 2;
 
 /// The exit status where memory runs out.
 const OUT_OF_MEMORY: u8 = 4;
+
+/// The bytes of a stack on which a search of schedules goes as deep as its longest schedule may be. Only what is used of
+/// it takes memory.
+const DEEP_STACK: usize = 1 << 28;
 
 /// Tells that memory ran out. A failing standard error changes no status.
 fn no_memory(rt: &impl Eprint) -> u8 {
@@ -227,12 +231,24 @@ fn run_asked<T: Threads + Wait + Clock + Sync>(rt: &HostRuntime, asked: Asked, t
     status
 }
 
+/// Does what was asked on a thread with a deep stack, or without one if there can be no such thread.
+fn run_deeply<T: Threads + Wait + Clock + Sync>(rt: &HostRuntime, asked: Asked, threads: &T) -> u8 {
+    thread::scope(thread::scope_env(), threads, |scope| {
+        let deep = Builder::new().stack_size(DEEP_STACK);
+        match deep.spawn_scoped(scope, || run_asked(rt, asked, threads)) {
+            Ok(handle) => handle.join(threads),
+            Err(_) => run_asked(rt, asked, threads),
+        }
+    })
+}
+
 fn answer<T: Threads + Wait + Clock + Sync>(rt: &HostRuntime, args: &[String], threads: &T) -> u8 {
     let alloc = rt.alloc();
     let Ok(words) = texts(alloc, args) else {
         return no_memory(rt);
     };
     match word_of(alloc, &words) {
+        Ok(asked) if matches!(asked.word, Word::Explore { .. }) => run_deeply(rt, asked, threads),
         Ok(asked) => run_asked(rt, asked, threads),
         Err(error) => told(rt, &error),
     }
