@@ -32,8 +32,8 @@ const WRONG_USE: u8 = 2;
 /// The exit status where memory runs out.
 const OUT_OF_MEMORY: u8 = 4;
 
-/// The bytes of a stack on which a search of schedules goes as deep as its longest schedule may be. Only what is used of
-/// it takes memory.
+/// The bytes of a stack on which a search of schedules goes as deep as its longest schedule. Only what is used of it
+/// takes memory.
 const DEEP_STACK: usize = 1 << 28;
 
 /// Tells that memory ran out. A failing standard error changes no status.
