@@ -7,6 +7,7 @@ mod laws;
 mod reading;
 mod refusal;
 mod stage;
+mod usual;
 mod writing;
 
 pub use cmwq_io::{
