@@ -2,5 +2,6 @@ pub mod Chart
 pub mod Trace
 pub mod Names
 pub mod Page
+pub mod Since
 pub mod Open
 pub mod Summary

@@ -1,7 +1,9 @@
 //! The subcommands that show a history: `chart`, `trace`, `summary` and `open`, over any source of bytes and any sinks.
 #![tactic(auto)]
 
+mod beginnings;
 mod chart;
+mod deed;
 mod name;
 mod number;
 mod open;
@@ -9,6 +11,7 @@ mod page;
 mod progress;
 mod row;
 mod rows;
+mod since;
 mod standing;
 mod summary;
 mod table;
