@@ -161,6 +161,7 @@ fn open(rt: &HostRuntime, name: Option<&str>) -> io::Result<Either<Stdin, File>>
 }
 
 /// A file's name, as text for a terminal: with control characters it is quoted, and these are escaped.
+#[derive(Clone, Copy)]
 struct FileName<'a>(&'a str);
 
 impl Display for FileName<'_> {

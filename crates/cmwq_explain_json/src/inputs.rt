@@ -2,9 +2,8 @@
 
 ghost use Rattle.cmwq_explain.specs.Written.{WritesLittle};
 
-use crate::grammar::Grammar;
-use crate::objects::World;
 use crate::scripts::tell_refused;
+use crate::world::{Grammar, World};
 use arrayvec::ArrayString;
 use cmwq_explain::{Text, tell_text};
 use cmwq_io::Sink;
@@ -76,7 +75,6 @@ fn tell_input(
             alloc,
             grammar,
             whole: &value,
-            is_long: false,
         };
         tell_refused(text, world, refused)?;
     }

@@ -4,6 +4,7 @@ ghost use Rattle.cmwq_text.specs.Words.{with_left};
 ghost use Rattle.cmwq_text.specs.CallText.{is_queueing, has_item_alone, has_queue, call_read_after, call_in};
 ghost use Rattle.cmwq_text.specs.CallText.{is_of_kind, may_say, call_read};
 
+use crate::expected::{Expected, NumberOf};
 use crate::id::{cpu_in, item_in, queue_in, who_in};
 use crate::keyword::{Keyword, keyword_in};
 use crate::word::{Words, number_in, wide_in};
@@ -22,6 +23,7 @@ fn queueing_after(keyword: Keyword, words: &mut Words<'_>) -> Option<Call>
     match keyword {
         Keyword::Queue => Some(Call::Queue { item, queue, cpu }),
         Keyword::Delay => {
+            words.note(Expected::Number(NumberOf::Ticks));
             let ticks = number_in(words)?;
             Some(Call::Delay {
                 item,
@@ -31,6 +33,7 @@ fn queueing_after(keyword: Keyword, words: &mut Words<'_>) -> Option<Call>
             })
         }
         Keyword::Modify => {
+            words.note(Expected::Number(NumberOf::Ticks));
             let ticks = number_in(words)?;
             Some(Call::Modify {
                 item,
@@ -72,6 +75,7 @@ fn queue_call_after(keyword: Keyword, words: &mut Words<'_>) -> Option<Call>
         Keyword::Flush => Some(Call::Flush { queue }),
         Keyword::Drain => Some(Call::Drain { queue }),
         Keyword::SetMax => {
+            words.note(Expected::Number(NumberOf::MaxActive));
             let max_active = number_in(words)?;
             Some(Call::SetMax { queue, max_active })
         }
@@ -83,7 +87,7 @@ fn queue_call_after(keyword: Keyword, words: &mut Words<'_>) -> Option<Call>
 /// The call after its keyword.
 #[tactic(auto, unfolding(crate::specs::CallText::call_read_after))]
 #[inline(always)]
-fn call_after(keyword: Keyword, words: &mut Words<'_>) -> Option<Call>
+pub fn call_after(keyword: Keyword, words: &mut Words<'_>) -> Option<Call>
     ensures { with_left result words.new ≡ call_read_after keyword words.old }
 {
     match keyword {
@@ -95,10 +99,12 @@ fn call_after(keyword: Keyword, words: &mut Words<'_>) -> Option<Call>
             queue_call_after(keyword, words)
         }
         Keyword::Tick => {
+            words.note(Expected::Number(NumberOf::Ticks));
             let ticks = number_in(words)?;
             Some(Call::Tick { ticks })
         }
         Keyword::End => {
+            words.note(Expected::Number(NumberOf::Ticket));
             let ticket = wide_in(words)?;
             Some(Call::End { ticket })
         }
@@ -119,13 +125,14 @@ fn call_after(keyword: Keyword, words: &mut Words<'_>) -> Option<Call>
 pub fn call_in(words: &mut Words<'_>) -> Option<Call>
     ensures { with_left result words.new ≡ call_in words.old }
 {
+    words.note(Expected::Call);
     let keyword = keyword_in(words)?;
     call_after(keyword, words)
 }
 
 /// Whether such a who makes such calls.
 #[inline(always)]
-fn is_of_kind(who: Who, call: Call) -> bool
+pub fn is_of_kind(who: Who, call: Call) -> bool
     ensures { result ≡ is_of_kind who call }
 {
     match who {

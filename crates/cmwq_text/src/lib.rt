@@ -4,6 +4,7 @@
 mod call;
 mod end;
 mod entry;
+mod expected;
 mod format;
 mod id;
 mod keyword;
@@ -19,6 +20,9 @@ mod word;
 pub use call::read_call;
 pub use end::{end_line, read_end};
 pub use entry::{entry_fits, read_entry};
+pub use expected::{
+    Expected, Form, KEYWORD_COUNT, NumberOf, expected_after, keyword_expected, limits,
+};
 pub use format::{
     OLD_CALLERS, OLD_CPUS, OLD_ITEMS, OLD_QUEUES, OLD_ROOM, OLD_WORKERS, is_calls_line,
     is_version_line, line_limit, needs_end, queue_limit, read_call_of_format,
@@ -30,6 +34,7 @@ pub use laws::{
     queues_read_again, queues_spelled_so,
 };
 pub use line::LineText;
+pub use number::read_number;
 pub use reply::reply_fits;
 pub use shape::{begins_queue, read_counts, read_queue_of_calls, read_queue_of_history};
 pub use spelling::{counts_line, entry_line, queue_line, spell_entry, version_line};

@@ -50,7 +50,7 @@ pub fn begins_queue(line: &[u8]) -> bool
 }
 
 /// `-` for none of the flags, or one to three of `h`, `i` and `f`, in this order.
-fn flags_of(word: &[u8]) -> Option<Flags>
+pub fn flags_of(word: &[u8]) -> Option<Flags>
     ensures { result ≡ flags_of word.now }
 {
     let (high, intensive, freezable) = match word {
