@@ -1,19 +1,17 @@
 //! The runtime of a play, with its history: calls that make no sense there change nothing.
 
-ghost use Rattle.std.specs.Prelude.{◌≡◌, [], IfOk, IfSome};
+ghost use Rattle.std.specs.Prelude.{◌≡◌, ◌≤◌, [], IfOk, IfSome, length, take};
 ghost use Rattle.cmwq_model.specs.Prelude.{IsLegal, is_done};
 ghost use Rattle.cmwq_core.specs.History.{past_in};
 ghost use Rattle.cmwq_explore.specs.Machines as spec;
 
 use crate::place::Ticketed;
-use crate::play::copy_list;
 use cmwq_core::{Execution, Full};
 use cmwq_model::{
     Call, CallerId, Entry, ItemId, NoMemory, Number, Queueing, Reply, Shape, Who, WorkerId,
 };
 use std::alloc::{AllocError, Global};
 use std::marker::Model;
-use std::mem::swap;
 
 /// How many entries a run makes that waits: it sleeps, and it wakes.
 const SLEEP_AND_WAKE: u32 = 2;
@@ -24,8 +22,6 @@ pub struct Machine<'a> {
     shape: &'a Shape,
     execution: Execution,
     entries: Vec<Entry>,
-    /// What the entries of a copy are put into.
-    spare: Vec<Entry>,
 }
 
 impl<'a> Model for Machine<'a> {
@@ -137,21 +133,24 @@ impl<'a> Machine<'a> {
             shape,
             execution,
             entries: Vec::new(alloc),
-            spare: Vec::new(alloc),
         })
     }
 
-    /// Becomes a copy of the other one, in the tables that it has. Where memory runs out it stays as it is.
-    pub fn copy_from(&mut self, other: &Machine<'a>) -> Result<(), AllocError>
+    /// Becomes a copy of the other one, in the tables that it has. Both have the same first entries, so many of them,
+    /// which are not copied. Where memory runs out it stays as it is.
+    pub fn copy_after(&mut self, other: &Machine<'a>, same: usize) -> Result<(), AllocError>
+        requires within { same ≤ length other.now.entries }
+        requires same { take same self.old.entries ≡ take same other.now.entries }
         ensures { IfOk result (λ _. self.new ≡ other.now) }
     {
-        copy_list(&mut self.spare, &other.entries)?;
+        let more = &other.entries[same..];
+        self.entries.reserve(more.len())?;
         if self.execution.copy_from(&other.execution).is_err() {
             return Err(AllocError);
         }
         self.shape = other.shape;
-        swap(&mut self.entries, &mut self.spare);
-        Ok(())
+        self.entries.truncate(same);
+        self.entries.extend_from_slice(more)
     }
 
     pub fn shape(&self) -> &'a Shape

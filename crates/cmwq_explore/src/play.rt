@@ -7,7 +7,7 @@
 //! where it ends at once, is refused, or finds no caller or no room. A run that finds a lock held makes two moves as
 //! well: it sleeps; and it takes the lock and wakes.
 
-ghost use Rattle.std.specs.Prelude.{◌≡◌, ◌+◌, ℕ, true, false, length, All, Contains, None, IfOk, IfSome};
+ghost use Rattle.std.specs.Prelude.{◌≡◌, ◌+◌, ◌≤◌, ℕ, true, false, length, take, All, Contains, None, IfOk, IfSome};
 ghost use Rattle.std.specs.List.{list_any};
 ghost use Rattle.cmwq_model.specs.Prelude.{IsLegal};
 ghost use Rattle.cmwq_core.specs.History.{past_in};
@@ -142,10 +142,22 @@ impl<'a> Play<'a> {
     pub fn copy_from(&mut self, other: &Play<'a>) -> Result<(), AllocError>
         ensures { IfOk result (λ _. self.new ≡ other.now) }
     {
+        self.copy_after(other, 0)
+    }
+
+    /// The same, where both histories begin with the same entries, so many of them: these are not copied.
+    ///
+    /// # Errors
+    /// Want of memory. The play is then of no use.
+    pub fn copy_after(&mut self, other: &Play<'a>, same: usize) -> Result<(), AllocError>
+        requires within { same ≤ length other.now.history.entries }
+        requires same { take same self.old.history.entries ≡ take same other.now.history.entries }
+        ensures { IfOk result (λ _. self.new ≡ other.now) }
+    {
         copy_list(&mut self.callers, &other.callers)?;
         copy_list(&mut self.workers, &other.workers)?;
         self.copy_doors(other)?;
-        self.machine.copy_from(&other.machine)?;
+        self.machine.copy_after(&other.machine, same)?;
         self.setup = other.setup;
         self.noted = other.noted;
         Ok(())

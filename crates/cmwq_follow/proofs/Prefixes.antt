@@ -22,6 +22,20 @@ whole xs = subst (λ zs. take (length xs) zs ≡ xs) (append-nil xs) (taken xs [
 pub front_of : (xs ys zs : List Entry) → IsPrefix xs ys → IsPrefix xs zs → IsPrefix (take (length xs) zs) ys
 front_of xs ys zs p q = subst (λ ws. IsPrefix ws ys) (sym (prefix_taken xs zs q)) p
 
+-- Of two lists, of which one and so much of the other are beginnings of a third, as much is the same.
+pub same_front : (xs ys zs : List Entry) (k n : ℕ) → k ≤ n → n ≤ length xs → k ≤ length ys → IsPrefix (take n xs) zs
+    → IsPrefix ys zs → take k xs ≡ take k ys
+same_front xs ys zs zero n most less within p q = refl
+same_front xs ys zs (suc k) zero most less within p q = absurd (omega arith)
+same_front [] ys zs (suc k) (suc n) most less within p q = absurd (omega arith)
+same_front (x ∷ xs) [] zs (suc k) (suc n) most less within p q = absurd (omega arith)
+same_front (x ∷ xs) (y ∷ ys) zs (suc k) (suc n) most less within p q =
+    let both = p.1 ∙ sym q.1 in
+    let first : x ≡ y = ap (λ ws. get_or ws 0 x) both in
+    let rest = same_front xs ys (drop 1 zs) k n (omega arith) (omega arith) (omega arith) (p.0, ap (λ ws. drop 1 ws) p.1)
+        (q.0, ap (λ ws. drop 1 ws) q.1) in
+    ap₂ (λ w ws. w ∷ ws) first rest
+
 -- a beginning has the same entries
 pub same_at : (xs ys : List Entry) (k : ℕ) (d : Entry) → IsPrefix xs ys → k < length xs → get_or xs k d ≡ get_or ys k d
 same_at xs ys k d p less = sym (get_or_append_left xs p.0 d k less) ∙ ap (λ zs. get_or zs k d) p.1

@@ -1,9 +1,10 @@
 -- A search for the schedule that left a history: the way that it goes, and what it has not tried.
-use Rattle.std.specs.Prelude.{◌≡◌, ◌+◌, ◌++◌, ◌≤◌, ℕ, true, List, [], ◌∷◌, length}
+use Rattle.std.specs.Prelude.{◌≡◌, ◌+◌, ◌++◌, ◌≤◌, ℕ, true, List, [], ◌∷◌, length, take}
 use mathlib.Core.List.{IsPrefix}
 use Rattle.cmwq_model.specs.declared.entry.Entry.{Entry}
 use Rattle.cmwq_explore.specs.Searches.{IsPathTo}
 use Rattle.cmwq_explore.specs.Stands.{Stand, may, moved}
+use Rattle.cmwq_follow.specs.declared.search.Trial.{Trial}
 use Rattle.cmwq_follow.specs.declared.search.Way.{Way}
 use Rattle.cmwq_follow.specs.declared.search.Tried.{Tried}
 use Rattle.cmwq_follow.specs.declared.search.Tried.TheVariants as tried
@@ -42,6 +43,11 @@ HasTried start history way tries p = Leads start history way.most way.path.items
 
 abbrev pub IsUnderWay : Stand → List Entry → Way → Stand → Type 0
 IsUnderWay start history way p = HasTried start history way way.tries.items p
+
+-- so many entries of the play for tries are the first of the history
+pub record IsKept (history : List Entry) (trial : Trial) : Type 0 where
+  pub within : trial.kept ≤ length trial.play.history.entries
+  pub same : IsPrefix (take trial.kept trial.play.history.entries) history
 
 -- this party is to be tried: its turn is noted
 pub record IsTrying (start : Stand) (history : List Entry) (way : Way) (p : Stand) (party : ℕ) : Type 0 where

@@ -7,7 +7,7 @@ ghost use Rattle.cmwq_explore.specs.Searches.{after};
 ghost use Rattle.cmwq_explore.specs.Stands.{Stand};
 ghost use Rattle.cmwq_explore.specs.Starts.{start_of};
 ghost use Rattle.cmwq_follow.specs.Followed.{IfBreaks, IfPath, LeaveAtMost, Leaves};
-ghost use Rattle.cmwq_follow.specs.Ways.{IsDeadEnd, IsTrying, IsUnderWay};
+ghost use Rattle.cmwq_follow.specs.Ways.{IsDeadEnd, IsKept, IsTrying, IsUnderWay};
 ghost use Rattle.cmwq_follow.specs.declared.search.Step.TheVariants as steps;
 ghost use Rattle.cmwq_follow.specs.declared.search.Tried.TheVariants as tried;
 
@@ -56,6 +56,14 @@ struct Way {
     tries: Vec<Tried>,
     /// The most entries that were left of the history.
     most: usize,
+}
+
+/// The play in which moves are tried, from where the way stands.
+#[derive(Drop)]
+struct Trial<'a> {
+    play: Play<'a>,
+    /// So many entries of it are the first of the history.
+    kept: usize,
 }
 
 /// The worker whose run waits by this caller, as a party.
@@ -180,11 +188,14 @@ fn note(way: &mut Way, party: usize, left: usize) -> Result<(), AllocError>
 /// Tries the move of this party.
 fn try_move<'a>(
     play: &mut Play<'a>,
-    next: &mut Play<'a>,
+    trial: &mut Trial<'a>,
     way: &mut Way,
     party: usize,
     history: &[Entry],
 ) -> Result<Step, AllocError>
+    requires left { IsPrefix play.old.history.entries history.now }
+    requires kept { IsKept history.now trial.old }
+    ensures kept { IfOk result (λ _. IsKept history.now trial.new) }
     ensures goes { (start : Stand) → IsTrying start history.now way.old play.old party
         → IfOk result (λ step. step ≡ steps.Goes → IsUnderWay start history.now way.new play.new) }
     ensures whole { (start : Stand) → IsTrying start history.now way.old play.old party
@@ -194,12 +205,13 @@ fn try_move<'a>(
     if !play.may_move(party) {
         return Ok(Step::Goes);
     }
-    next.copy_from(play)?;
-    next.make_move(party)?;
-    if !goes_on(play, next, history) {
+    trial.play.copy_after(play, trial.kept.min(play.history().len()))?;
+    trial.kept = play.history().len();
+    trial.play.make_move(party)?;
+    if !goes_on(play, &trial.play, history) {
         return Ok(Step::Goes);
     }
-    mem::swap(play, next);
+    mem::swap(play, &mut trial.play);
     let left = play.history().len();
     note(way, party, left)?;
     Ok(if left == history.len() {
@@ -221,11 +233,13 @@ fn likely_next(play: &Play<'_>, history: &[Entry]) -> usize {
 fn advance<'a>(
     setup: &'a Setup<'a>,
     play: &mut Play<'a>,
-    next: &mut Play<'a>,
+    trial: &mut Trial<'a>,
     way: &mut Way,
     history: &[Entry],
 ) -> Result<Step, AllocError>
-    requires { IsUnderWay (start_of setup.now) history.now way.old play.old }
+    requires way { IsUnderWay (start_of setup.now) history.now way.old play.old }
+    requires kept { IsKept history.now trial.old }
+    ensures kept { IfOk result (λ _. IsKept history.now trial.new) }
     ensures goes { IfOk result
         (λ step. step ≡ steps.Goes → IsUnderWay (start_of setup.now) history.now way.new play.new) }
     ensures whole { IfOk result
@@ -240,11 +254,11 @@ fn advance<'a>(
         Tried::Nobody => {
             way.tries.push(Tried::Before(0))?;
             let party = likely_next(play, history);
-            try_move(play, next, way, party, history)
+            try_move(play, trial, way, party, history)
         }
         Tried::Before(party) if party < play.parties() => {
             way.tries.push(Tried::Before(party + 1))?;
-            try_move(play, next, way, party, history)
+            try_move(play, trial, way, party, history)
         }
         Tried::Before(_) => go_back(setup, play, way),
     }
@@ -254,19 +268,20 @@ fn advance<'a>(
 fn go<'a>(
     setup: &'a Setup<'a>,
     play: &mut Play<'a>,
-    next: &mut Play<'a>,
+    trial: &mut Trial<'a>,
     way: &mut Way,
     history: &[Entry],
     moves: u64,
 ) -> Result<Step, AllocError>
-    requires { IsUnderWay (start_of setup.now) history.now way.old play.old }
+    requires way { IsUnderWay (start_of setup.now) history.now way.old play.old }
+    requires kept { IsKept history.now trial.old }
     ensures whole { IfOk result
         (λ step. step ≡ steps.Whole → Leaves (start_of setup.now) history.now way.new.path.items) }
     ensures exhausted { IfOk result
         (λ step. step ≡ steps.Exhausted → LeaveAtMost (start_of setup.now) history.now way.new.most) }
 {
     for _ in 0..moves {
-        let step = advance(setup, play, next, way, history)?;
+        let step = advance(setup, play, trial, way, history)?;
         if step != Step::Goes {
             return Ok(step);
         }
@@ -278,19 +293,20 @@ fn go<'a>(
 fn go_with<'a>(
     alloc: Global,
     setup: &'a Setup<'a>,
-    next: &mut Play<'a>,
+    trial: &mut Trial<'a>,
     way: &mut Way,
     history: &[Entry],
     moves: u64,
 ) -> Result<Step, AllocError>
-    requires { IsUnderWay (start_of setup.now) history.now way.old (start_of setup.now) }
+    requires way { IsUnderWay (start_of setup.now) history.now way.old (start_of setup.now) }
+    requires kept { IsKept history.now trial.old }
     ensures whole { IfOk result
         (λ step. step ≡ steps.Whole → Leaves (start_of setup.now) history.now way.new.path.items) }
     ensures exhausted { IfOk result
         (λ step. step ≡ steps.Exhausted → LeaveAtMost (start_of setup.now) history.now way.new.most) }
 {
     let mut play = Play::new(alloc, setup)?;
-    go(setup, &mut play, next, way, history, moves)
+    go(setup, &mut play, trial, way, history, moves)
 }
 
 /// The same, with a play for the tries too.
@@ -307,8 +323,11 @@ fn go_from_start<'a>(
     ensures exhausted { IfOk result
         (λ step. step ≡ steps.Exhausted → LeaveAtMost (start_of setup.now) history.now way.new.most) }
 {
-    let mut next = Play::new(alloc, setup)?;
-    go_with(alloc, setup, &mut next, way, history, moves)
+    let mut trial = Trial {
+        play: Play::new(alloc, setup)?,
+        kept: 0,
+    };
+    go_with(alloc, setup, &mut trial, way, history, moves)
 }
 
 /// Finds the schedule of a script that left this history, by so many tries of a move at most.
