@@ -3,8 +3,8 @@ use Rattle.std.specs.Prelude.{if◌then◌else◌, MatchBool}
 use Rattle.std.specs.Option.{option_map_or}
 use Rattle.std.proofs.Common.{◌≡◌, ◌∙◌, ◌≢◌, ◌||◌, ◌∷◌, ℕ, zero, suc, Bool, true, false, List, [], Option, Some, None}
 use Rattle.std.proofs.Common.{refl, sym, ap, subst, inl, inr}
-use Rattle.cmwq_model.specs.Prelude.{Layout, fits, past_of}
-use Rattle.cmwq_model.specs.Prelude.{is_done}
+use mathlib.Core.List.{IsPrefix}
+use Rattle.cmwq_model.specs.Prelude.{Layout, fits, is_done, past_of}
 use Rattle.cmwq_model.specs.declared.call.Call.{Call}
 use Rattle.cmwq_model.specs.declared.call.Call.TheVariants as call
 use Rattle.cmwq_model.specs.declared.entry.Entry.{Entry}
@@ -15,6 +15,7 @@ use Rattle.cmwq_monitor.specs.Calls.{Extends, own_entry}
 use Rattle.cmwq_monitor.specs.Participants.{View}
 use Rattle.cmwq_monitor.specs.Steps.{HasEnded, HasFired, IsFiring}
 use Rattle.cmwq_monitor.specs.Whole.{Completes, EndsFiring, EndsOwn, ticket_in_reply}
+use Rattle.cmwq_monitor.proofs.Beginnings.{prefix_of_prefix, prefix_trans}
 use Rattle.cmwq_monitor.proofs.Entering.{view_after}
 use Rattle.cmwq_monitor.proofs.Fired.{ends_extended, fired_all, fired_full, fired_last, fired_more, firing_begins}
 use Rattle.cmwq_monitor.proofs.Serials.{stand_next}
@@ -62,7 +63,9 @@ pub fires_leave : (s : Layout) (n : ℕ) (h : History) (v m : View) → IsKept s
 unfolding fired
 fires_leave s zero h v m kept up fit so = record { last = m; fired = fired_all s v m so; up = up }
 fires_leave s (suc n) h v m kept up fit so =
-    at (λ w on. fires_leave s n (stepped h m.who call.Fire) v w (kept_after s h m.who call.Fire kept) on fit)
+    at
+    (λ on. fires_leave s n (stepped h m.who call.Fire) v (view_after s h.entries m call.Fire)
+    (kept_after s h m.who call.Fire kept) on fit)
     (is_made h m.who call.Fire) refl
   where
     last : (b : Bool) → is_nothing (own_entry s h.entries m call.Fire).reply ≡ b
@@ -78,8 +81,9 @@ fires_leave s (suc n) h v m kept up fit so =
     last false other made on =
         on (fired_more s n v m (view_after s h.entries m call.Fire) _ (nothing_is_not _ other) so made.extends)
 
-    at : ((w : View) → IsUpToDate (stepped h m.who call.Fire).entries w → IsFiring s n v w
-        → FiresLeave s v (fired n (stepped h m.who call.Fire) w.who).entries)
+    at : (IsUpToDate (stepped h m.who call.Fire).entries (view_after s h.entries m call.Fire)
+        → IsFiring s n v (view_after s h.entries m call.Fire)
+        → FiresLeave s v (fired n (stepped h m.who call.Fire) m.who).entries)
         → (b : Bool) → is_made h m.who call.Fire ≡ b
         → FiresLeave s v (option_map_or (λ r. if is_nothing r then stepped h m.who call.Fire
         else fired n (stepped h m.who call.Fire) m.who) (replied h m.who call.Fire) h).entries
@@ -93,7 +97,7 @@ fires_leave s (suc n) h v m kept up fit so =
     at on true made =
         let m1 = makes s h m call.Fire kept up made in
         rw m1.replies (last (is_nothing (own_entry s h.entries m call.Fire).reply) refl m1
-        (on (view_after s h.entries m call.Fire) m1.up))
+        (on m1.up))
 
 -- ---- a wait ends
 
@@ -123,17 +127,11 @@ pub end_leaves : (s : Layout) (h : History) (m : View) (t : Ticketed) → IsKept
 unfolding ended
 end_leaves s h m t kept up fit may = at (is_drain t.call) refl
   where
-    g : History
-    g = stepped h m.who (call.End t.ticket)
-
     after_g : IsKept s (stepped h m.who (call.End t.ticket))
     after_g = kept_after s h m.who (call.End t.ticket) kept
 
     made : Makes s h m (call.End t.ticket) (stepped h m.who (call.End t.ticket))
     made = makes s h m (call.End t.ticket) kept up (made_to_end h m t.ticket may)
-
-    abbrev w : View
-    w = view_after s h.entries m (call.End t.ticket)
 
     done : Extends s m (call.End t.ticket) reply.Done (view_after s h.entries m (call.End t.ticket))
     done =
@@ -168,11 +166,13 @@ pub record IsBegun (s : Layout) (v : View) (t : Ticketed) (r : Reply) (m : View)
   pub no_tick : is_tick t.call ≡ false
   pub gives : ticket_in_reply r ≡ Some t.ticket
 
--- what came of a call
+-- What came of a call: whoever made it has seen the history before it.
 abbrev pub CameOf : Layout → History → View → Call → History → Called → Type 0
 CameOf s h v c g NoRoom = (g ≡ h) × (is_made h v.who c ≡ false)
 CameOf s h v c g Whole = (r : Reply) × (w : View) × Completes s v c r w × IsUpToDate g.entries w
+    × IsPrefix h.entries w.seen
 CameOf s h v c g (Began t) = (r : Reply) × (m : View) × (t.call ≡ c) × IsBegun s v t r m × IsUpToDate g.entries m
+    × IsPrefix h.entries m.seen
 
 plain_completes : (s : Layout) (v w : View) (c : Call) (r : Reply) → is_tick c ≡ false → ticket_in_reply r ≡ None
     → Extends s v c r w → Completes s v c r w
@@ -221,6 +221,9 @@ module _ (s : Layout) (h : History) (v : View) (c : Call) (kept : IsKept s h) (f
   after_g : IsKept s g
   after_g = kept_after s h v.who c kept
 
+  saw : IsPrefix h.entries (view_after s h.entries v c).seen
+  saw = prefix_of_prefix h.entries (own_entry s h.entries v c ∷ [])
+
   waits : (k : ℕ) → ticket_given r ≡ Some k → is_tick c ≡ false → (b : Bool) → ends g v.who k ≡ b
       → Came s h v c (if b then record { history = ended g v.who (record { ticket = k; call = c }); outcome = Whole }
       else record { history = g; outcome = Began (record { ticket = k; call = c }) })
@@ -229,20 +232,21 @@ module _ (s : Layout) (h : History) (v : View) (c : Call) (kept : IsKept s h) (f
       let e = end_leaves s g w t after_g made.up fit may in
       let begun : IsBegun s v t r w =
       record { extends = made.extends; no_tick = no_tick; gives = given_same r ∙ gives } in
-      (r, e.last, wait_completes s v w t r _ begun e, e.up)
+      (r, e.last, wait_completes s v w t r _ begun e, e.up, prefix_trans h.entries w.seen e.last.seen saw e.ended.gains.older)
   waits k gives no_tick false may = (
     r,
     w,
     refl,
     record { extends = made.extends; no_tick = no_tick; gives = given_same r ∙ gives },
     made.up,
+    saw,
   )
 
   given : (o : Option ℕ) → ticket_given r ≡ o → is_tick c ≡ false
       → Came s h v c (option_map_or (λ k. begun g v.who (record { ticket = k; call = c })) o
       (record { history = g; outcome = Whole }))
   given None gives no_tick =
-      (r, w, plain_completes s v w c r no_tick (given_same r ∙ gives) made.extends, made.up)
+      (r, w, plain_completes s v w c r no_tick (given_same r ∙ gives) made.extends, made.up, saw)
   given (Some k) gives no_tick = waits k gives no_tick (ends g v.who k) refl
 
   told : (b : Bool) → is_tick c ≡ b
@@ -253,7 +257,13 @@ module _ (s : Layout) (h : History) (v : View) (c : Call) (kept : IsKept s h) (f
       let fires = fires_leave s s.items g w w after_g made.up fit (firing_begins s v w c r made.extends) in
       subst (λ (n : ℕ). Came s h v c (record { history = fired n g v.who; outcome = Whole }))
       (sym (ap (λ (l : Layout). l.items) after_g.layout))
-      (r, fires.last, tick_completes s v w fires.last c r tick made.extends fires.fired, fires.up)
+      (
+        r,
+        fires.last,
+        tick_completes s v w fires.last c r tick made.extends fires.fired,
+        fires.up,
+        prefix_trans h.entries w.seen fires.last.seen saw fires.fired.gains.older,
+      )
   told false no_tick = given (ticket_given r) refl no_tick
 
 pub came_of : (s : Layout) (h : History) (v : View) (c : Call) → IsKept s h → IsUpToDate h.entries v

@@ -136,10 +136,10 @@ module _ (s : Layout) (k : ℕ) (script : List Action) (at : CallerAt) (h : Hist
           (refused_by s h stands.view (Caller at.id) c is_caller kept stands.up fit
           (subst (λ (w : Who). is_made h w c ≡ false) is_caller not)))
           (seen_up h.entries stands.view stands.up))
-      of g Whole (r, w, whole, up) =
+      of g Whole (r, w, whole, up, saw) =
           goes_on (action.Call c) next g.entries stands.full None w (whole.gains.same ∙ stands.who)
           (followed_more s (calls_in (take at.next script)) c stands.full first stands.view w r followed whole) up
-      of g (Began t) (r, m, same, begun, up) =
+      of g (Began t) (r, m, same, begun, up, saw) =
           goes_on (action.Call c) next g.entries stands.full (Some t) m (begun.extends.gains.same ∙ stands.who)
           (
             calls_in (take at.next script),

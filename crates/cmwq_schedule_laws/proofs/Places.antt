@@ -25,7 +25,8 @@ set_long (z ∷ zs) (suc k) y = ap suc (set_long zs k y)
 -- a place of the front
 pub take_there : {X : Type 0} (xs : List X) (n i : ℕ) (x : X) → slice_get (take n xs) i ≡ Some x
     → (slice_get xs i ≡ Some x) × (i < n)
-take_there [] n i x is = absurd (cc is)
+take_there [] zero i x is = absurd (cc is)
+take_there [] (suc n) i x is = absurd (cc is)
 take_there (y ∷ ys) zero i x is = absurd (cc is)
 take_there (y ∷ ys) (suc n) zero x is = (is, omega arith)
 take_there (y ∷ ys) (suc n) (suc i) x is =
@@ -42,20 +43,21 @@ pushed (z ∷ zs) y x (suc i) is =
     ⊎_elim (λ (old : slice_get zs i ≡ Some x). inl old)
     (λ (new : (i ≡ length zs) × (y ≡ x)). inr (ap suc new.0, new.1)) (pushed zs y x i is)
 
+-- two numbers are the same, or not
+pub same_or_not : (a b : ℕ) → (a ≡ b) ⊎ (a ≡ b → ⊥)
+same_or_not zero zero = inl refl
+same_or_not zero (suc b) = inr (λ same. cc same)
+same_or_not (suc a) zero = inr (λ same. cc same)
+same_or_not (suc a) (suc b) =
+    ⊎_elim (λ (same : a ≡ b). inl (ap suc same)) (λ (other : a ≡ b → ⊥). inr (λ same. other (omega arith)))
+    (same_or_not a b)
+
 -- what holds of the element that is set, and of the others
 pub set_each : {X : Type 0} (P : ℕ → X → Type 0) (xs : List X) (k : ℕ) (x y : X) → slice_get xs k ≡ Some x → P k y
     → ((j : ℕ) (z : X) → (j ≡ k → ⊥) → slice_get xs j ≡ Some z → P j z) → (j : ℕ) (z : X)
     → slice_get (slice_set xs k y) j ≡ Some z → P j z
-set_each P xs k x y is here others j z at = by (same_or_not j k)
+set_each {X} P xs k x y is here others j z at = by (same_or_not j k)
   where
-    same_or_not : (a b : ℕ) → (a ≡ b) ⊎ (a ≡ b → ⊥)
-    same_or_not zero zero = inl refl
-    same_or_not zero (suc b) = inr (λ same. cc same)
-    same_or_not (suc a) zero = inr (λ same. cc same)
-    same_or_not (suc a) (suc b) =
-        ⊎_elim (λ (same : a ≡ b). inl (ap suc same)) (λ (other : a ≡ b → ⊥). inr (λ same. other (omega arith)))
-        (same_or_not a b)
-
     by : (j ≡ k) ⊎ (j ≡ k → ⊥) → P j z
     by (inl same) =
         let got : slice_get (slice_set xs k y) k ≡ Some z = subst (λ (i : ℕ). slice_get (slice_set xs k y) i ≡ Some z) same at in

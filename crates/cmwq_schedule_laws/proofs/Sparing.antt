@@ -110,11 +110,11 @@ module _ (s : Layout) (maker : Who) where
   either h g i false x y = y
 
   pub stepped_goes : (h : History) (c : Call) → IsKept s h → GoesOn s maker h (stepped h maker c)
+  unfolding stepped
   stepped_goes h c kept = at (is_made h maker c) refl
     where
       own : (b : Bool) → is_made h maker c ≡ b → IsKept h.layout h → IsKept h.layout (stepped h maker c)
           → GoesOn h.layout maker h (stepped h maker c)
-      unfolding stepped
       own true made k new =
           let steps : stepped h maker c ≡ with_entry h (next_entry h maker c) =
           ap (λ b. if b then with_entry h (next_entry h maker c) else h) made in
@@ -162,8 +162,11 @@ module _ (s : Layout) (maker : Who) where
   begun_goes : (h : History) (w : Ticketed) → IsKept s h → GoesOn s maker h (begun h maker w).history
   begun_goes h w kept = at (ends h maker w.ticket)
     where
-      at : (b : Bool) → GoesOn s maker h (if b then record { history = ended h maker w; outcome = Whole }
-          else record { history = h; outcome = Began w }).history
+      Goes : AfterCall → Type 0
+      Goes r = GoesOn s maker h r.history
+
+      at : (b : Bool) → Goes (if b then record { history = ended h maker w; outcome = Whole }
+          else record { history = h; outcome = Began w })
       at true = ended_goes h w kept
       at false = goes_nowhere h kept
 
