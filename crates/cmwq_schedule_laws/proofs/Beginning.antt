@@ -1,9 +1,9 @@
 -- Before its first move a play of a script stands.
 use Rattle.std.specs.Option.{option_map_or}
-use Rattle.std.specs.Prelude.{◌^◌, IfSome}
+use Rattle.std.specs.Prelude.{◌^◌, IfSome, option_and_then}
 use Rattle.std.specs.List.{AllByRecursion, range_with_len}
 use Rattle.std.proofs.Common.{◌≡◌, ◌∙◌, ◌⊎◌, ◌+◌, ◌-◌, ◌<◌, ◌≤◌, ◌++◌, ◌∷◌, ℕ, zero, suc, Bool, true, false, List, [], Option, Some}
-use Rattle.std.proofs.Common.{None, length, map, min, slice_get, nat_lt, refl, sym, ap, subst, arith, inl, inr}
+use Rattle.std.proofs.Common.{None, length, map, min, slice_get, take, nat_lt, refl, sym, ap, subst, arith, inl, inr}
 use Rattle.std.proofs.lemmas.List.{length-map}
 use Rattle.std.proofs.lemmas.List.FromFn.{length-range_with_len}
 use mathlib.Core.List.{IsPrefix}
@@ -16,9 +16,11 @@ use Rattle.cmwq_model.proofs.Growing.{nothing_is_legal}
 use Rattle.cmwq_model.proofs.Limits.{limits_of}
 use Rattle.cmwq_json_script.specs.Runs.{Run}
 use Rattle.cmwq_json_script.specs.Scripts.{IsAction, IsCallersAction, IsCallersScript}
+use Rattle.cmwq_json_script.specs.Views.{calls_in}
 use Rattle.cmwq_json_script.specs.declared.action.Action.{Action}
 use Rattle.cmwq_json_script.specs.declared.action.Action.TheVariants as action
 use Rattle.cmwq_monitor.specs.Participants.{View, newcomer}
+use Rattle.cmwq_rt.specs.Scripts.{HasFollowed}
 use Rattle.cmwq_rt.proofs.Following.{followed_none}
 use Rattle.cmwq_rt.proofs.Lending.{new_waited}
 use Rattle.cmwq_rt.specs.Sums.{no_waits}
@@ -31,7 +33,7 @@ use Rattle.cmwq_explore.specs.declared.place.RunAt.{RunAt}
 use Rattle.cmwq_explore.specs.declared.place.WorkerAt.{WorkerAt}
 use Rattle.cmwq_schedule_laws.specs.Leaving.{IsReadable, IsShort}
 use Rattle.cmwq_schedule_laws.proofs.Accounts.{AreLent, CallerStands, HasRested, Holding, IsIdle, IsItems, IsLendable}
-use Rattle.cmwq_schedule_laws.proofs.Accounts.{IsPlayable, LentStands, Stands, WorkerStands, Works, actions_at, lent_to}
+use Rattle.cmwq_schedule_laws.proofs.Accounts.{IsPlayable, LentStands, Stands, WorkerStands, Works, actions_at, caller_of, lent_to}
 use Rattle.cmwq_schedule_laws.proofs.Keeping.{IsKept, IsUpToDate}
 use Rattle.cmwq_schedule_laws.proofs.Ordering.{numbered, workers_end, workers_stand}
 

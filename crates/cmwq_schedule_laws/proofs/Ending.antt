@@ -62,7 +62,7 @@ followed_in s k script at log stands idle over =
     stands.follows in
     let f : HasFollowed s (calls_in script) stands.full (newcomer (caller_numbered k)) stands.view =
     subst (λ xs. HasFollowed s (calls_in xs) stands.full (newcomer (caller_numbered k)) stands.view)
-    (take_all script at.next over) taken in
+    (take_all at.next script over) taken in
     let same : made_by (caller_numbered k) log ≡ made_by (caller_numbered k) v.seen =
     subst (λ (x : Who). made_by x log ≡ made_by x v.seen) stands.who
     (made_all v log (own_counted log v stands.up) stands.up.book stands.up.older) in

@@ -166,7 +166,7 @@ module _ (s : Layout) (does : List (List Action)) (w : WorkerId) (cpu : nat_lt w
       → next_action ≡ Some (action.Call c) → IsItems s c → is_workers c ≡ false → lent_for p w c ≡ None
       → IsRunning s does w (after_action run) h.entries
   waits_not acc c acting next own other none =
-      of (subst (λ d. DoesNext s w _ d acc.acted acc.view h.entries) acting acc.doing)
+      of (subst (λ d. DoesNext s w next_action d acc.acted acc.view h.entries) acting acc.doing)
     where
       of : (acc.view ≡ acc.acted) × (runs_awake (past_of h.entries) w ≡ true)
           → IsRunning s does w (after_action run) h.entries
@@ -228,7 +228,7 @@ module _ (s : Layout) (does : List (List Action)) (w : WorkerId) (cpu : nat_lt w
       → nat_lt c s.callers ≡ true → HasRested s c h.entries
       → BegunAs c cl (called slept (caller_numbered c) cl).history (called slept (caller_numbered c) cl).outcome
   begins acc cl c acting next own other lent there rested =
-      of (subst (λ d. DoesNext s w _ d acc.acted acc.view h.entries) acting acc.doing)
+      of (subst (λ d. DoesNext s w next_action d acc.acted acc.view h.entries) acting acc.doing)
     where
       wait : is_wait cl ≡ true
       wait = waits_of_items s cl own other
@@ -357,7 +357,7 @@ module _ (s : Layout) (does : List (List Action)) (w : WorkerId) (cpu : nat_lt w
       → nat_lt c s.callers ≡ true → ends h (caller_numbered c) t.ticket ≡ true
       → IsRunning s does w (after_action run) (woken c t).entries × HasRested s c (woken c t).entries
   ends_then acc c t waiting items there may =
-      of (subst (λ d. DoesNext s w _ d acc.acted acc.view h.entries) waiting acc.doing)
+      of (subst (λ d. DoesNext s w next_action d acc.acted acc.view h.entries) waiting acc.doing)
     where
       fit_fire : fits s (caller_numbered c) call.Fire ≡ true
       fit_fire = rw there refl

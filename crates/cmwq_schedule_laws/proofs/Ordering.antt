@@ -15,8 +15,11 @@ use Rattle.cmwq_explore.specs.declared.place.WorkerAt.{WorkerAt}
 -- ---- numbers
 
 -- how many pools stand before that of the worker
+abbrev one_if : Bool → ℕ
+one_if b = if b then 1 else 0
+
 abbrev pools_before : WorkerId → ℕ
-pools_before w = w.pool.cpu.0 + w.pool.cpu.0 + (if w.pool.high then 1 else 0)
+pools_before w = w.pool.cpu.0 + w.pool.cpu.0 + one_if w.pool.high
 
 abbrev number_of : Layout → WorkerId → ℕ
 number_of s w = pools_before w * s.workers + w.index
@@ -56,7 +59,7 @@ module _ (s : Layout) (some_cpus : 0 < s.cpus) (some_workers : 0 < s.workers) wh
           else None) ≡ Some x → IsNumbered s (suc k) x
       by_cpu last high true there one =
           let pools : pools_before next_cpu ≡ suc (pools_before w) =
-          (let two = ap (λ b. if b then 1 else 0) high in omega (arith, two)) in
+          (let two : one_if w.pool.high ≡ 1 = ap one_if high in omega (arith, two)) in
           let same : next_cpu ≡ x = cc one in
           subst (IsNumbered s (suc k)) same (next_pool k w next_cpu is last there refl pools)
       by_cpu last high false there none = absurd (cc none)
@@ -70,7 +73,7 @@ module _ (s : Layout) (some_cpus : 0 < s.cpus) (some_workers : 0 < s.workers) wh
       by_high last false high one =
           let other : WorkerId = record { pool = record { cpu = w.pool.cpu; high = true }; index = 0 } in
           let pools : pools_before other ≡ suc (pools_before w) =
-          (let none = ap (λ b. if b then 1 else 0) high in omega (arith, none)) in
+          (let none : one_if w.pool.high ≡ 0 = ap one_if high in omega (arith, none)) in
           let same : other ≡ x = cc one in
           subst (IsNumbered s (suc k)) same (next_pool k w other is last is.cpu refl pools)
 
@@ -97,11 +100,12 @@ module _ (s : Layout) (some_cpus : 0 < s.cpus) (some_workers : 0 < s.workers) wh
         index = lt-ltb 0 s.workers some_workers;
         number = omega arith;
       })
-  numbered (suc k) w = at (worker_by_number s k) refl
+  numbered (suc k) w is = at (λ v was. numbered k v was) (worker_by_number s k) refl is
     where
-      at : (o : Option WorkerId) → worker_by_number s k ≡ o → next_after s o ≡ Some w → IsNumbered s (suc k) w
-      at None was is = absurd (cc is)
-      at (Some v) was is = next_numbered k v w (numbered k v was) is
+      at : ((v : WorkerId) → worker_by_number s k ≡ Some v → IsNumbered s k v) → (o : Option WorkerId)
+          → worker_by_number s k ≡ o → next_after s o ≡ Some w → IsNumbered s (suc k) w
+      at before None was some = absurd (cc some)
+      at before (Some v) was some = next_numbered k v w (before v was) some
 
   -- each has its own
   pub one_number : (j k : ℕ) (w : WorkerId) → worker_by_number s j ≡ Some w → worker_by_number s k ≡ Some w → j ≡ k
@@ -172,26 +176,25 @@ module _ (s : Layout) where
       (Some (record { pool = pool_of c true; index = 0 })) (after_cpu s c) (of_pool s.workers (pool_of c false))
       (of_pool s.workers (pool_of c true)) (all_of_pool (pool_of c false) some) (all_of_pool (pool_of c true) some)
 
+  last_cpu : (c : ℕ) → s.cpus ≤ c + 1 → WalksTo s (after_cpu s c) [] None
+  unfolding WalksTo after_cpu
+  last_cpu c over = rw (le-ltb (c + 1) s.cpus over) refl
+
+  next_cpu : (c : ℕ) → c + 1 < s.cpus → after_cpu s c ≡ Some (record { pool = pool_of (c + 1) false; index = 0 })
+  unfolding after_cpu
+  next_cpu c less = rw (lt-ltb (c + 1) s.cpus less) refl
+
   cpus_walk : (n c : ℕ) → c + suc n ≡ s.cpus → 0 < s.workers
       → WalksTo s (Some (record { pool = pool_of c false; index = 0 }))
       (flat_map (of_cpu s.workers) (range_with_len c (suc n))) None
   cpus_walk zero c long some =
       walk_on s _ (after_cpu s c) None (of_cpu s.workers c) [] (all_of_cpu c some) (last_cpu c (omega arith))
-    where
-      last_cpu : (c : ℕ) → s.cpus ≤ c + 1 → WalksTo s (after_cpu s c) [] None
-      unfolding WalksTo after_cpu
-      last_cpu c over = rw (le-ltb (c + 1) s.cpus over) refl
   cpus_walk (suc n) c long some =
       let sum : (c + 1) + suc n ≡ s.cpus = omega arith in
       walk_on s _ (after_cpu s c) None (of_cpu s.workers c) (flat_map (of_cpu s.workers) (range_with_len (c + 1) (suc n)))
       (all_of_cpu c some)
       (subst (λ (o : Option WorkerId). WalksTo s o (flat_map (of_cpu s.workers) (range_with_len (c + 1) (suc n))) None)
       (sym (next_cpu c (omega arith))) (cpus_walk n (c + 1) sum some))
-    where
-      next_cpu : (c : ℕ) → c + 1 < s.cpus
-          → after_cpu s c ≡ Some (record { pool = pool_of (c + 1) false; index = 0 })
-      unfolding after_cpu
-      next_cpu c less = rw (lt-ltb (c + 1) s.cpus less) refl
 
   all_walk : 0 < s.cpus → 0 < s.workers → WalksTo s (Some first_worker) (workers_from s.cpus s.workers) None
   all_walk some_cpus some = at s.cpus refl

@@ -121,7 +121,8 @@ module _ (h : History) (legal : IsLegal h.layout (past_in h)) where
 -- ---- what was found of a wait
 
 abbrev held_with : List Entry → List RunWait → Held
-held_with log waits = record held_at_first 0 (record { tickets = []; pools = [] }) { history = log; waits = waits }
+held_with log waits =
+    record (held_at_first 0 (record { tickets = []; pools = [] })) { history = log; waits = waits }
 
 waiting_then : (s : Layout) (h : History) (workers : List WorkerAt) → IsKept s h
     → AreWaiting (past_of h.entries) (waits_in h workers)
@@ -153,14 +154,14 @@ module _ (s : Layout) (h : History) (workers : List WorkerAt) (w : WorkerId) (v 
   }
 
   -- it was refused for a reason, or since nobody was left
-  refused_for : (item : ItemId) (why : Stuck) → refusal_of s (past_in h) (waits_in h workers) w c ≡ Some why
+  pub refused_for : (item : ItemId) (why : Stuck) → refusal_of s (past_in h) (waits_in h workers) w c ≡ Some why
       → IsRefused s item v c v
   refused_for item stuck.Itself is =
       (inl refl, (fault.Itself, refl, inr (v, inl refl, looked_at (Some stuck.Itself) is)))
   refused_for item stuck.Circle is =
       (inl refl, (fault.Deadlock, refl, inr (v, inl refl, looked_at (Some stuck.Circle) is)))
 
-  nobody_left : (item : ItemId) → refusal_of s (past_in h) (waits_in h workers) w c ≡ None → IsRefused s item v c v
+  pub nobody_left : (item : ItemId) → refusal_of s (past_in h) (waits_in h workers) w c ≡ None → IsRefused s item v c v
   nobody_left item is = (inl refl, (fault.NoCaller, refl, inr (v, inl refl, looked_at None is)))
 
 -- whether it is refused

@@ -215,7 +215,8 @@ module _ (s : Layout) (does : List (List Action)) (w : WorkerId) (cpu : nat_lt w
         → run.doing ≡ Acts → slice_get (actions_at does run.item.0) run.next ≡ Some (action.Call c) → IsItems s c
         → is_workers c ≡ true → IsRunning s does w (after_action run) (stepped h (Worker w) c).entries
     calls_itself h acc c kept acting next own workers =
-        at (is_made h (Worker w) c) refl (subst (λ d. DoesNext s w _ d acc.acted acc.view h.entries) acting acc.doing)
+        at (is_made h (Worker w) c) refl (subst (λ d. DoesNext s w (slice_get (actions_at does run.item.0) run.next) d acc.acted acc.view h.entries) acting
+        acc.doing)
       where
         own_call : (d : Call) → is_own d ≡ true → is_workers d ≡ true → is_own_call d ≡ true
         own_call (call.Queue i q p) a b = refl
@@ -259,7 +260,8 @@ module _ (s : Layout) (does : List (List Action)) (w : WorkerId) (cpu : nat_lt w
         → (l : LeftOut) → interpreted.Acts s run.item a acc.left_out l acc.acted acc.acted
         → IsRunning s does w (after_action run) h.entries
     passes_on h acc a acting next l acts =
-        of (subst (λ d. DoesNext s w _ d acc.acted acc.view h.entries) acting acc.doing)
+        of (subst (λ d. DoesNext s w (slice_get (actions_at does run.item.0) run.next) d acc.acted acc.view h.entries) acting
+        acc.doing)
       where
         of : (acc.view ≡ acc.acted) × (runs_awake (past_of h.entries) w ≡ true)
             → IsRunning s does w (after_action run) h.entries
@@ -307,7 +309,8 @@ module _ (s : Layout) (does : List (List Action)) (w : WorkerId) (cpu : nat_lt w
         → IsRunning s does w (record run { doing = at (is_some (replied h (Worker w) call.Sleep)) })
         (stepped h (Worker w) call.Sleep).entries
     sleeps_at h acc at kept acting does_it =
-        of (subst (λ d. DoesNext s w _ d acc.acted acc.view h.entries) acting acc.doing)
+        of (subst (λ d. DoesNext s w (slice_get (actions_at does run.item.0) run.next) d acc.acted acc.view h.entries) acting
+        acc.doing)
       where
         of : (acc.view ≡ acc.acted) × (runs_awake (past_of h.entries) w ≡ true)
             → IsRunning s does w (record run { doing = at (is_some (replied h (Worker w) call.Sleep)) })
@@ -390,7 +393,8 @@ module _ (s : Layout) (does : List (List Action)) (w : WorkerId) (cpu : nat_lt w
         → slice_get (actions_at does run.item.0) run.next ≡ None
         → IsIdle s does w (rested (stepped h (Worker w) call.Finish) w).entries
     finishes h acc kept acting ended =
-        of (subst (λ d. DoesNext s w _ d acc.acted acc.view h.entries) acting acc.doing)
+        of (subst (λ d. DoesNext s w (slice_get (actions_at does run.item.0) run.next) d acc.acted acc.view h.entries) acting
+        acc.doing)
       where
         g : History
         g = stepped h (Worker w) call.Finish
