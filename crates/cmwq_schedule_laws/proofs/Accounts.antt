@@ -1,15 +1,13 @@
 -- What each party of a script has done when a play stands somewhere: its entries, as it sees them.
 use Rattle.std.specs.Option.{option_map_or}
-use Rattle.std.specs.Prelude.{◌^◌, ◌&&◌, MatchOption, option_and_then}
-use Rattle.std.proofs.Common.{◌≡◌, ◌∙◌, ◌⊎◌, ◌+◌, ◌<◌, ◌≤◌, ◌++◌, ◌∷◌, ℕ, Bool, true, false, List, [], Option, Some, None}
+use Rattle.std.specs.Prelude.{◌^◌, option_and_then}
+use Rattle.std.proofs.Common.{◌≡◌, ◌⊎◌, ◌+◌, ◌<◌, ◌≤◌, ◌++◌, ◌∷◌, ℕ, Bool, true, false, List, [], Option, Some, None}
 use Rattle.std.proofs.Common.{length, take, slice_get, nat_lt, inl, inr}
 use mathlib.Core.List.{IsPrefix}
-use Rattle.cmwq_model.specs.Prelude.{IsScripted, Layout, has_numbers, is_workers, past_of, runs_asleep, runs_awake}
+use Rattle.cmwq_model.specs.Prelude.{IsScripted, Layout, has_numbers, past_of, runs_asleep, runs_awake}
 use Rattle.cmwq_model.specs.declared.call.Call.{Call}
 use Rattle.cmwq_model.specs.declared.call.Call.TheVariants as call
 use Rattle.cmwq_model.specs.declared.entry.Entry.{Entry}
-use Rattle.cmwq_model.specs.declared.id.ItemId.{ItemId}
-use Rattle.cmwq_model.specs.declared.id.Who.{Who}
 use Rattle.cmwq_model.specs.declared.id.Who.TheVariants.{Caller, Worker}
 use Rattle.cmwq_model.specs.declared.id.WorkerId.{WorkerId}
 use Rattle.cmwq_model.specs.declared.reply.Reply.{Reply}
@@ -204,6 +202,7 @@ pub record IsPlayable (r : Run) : Type 0 where
   pub few_callers : r.layout.callers ≤ 255
   pub all_callers : length r.callers + r.waits ≡ r.layout.callers
   pub scripts_short : (k : ℕ) → length (actions_at r.callers k) < 2 ^ 64
-  pub scripts : (k n : ℕ) (c : Call) → slice_get (actions_at r.callers k) n ≡ Some (action.Call c) → IsScripted r.layout c
+  pub scripts : (k n : ℕ) (c : Call) → slice_get (actions_at r.callers k) n ≡ Some (action.Call c)
+      → IsScripted r.layout c
   pub does_short : (i : ℕ) → length (actions_at r.does i) < 2 ^ 64
   pub does : (i n : ℕ) (c : Call) → slice_get (actions_at r.does i) n ≡ Some (action.Call c) → IsItems r.layout c

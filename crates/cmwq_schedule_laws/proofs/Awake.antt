@@ -1,5 +1,6 @@
 -- Whether what a worker runs is awake, after one more entry.
-use Rattle.cmwq_theory_steps.specs.Common.{◌≡◌, ◌&&◌, ◌≤◌, ◌∷◌, ◌∙◌, ℕ, Bool, true, false, not, List, Option, Some, None}
+use Rattle.cmwq_theory_steps.specs.Common.{◌≡◌, ◌&&◌, ◌≤◌, ◌∷◌, ◌∙◌, ℕ, Bool, true, false, not, List, Option, Some}
+use Rattle.cmwq_theory_steps.specs.Common.{None}
 use Rattle.cmwq_theory_steps.specs.Common.{refl, ap, ap₂, if◌then◌else◌, is_some, Who, Worker, WorkerId}
 use Rattle.cmwq_theory_steps.specs.Common.{Call, Reply, Entry, Layout, Queueing, fits, is_by}
 use Rattle.cmwq_theory_steps.specs.Common.{asleep_after, has_run, run, runs_asleep, runs_awake, finished_answer}
@@ -70,7 +71,8 @@ module _ (s : Layout) (past : List Entry) (w : WorkerId) (c : Call) (fit : fits 
   -- a reply that neither starts nor ends a run, nor sends it to sleep, nor wakes it
   pub steady_entry : ((o : Option ℕ) → run_after entry.reply o ≡ o) → ((b : Bool) → asleep_after entry.reply b ≡ b)
       → IsAsAwake past (entry ∷ past) w
-  steady_entry runs sleeps = both_kept past entry w (runs_next ∙ runs (run past w)) (asleep_next ∙ sleeps (is_asleep past w))
+  steady_entry runs sleeps = both_kept past entry w (runs_next ∙ runs (run past w))
+      (asleep_next ∙ sleeps (is_asleep past w))
 
   pub awake_by : (r : Reply) → entry.reply ≡ r
       → runs_awake (entry ∷ past) w ≡ (is_some (run_after r (run past w)) && not (asleep_after r (is_asleep past w)))

@@ -1,17 +1,14 @@
 -- Before its first move a play of a script stands.
 use Rattle.std.specs.Option.{option_map_or}
-use Rattle.std.specs.Prelude.{◌^◌, IfSome, option_and_then}
+use Rattle.std.specs.Prelude.{◌^◌, option_and_then}
 use Rattle.std.specs.List.{AllByRecursion, range_with_len}
-use Rattle.std.proofs.Common.{◌≡◌, ◌∙◌, ◌⊎◌, ◌+◌, ◌-◌, ◌<◌, ◌≤◌, ◌++◌, ◌∷◌, ℕ, zero, suc, Bool, true, false, List, [], Option, Some}
-use Rattle.std.proofs.Common.{None, length, map, min, slice_get, take, nat_lt, refl, sym, ap, subst, arith, inl, inr}
+use Rattle.std.proofs.Common.{◌≡◌, ◌∙◌, ◌+◌, ◌-◌, ◌<◌, ◌≤◌, ◌∷◌, ℕ, zero, suc, List, [], Option, Some}
+use Rattle.std.proofs.Common.{None, length, map, min, slice_get, take, refl, sym, ap, subst, arith, inl}
 use Rattle.std.proofs.lemmas.List.{length-map}
 use Rattle.std.proofs.lemmas.List.FromFn.{length-range_with_len}
-use mathlib.Core.List.{IsPrefix}
-use Rattle.cmwq_model.specs.Prelude.{IsScripted, Layout, past_of, room_needed, serial_of}
 unfoldable use Rattle.cmwq_model.specs.Prelude.{IsLegal}
-use Rattle.cmwq_model.specs.declared.call.Call.{Call}
 use Rattle.cmwq_model.specs.declared.id.Who.{Who}
-use Rattle.cmwq_model.specs.declared.id.Who.TheVariants.{Caller, Worker}
+use Rattle.cmwq_model.specs.declared.id.Who.TheVariants.{Worker}
 use Rattle.cmwq_model.proofs.Growing.{nothing_is_legal}
 use Rattle.cmwq_model.proofs.Limits.{limits_of}
 use Rattle.cmwq_json_script.specs.Runs.{Run}
@@ -19,7 +16,7 @@ use Rattle.cmwq_json_script.specs.Scripts.{IsAction, IsCallersAction, IsCallersS
 use Rattle.cmwq_json_script.specs.Views.{calls_in}
 use Rattle.cmwq_json_script.specs.declared.action.Action.{Action}
 use Rattle.cmwq_json_script.specs.declared.action.Action.TheVariants as action
-use Rattle.cmwq_monitor.specs.Participants.{View, newcomer}
+use Rattle.cmwq_monitor.specs.Participants.{newcomer}
 use Rattle.cmwq_rt.specs.Scripts.{HasFollowed}
 use Rattle.cmwq_rt.proofs.Following.{followed_none}
 use Rattle.cmwq_rt.proofs.Lending.{new_waited}
@@ -32,8 +29,8 @@ use Rattle.cmwq_explore.specs.declared.place.CallerAt.{CallerAt}
 use Rattle.cmwq_explore.specs.declared.place.RunAt.{RunAt}
 use Rattle.cmwq_explore.specs.declared.place.WorkerAt.{WorkerAt}
 use Rattle.cmwq_schedule_laws.specs.Leaving.{IsReadable, IsShort}
-use Rattle.cmwq_schedule_laws.proofs.Accounts.{AreLent, CallerStands, HasRested, Holding, IsIdle, IsItems, IsLendable}
-use Rattle.cmwq_schedule_laws.proofs.Accounts.{IsPlayable, LentStands, Stands, WorkerStands, Works, actions_at, caller_of, lent_to}
+use Rattle.cmwq_schedule_laws.proofs.Accounts.{CallerStands, HasRested}
+use Rattle.cmwq_schedule_laws.proofs.Accounts.{IsPlayable, Stands, WorkerStands, Works, actions_at, caller_of, lent_to}
 use Rattle.cmwq_schedule_laws.proofs.Keeping.{IsKept, IsUpToDate}
 use Rattle.cmwq_schedule_laws.proofs.Ordering.{numbered, workers_end, workers_stand}
 
@@ -70,13 +67,15 @@ playable r readable =
       scripts_short = λ k. short (actions_at r.callers k)
           (list_at (λ xs. length xs ≤ 1000) r.callers k (of_length r.callers readable.within.scripts) (omega arith));
       scripts = λ k n c is.
-          each_at (IsCallersAction r.layout (length r.gates) (length r.locks)) (actions_at r.callers k) n (action.Call c)
+          each_at (IsCallersAction r.layout (length r.gates) (length r.locks)) (actions_at r.callers k) n
+          (action.Call c)
           (list_at (AllByRecursion (IsCallersAction r.layout (length r.gates) (length r.locks))) r.callers k
           (of_actions r.callers readable.within.scripts) tt) is;
       does_short = λ i. list_at IsShort r.does i readable.short (omega arith);
       does = λ i n c is.
           each_at (IsAction r.layout (length r.gates) (length r.locks)) (actions_at r.does i) n (action.Call c)
-          (list_at (AllByRecursion (IsAction r.layout (length r.gates) (length r.locks))) r.does i readable.within.does tt)
+          (list_at (AllByRecursion (IsAction r.layout (length r.gates) (length r.locks))) r.does i
+          readable.within.does tt)
           is;
     }
   where

@@ -1,16 +1,16 @@
 -- What whole calls leave, as their callers see it.
 use Rattle.std.specs.Prelude.{if◌then◌else◌, MatchBool}
 use Rattle.std.specs.Option.{option_map_or}
-use Rattle.std.proofs.Common.{◌≡◌, ◌∙◌, ◌≢◌, ◌||◌, ◌∷◌, ℕ, zero, suc, Bool, true, false, List, [], Option, Some, None}
-use Rattle.std.proofs.Common.{refl, sym, ap, subst, inl, inr}
+use Rattle.std.proofs.Common.{◌≡◌, ◌∙◌, ◌≢◌, ◌∷◌, ℕ, zero, suc, Bool, true, false, List, [], Option, Some, None}
+use Rattle.std.proofs.Common.{refl, sym, ap, subst, inl}
 use mathlib.Core.List.{IsPrefix}
-use Rattle.cmwq_model.specs.Prelude.{Layout, fits, is_done, past_of}
+use Rattle.cmwq_model.specs.Prelude.{Layout, fits, is_done}
 use Rattle.cmwq_model.specs.declared.call.Call.{Call}
 use Rattle.cmwq_model.specs.declared.call.Call.TheVariants as call
 use Rattle.cmwq_model.specs.declared.entry.Entry.{Entry}
 use Rattle.cmwq_model.specs.declared.reply.Reply.{Reply}
 use Rattle.cmwq_model.specs.declared.reply.Reply.TheVariants as reply
-use Rattle.cmwq_core.specs.History.{History, next_entry, past_in}
+use Rattle.cmwq_core.specs.History.{History}
 use Rattle.cmwq_monitor.specs.Calls.{Extends, own_entry}
 use Rattle.cmwq_monitor.specs.Participants.{View}
 use Rattle.cmwq_monitor.specs.Steps.{HasEnded, HasFired, IsFiring}
@@ -26,7 +26,8 @@ unfoldable use Rattle.cmwq_explore.specs.Machines.{called, ended, ends, fired}
 use Rattle.cmwq_explore.specs.declared.machine.Called.{Called}
 use Rattle.cmwq_explore.specs.declared.machine.Called.TheVariants.{NoRoom, Whole, Waits as Began}
 use Rattle.cmwq_explore.specs.declared.place.Ticketed.{Ticketed}
-use Rattle.cmwq_schedule_laws.proofs.Keeping.{IsKept, IsUpToDate, Makes, having_seen, kept_after, makes, refused, seen_up}
+use Rattle.cmwq_schedule_laws.proofs.Keeping.{IsKept, IsUpToDate, Makes, having_seen, kept_after, makes, refused}
+use Rattle.cmwq_schedule_laws.proofs.Keeping.{seen_up}
 use Rattle.cmwq_schedule_laws.proofs.Keeping.{unmade_replies}
 
 -- ---- replies
@@ -231,8 +232,14 @@ module _ (s : Layout) (h : History) (v : View) (c : Call) (kept : IsKept s h) (f
       let t : Ticketed = record { ticket = k; call = c } in
       let e = end_leaves s g w t after_g made.up fit may in
       let begun : IsBegun s v t r w =
-      record { extends = made.extends; no_tick = no_tick; gives = given_same r ∙ gives } in
-      (r, e.last, wait_completes s v w t r _ begun e, e.up, prefix_trans h.entries w.seen e.last.seen saw e.ended.gains.older)
+      record { extends = made.extends; no_tick = no_tick; gives = given_same r ∙ gives } in (
+        r,
+        e.last,
+        wait_completes s v w t r _ begun e,
+        e.up,
+        prefix_trans h.entries w.seen e.last.seen saw
+            e.ended.gains.older,
+      )
   waits k gives no_tick false may = (
     r,
     w,
@@ -256,8 +263,7 @@ module _ (s : Layout) (h : History) (v : View) (c : Call) (kept : IsKept s h) (f
   told true tick =
       let fires = fires_leave s s.items g w w after_g made.up fit (firing_begins s v w c r made.extends) in
       subst (λ (n : ℕ). Came s h v c (record { history = fired n g v.who; outcome = Whole }))
-      (sym (ap (λ (l : Layout). l.items) after_g.layout))
-      (
+      (sym (ap (λ (l : Layout). l.items) after_g.layout)) (
         r,
         fires.last,
         tick_completes s v w fires.last c r tick made.extends fires.fired,

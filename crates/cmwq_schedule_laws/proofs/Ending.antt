@@ -1,23 +1,21 @@
 -- Where a play stands and nothing is left to do, the history is one that a run of the script may leave.
 use Rattle.std.specs.Option.{option_map_or}
-use Rattle.std.specs.Prelude.{◌||◌, ◌-◌, is_some, option_and_then}
+use Rattle.std.specs.Prelude.{◌||◌, is_some, option_and_then}
 use Rattle.std.specs.List.{list_any}
-use Rattle.std.proofs.Common.{◌≡◌, ◌∙◌, ◌⊎◌, ◌+◌, ◌<◌, ◌≤◌, ◌++◌, ◌∷◌, ℕ, zero, suc, Bool, true, false, List, [], Option, Some, None}
-use Rattle.std.proofs.Common.{length, map, take, drop, slice_get, nat_lt, refl, sym, ap, subst, arith, inl, inr}
+use Rattle.std.proofs.Common.{◌≡◌, ◌∙◌, ◌+◌, ◌<◌, ◌≤◌, ◌∷◌, ℕ, zero, suc, Bool, true, false, List, [], Option, Some}
+use Rattle.std.proofs.Common.{None}
+use Rattle.std.proofs.Common.{length, map, take, slice_get, nat_lt, refl, sym, ap, subst, arith, inl, inr}
 use Rattle.std.proofs.lemmas.Bool.{both_ways, ltb-false}
 use Rattle.std.proofs.lemmas.List.{length-map, take_all}
-use Rattle.std.proofs.lemmas.Option.{get_or_from_slice_get, slice_get_past, slice_get_within}
+use Rattle.std.proofs.lemmas.Option.{get_or_from_slice_get, slice_get_within}
 use Rattle.cmwq_lemmas.proofs.Members.{any_in, in_at}
 use Rattle.cmwq_model.specs.Prelude.{Layout, past_of, serial_of}
-use Rattle.cmwq_model.specs.declared.call.Call.{Call}
 use Rattle.cmwq_model.specs.declared.entry.Entry.{Entry}
 use Rattle.cmwq_model.specs.declared.id.Who.{Who}
-use Rattle.cmwq_model.specs.declared.id.Who.TheVariants.{Caller, Worker}
 use Rattle.cmwq_json_script.specs.Runs.{Run}
 use Rattle.cmwq_json_script.specs.Views.{calls_in}
 use Rattle.cmwq_json_script.specs.declared.action.Action.{Action}
-use Rattle.cmwq_core.specs.History.{History, past_in}
-use Rattle.cmwq_monitor.specs.Participants.{View, made_by, newcomer}
+use Rattle.cmwq_monitor.specs.Participants.{made_by, newcomer}
 use Rattle.cmwq_monitor.specs.Held as monitor
 use Rattle.cmwq_monitor.proofs.Entering.{made_all}
 use Rattle.cmwq_rt.specs.Places.{worker_by_number}
@@ -29,16 +27,14 @@ use Rattle.cmwq_engine.specs.Conduct.{caller_numbered}
 use Rattle.cmwq_engine.specs.Ended.{AllWorkedFrom, WaitedIn, WorkedIn}
 use Rattle.cmwq_rt_scripts.specs.Ended.{AllFollow, FollowsIn}
 use Rattle.cmwq_cmd_run.specs.Interpreted.{plays}
-use Rattle.cmwq_cmd_run.specs.Run.{RunLeaves}
-use Rattle.cmwq_explore.specs.Stands.{Stand, IsDone, active_in, calls_left, has_run, script_at}
+use Rattle.cmwq_explore.specs.Stands.{Stand, IsDone, has_run, script_at}
 use Rattle.cmwq_explore.specs.declared.place.CallerAt.{CallerAt}
 use Rattle.cmwq_explore.specs.declared.place.RunAt.{RunAt}
-use Rattle.cmwq_explore.specs.declared.place.Ticketed.{Ticketed}
 use Rattle.cmwq_explore.specs.declared.place.WorkerAt.{WorkerAt}
 use Rattle.cmwq_schedule_laws.specs.Leaving.{MayLeave}
-use Rattle.cmwq_schedule_laws.proofs.Accounts.{CallerStands, HasRested, Holding, IsInWait, IsIdle, IsLendable, IsPlayable}
+use Rattle.cmwq_schedule_laws.proofs.Accounts.{CallerStands, Holding, IsInWait, IsIdle, IsLendable, IsPlayable}
 use Rattle.cmwq_schedule_laws.proofs.Accounts.{LentStands, Stands, Works, actions_at, caller_of, lent_to}
-use Rattle.cmwq_schedule_laws.proofs.Keeping.{IsUpToDate, own_counted}
+use Rattle.cmwq_schedule_laws.proofs.Keeping.{own_counted}
 
 -- ---- one caller of the script
 
@@ -58,15 +54,15 @@ followed_in s k script at log stands idle over =
     let who = caller_numbered k in
     let v = stands.view in
     let taken : HasFollowed s (calls_in (take at.next script)) stands.full (newcomer (caller_numbered k)) stands.view =
-    subst (λ o. IsInWait s (calls_in (take at.next script)) stands.full (newcomer (caller_numbered k)) o stands.view) idle
+    subst (λ o. IsInWait s (calls_in (take at.next script)) stands.full (newcomer (caller_numbered k)) o stands.view)
+    idle
     stands.follows in
     let f : HasFollowed s (calls_in script) stands.full (newcomer (caller_numbered k)) stands.view =
     subst (λ xs. HasFollowed s (calls_in xs) stands.full (newcomer (caller_numbered k)) stands.view)
     (take_all at.next script over) taken in
     let same : made_by (caller_numbered k) log ≡ made_by (caller_numbered k) v.seen =
     subst (λ (x : Who). made_by x log ≡ made_by x v.seen) stands.who
-    (made_all v log (own_counted log v stands.up) stands.up.book stands.up.older) in
-    (
+    (made_all v log (own_counted log v stands.up) stands.up.book stands.up.older) in (
       stands.full,
       subst (λ all. Follows s (caller_numbered k) log [] (calls_in script) all stands.full) (sym (same ∙ f.gains.made))
           (follows_later s (caller_numbered k) v.seen log stands.up.older (calls_in script) [] f.entries stands.full
@@ -109,7 +105,8 @@ module _ (r : Run) (ok : IsPlayable r) (p : Stand) (st : Stands r p) (done : IsD
           subst (λ (xs : List Action). length xs ≤ at.next) script_is
           (ltb-false at.next (length (script_at p k)) left.1) in
           followed_in r.layout k script at p.history.entries
-          (subst (λ (xs : List Action). CallerStands r.layout k xs at p.history.entries) same_script (st.callers k at here))
+          (subst (λ (xs : List Action). CallerStands r.layout k xs at p.history.entries) same_script
+          (st.callers k at here))
           (none_is at.wait left.0) over
 
   follow_from : (rest : List (List Action)) (k : ℕ)
@@ -118,7 +115,8 @@ module _ (r : Run) (ok : IsPlayable r) (p : Stand) (st : Stands r p) (done : IsD
   follow_from [] k there = (0, refl)
   follow_from (xs ∷ rest) k there =
       let here : slice_get r.callers k ≡ Some xs =
-      (let same : k + 0 ≡ k = omega arith in subst (λ (i : ℕ). slice_get r.callers i ≡ Some xs) same (there 0 xs refl)) in
+      (let same : k + 0 ≡ k = omega arith in subst (λ (i : ℕ). slice_get r.callers i ≡ Some xs) same
+      (there 0 xs refl)) in
       let one = follows_at k xs here in
       let others =
       follow_from rest (suc k)
@@ -141,7 +139,8 @@ module _ (r : Run) (ok : IsPlayable r) (p : Stand) (st : Stands r p) (done : IsD
           absurd (both_ways (list_any has_run p.workers)
           done.workers
           (any_in has_run p.workers at
-          (in_at p.workers k at (slice_get_within p.workers k at is) (get_or_from_slice_get p.workers k at at is)) runs))
+          (in_at p.workers k at (slice_get_within p.workers k at is) (get_or_from_slice_get p.workers k at at is))
+          runs))
 
   -- so each caller that may be lent is back
   waited_at : (c : ℕ) → IsLendable r c → WaitedIn r.layout c p.history.entries
@@ -153,7 +152,8 @@ module _ (r : Run) (ok : IsPlayable r) (p : Stand) (st : Stands r p) (done : IsD
         waited = rested.waited;
         who = rested.who;
         older = rested.up.older;
-        own = subst (λ (x : Who). serial_of (past_of p.history.entries) x ≡ rested.view.serial) rested.who rested.up.book;
+        own = subst (λ (x : Who). serial_of (past_of p.history.entries) x ≡ rested.view.serial) rested.who
+            rested.up.book;
       }
       of (inr k) (at, is, waits) =
           let none : lent_to at ≡ None =
@@ -186,14 +186,14 @@ module _ (r : Run) (ok : IsPlayable r) (p : Stand) (st : Stands r p) (done : IsD
       (no_waits, (subst (λ (n : ℕ). worker_by_number r.layout n ≡ None) last st.all_workers, refl))
   worked_from (at ∷ rest) k long there =
       let here : slice_get p.workers k ≡ Some at =
-      (let same : k + 0 ≡ k = omega arith in subst (λ (i : ℕ). slice_get p.workers i ≡ Some at) same (there 0 at refl)) in
+      (let same : k + 0 ≡ k = omega arith in subst (λ (i : ℕ). slice_get p.workers i ≡ Some at) same
+      (there 0 at refl)) in
       let one = worked_at k at here in
       let sum : suc k + length rest ≡ length p.workers = omega (arith, long) in
       let others =
       worked_from rest (suc k) sum
       (λ j x is. (let next : k + suc j ≡ suc k + j = omega arith in
-      subst (λ (i : ℕ). slice_get p.workers i ≡ Some x) next (there (suc j) x is))) in
-      (
+      subst (λ (i : ℕ). slice_get p.workers i ≡ Some x) next (there (suc j) x is))) in (
         plus one.0 others.0,
         (at.id, one.0, others.0, (st.workers k at here).id, one.1, others.1, refl),
       )
@@ -209,8 +209,7 @@ module _ (r : Run) (ok : IsPlayable r) (p : Stand) (st : Stands r p) (done : IsD
   may_leave =
       let follow = all_follow in
       let worked = all_worked in
-      let many : length (map calls_in r.callers) ≡ length r.callers = length-map r.callers calls_in in
-      (
+      let many : length (map calls_in r.callers) ≡ length r.callers = length-map r.callers calls_in in (
         follow.0,
         worked.0,
         record {

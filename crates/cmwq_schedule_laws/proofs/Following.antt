@@ -1,17 +1,16 @@
 -- A caller of the script moves: it makes its next call, ends a wait, or passes a gate or a lock.
-use Rattle.std.specs.Option.{option_map_or}
 use Rattle.std.specs.Prelude.{◌^◌, if◌then◌else◌}
-use Rattle.std.proofs.Common.{◌≡◌, ◌∙◌, ◌+◌, ◌-◌, ◌<◌, ◌≤◌, ◌++◌, ◌∷◌, ℕ, suc, Bool, true, false, List, [], Option, Some, None}
-use Rattle.std.proofs.Common.{length, take, slice_get, nat_lt, refl, sym, ap, subst, arith, append-nil, get_or}
+use Rattle.std.proofs.Common.{◌≡◌, ◌∙◌, ◌+◌, ◌-◌, ◌<◌, ◌≤◌, ◌++◌, ◌∷◌, ℕ, true, false, List, [], Option, Some, None}
+use Rattle.std.proofs.Common.{length, take, slice_get, nat_lt, refl, sym, ap, subst, arith, append-nil}
 use Rattle.std.proofs.lemmas.Bool.{lt-ltb}
 use Rattle.std.proofs.lemmas.List.{take_more}
 use Rattle.std.proofs.lemmas.Option.{get_or_from_slice_get, slice_get_within}
-use Rattle.cmwq_model.specs.Prelude.{IsScripted, Layout, fits, has_numbers, is_callers, is_whole}
+use Rattle.cmwq_model.specs.Prelude.{IsScripted, Layout, fits, is_callers, is_whole}
 use Rattle.cmwq_model.specs.declared.call.Call.{Call}
 use Rattle.cmwq_model.specs.declared.call.Call.TheVariants as call
 use Rattle.cmwq_model.specs.declared.entry.Entry.{Entry}
 use Rattle.cmwq_model.specs.declared.id.Who.{Who}
-use Rattle.cmwq_model.specs.declared.id.Who.TheVariants.{Caller, Worker}
+use Rattle.cmwq_model.specs.declared.id.Who.TheVariants.{Caller}
 use Rattle.cmwq_json_script.specs.Views.{calls_in}
 use Rattle.cmwq_json_script.specs.declared.action.Action.{Action}
 use Rattle.cmwq_json_script.specs.declared.action.Action.TheVariants as action
@@ -95,7 +94,8 @@ module _ (s : Layout) (k : ℕ) (script : List Action) (at : CallerAt) (h : Hist
   pub passes_on : (a : Action) → slice_get script at.next ≡ Some a → calls_in (a ∷ []) ≡ [] → at.wait ≡ None
       → CallerStands s k script (record at { next = next_place at.next }) h.entries
   passes_on a next none idle =
-      subst (λ (o : Option Ticketed). CallerStands s k script (record at { next = next_place at.next; wait = o }) h.entries)
+      subst (λ (o : Option Ticketed). CallerStands s k script
+      (record at { next = next_place at.next; wait = o }) h.entries)
       (sym idle)
       (goes_on a next h.entries stands.full None stands.view stands.who
       (subst (λ cs. HasFollowed s cs stands.full first stands.view)
@@ -113,7 +113,8 @@ module _ (s : Layout) (k : ℕ) (script : List Action) (at : CallerAt) (h : Hist
       (came_by s h stands.view (Caller at.id) c is_caller kept stands.up fires)
     where
       followed : HasFollowed s (calls_in (take at.next script)) stands.full first stands.view
-      followed = subst (λ o. IsInWait s (calls_in (take at.next script)) stands.full first o stands.view) idle stands.follows
+      followed = subst (λ o. IsInWait s (calls_in (take at.next script)) stands.full first o stands.view) idle
+          stands.follows
 
       whole_is_callers : (d : Call) → is_whole d ≡ true → is_callers d ≡ true
       whole_is_callers (call.End t) is = absurd (cc is)
@@ -128,7 +129,8 @@ module _ (s : Layout) (k : ℕ) (script : List Action) (at : CallerAt) (h : Hist
       of : (g : History) (o : Called) → CameOf s h stands.view c g o
           → CallerStands s k script (record at { next = next_place at.next; wait = wait_of o }) g.entries
       of g NoRoom (same, not) =
-          subst (λ (x : History). CallerStands s k script (record at { next = next_place at.next; wait = None }) x.entries)
+          subst (λ (x : History). CallerStands s k script (record at { next = next_place at.next; wait = None })
+          x.entries)
           (sym same)
           (goes_on (action.Call c) next h.entries (stands.full + 1) None (having_seen h.entries stands.view) stands.who
           (followed_full s (calls_in (take at.next script)) c stands.full first stands.view
@@ -140,8 +142,7 @@ module _ (s : Layout) (k : ℕ) (script : List Action) (at : CallerAt) (h : Hist
           goes_on (action.Call c) next g.entries stands.full None w (whole.gains.same ∙ stands.who)
           (followed_more s (calls_in (take at.next script)) c stands.full first stands.view w r followed whole) up
       of g (Began t) (r, m, same, begun, up, saw) =
-          goes_on (action.Call c) next g.entries stands.full (Some t) m (begun.extends.gains.same ∙ stands.who)
-          (
+          goes_on (action.Call c) next g.entries stands.full (Some t) m (begun.extends.gains.same ∙ stands.who) (
             calls_in (take at.next script),
             stands.view,
             r,

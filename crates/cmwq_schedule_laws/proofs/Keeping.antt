@@ -1,21 +1,19 @@
 -- One more call in a history that a play keeps, and what its maker has seen then.
-use Rattle.std.proofs.Common.{◌≡◌, ◌∙◌, ◌+◌, ◌<◌, ◌≤◌, ◌&&◌, ◌++◌, ◌∷◌, ℕ, Bool, true, false, List, [], Some, None, length}
-use Rattle.std.proofs.Common.{refl, sym, ap, subst, arith, append-nil, length-append, if◌then◌else◌, IsTrue}
+use Rattle.std.proofs.Common.{◌≡◌, ◌∙◌, ◌≤◌, ◌&&◌, ◌++◌, ◌∷◌, Bool, true, false, List, [], Some, None, length}
+use Rattle.std.proofs.Common.{refl, sym, ap, subst, arith, length-append, if◌then◌else◌}
 use Rattle.std.proofs.lemmas.Bool.{and_parts, leb-true}
 use mathlib.Core.List.{IsPrefix}
-use Rattle.cmwq_model.specs.Prelude.{Layout, entry_for, fits, has_room, has_time, is_by, past_of, room_needed}
-use Rattle.cmwq_model.specs.Prelude.{same_who, serial_of}
+use Rattle.cmwq_model.specs.Prelude.{Layout, fits, has_room, has_time, past_of, room_needed}
+use Rattle.cmwq_model.specs.Prelude.{serial_of}
 unfoldable use Rattle.cmwq_model.specs.Prelude.{IsLegal}
 use Rattle.cmwq_model.specs.declared.call.Call.{Call}
 use Rattle.cmwq_model.specs.declared.entry.Entry.{Entry}
 use Rattle.cmwq_model.specs.declared.id.Who.{Who}
-use Rattle.cmwq_model.specs.declared.id.Who.TheVariants.{Caller, Worker}
-use Rattle.cmwq_model.specs.declared.reply.Reply.{Reply}
 use Rattle.cmwq_model.proofs.Growing.{one_more_is_newest}
 use Rattle.cmwq_core.specs.History.{History, next_entry, past_in, takes, with_entry}
 use Rattle.cmwq_monitor.specs.Calls.{Extends, own_entry}
 use Rattle.cmwq_monitor.specs.Faults.{Refused}
-use Rattle.cmwq_monitor.specs.Participants.{Gains, View}
+use Rattle.cmwq_monitor.specs.Participants.{View}
 use Rattle.cmwq_monitor.specs.Steps.{InStep}
 use Rattle.cmwq_monitor.specs.declared.fault.RunFault.TheVariants.{Full}
 use Rattle.cmwq_monitor.proofs.Beginnings.{prefix_of_prefix, prefix_self, prefix_trans}
@@ -75,7 +73,8 @@ kept_own h who c kept made =
     let room = and_parts (has_time (past_in h) c) _ parts.1 in
     let same_room = kept.room in
     let less : room_needed h.layout (e ∷ past_in h) ≤ h.room = leb-true _ h.room room.1 in
-    let fewer : room_needed h.layout (e ∷ past_in h) ≤ h.layout.room = subst (λ n. room_needed h.layout (e ∷ past_in h) ≤ n) same_room less in
+    let fewer : room_needed h.layout (e ∷ past_in h) ≤ h.layout.room =
+    subst (λ n. room_needed h.layout (e ∷ past_in h) ≤ n) same_room less in
     record {
       layout = refl;
       room = kept.room;
@@ -112,7 +111,8 @@ makes_own h v c kept up made =
     let older = prefix_trans v.seen h.entries (h.entries ++ e ∷ []) up.older longer in
     subst (λ (g : History). Makes h.layout h v c g) (sym (made_steps h v.who c made)) record {
       is = refl;
-      extends = extends h.layout v h.entries c (own_counted h.entries v up) (in_step h.entries v up) older fit kept.legal;
+      extends = extends h.layout v h.entries c (own_counted h.entries v up)
+          (in_step h.entries v up) older fit kept.legal;
       up = record {
         counts = serial_after h.layout h.entries v c up.book;
         book = serial_after h.layout h.entries v c up.book;

@@ -1,32 +1,25 @@
 -- The wait of a run is left out, begins, or ends: what its worker and the caller that is lent have done then.
-use Rattle.std.specs.Option.{option_map_or}
 use Rattle.std.specs.Prelude.{◌^◌, ◌&&◌, if◌then◌else◌, not, is_some, option_and_then}
-use Rattle.std.proofs.Common.{◌≡◌, ◌∙◌, ◌⊎◌, ◌+◌, ◌-◌, ◌<◌, ◌≤◌, ◌∷◌, ℕ, Bool, true, false, List, [], Option, Some, None}
-use Rattle.std.proofs.Common.{length, slice_get, nat_lt, refl, sym, ap, subst, arith, inl, inr, true≢false}
-use Rattle.std.proofs.lemmas.Bool.{and_parts}
+use Rattle.std.proofs.Common.{◌≡◌, ◌∙◌, ◌<◌, ℕ, Bool, true, false, List, Option, Some, None}
+use Rattle.std.proofs.Common.{length, slice_get, nat_lt, refl, sym, ap, subst, inl, inr, true≢false}
 use mathlib.Core.List.{IsPrefix}
 use Rattle.cmwq_model.specs.Prelude.{Layout, answer, fits, has_numbers, is_workers, past_of, runs_asleep, runs_awake}
 use Rattle.cmwq_model.specs.Prelude.{serial_of}
 use Rattle.cmwq_model.specs.declared.call.Call.{Call}
 use Rattle.cmwq_model.specs.declared.call.Call.TheVariants as call
 use Rattle.cmwq_model.specs.declared.entry.Entry.{Entry}
-use Rattle.cmwq_model.specs.declared.id.ItemId.{ItemId}
 use Rattle.cmwq_model.specs.declared.id.Who.{Who}
-use Rattle.cmwq_model.specs.declared.id.Who.TheVariants.{Caller, Worker}
+use Rattle.cmwq_model.specs.declared.id.Who.TheVariants.{Worker}
 use Rattle.cmwq_model.specs.declared.id.WorkerId.{WorkerId}
 use Rattle.cmwq_model.specs.declared.reply.Reply.{Reply}
-use Rattle.cmwq_json_script.specs.Scripts.{is_own}
 use Rattle.cmwq_json_script.specs.declared.action.Action.{Action}
 use Rattle.cmwq_json_script.specs.declared.action.Action.TheVariants as action
 use Rattle.cmwq_core.specs.History.{History, past_in}
 use Rattle.cmwq_waits.specs.Registered.{refusal_of}
-use Rattle.cmwq_waits.specs.declared.waits.Stuck.{Stuck}
-use Rattle.cmwq_monitor.specs.Calls.{own_entry}
 use Rattle.cmwq_monitor.specs.Participants.{View, is_caller, made_by}
 use Rattle.cmwq_monitor.specs.Whole.{Completes}
 use Rattle.cmwq_monitor.proofs.Beginnings.{prefix_trans}
 use Rattle.cmwq_monitor.proofs.Entering.{made_all}
-use Rattle.cmwq_rt.specs.Lent.{HasOnlyWaited}
 use Rattle.cmwq_rt.specs.Running.{MakesOne}
 use Rattle.cmwq_rt.specs.Sums.{one_refused, one_without_room}
 use Rattle.cmwq_rt.specs.Waiting.{HasWaited, WasAllowed, is_wait}
@@ -41,12 +34,10 @@ unfoldable use Rattle.cmwq_explore.specs.Stands.{lent_for}
 use Rattle.cmwq_explore.specs.Waiting.{is_refused, may_wait, waits_in}
 use Rattle.cmwq_explore.specs.declared.machine.Called.{Called}
 use Rattle.cmwq_explore.specs.declared.machine.Called.TheVariants.{NoRoom, Whole, Waits as Began}
-use Rattle.cmwq_explore.specs.declared.place.Doing.{Doing}
-use Rattle.cmwq_explore.specs.declared.place.Doing.TheVariants.{Acts, AtGate, AtLock, Waits}
+use Rattle.cmwq_explore.specs.declared.place.Doing.TheVariants.{Acts, Waits}
 use Rattle.cmwq_explore.specs.declared.place.RunAt.{RunAt}
 use Rattle.cmwq_explore.specs.declared.place.Ticketed.{Ticketed}
-use Rattle.cmwq_explore.specs.declared.place.WorkerAt.{WorkerAt}
-use Rattle.cmwq_schedule_laws.proofs.Accounts.{DoesNext, HasBegun, HasRested, IsItems, IsRunning, IsWaitingBy, actions_at}
+use Rattle.cmwq_schedule_laws.proofs.Accounts.{DoesNext, HasRested, IsItems, IsRunning, IsWaitingBy, actions_at}
 use Rattle.cmwq_schedule_laws.proofs.Calling.{CameOf, wait_completes}
 use Rattle.cmwq_schedule_laws.proofs.Keeping.{IsKept, IsUpToDate, kept_after, own_counted, up_later}
 use Rattle.cmwq_schedule_laws.proofs.Numbered.{MakesBy, came_by, end_by, makes_by}
@@ -274,10 +265,10 @@ module _ (s : Layout) (does : List (List Action)) (w : WorkerId) (cpu : nat_lt w
               (prefix_trans after.seen g.entries (stepped g (Worker w) call.Wake).entries up.older
               wakes_by_itself.longer) in
               let nothing : made_by rested.view.who m.view.seen ≡ made_by rested.view.who rested.view.seen =
-              subst (λ (es : List Entry). made_by rested.view.who es ≡ made_by rested.view.who rested.view.seen) (sym m.all)
+              subst (λ (es : List Entry). made_by rested.view.who es ≡ made_by rested.view.who rested.view.seen)
+              (sym m.all)
               (made_all rested.view slept.entries (own_counted slept.entries rested.view rested_up) rested_up.book
-              rested_up.older) in
-              (
+              rested_up.older) in (
                 working.goes_on s does w cpu index short run h.entries acc (action.Call cl) next
                     (stepped g (Worker w) call.Wake).entries acc.left_out z.view
                     (acts_by cl own other acc.left_out acc.left_out acc.acted z.view
@@ -304,7 +295,8 @@ module _ (s : Layout) (does : List (List Action)) (w : WorkerId) (cpu : nat_lt w
               let spared = goes.spares (Worker w) refl in
               let asleep = working.asleep_after_sleep s does w cpu index h acc.acted kept awake m in
               let nothing : made_by rested.view.who m.view.seen ≡ made_by rested.view.who rested.view.seen =
-              subst (λ (es : List Entry). made_by rested.view.who es ≡ made_by rested.view.who rested.view.seen) (sym m.all)
+              subst (λ (es : List Entry). made_by rested.view.who es ≡ made_by rested.view.who rested.view.seen)
+              (sym m.all)
               (made_all rested.view slept.entries (own_counted slept.entries rested.view rested_up) rested_up.book
               rested_up.older) in
               record {
@@ -389,15 +381,16 @@ module _ (s : Layout) (does : List (List Action)) (w : WorkerId) (cpu : nat_lt w
           let sees : IsPrefix e.last.seen z.view.seen =
           subst (λ (es : List Entry). IsPrefix e.last.seen es) (sym z.all)
           (prefix_trans e.last.seen g.entries (stepped g (Worker w) call.Wake).entries e.up.older
-          wakes_by_itself.longer) in
-          (
+          wakes_by_itself.longer) in (
             working.goes_on s does w cpu index short run h.entries acc (action.Call t.call) next
                 (stepped g (Worker w) call.Wake).entries acc.left_out z.view
-                (acts_by t.call (items t.call next) (not_workers t.call x.wait) acc.left_out acc.left_out acc.acted z.view
+                (acts_by t.call (items t.call next) (not_workers t.call x.wait) acc.left_out acc.left_out acc.acted
+                z.view
                 (inl (
                   b.reply,
                   has_waited acc.acted acc.view b.before e.last z.view t.call b.reply x.sleeps x.allowed b.nothing_yet
-                      (ap is_caller last_who) whole (answer s (past_in g) (Worker w) call.Wake, z.extends) saw_sleep sees,
+                      (ap is_caller last_who) whole (answer s (past_in g) (Worker w) call.Wake, z.extends) saw_sleep
+                      sees,
                   refl,
                 ))) z.same z.up (working.awake_after_wake s does w cpu index g acc.view goes.kept asleep_on z),
             record {

@@ -1,23 +1,22 @@
 -- One party moves: where the play stands then, if nobody else has made an entry.
-use Rattle.std.specs.Prelude.{if◌then◌else◌, IfSome, MatchOption, option_and_then}
-use Rattle.std.proofs.Common.{◌≡◌, ◌∙◌, ◌⊎◌, ◌+◌, ◌-◌, ◌==◌, ◌<◌, ◌≤◌, ◌++◌, ◌∷◌, ℕ, Bool, true, false, List, [], Option, Some}
-use Rattle.std.proofs.Common.{None, length, take, slice_get, slice_set, nat_lt, refl, sym, ap, subst, arith, inl, inr, ⊎_elim}
+use Rattle.std.specs.Prelude.{if◌then◌else◌, IfSome, option_and_then}
+use Rattle.std.proofs.Common.{◌≡◌, ◌∙◌, ◌⊎◌, ◌+◌, ◌-◌, ◌==◌, ◌<◌, ◌++◌, ◌∷◌, ℕ, Bool, true, false, List, [], Option}
+use Rattle.std.proofs.Common.{Some}
+use Rattle.std.proofs.Common.{None, length, take, slice_get, slice_set, refl, sym, ap, subst, arith, inl, inr, ⊎_elim}
 use Rattle.std.proofs.lemmas.Bool.{eq-eqb, eqb-true, false_from_ne_true}
 use Rattle.std.proofs.lemmas.Option.{slice_get_within}
-use Rattle.cmwq_model.specs.Prelude.{Layout, past_of, same_who, same_worker, runs_asleep, runs_awake}
+use Rattle.cmwq_model.specs.Prelude.{Layout, same_who, same_worker}
 use Rattle.cmwq_model.specs.declared.entry.Entry.{Entry}
 use Rattle.cmwq_model.specs.declared.id.Who.{Who}
-use Rattle.cmwq_model.specs.declared.id.Who.TheVariants.{Caller, Worker}
+use Rattle.cmwq_model.specs.declared.id.Who.TheVariants.{Worker}
 use Rattle.cmwq_model.specs.declared.id.WorkerId.{WorkerId}
 use Rattle.cmwq_theory_steps.proofs.ItemRuns.{same_worker-true}
 use Rattle.cmwq_json_script.specs.Runs.{Run}
 use Rattle.cmwq_json_script.specs.declared.action.Action.{Action}
 use Rattle.cmwq_json_script.specs.declared.action.Holder.{Holder}
 use Rattle.cmwq_core.specs.History.{History}
-use Rattle.cmwq_monitor.specs.Faults.{Refused}
 use Rattle.cmwq_monitor.specs.Participants.{View}
 use Rattle.cmwq_rt.specs.Places.{worker_by_number}
-use Rattle.cmwq_rt.specs.Running.{MakesOne}
 use Rattle.cmwq_engine.specs.Conduct.{caller_numbered}
 use Rattle.cmwq_explore.specs.Stands.{Stand}
 use Rattle.cmwq_explore.specs.declared.place.CallerAt.{CallerAt}
@@ -25,10 +24,10 @@ use Rattle.cmwq_explore.specs.declared.place.Doing.{Doing}
 use Rattle.cmwq_explore.specs.declared.place.Doing.TheVariants.{Acts, AtGate, AtLock, Waits}
 use Rattle.cmwq_explore.specs.declared.place.RunAt.{RunAt}
 use Rattle.cmwq_explore.specs.declared.place.WorkerAt.{WorkerAt}
-use Rattle.cmwq_schedule_laws.proofs.Accounts.{AreLent, CallerStands, DoesNext, HasBegun, HasRested, Holding, IsIdle}
-use Rattle.cmwq_schedule_laws.proofs.Accounts.{IsLendable, IsPlayable, IsRunning, IsWaitingBy, LentStands, SleepsOrNot, Stands}
+use Rattle.cmwq_schedule_laws.proofs.Accounts.{AreLent, CallerStands, DoesNext, HasBegun, HasRested, Holding}
+use Rattle.cmwq_schedule_laws.proofs.Accounts.{IsLendable, IsPlayable, LentStands, SleepsOrNot, Stands}
 use Rattle.cmwq_schedule_laws.proofs.Accounts.{WorkerStands, Works, actions_at, caller_of, lent_to}
-use Rattle.cmwq_schedule_laws.proofs.Keeping.{IsKept, IsUpToDate}
+use Rattle.cmwq_schedule_laws.proofs.Keeping.{IsKept}
 use Rattle.cmwq_schedule_laws.proofs.Lending.{later}
 use Rattle.cmwq_schedule_laws.proofs.Ordering.{one_number}
 use Rattle.cmwq_schedule_laws.proofs.Places.{pushed, same_or_not, set_each, set_here, set_long, set_others, take_there}
@@ -176,7 +175,8 @@ module _ (r : Run) (ok : IsPlayable r) (p : Stand) (st : Stands r p) where
     kept = kept;
     all_callers = set_long p.callers k new ∙ st.all_callers;
     all_workers = st.all_workers;
-    callers = set_each (λ j z. CallerStands r.layout j (actions_at r.callers j) z g.entries) p.callers k at new is stands
+    callers = set_each (λ j z. CallerStands r.layout j (actions_at r.callers j) z g.entries) p.callers k at new is
+        stands
         (λ j z other there.
         caller_later r.layout p.history.entries g.entries j (actions_at r.callers j) z
         (spares (caller_numbered j) (callers_apart k j (λ same. other (sym same)))) (st.callers j z there));
@@ -253,7 +253,8 @@ module _ (r : Run) (ok : IsPlayable r) (p : Stand) (st : Stands r p) where
     callers = λ j z there.
         caller_later r.layout p.history.entries g.entries j (actions_at r.callers j) z
         (script_spared k at lends g m j (caller_there j z there)) (st.callers j z there);
-    workers = set_each (λ j z. WorkerStands r.layout r.does j z g.entries) p.workers k at (record { id = at.id; run = run })
+    workers = set_each (λ j z. WorkerStands r.layout r.does j z g.entries) p.workers k at
+        (record { id = at.id; run = run })
         m.is
         (let old = st.workers k at m.is in
         record { id = old.id; cpu = old.cpu; index = old.index; works = works })
@@ -339,7 +340,8 @@ module _ (r : Run) (ok : IsPlayable r) (p : Stand) (st : Stands r p) where
   pub one_lent : (k : ℕ) (at : WorkerAt) (run : RunAt) (c : ℕ) (g : History) (gates : List Bool)
       (locks : List (Option Holder)) → WorkerMoves k at (Some c) g → lent_to at ≡ None
       → caller_of run.doing ≡ Some c → slice_get p.free (length p.free - 1) ≡ Some c
-      → AreLent r (with_worker g k (record { id = at.id; run = Some run }) (take (length p.free - 1) p.free) gates locks)
+      → AreLent r (with_worker g k (record { id = at.id; run = Some run })
+      (take (length p.free - 1) p.free) gates locks)
   one_lent k at run c g gates locks m was_none waits_now last = record {
     holder = holder_set st.lent.holder c (inr k);
     free = still_free;
@@ -355,8 +357,7 @@ module _ (r : Run) (ok : IsPlayable r) (p : Stand) (st : Stands r p) where
       still_free i d is =
           let there = take_there p.free (length p.free - 1) i d is in
           let old = st.lent.free i d there.0 in
-          let less = there.1 in
-          (
+          let less = there.1 in (
             set_not st.lent.holder c (inr k) d
                 (λ same.
                 let place = (st.lent.free (length p.free - 1) c last).0 in
@@ -377,8 +378,7 @@ module _ (r : Run) (ok : IsPlayable r) (p : Stand) (st : Stands r p) where
           let same : d ≡ c = cc (sym waits ∙ waits_now) in
           (set_one st.lent.holder c (inr k) d same, subst (λ (i : ℕ). IsLendable r i) (sym same) m.lendable))
           (λ j z other there waits.
-          let old = st.lent.waiting j z d there waits in
-          (
+          let old = st.lent.waiting j z d there waits in (
             set_not st.lent.holder c (inr k) d
                 (λ same.
                 let place = (st.lent.free (length p.free - 1) c last).0 in
@@ -389,7 +389,8 @@ module _ (r : Run) (ok : IsPlayable r) (p : Stand) (st : Stands r p) where
           ))
 
       of_other : (d : ℕ) → (d ≡ c → ⊥) → (o : Holding) → LentStands r p d o
-          → LentStands r (with_worker g k (record { id = at.id; run = Some run }) (take (length p.free - 1) p.free) gates locks)
+          → LentStands r (with_worker g k (record { id = at.id; run = Some run })
+          (take (length p.free - 1) p.free) gates locks)
           d o
       of_other d other (inl place) rested =
           rested_later r.layout p.history.entries g.entries d
@@ -401,14 +402,15 @@ module _ (r : Run) (ok : IsPlayable r) (p : Stand) (st : Stands r p) where
           absurd (cc (sym was_none ∙ (ap lent_to one ∙ waits)))) (z, there, waits)
 
       each : (d : ℕ) → IsLendable r d → (d ≡ c) ⊎ (d ≡ c → ⊥)
-          → LentStands r (with_worker g k (record { id = at.id; run = Some run }) (take (length p.free - 1) p.free) gates locks)
+          → LentStands r (with_worker g k (record { id = at.id; run = Some run })
+          (take (length p.free - 1) p.free) gates locks)
           d (holder_set st.lent.holder c (inr k) d)
       each d lendable (inl same) =
           subst
           (λ (o : Holding).
-          LentStands r (with_worker g k (record { id = at.id; run = Some run }) (take (length p.free - 1) p.free) gates locks)
-          d o) (sym (set_one st.lent.holder c (inr k) d same))
-          (
+          LentStands r (with_worker g k (record { id = at.id; run = Some run })
+          (take (length p.free - 1) p.free) gates locks)
+          d o) (sym (set_one st.lent.holder c (inr k) d same)) (
             record { id = at.id; run = Some run },
             set_here p.workers k at (record { id = at.id; run = Some run }) m.is,
             waits_now ∙ ap Some (sym same),
@@ -416,7 +418,8 @@ module _ (r : Run) (ok : IsPlayable r) (p : Stand) (st : Stands r p) where
       each d lendable (inr other) =
           subst
           (λ (o : Holding).
-          LentStands r (with_worker g k (record { id = at.id; run = Some run }) (take (length p.free - 1) p.free) gates locks)
+          LentStands r (with_worker g k (record { id = at.id; run = Some run })
+          (take (length p.free - 1) p.free) gates locks)
           d o) (sym (set_not st.lent.holder c (inr k) d other))
           (of_other d other (st.lent.holder d) (st.lent.each d lendable))
 
@@ -440,16 +443,14 @@ module _ (r : Run) (ok : IsPlayable r) (p : Stand) (st : Stands r p) where
       free_now i d is =
           ⊎_elim
           (λ (old : slice_get p.free i ≡ Some d).
-          let was = st.lent.free i d old in
-          (
+          let was = st.lent.free i d old in (
             set_not st.lent.holder c (inl (length p.free)) d
                 (λ same.
                 let both : ◌≡◌ {A = Holding} (inl i) (inr k) = sym was.0 ∙ (ap st.lent.holder same ∙ held) in
                 absurd (cc both)) ∙ was.0,
             was.1,
           ))
-          (λ (new : (i ≡ length p.free) × (c ≡ d)).
-          (
+          (λ (new : (i ≡ length p.free) × (c ≡ d)). (
             set_one st.lent.holder c (inl (length p.free)) d (sym new.1) ∙ ap (λ (n : ℕ). inl n) (sym new.0),
             subst (λ (x : ℕ). IsLendable r x) new.1 m.lendable,
           )) (pushed p.free c d i is)
@@ -462,8 +463,7 @@ module _ (r : Run) (ok : IsPlayable r) (p : Stand) (st : Stands r p) where
           (λ j z. lent_to z ≡ Some d → (holder_set st.lent.holder c (inl (length p.free)) d ≡ inr j) × IsLendable r d)
           p.workers k at (record { id = at.id; run = Some run }) m.is (λ waits. absurd (cc (sym is_none ∙ waits)))
           (λ j z other there waits.
-          let old = st.lent.waiting j z d there waits in
-          (
+          let old = st.lent.waiting j z d there waits in (
             set_not st.lent.holder c (inl (length p.free)) d
                 (λ same.
                 let both : ◌≡◌ {A = Holding} (inr j) (inr k) = sym old.0 ∙ (ap st.lent.holder same ∙ held) in

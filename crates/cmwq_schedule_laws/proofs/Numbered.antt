@@ -1,20 +1,17 @@
 -- Calls of who a number names: what a caller or a worker leaves by one call, or by a whole one.
-use Rattle.std.specs.Prelude.{◌&&◌}
-use Rattle.std.proofs.Common.{◌≡◌, ◌∙◌, ◌≤◌, ◌++◌, ◌∷◌, ℕ, Bool, true, false, List, [], Some, None, refl, sym, ap, subst, IsTrue}
+use Rattle.std.proofs.Common.{◌≡◌, ◌∙◌, ◌≤◌, ◌++◌, ◌∷◌, ℕ, true, false, [], Some, refl, sym, ap, subst}
 use Rattle.std.proofs.Common.{nat_lt, arith}
 use Rattle.std.specs.Cmp.Derive.{both_true}
-use Rattle.std.proofs.lemmas.Bool.{and_parts, le-leb}
-use Rattle.cmwq_model.specs.Prelude.{Layout, answer, entry_for, fits, has_numbers, has_room, has_time, is_callers}
+use Rattle.std.proofs.lemmas.Bool.{le-leb}
+use Rattle.cmwq_model.specs.Prelude.{Layout, answer, entry_for, fits, has_numbers, has_time, is_callers}
 use Rattle.cmwq_model.specs.Prelude.{is_workers, past_of, room_needed}
 use Rattle.cmwq_model.specs.declared.call.Call.{Call}
 use Rattle.cmwq_model.specs.declared.call.Call.TheVariants as call
-use Rattle.cmwq_model.specs.declared.entry.Entry.{Entry}
 use Rattle.cmwq_model.specs.declared.id.Who.{Who}
 use Rattle.cmwq_model.specs.declared.id.Who.TheVariants.{Caller, Worker}
 use Rattle.cmwq_model.specs.declared.id.WorkerId.{WorkerId}
-use Rattle.cmwq_model.specs.declared.reply.Reply.{Reply}
 use Rattle.cmwq_model.proofs.Growing.{one_more_is_newest}
-use Rattle.cmwq_core.specs.History.{History, next_entry, past_in, takes}
+use Rattle.cmwq_core.specs.History.{History, past_in}
 use Rattle.cmwq_theory_steps.specs.RoomSteps.{is_promised}
 use Rattle.cmwq_theory_steps.proofs.Promised.{promised_need_no_more}
 unfoldable use Rattle.cmwq_model.specs.Prelude.{IsLegal}
@@ -23,10 +20,9 @@ use Rattle.cmwq_monitor.specs.Faults.{Refused}
 use Rattle.cmwq_monitor.specs.Participants.{View}
 use Rattle.cmwq_monitor.specs.declared.fault.RunFault.TheVariants.{Full}
 use Rattle.cmwq_explore.specs.Machines.{called, ended, ends, is_made, replied, stepped}
-use Rattle.cmwq_explore.specs.declared.machine.Called.{Called}
 use Rattle.cmwq_explore.specs.declared.place.Ticketed.{Ticketed}
 use Rattle.cmwq_schedule_laws.proofs.Calling.{CameOf, EndLeaves, came_of, end_leaves}
-use Rattle.cmwq_schedule_laws.proofs.Keeping.{IsKept, IsUpToDate, Makes, having_seen, makes, refused}
+use Rattle.cmwq_schedule_laws.proofs.Keeping.{IsKept, IsUpToDate, having_seen, makes, refused}
 use Rattle.cmwq_monitor.proofs.Entering.{view_after}
 
 -- ---- what fits

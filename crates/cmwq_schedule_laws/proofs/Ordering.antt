@@ -1,7 +1,8 @@
 -- The workers of a layout by their numbers: each has its own, and they stand in that order before the first move.
 use Rattle.std.specs.Prelude.{if◌then◌else◌, flat_map}
 use Rattle.std.specs.List.{range_with_len}
-use Rattle.std.proofs.Common.{◌≡◌, ◌∙◌, ◌+◌, ◌*◌, ◌<◌, ◌≤◌, ◌++◌, ◌∷◌, ℕ, zero, suc, Bool, true, false, not, List, [], Option, Some}
+use Rattle.std.proofs.Common.{◌≡◌, ◌∙◌, ◌+◌, ◌*◌, ◌<◌, ◌≤◌, ◌++◌, ◌∷◌, ℕ, zero, suc, Bool, true, false, not, List, []}
+use Rattle.std.proofs.Common.{Option, Some}
 use Rattle.std.proofs.Common.{None, length, map, slice_get, nat_lt, refl, sym, ap, subst, arith}
 use Rattle.std.proofs.Math.Nat.{suc-mul}
 use Rattle.std.proofs.lemmas.Bool.{le-ltb, lt-ltb, ltb-false, ltb-true}
@@ -55,7 +56,11 @@ module _ (s : Layout) (some_cpus : 0 < s.cpus) (some_workers : 0 < s.workers) wh
 
       by_cpu : nat_lt (w.index + 1) s.workers ≡ false → w.pool.high ≡ true → (b : Bool)
           → nat_lt (w.pool.cpu.0 + 1) s.cpus ≡ b
-          → (if b then Some (record { pool = record { cpu = record { 0 = w.pool.cpu.0 + 1 }; high = false }; index = 0 })
+          → (if b then Some (record {
+            pool = record { cpu = record { 0 = w.pool.cpu.0 + 1 }; high = false };
+            index =
+                0;
+          })
           else None) ≡ Some x → IsNumbered s (suc k) x
       by_cpu last high true there one =
           let pools : pools_before next_cpu ≡ suc (pools_before w) =
@@ -144,13 +149,13 @@ module _ (s : Layout) where
   past_pool w over = rw (le-ltb (w.index + 1) s.workers over) refl
 
   pool_walk : (p : PoolId) (n i : ℕ) → i + suc n ≡ s.workers
-      → WalksTo s (Some (record { pool = p; index = i })) (map (worker_at p) (range_with_len i (suc n))) (after_pool s p)
+      → WalksTo s (Some (record { pool = p; index = i })) (map (worker_at p) (range_with_len i (suc n)))
+      (after_pool s p)
   unfolding WalksTo
   pool_walk p zero i long = (refl, refl, past_pool (record { pool = p; index = i }) (omega arith))
   pool_walk p (suc n) i long =
       let next = within_pool (record { pool = p; index = i }) (omega arith) in
-      let sum : (i + 1) + suc n ≡ s.workers = omega arith in
-      (
+      let sum : (i + 1) + suc n ≡ s.workers = omega arith in (
         refl,
         refl,
         subst
@@ -191,7 +196,8 @@ module _ (s : Layout) where
       walk_on s _ (after_cpu s c) None (of_cpu s.workers c) [] (all_of_cpu c some) (last_cpu c (omega arith))
   cpus_walk (suc n) c long some =
       let sum : (c + 1) + suc n ≡ s.cpus = omega arith in
-      walk_on s _ (after_cpu s c) None (of_cpu s.workers c) (flat_map (of_cpu s.workers) (range_with_len (c + 1) (suc n)))
+      walk_on s _ (after_cpu s c) None (of_cpu s.workers c) (flat_map (of_cpu s.workers)
+      (range_with_len (c + 1) (suc n)))
       (all_of_cpu c some)
       (subst (λ (o : Option WorkerId). WalksTo s o (flat_map (of_cpu s.workers) (range_with_len (c + 1) (suc n))) None)
       (sym (next_cpu c (omega arith))) (cpus_walk n (c + 1) sum some))

@@ -1,5 +1,5 @@
 -- Elements of lists at their places: one that is set, the last one, and one more.
-use Rattle.std.proofs.Common.{◌≡◌, ◌∙◌, ◌⊎◌, ◌+◌, ◌-◌, ◌<◌, ◌≤◌, ◌++◌, ◌∷◌, ℕ, zero, suc, List, [], Option, Some, None}
+use Rattle.std.proofs.Common.{◌≡◌, ◌∙◌, ◌⊎◌, ◌<◌, ◌++◌, ◌∷◌, ℕ, zero, suc, List, [], Some}
 use Rattle.std.proofs.Common.{length, take, slice_get, slice_set, refl, sym, ap, subst, arith, inl, inr, ⊎_elim}
 
 -- what is set stands there
@@ -10,7 +10,8 @@ set_here (z ∷ zs) zero x y is = refl
 set_here (z ∷ zs) (suc k) x y is = set_here zs k x y is
 
 -- and the others stay
-pub set_others : {X : Type 0} (xs : List X) (k j : ℕ) (y : X) → (j ≡ k → ⊥) → slice_get (slice_set xs k y) j ≡ slice_get xs j
+pub set_others : {X : Type 0} (xs : List X) (k j : ℕ) (y : X) → (j ≡ k → ⊥)
+    → slice_get (slice_set xs k y) j ≡ slice_get xs j
 set_others [] k j y other = refl
 set_others (z ∷ zs) zero zero y other = absurd (other refl)
 set_others (z ∷ zs) zero (suc j) y other = refl
@@ -60,7 +61,8 @@ set_each {X} P xs k x y is here others j z at = by (same_or_not j k)
   where
     by : (j ≡ k) ⊎ (j ≡ k → ⊥) → P j z
     by (inl same) =
-        let got : slice_get (slice_set xs k y) k ≡ Some z = subst (λ (i : ℕ). slice_get (slice_set xs k y) i ≡ Some z) same at in
+        let got : slice_get (slice_set xs k y) k ≡ Some z = subst
+        (λ (i : ℕ). slice_get (slice_set xs k y) i ≡ Some z) same at in
         let one : y ≡ z = cc (set_here xs k x y is, got) in
         subst (λ (i : ℕ). P i z) (sym same) (subst (λ (w : X). P k w) one here)
     by (inr other) = others j z other (sym (set_others xs k j y other) ∙ at)

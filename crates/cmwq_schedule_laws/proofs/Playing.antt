@@ -1,17 +1,16 @@
 -- A party that may move moves, and the play stands again.
 use Rattle.std.specs.Option.{option_map_or}
-use Rattle.std.specs.Prelude.{if◌then◌else◌, IfSome, option_and_then, is_some}
-use Rattle.std.proofs.Common.{◌≡◌, ◌∙◌, ◌⊎◌, ◌+◌, ◌-◌, ◌<◌, ◌≤◌, ◌++◌, ◌∷◌, ℕ, Bool, true, false, List, [], Option, Some, None}
+use Rattle.std.specs.Prelude.{if◌then◌else◌, option_and_then, is_some}
+use Rattle.std.proofs.Common.{◌≡◌, ◌∙◌, ◌-◌, ◌++◌, ◌∷◌, ℕ, Bool, true, false, List, [], Option, Some, None}
 use Rattle.std.proofs.Common.{length, take, slice_get, slice_set, nat_lt, refl, sym, ap, subst, arith, inl, inr}
 use Rattle.std.proofs.lemmas.Bool.{lt-ltb}
-use Rattle.cmwq_model.specs.Prelude.{Layout, has_numbers, is_workers, same_who}
+use Rattle.cmwq_model.specs.Prelude.{Layout, is_workers, same_who}
 use Rattle.cmwq_model.specs.declared.call.Call.{Call}
 use Rattle.cmwq_model.specs.declared.call.Call.TheVariants as call
 use Rattle.cmwq_model.specs.declared.entry.Entry.{Entry}
 use Rattle.cmwq_model.specs.declared.id.ItemId.{ItemId}
 use Rattle.cmwq_model.specs.declared.id.Who.{Who}
 use Rattle.cmwq_model.specs.declared.id.Who.TheVariants.{Caller, Worker}
-use Rattle.cmwq_model.specs.declared.id.WorkerId.{WorkerId}
 use Rattle.cmwq_json_script.specs.Runs.{Run}
 use Rattle.cmwq_json_script.specs.Views.{calls_in}
 use Rattle.cmwq_json_script.specs.declared.action.Action.{Action}
@@ -24,7 +23,8 @@ use Rattle.cmwq_engine.specs.Conduct.{caller_numbered}
 use Rattle.cmwq_cmd_run.specs.Interpreted as interpreted
 use Rattle.cmwq_cmd_run.specs.Interpreted.{SleepsOnce}
 use Rattle.cmwq_explore.specs.Machines.{called, ended, ends, replied, retires, starts, stepped}
-use Rattle.cmwq_explore.specs.Stands.{Stand, action_of, after_action, after_begin, did, first_of, holds, is_free, last_free}
+use Rattle.cmwq_explore.specs.Stands.{Stand, action_of, after_action, after_begin, did, first_of, holds, is_free}
+use Rattle.cmwq_explore.specs.Stands.{last_free}
 use Rattle.cmwq_explore.specs.Stands.{lent_for, locked, may_act, may_call, may_do, may_work, next_place, passed, rested}
 use Rattle.cmwq_explore.specs.Stands.{script_at, slept_at, unlocked, went_on, with_history, with_run, woken}
 use Rattle.cmwq_explore.specs.Stands as stands
@@ -38,8 +38,10 @@ use Rattle.cmwq_explore.specs.declared.place.Doing.TheVariants.{Acts, AtGate, At
 use Rattle.cmwq_explore.specs.declared.place.RunAt.{RunAt}
 use Rattle.cmwq_explore.specs.declared.place.Ticketed.{Ticketed}
 use Rattle.cmwq_explore.specs.declared.place.WorkerAt.{WorkerAt}
-use Rattle.cmwq_schedule_laws.proofs.Accounts.{CallerStands, DoesNext, HasRested, Holding, IsIdle, IsLendable, IsPlayable}
-use Rattle.cmwq_schedule_laws.proofs.Accounts.{IsRunning, LentStands, SleepsOrNot, Stands, WorkerStands, Works, actions_at}
+use Rattle.cmwq_schedule_laws.proofs.Accounts.{CallerStands, DoesNext, HasRested, Holding, IsIdle, IsLendable}
+use Rattle.cmwq_schedule_laws.proofs.Accounts.{IsPlayable}
+use Rattle.cmwq_schedule_laws.proofs.Accounts.{IsRunning, LentStands, SleepsOrNot, Stands, WorkerStands, Works}
+use Rattle.cmwq_schedule_laws.proofs.Accounts.{actions_at}
 use Rattle.cmwq_schedule_laws.proofs.Accounts.{caller_of, lent_to}
 use Rattle.cmwq_schedule_laws.proofs.Following as following
 use Rattle.cmwq_schedule_laws.proofs.Keeping.{IsKept}
@@ -88,7 +90,8 @@ module _ (r : Run) (ok : IsPlayable r) (p : Stand) (st : Stands r p) where
         let goes = goes_nowhere r.layout (Caller at.id) p.history st.kept in
         caller_moves r ok p st k at (record at { next = next_place at.next }) p.history gates locks is st.kept
         (λ who other. goes.spares who (subst (λ (x : Who). same_who x who ≡ false) (sym stands_here.id) other))
-        (following.passes_on r.layout k (actions_at r.callers k) at p.history st.kept there (ok.scripts_short k) stands_here
+        (following.passes_on r.layout k (actions_at r.callers k) at p.history st.kept there
+        (ok.scripts_short k) stands_here
         a next none idle)
 
     unlocks : (lock : ℕ) → slice_get (actions_at r.callers k) at.next ≡ Some (action.Unlock lock) → at.wait ≡ None
@@ -104,7 +107,8 @@ module _ (r : Run) (ok : IsPlayable r) (p : Stand) (st : Stands r p) where
         caller_steps
         (record at { next = next_place at.next; wait = stands.wait_of (called p.history (Caller at.id) c).outcome })
         (called p.history (Caller at.id) c).history (called_goes r.layout (Caller at.id) p.history c st.kept)
-        (following.calls r.layout k (actions_at r.callers k) at p.history st.kept there (ok.scripts_short k) stands_here c
+        (following.calls r.layout k (actions_at r.callers k) at p.history st.kept there
+        (ok.scripts_short k) stands_here c
         next idle (ok.scripts k at.next c next))
     acts (action.Open gate) next idle = passes (action.Open gate) next refl idle (slice_set p.gates gate true) p.locks
     acts (action.SleepAt gate) next idle = passes (action.SleepAt gate) next refl idle p.gates p.locks
@@ -196,18 +200,21 @@ module _ (r : Run) (ok : IsPlayable r) (p : Stand) (st : Stands r p) where
       goes_on : (g : History) (gates : List Bool) (locks : List (Option Holder))
           → GoesOn r.layout (Worker at.id) p.history g → lent_to at ≡ None
           → IsRunning r.layout r.does at.id (after_action run) g.entries
-          → Stands r (moving.with_worker r ok p st g k (record { id = at.id; run = Some (after_action run) }) p.free gates
+          → Stands r (moving.with_worker r ok p st g k (record { id = at.id; run = Some (after_action run) }) p.free
+          gates
           locks)
       goes_on g gates locks goes was_none on = moves_alone (Some (after_action run)) g gates locks goes was_none refl on
 
       passes_by : (a : Action) → run.doing ≡ Acts → next_action ≡ Some a
           → interpreted.Acts r.layout run.item a acc.left_out acc.left_out acc.acted acc.acted → (gates : List Bool)
           (locks : List (Option Holder))
-          → Stands r (moving.with_worker r ok p st p.history k (record { id = at.id; run = Some (after_action run) }) p.free
+          → Stands r (moving.with_worker r ok p st p.history k
+          (record { id = at.id; run = Some (after_action run) }) p.free
           gates locks)
       passes_by a acting next does_it gates locks =
           goes_on p.history gates locks (goes_nowhere r.layout (Worker at.id) p.history st.kept) (not_waiting acting)
-          (working.passes_on r.layout r.does at.id works_here.cpu works_here.index ok.does_short run p.history acc a acting
+          (working.passes_on r.layout r.does at.id works_here.cpu works_here.index ok.does_short run p.history acc a
+          acting
           next acc.left_out does_it)
 
       -- it falls asleep at a gate or a lock
@@ -235,7 +242,8 @@ module _ (r : Run) (ok : IsPlayable r) (p : Stand) (st : Stands r p) where
           st.kept next asleep does_it)
       wakes a false none next asleep does_it gates locks =
           goes_on p.history gates locks (goes_nowhere r.layout (Worker at.id) p.history st.kept) (not_lent none)
-          (working.wakes_up r.layout r.does at.id works_here.cpu works_here.index ok.does_short run p.history acc a false
+          (working.wakes_up r.layout r.does at.id works_here.cpu works_here.index ok.does_short run p.history acc a
+          false
           st.kept next asleep does_it)
 
       -- ---- waits
@@ -286,7 +294,8 @@ module _ (r : Run) (ok : IsPlayable r) (p : Stand) (st : Stands r p) where
       begins c caller acting next other lent =
           came (called slept (caller_numbered caller) c).history (called slept (caller_numbered caller) c).outcome
           (called_goes r.layout (caller_numbered caller) slept c slept_goes.kept)
-          (lending.begins r.layout r.does at.id works_here.cpu works_here.index ok.does_short p st.kept run acc c caller acting
+          (lending.begins r.layout r.does at.id works_here.cpu works_here.index ok.does_short p st.kept run acc c
+          caller acting
           next (ok.does run.item.0 run.next c next) other lent (lent_there caller free.lendable) free.rested)
         where
           slept : History
@@ -302,7 +311,8 @@ module _ (r : Run) (ok : IsPlayable r) (p : Stand) (st : Stands r p) where
               → same_who (Worker at.id) who ≡ false → same_who (caller_numbered caller) who ≡ false
               → Spares who p.history.entries g.entries
           then_spares g goes who one two =
-              spares_further who p.history.entries slept.entries g.entries (slept_goes.spares who one) (goes.spares who two)
+              spares_further who p.history.entries slept.entries g.entries (slept_goes.spares who one)
+              (goes.spares who two)
 
           wakes_whole : (g : History) → GoesOn r.layout (caller_numbered caller) slept g
               → IsRunning r.layout r.does at.id (after_action run) (stepped g (Worker at.id) call.Wake).entries
@@ -312,15 +322,19 @@ module _ (r : Run) (ok : IsPlayable r) (p : Stand) (st : Stands r p) where
               let wake = stepped_goes r.layout (Worker at.id) g call.Wake goes.kept in
               let m =
               both_make caller (stepped g (Worker at.id) call.Wake) wake.kept free.lendable
-              (λ who one two. spares_further who p.history.entries g.entries (stepped g (Worker at.id) call.Wake).entries
+              (λ who one two. spares_further who p.history.entries g.entries
+              (stepped g (Worker at.id) call.Wake).entries
               (then_spares g goes who one two) (wake.spares who one)) (free_apart caller free) in
-              worker_moves r ok p st k at (Some (after_action run)) (Some caller) (stepped g (Worker at.id) call.Wake) p.free
+              worker_moves r ok p st k at (Some (after_action run)) (Some caller)
+              (stepped g (Worker at.id) call.Wake) p.free
               p.gates p.locks m on
-              (same_lent r ok p st k at (Some (after_action run)) (Some caller) (stepped g (Worker at.id) call.Wake) p.gates
+              (same_lent r ok p st k at (Some (after_action run)) (Some caller)
+              (stepped g (Worker at.id) call.Wake) p.gates
               p.locks m (not_waiting acting) refl rests)
 
           came : (g : History) (o : Called) → GoesOn r.layout (caller_numbered caller) slept g
-              → lending.BegunAs r.layout r.does at.id works_here.cpu works_here.index ok.does_short p st.kept run caller c g
+              → lending.BegunAs r.layout r.does at.id works_here.cpu works_here.index ok.does_short p st.kept run
+              caller c g
               o → Stands r (after_begin p k at.id run caller g o)
           came g NoRoom goes none = absurd none
           came g Whole goes whole = wakes_whole g goes whole
@@ -349,7 +363,8 @@ module _ (r : Run) (ok : IsPlayable r) (p : Stand) (st : Stands r p) where
           → Stands r (wait_ended p k at.id run c t)
       unfolding wait_ended
       ends_wait c t waiting may =
-          worker_moves r ok p st k at (Some (after_action run)) (Some c) g (p.free ++ c ∷ []) p.gates p.locks m then_both.0
+          worker_moves r ok p st k at (Some (after_action run)) (Some c) g
+          (p.free ++ c ∷ []) p.gates p.locks m then_both.0
           (one_back r ok p st k at (after_action run) c g p.gates p.locks m waits_now refl then_both.1)
         where
           g : History
@@ -363,7 +378,8 @@ module _ (r : Run) (ok : IsPlayable r) (p : Stand) (st : Stands r p) where
 
           then_both : IsRunning r.layout r.does at.id (after_action run) g.entries × HasRested r.layout c g.entries
           then_both =
-              lending.ends_then r.layout r.does at.id works_here.cpu works_here.index ok.does_short p st.kept run acc c t
+              lending.ends_then r.layout r.does at.id works_here.cpu works_here.index ok.does_short p st.kept run acc
+              c t
               waiting (λ d next. ok.does run.item.0 run.next d next) (lent_there c held.1) may
 
           goes : GoesOn r.layout (caller_numbered c) p.history (ended p.history (caller_numbered c) t)
@@ -375,7 +391,8 @@ module _ (r : Run) (ok : IsPlayable r) (p : Stand) (st : Stands r p) where
           m : WorkerMoves r ok p st k at (Some c) g
           m =
               both_make c g wake.kept held.1
-              (λ who one two. spares_further who p.history.entries (ended p.history (caller_numbered c) t).entries g.entries
+              (λ who one two. spares_further who p.history.entries
+              (ended p.history (caller_numbered c) t).entries g.entries
               (goes.spares who two) (wake.spares who one))
               (λ j z d other there waits same.
               let both : ◌≡◌ {A = Holding} (inr k) (inr j) =
@@ -425,7 +442,8 @@ module _ (r : Run) (ok : IsPlayable r) (p : Stand) (st : Stands r p) where
       ends_run acting none =
           starts_then (rested (stepped p.history (Worker at.id) call.Finish) at.id)
           (rests (retires (stepped p.history (Worker at.id) call.Finish) at.id)) (not_waiting acting)
-          (working.finishes r.layout r.does at.id works_here.cpu works_here.index ok.does_short run p.history acc st.kept
+          (working.finishes r.layout r.does at.id works_here.cpu works_here.index ok.does_short run p.history acc
+          st.kept
           acting none)
         where
           finish : GoesOn r.layout (Worker at.id) p.history (stepped p.history (Worker at.id) call.Finish)
@@ -436,7 +454,8 @@ module _ (r : Run) (ok : IsPlayable r) (p : Stand) (st : Stands r p) where
               else stepped p.history (Worker at.id) call.Finish)
           rests true =
               goes_further r.layout (Worker at.id) p.history (stepped p.history (Worker at.id) call.Finish) _ finish
-              (stepped_goes r.layout (Worker at.id) (stepped p.history (Worker at.id) call.Finish) call.Retire finish.kept)
+              (stepped_goes r.layout (Worker at.id) (stepped p.history (Worker at.id) call.Finish) call.Retire
+              finish.kept)
           rests false = finish
 
       same_action : action_of p run ≡ next_action
@@ -458,14 +477,16 @@ module _ (r : Run) (ok : IsPlayable r) (p : Stand) (st : Stands r p) where
           by None none = ends_run acting (sym same_action ∙ none)
           by (Some a) next = acts_on a acting (sym same_action ∙ next)
       does_on (AtGate gate slept) here may =
-          at_gate (subst (λ d. DoesNext r.layout at.id next_action d acc.acted acc.view p.history.entries) here acc.doing)
+          at_gate (subst (λ d. DoesNext r.layout at.id next_action d acc.acted acc.view p.history.entries) here
+          acc.doing)
         where
           at_gate : DoesNext r.layout at.id next_action (AtGate gate slept) acc.acted acc.view p.history.entries
               → Stands r (went_on (woken p at.id slept) k at.id run)
           at_gate (next, asleep) =
               wakes (action.SleepAt gate) slept (ap caller_of here) next asleep (λ u once. (once, refl)) p.gates p.locks
       does_on (AtLock lock slept) here may =
-          at_lock (subst (λ d. DoesNext r.layout at.id next_action d acc.acted acc.view p.history.entries) here acc.doing)
+          at_lock (subst (λ d. DoesNext r.layout at.id next_action d acc.acted acc.view p.history.entries) here
+          acc.doing)
         where
           at_lock : DoesNext r.layout at.id next_action (AtLock lock slept) acc.acted acc.view p.history.entries
               → Stands r (went_on (woken (locked p (holders.Run run.item) lock) at.id slept) k at.id run)
@@ -489,7 +510,8 @@ module _ (r : Run) (ok : IsPlayable r) (p : Stand) (st : Stands r p) where
             (ap (option_and_then (λ (x : RunAt). caller_of x.doing)) none)
             (subst (λ o. Works r.layout r.does at.id o p.history.entries) none works_here.works)
         by (Some run) runs may =
-            does_on run runs (subst (λ o. Works r.layout r.does at.id o p.history.entries) runs works_here.works) run.doing
+            does_on run runs (subst (λ o. Works r.layout r.does at.id o p.history.entries) runs works_here.works)
+            run.doing
             refl may
 
 -- ---- a move
@@ -513,6 +535,7 @@ move_stands r p party ok st = by (nat_lt party (length p.callers))
         → (if b then option_map_or (may_call p party) (slice_get p.callers party) false
         else option_map_or (may_work p) (slice_get p.workers (party - length p.callers)) false) ≡ true
         → Stands r (if b then option_map_or (caller_moved p party) (slice_get p.callers party) p
-        else option_map_or (worker_moved p (party - length p.callers)) (slice_get p.workers (party - length p.callers)) p)
+        else option_map_or (worker_moved p (party - length p.callers))
+        (slice_get p.workers (party - length p.callers)) p)
     by true may = of_caller (slice_get p.callers party) refl may
     by false may = of_worker (party - length p.callers) (slice_get p.workers (party - length p.callers)) refl may

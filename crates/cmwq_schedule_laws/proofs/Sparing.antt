@@ -1,11 +1,11 @@
 -- Whole calls of one who spare the others: nobody else has an entry more, and what other workers run is as awake.
 use Rattle.std.specs.Prelude.{if◌then◌else◌}
 use Rattle.std.specs.Option.{option_map_or}
-use Rattle.std.proofs.Common.{◌≡◌, ◌∙◌, ◌+◌, ◌++◌, ◌∷◌, ℕ, zero, suc, Bool, true, false, List, [], Option, Some, None}
-use Rattle.std.proofs.Common.{refl, sym, ap, subst, arith, append-nil, cond, count_by}
+use Rattle.std.proofs.Common.{◌≡◌, ◌∙◌, ◌++◌, ◌∷◌, ℕ, zero, suc, Bool, true, false, List, [], Option, Some, None}
+use Rattle.std.proofs.Common.{refl, sym, ap, subst, arith}
 use mathlib.Core.List.{IsPrefix}
 use Rattle.cmwq_lemmas.proofs.Lists.{count_by-cons}
-use Rattle.cmwq_model.specs.Prelude.{Layout, entry_for, fits, is_by, past_of, same_who, serial_of}
+use Rattle.cmwq_model.specs.Prelude.{Layout, is_by, past_of, same_who, serial_of}
 unfoldable use Rattle.cmwq_model.specs.Prelude.{IsLegal}
 use Rattle.cmwq_model.specs.declared.call.Call.{Call}
 use Rattle.cmwq_model.specs.declared.call.Call.TheVariants as call
@@ -140,7 +140,8 @@ module _ (s : Layout) (maker : Who) where
   unfolding fired
   fired_goes zero h kept = goes_nowhere h kept
   fired_goes (suc n) h kept =
-      at (stepped_goes h call.Fire kept) (fired_goes n (stepped h maker call.Fire) (kept_after s h maker call.Fire kept))
+      at (stepped_goes h call.Fire kept) (fired_goes n (stepped h maker call.Fire)
+      (kept_after s h maker call.Fire kept))
       (replied h maker call.Fire)
     where
       at : GoesOn s maker h (stepped h maker call.Fire)
@@ -157,7 +158,8 @@ module _ (s : Layout) (maker : Who) where
       let one = stepped_goes h (call.End w.ticket) kept in
       either h _ _ (is_drain w.call)
       (goes_further h (stepped h maker (call.End w.ticket)) _ one
-      (fired_goes (stepped h maker (call.End w.ticket)).layout.items (stepped h maker (call.End w.ticket)) one.kept)) one
+      (fired_goes (stepped h maker (call.End w.ticket)).layout.items (stepped h maker (call.End w.ticket)) one.kept))
+      one
 
   begun_goes : (h : History) (w : Ticketed) → IsKept s h → GoesOn s maker h (begun h maker w).history
   begun_goes h w kept = at (ends h maker w.ticket)
@@ -190,10 +192,10 @@ module _ (s : Layout) (maker : Who) where
 
       told : (b : Bool) (r : Reply)
           → Goes (if b then record {
-          history = fired (stepped h maker c).layout.items (stepped h maker c) maker;
-          outcome = Whole;
-        } else option_map_or (λ k. begun (stepped h maker c) maker (record { ticket = k; call = c })) (ticket_given r)
-        (record { history = stepped h maker c; outcome = Whole }))
+            history = fired (stepped h maker c).layout.items (stepped h maker c) maker;
+            outcome = Whole;
+          } else option_map_or (λ k. begun (stepped h maker c) maker (record { ticket = k; call = c })) (ticket_given r)
+          (record { history = stepped h maker c; outcome = Whole }))
       told true r =
           goes_further h (stepped h maker c) _ one
           (fired_goes (stepped h maker c).layout.items (stepped h maker c) one.kept)

@@ -1,15 +1,13 @@
 -- A run waits by a caller: what is looked at before, how the wait begins, and how it ends.
 use Rattle.std.specs.Option.{option_map_or}
-use Rattle.std.specs.Prelude.{◌^◌, ◌&&◌, if◌then◌else◌, not, is_some, option_and_then, option_map}
+use Rattle.std.specs.Prelude.{◌&&◌, if◌then◌else◌, is_some, option_and_then, option_map}
 use Rattle.std.specs.List.{fold}
-use Rattle.std.proofs.Common.{◌≡◌, ◌∙◌, ◌⊎◌, ◌+◌, ◌-◌, ◌<◌, ◌≤◌, ◌++◌, ◌∷◌, ℕ, suc, Bool, true, false, List, [], Option, Some, None}
-use Rattle.std.proofs.Common.{length, slice_get, nat_lt, nat_le, refl, sym, ap, subst, arith, inl, inr}
+use Rattle.std.proofs.Common.{◌≡◌, ◌∙◌, ◌+◌, ◌≤◌, ◌++◌, ◌∷◌, ℕ, Bool, true, false, List, [], Option, Some, None}
+use Rattle.std.proofs.Common.{nat_le, refl, sym, ap, subst, arith, inl, inr}
 use Rattle.std.specs.Cmp.Derive.{both_true}
 use Rattle.std.proofs.lemmas.Bool.{and_parts, le-leb, leb-true}
-use mathlib.Core.List.{IsPrefix}
-use Rattle.cmwq_lemmas.proofs.Members.{contained_in}
-use Rattle.cmwq_model.specs.Prelude.{Layout, answer, entry_for, fits, has_numbers, has_time, is_workers, past_of, room_needed}
-use Rattle.cmwq_model.specs.Prelude.{runs_asleep, runs_awake, serial_of, ticket_of}
+use Rattle.cmwq_model.specs.Prelude.{Layout, entry_for, fits, has_time, is_workers, past_of, room_needed}
+use Rattle.cmwq_model.specs.Prelude.{runs_awake, ticket_of}
 unfoldable use Rattle.cmwq_model.specs.Prelude.{IsLegal}
 use Rattle.cmwq_model.specs.declared.call.Call.{Call}
 use Rattle.cmwq_model.specs.declared.call.Call.TheVariants as call
@@ -21,11 +19,8 @@ use Rattle.cmwq_model.specs.declared.id.Who.TheVariants.{Caller, Worker}
 use Rattle.cmwq_model.specs.declared.id.WorkerId.{WorkerId}
 use Rattle.cmwq_model.specs.declared.record.Queueing.{Queueing}
 use Rattle.cmwq_model.specs.declared.record.Ticket.{Ticket}
-use Rattle.cmwq_model.specs.declared.reply.Reply.{Reply}
-use Rattle.cmwq_json_script.specs.Scripts.{is_own}
-use Rattle.cmwq_json_script.specs.declared.action.Action.TheVariants as action
 use Rattle.cmwq_theory_steps.specs.ItemQueueings.{queueing_run}
-use Rattle.cmwq_core.specs.History.{History, next_entry, past_in, takes, takes_with}
+use Rattle.cmwq_core.specs.History.{History, past_in, takes_with}
 use Rattle.cmwq_waits.specs.HeldUp.{AreWaiting}
 use Rattle.cmwq_waits.specs.Registered.{refusal_of, registered}
 use Rattle.cmwq_waits.specs.Registered as register
@@ -36,17 +31,13 @@ use Rattle.cmwq_waits.proofs.GoOn.{is_waiting, registered_wait}
 use Rattle.cmwq_dispatch.proofs.Steady.{none_wait}
 use Rattle.cmwq_monitor.specs.Calls.{own_entry}
 use Rattle.cmwq_monitor.specs.Held.{Held, held_at_first, refusal_at}
-use Rattle.cmwq_monitor.specs.Participants.{View, made_by}
-use Rattle.cmwq_rt.specs.Running.{MakesOne}
-use Rattle.cmwq_rt.specs.Sums.{no_waits, one_refused, one_without_room}
-use Rattle.cmwq_rt.specs.Waiting.{HadNoRoom, HasWaited, SleepsThrough, WasAllowed, WasLookedAt, is_wait, stuck_of}
-use Rattle.cmwq_rt.specs.declared.left_out.LeftOut.{LeftOut}
-use Rattle.cmwq_rt.specs.declared.wait_fault.WaitFault.{WaitFault}
+use Rattle.cmwq_monitor.specs.Participants.{View}
+use Rattle.cmwq_rt.specs.Waiting.{WasAllowed, WasLookedAt, is_wait}
 use Rattle.cmwq_rt.specs.declared.wait_fault.WaitFault.TheVariants as fault
 use Rattle.cmwq_board.specs.Asked as board
 use Rattle.cmwq_board.proofs.Slept.{needs_more}
-use Rattle.cmwq_cmd_run.specs.Interpreted.{IsRefused, WaitsIfMay}
-use Rattle.cmwq_explore.specs.Machines.{is_made, stepped}
+use Rattle.cmwq_cmd_run.specs.Interpreted.{IsRefused}
+use Rattle.cmwq_explore.specs.Machines.{is_made}
 use Rattle.cmwq_explore.specs.Waiting.{are_there, noted_doing}
 unfoldable use Rattle.cmwq_explore.specs.Machines.{has_wait_room}
 unfoldable use Rattle.cmwq_explore.specs.Waiting.{is_refused, noted, noted_at, waits_in}
@@ -56,8 +47,7 @@ use Rattle.cmwq_explore.specs.declared.place.RunAt.{RunAt}
 use Rattle.cmwq_explore.specs.declared.place.WorkerAt.{WorkerAt}
 use Rattle.cmwq_schedule_laws.proofs.Accounts.{IsItems}
 use Rattle.cmwq_schedule_laws.proofs.Awake.{slept_reply}
-use Rattle.cmwq_schedule_laws.proofs.Keeping.{IsKept, IsUpToDate, in_step, kept_after}
-use Rattle.cmwq_schedule_laws.proofs.Numbered.{MakesBy}
+use Rattle.cmwq_schedule_laws.proofs.Keeping.{IsKept, IsUpToDate, in_step}
 
 -- ---- the runs that wait
 
@@ -224,7 +214,8 @@ room_own h g w c cl kept after awake past fit wait room =
     let here : room_needed s (entry_for s (e ∷ past_in h) (Caller c) cl ∷ e ∷ past_in h) ≤ g.room =
     subst (λ n. room_needed s (entry_for s (e ∷ past_in h) (Caller c) cl ∷ e ∷ past_in h) ≤ n)
     (same_room ∙ sym after.room) fits_in in
-    let taken : takes_of s g.room (e ∷ past_in h) ≡ true = both_true (no_time (e ∷ past_in h) cl wait) (le-leb _ g.room here) in
+    let taken : takes_of s g.room (e ∷ past_in h) ≡ true = both_true (no_time (e ∷ past_in h) cl wait)
+    (le-leb _ g.room here) in
     both_true (subst (λ (l : Layout). fits l (Caller c) cl ≡ true) (sym after.layout) fit)
     (subst (λ (l : Layout). takes_of l g.room (past_in g) ≡ true) (sym after.layout)
     (subst (λ (p : List Entry). takes_of s g.room p ≡ true) (sym past) taken))

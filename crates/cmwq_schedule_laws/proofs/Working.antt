@@ -1,9 +1,10 @@
 -- A worker starts a run, ends it, and does actions that wait for nobody.
 use Rattle.std.specs.Option.{option_map_or}
-use Rattle.std.specs.Prelude.{◌^◌, ◌&&◌, if◌then◌else◌, MatchBool, MatchOption, option_and_then, option_map, is_some}
-use Rattle.std.proofs.Common.{◌≡◌, ◌∙◌, ◌⊎◌, ◌+◌, ◌-◌, ◌<◌, ◌≤◌, ◌++◌, ◌∷◌, ℕ, suc, Bool, true, false, List, [], Option, Some, None}
-use Rattle.std.proofs.Common.{length, take, slice_get, nat_lt, refl, sym, ap, subst, arith, inl, inr, get_or}
-use Rattle.std.proofs.lemmas.Option.{get_or_from_slice_get, slice_get_past, slice_get_within}
+use Rattle.std.specs.Prelude.{◌^◌, if◌then◌else◌, MatchOption, option_and_then, option_map, is_some}
+use Rattle.std.proofs.Common.{◌≡◌, ◌∙◌, ◌+◌, ◌<◌, ◌≤◌, ◌++◌, ◌∷◌, ℕ, suc, Bool, true, false, List, [], Option, Some}
+use Rattle.std.proofs.Common.{None}
+use Rattle.std.proofs.Common.{length, take, slice_get, nat_lt, refl, sym, ap, subst, arith, inl, inr}
+use Rattle.std.proofs.lemmas.Option.{get_or_from_slice_get, slice_get_within}
 use Rattle.cmwq_model.specs.Prelude.{Layout, answer, entry_for, fits, has_numbers, is_workers, number_started, past_of}
 use Rattle.cmwq_model.specs.Prelude.{queueing_at, runs_asleep, runs_awake}
 use Rattle.cmwq_model.specs.declared.call.Call.{Call}
@@ -11,7 +12,7 @@ use Rattle.cmwq_model.specs.declared.call.Call.TheVariants as call
 use Rattle.cmwq_model.specs.declared.entry.Entry.{Entry}
 use Rattle.cmwq_model.specs.declared.id.ItemId.{ItemId}
 use Rattle.cmwq_model.specs.declared.id.Who.{Who}
-use Rattle.cmwq_model.specs.declared.id.Who.TheVariants.{Caller, Worker}
+use Rattle.cmwq_model.specs.declared.id.Who.TheVariants.{Worker}
 use Rattle.cmwq_model.specs.declared.id.WorkerId.{WorkerId}
 use Rattle.cmwq_model.specs.declared.record.Queueing.{Queueing}
 use Rattle.cmwq_model.specs.declared.reply.Reply.{Reply}
@@ -22,11 +23,9 @@ use Rattle.cmwq_json_script.specs.declared.action.Action.{Action}
 use Rattle.cmwq_json_script.specs.declared.action.Action.TheVariants as action
 use Rattle.cmwq_core.specs.History.{History, past_in}
 use Rattle.cmwq_monitor.specs.Calls.{Extends, own_entry}
-use Rattle.cmwq_monitor.specs.Faults.{Refused}
-use Rattle.cmwq_monitor.specs.Participants.{View, newcomer}
-use Rattle.cmwq_monitor.specs.Starts.{StartsItem, StartsOne}
-use Rattle.cmwq_monitor.specs.declared.fault.RunFault.TheVariants.{Full}
-use Rattle.cmwq_rt.specs.Running.{EndsRun, MakesOne, RunsInTurn, RunsItem}
+use Rattle.cmwq_monitor.specs.Participants.{View}
+use Rattle.cmwq_monitor.specs.Starts.{StartsItem}
+use Rattle.cmwq_rt.specs.Running.{EndsRun}
 use Rattle.cmwq_rt.specs.Sums.{no_waits, plus}
 use Rattle.cmwq_rt.specs.declared.left_out.LeftOut.{LeftOut}
 use Rattle.cmwq_cmd_run.specs.Interpreted as interpreted
@@ -36,13 +35,13 @@ use Rattle.cmwq_theory_steps.specs.RoomSteps.{is_promised}
 use Rattle.cmwq_explore.specs.Machines.{is_made, is_retired, item_started, replied, stepped}
 unfoldable use Rattle.cmwq_explore.specs.Machines.{retires, starts}
 use Rattle.cmwq_explore.proofs.Gathering.{all_taken}
-use Rattle.cmwq_explore.specs.Stands.{after_action, first_of, next_place, rested}
+use Rattle.cmwq_explore.specs.Stands.{after_action, first_of, rested}
 use Rattle.cmwq_explore.specs.declared.place.Doing.{Doing}
-use Rattle.cmwq_explore.specs.declared.place.Doing.TheVariants.{Acts, AtGate, AtLock, Waits}
+use Rattle.cmwq_explore.specs.declared.place.Doing.TheVariants.{Acts}
 use Rattle.cmwq_explore.specs.declared.place.RunAt.{RunAt}
 use Rattle.cmwq_schedule_laws.proofs.Accounts.{DoesNext, IsIdle, IsItems, IsRunning, SleepsOrNot, actions_at}
 use Rattle.cmwq_schedule_laws.proofs.Awake.{asleep_then, awake_then, finished_reply, is_own_call, own_call_then}
-use Rattle.cmwq_schedule_laws.proofs.Awake.{slept_reply, started_awake, woke_reply}
+use Rattle.cmwq_schedule_laws.proofs.Awake.{started_awake, woke_reply}
 use Rattle.cmwq_schedule_laws.proofs.Following.{place_next}
 use Rattle.cmwq_schedule_laws.proofs.Keeping.{IsKept, IsUpToDate, having_seen, kept_after, seen_up, unmade_replies}
 use Rattle.cmwq_schedule_laws.proofs.Keeping.{unmade_stays}
@@ -215,7 +214,8 @@ module _ (s : Layout) (does : List (List Action)) (w : WorkerId) (cpu : nat_lt w
         → run.doing ≡ Acts → slice_get (actions_at does run.item.0) run.next ≡ Some (action.Call c) → IsItems s c
         → is_workers c ≡ true → IsRunning s does w (after_action run) (stepped h (Worker w) c).entries
     calls_itself h acc c kept acting next own workers =
-        at (is_made h (Worker w) c) refl (subst (λ d. DoesNext s w (slice_get (actions_at does run.item.0) run.next) d acc.acted acc.view h.entries) acting
+        at (is_made h (Worker w) c) refl (subst (λ d. DoesNext s w
+        (slice_get (actions_at does run.item.0) run.next) d acc.acted acc.view h.entries) acting
         acc.doing)
       where
         own_call : (d : Call) → is_own d ≡ true → is_workers d ≡ true → is_own_call d ≡ true
@@ -250,7 +250,8 @@ module _ (s : Layout) (does : List (List Action)) (w : WorkerId) (cpu : nat_lt w
         at false not (same, awake) =
             let up = subst (IsUpToDate h.entries) same acc.up in
             let none = refused_by s h acc.acted (Worker w) c acc.acted_who kept up fits_it not in
-            subst (λ (g : History). IsRunning s does w (after_action run) g.entries) (sym (unmade_stays h (Worker w) c not))
+            subst (λ (g : History). IsRunning s does w (after_action run) g.entries)
+            (sym (unmade_stays h (Worker w) c not))
             (goes_on h.entries acc (action.Call c) next h.entries acc.left_out (having_seen h.entries acc.acted)
             (acts (having_seen h.entries acc.acted) (inr none)) acc.acted_who (seen_up h.entries acc.acted up) awake)
 
@@ -260,7 +261,8 @@ module _ (s : Layout) (does : List (List Action)) (w : WorkerId) (cpu : nat_lt w
         → (l : LeftOut) → interpreted.Acts s run.item a acc.left_out l acc.acted acc.acted
         → IsRunning s does w (after_action run) h.entries
     passes_on h acc a acting next l acts =
-        of (subst (λ d. DoesNext s w (slice_get (actions_at does run.item.0) run.next) d acc.acted acc.view h.entries) acting
+        of (subst (λ d. DoesNext s w (slice_get (actions_at does run.item.0) run.next) d acc.acted acc.view h.entries)
+        acting
         acc.doing)
       where
         of : (acc.view ≡ acc.acted) × (runs_awake (past_of h.entries) w ≡ true)
@@ -309,7 +311,8 @@ module _ (s : Layout) (does : List (List Action)) (w : WorkerId) (cpu : nat_lt w
         → IsRunning s does w (record run { doing = at (is_some (replied h (Worker w) call.Sleep)) })
         (stepped h (Worker w) call.Sleep).entries
     sleeps_at h acc at kept acting does_it =
-        of (subst (λ d. DoesNext s w (slice_get (actions_at does run.item.0) run.next) d acc.acted acc.view h.entries) acting
+        of (subst (λ d. DoesNext s w (slice_get (actions_at does run.item.0) run.next) d acc.acted acc.view h.entries)
+        acting
         acc.doing)
       where
         of : (acc.view ≡ acc.acted) × (runs_awake (past_of h.entries) w ≡ true)
@@ -381,7 +384,8 @@ module _ (s : Layout) (does : List (List Action)) (w : WorkerId) (cpu : nat_lt w
     all_acted l v u ended acts = of (slice_get does run.item.0) refl
       where
         all : ActInTurn s run.item (actions_at does run.item.0) no_waits l v u
-        all = subst (λ xs. ActInTurn s run.item xs no_waits l v u) (all_taken (actions_at does run.item.0) run.next ended) acts
+        all = subst (λ xs. ActInTurn s run.item xs no_waits l v u)
+            (all_taken (actions_at does run.item.0) run.next ended) acts
 
         of : (o : Option (List Action)) → slice_get does run.item.0 ≡ o
             → MatchOption o ((u ≡ v) × (l ≡ no_waits)) (λ actions. ActInTurn s run.item actions no_waits l v u)
@@ -393,7 +397,8 @@ module _ (s : Layout) (does : List (List Action)) (w : WorkerId) (cpu : nat_lt w
         → slice_get (actions_at does run.item.0) run.next ≡ None
         → IsIdle s does w (rested (stepped h (Worker w) call.Finish) w).entries
     finishes h acc kept acting ended =
-        of (subst (λ d. DoesNext s w (slice_get (actions_at does run.item.0) run.next) d acc.acted acc.view h.entries) acting
+        of (subst (λ d. DoesNext s w (slice_get (actions_at does run.item.0) run.next) d acc.acted acc.view h.entries)
+        acting
         acc.doing)
       where
         g : History
@@ -449,8 +454,7 @@ module _ (s : Layout) (does : List (List Action)) (w : WorkerId) (cpu : nat_lt w
                 makes_by s (stepped h (Worker w) call.Finish) f.view (Worker w) call.Retire f.same then_kept f.up
                 (retires_made (stepped h (Worker w) call.Finish) is) in
                 let told = retires_by (stepped h (Worker w) call.Finish) f.view is m in
-                idle (stepped (stepped h (Worker w) call.Finish) (Worker w) call.Retire).entries m.view m.same
-                (
+                idle (stepped (stepped h (Worker w) call.Finish) (Worker w) call.Retire).entries m.view m.same (
                   f.view,
                   (answer s (past_in h) (Worker w) call.Finish, f.extends),
                   inr (subst (λ r. Extends s f.view call.Retire r m.view) told m.extends),
