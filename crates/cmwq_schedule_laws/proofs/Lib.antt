@@ -1,0 +1,17 @@
+pub mod Awake
+pub mod Keeping
+pub mod Sparing
+pub mod Calling
+pub mod Numbered
+pub mod Places
+pub mod Accounts
+pub mod Following
+pub mod Ordering
+pub mod Working
+pub mod Waiting
+pub mod Lending
+pub mod Moving
+pub mod Playing
+pub mod Beginning
+pub mod Ending
+pub mod Leaving
