@@ -1,13 +1,13 @@
 -- How a search for a schedule goes on.
-use Rattle.std.proofs.Common.{ℕ, ◌≡◌, ◌+◌, ◌<◌, ◌≤◌, ◌++◌, ◌∷◌, [], List, length, true, false, refl, sym, subst, ap}
+use Rattle.std.proofs.Common.{ℕ, ◌≡◌, ◌+◌, ◌≤◌, ◌++◌, ◌∷◌, [], List, length, true, false, refl, sym, subst, ap}
 use Rattle.std.proofs.Common.{◌∙◌, arith, max, suc, zero, ⊎_elim, ◌⊎◌, inl, inr}
 use Rattle.std.proofs.Common.{Option, Some, None, is_some}
 use Rattle.std.specs.Prelude.{MatchOption, option_to_list}
-use Rattle.std.proofs.lemmas.List.{append-nil, append_assoc, length-append}
+use Rattle.std.proofs.lemmas.List.{length-append}
 use Rattle.std.proofs.Math.Nat.{le-max_left, le-max_right}
 use mathlib.Core.List.{IsPrefix}
 use Rattle.cmwq_model.specs.declared.entry.Entry.{Entry}
-use Rattle.cmwq_explore.specs.Searches.{IsPathTo, IsSchedule, after}
+use Rattle.cmwq_explore.specs.Searches.{IsSchedule, after}
 use Rattle.cmwq_explore.specs.Stands.{Stand, may, moved}
 use Rattle.cmwq_explore.specs.declared.setup.Setup.{Setup}
 unfoldable use Rattle.cmwq_explore.specs.Starts.{start_of}
@@ -16,7 +16,7 @@ use Rattle.cmwq_explore.proofs.Searching.{after_more, false_or, path_push}
 use Rattle.cmwq_explore.proofs.Staying.{schedules_add}
 use Rattle.cmwq_follow.proofs.Prefixes.{all_of, prefixes}
 use Rattle.cmwq_follow.specs.Followed.{LeaveAtMost, Leaves}
-use Rattle.cmwq_follow.specs.Ways.{IsDeadEnd, IsTrying, IsUnderWay, Leads, NoneLeft, first_left}
+use Rattle.cmwq_follow.specs.Ways.{IsDeadEnd, IsTrying, IsUnderWay, Leads, NoneLeft}
 use Rattle.cmwq_follow.specs.declared.search.Way.{Way}
 unfoldable use Rattle.cmwq_follow.specs.Ways.{NoneLeftAlong}
 use Rattle.cmwq_follow.specs.declared.search.Tried.{Tried}

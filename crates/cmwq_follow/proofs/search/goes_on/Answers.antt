@@ -1,4 +1,4 @@
-use Rattle.std.proofs.Common.{◌≡◌, ◌<◌, ◌≤◌, arith, ap, sym, subst, take, length}
+use Rattle.std.proofs.Common.{arith, ap, sym, subst, take, length}
 use mathlib.Core.List.{IsPrefix}
 use Rattle.cmwq_follow.proofs.Prefixes.{front_longer, front_of}
 use Rattle.cmwq_follow.proofs.search.goes_on.Goals as goal
