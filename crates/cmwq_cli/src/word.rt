@@ -214,15 +214,17 @@ const STANDING_HELP: &str =
 on at its end is told line by line:
 
   entries 9, ticks 4
-  queue 0: width 1                                     each queue, and whether it is frozen, draining or gone
-  worker w0n0 runs item 2, queueing 1, queue 0 on CPU 0, asleep
-  pending item 0, queueing 2, queue 0 on CPU 0, inactive
-  booked item 1, due 9, queue 0 on CPU 0
-  caller c0: ticket 3, flush 0, waits for queueing 1   each wait that has not ended, or `may end`
+  queue 0: width 1                 each queue, and whether it is frozen, draining or gone
+  queues 1 to 7 idle
+  worker w0n0 runs item 2, queueing 1, queue 0 on CPU 0, since entry 2 at tick 0
+  pending item 0, queueing 4, queue 0 on CPU 0, since tick 0, inactive: its queue has no place left on its CPU
+  booked item 1, due 9, queue 0 on CPU 0, since entry 6 at tick 4
+  caller c0: ticket 7, flush 0, since tick 4, waits for queueing 1
 
-A queueing has the number of the entry that opened it, and a ticket that of the entry that gave it. An inactive
-queueing waits until fewer are active than its queue's width. Of an illegal history nothing is written, and the
-verdict goes to standard error.";
+A queueing has the number of the entry that opened it, and a ticket that of the entry that gave it. A queueing that
+has not started says why. A run that sleeps says since when, and by which caller it waits, if the history shows that. A
+wait that nothing holds up says `may end`. Of an illegal history nothing is written, and the verdict goes to standard
+error.";
 
 /// What the help of `chart` shows below its usage.
 const PICTURE_HELP: &str = r"A history of any format, as `step` and `run` write it:

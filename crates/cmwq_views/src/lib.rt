@@ -2,7 +2,9 @@
 //! any sinks.
 #![tactic(auto)]
 
+mod beginnings;
 mod chart;
+mod deed;
 mod history_page;
 mod name;
 mod number;
@@ -11,6 +13,7 @@ mod page;
 mod progress;
 mod row;
 mod rows;
+mod since;
 mod standing;
 mod summary;
 mod table;
