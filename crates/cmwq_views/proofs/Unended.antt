@@ -8,7 +8,7 @@ use Rattle.cmwq_model.specs.Prelude.{IsLegal, Layout, is_unended, tickets, unend
 use Rattle.cmwq_refinement.proofs.TicketLimits.{callers_there}
 use Rattle.cmwq_state.specs.History.{ticket_has_number}
 use Rattle.cmwq_views.specs.declared.since.Since.{Since}
-use Rattle.cmwq_views.specs.Open.{ticket_after}
+use Rattle.cmwq_views.specs.Lent.{ticket_after}
 
 pub unended_caller : (s : Layout) (past : List Entry) (t : Ticket) → IsLegal s past → Contains (unended_tickets past) t
     → t.caller.0 < s.callers

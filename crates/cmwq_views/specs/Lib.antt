@@ -4,5 +4,6 @@ pub mod Trace
 pub mod Names
 pub mod Page
 pub mod Since
+pub mod Lent
 pub mod Open
 pub mod Summary

@@ -33,6 +33,7 @@ use Rattle.cmwq_base.specs.declared.refusal.Refusal.{Refusal}
 use Rattle.cmwq_base.specs.Files.{File}
 use Rattle.cmwq_history.specs.Views.{FrontViewEnds}
 use Rattle.cmwq_views.specs.Page.{line_end, line_of_entries, named_number, rows_text, worker_name, worker_of_row}
+use Rattle.cmwq_views.specs.Lent.{is_in_circle, is_lent_for, run_of_row, ticket_after_sleep, worker_rows}
 use Rattle.cmwq_views.specs.Since.{last}
 use Rattle.cmwq_views.specs.declared.deed.Deed.TheVariants as deed
 use Rattle.cmwq_views.specs.declared.since.Since.{Since}
@@ -121,24 +122,15 @@ abbrev pub cause_text : Option ℕ → List ℕ
 cause_text None = codes ", may end"
 cause_text (Some n) = named_number (codes ", waits for queueing ") n
 
--- ---- runs: what each worker runs, and whether it sleeps, and waits by a caller
+-- ---- runs: what each worker runs, whether it sleeps and why, and whether it waits for itself in the end
 
--- the unended wait whose entry is the next one after that by which the worker's run went to sleep
-abbrev pub ticket_after : List Entry → Since → Option Ticket
-ticket_after past x = find (ticket_has_number (x.entry + 1)) (unended_tickets past)
-
-abbrev pub ticket_after_sleep : List Entry → ℕ → Option Ticket
-ticket_after_sleep past k = option_and_then (ticket_after past) (last deed.Sleep past k)
-
--- A run waits by it if its caller has made no calls but waits, their ends, and fires, as a caller that is lent, and it
--- does not wait for the run itself.
-abbrev pub is_lent_for : List Entry → Queueing → Ticket → Bool
-is_lent_for past x t =
-    not (is_some (last deed.Other past t.caller.0)) && not (is_at (waits_for past t.number t.call) x.number)
+-- what put it to sleep: its work function, or a wait by a caller
+abbrev pub by_itself : List ℕ
+by_itself = codes ", by its work function"
 
 abbrev pub lent_if : Bool → Ticket → Option ℕ → List ℕ
 lent_if lent t cause =
-    if lent then named_number (codes ", by caller c") t.caller.0 ++ call_text t.call ++ cause_text cause else []
+    if lent then named_number (codes ", by caller c") t.caller.0 ++ call_text t.call ++ cause_text cause else by_itself
 
 abbrev pub lent_text : List Entry → Queueing → Ticket → List ℕ
 lent_text past x t = lent_if (is_lent_for past x t) t (waits_for past t.number t.call)
@@ -146,27 +138,26 @@ lent_text past x t = lent_if (is_lent_for past x t) t (waits_for past t.number t
 abbrev pub asleep_text : List Entry → ℕ → List ℕ
 asleep_text past k = codes ", asleep" ++ since_text (codes " since entry ") (last deed.Sleep past k)
 
-abbrev pub sleep_text : List Entry → Queueing → ℕ → List ℕ
-sleep_text past x k =
+abbrev pub waiting_text : List Entry → Queueing → ℕ → List ℕ
+waiting_text past x k = option_map_or (lent_text past x) (ticket_after_sleep past k) by_itself
+
+abbrev pub sleep_text : Layout → List Entry → Queueing → ℕ → List ℕ
+sleep_text s past x k =
     if runs_asleep past (worker_of_row k)
-    then asleep_text past k ++ option_map_or (lent_text past x) (ticket_after_sleep past k) []
+    then asleep_text past k ++ waiting_text past x k ++ said_if (is_in_circle s past k) (codes ", in a circle")
     else []
 
 abbrev pub queueing_text : Queueing → List ℕ
 queueing_text x = named_number (codes "item ") x.item.0 ++ named_number (codes ", queueing ") x.number
 
-abbrev pub run_text : List Entry → ℕ → Queueing → List ℕ
-run_text past k x =
+abbrev pub run_text : Layout → List Entry → ℕ → Queueing → List ℕ
+run_text s past k x =
     codes "worker " ++ worker_name (worker_of_row k) ++ codes " runs " ++ queueing_text x ++ place_text x.place
     ++ since_text (codes ", since entry ") (last deed.Start past k)
-    ++ sleep_text past x k ++ line_end
+    ++ sleep_text s past x k ++ line_end
 
--- the workers of a CPU's pools are numbered one after another, as many as a shape may have
 abbrev pub run_line : Layout → List Entry → ℕ → List ℕ
-run_line s past k =
-    if nat_lt (worker_of_row k).index s.workers
-    then option_map_or (run_text past k) (queueing_run past (Worker (worker_of_row k))) []
-    else []
+run_line s past k = option_map_or (run_text s past k) (run_of_row s past k) []
 
 -- ---- queueings that haven't started, whether they are active, and why they haven't
 
@@ -224,7 +215,7 @@ wait_line past k =
 
 abbrev pub line_count : Layout → Section → ℕ
 line_count s section.Queues = length s.queues
-line_count s section.Runs = 2 * most_workers * s.cpus
+line_count s section.Runs = worker_rows s
 line_count s section.Pending = s.items
 line_count s section.Booked = s.items
 line_count s section.Waits = most_tickets * s.callers

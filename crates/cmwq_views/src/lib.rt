@@ -6,6 +6,7 @@ mod beginnings;
 mod chart;
 mod deed;
 mod history_page;
+mod lent;
 mod name;
 mod number;
 mod open;

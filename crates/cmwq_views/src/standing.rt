@@ -1,16 +1,17 @@
 //! What stands at the end of a history, and the lines that tell it.
-ghost use Rattle.std.specs.Prelude.{◌≡◌, ◌+◌, ◌*◌, ◌<◌, ◌≤◌, ◌++◌, Contains, Some, if◌then◌else◌, is_some, length, not};
-ghost use Rattle.cmwq_model.specs.Prelude.{is_at, most_cpus, most_workers, now, past_of, unended_tickets, waits_for};
+ghost use Rattle.std.specs.Prelude.{◌≡◌, ◌+◌, ◌*◌, ◌<◌, ◌≤◌, ◌++◌, Contains, Some, if◌then◌else◌, length};
+ghost use Rattle.cmwq_model.specs.Prelude.{most_cpus, now, past_of, unended_tickets};
 ghost use Rattle.cmwq_model.specs.Prelude.{width};
 ghost use Rattle.cmwq_model.specs.Tickets.{most_tickets};
 ghost use Rattle.cmwq_model.specs.Widths.{is_shut_down};
 ghost use Rattle.cmwq_obstacle.specs.declared.obstacle.Obstacle.TheVariants as obstacles;
 ghost use Rattle.cmwq_views.specs.Page.{line_of_entries, worker_of_row};
+ghost use Rattle.cmwq_views.specs.Lent.{worker_rows};
 ghost use Rattle.cmwq_views.specs.Since.{AreBeginnings, last, rows_of};
 ghost use Rattle.cmwq_views.specs.Open.{place_text, said_if, frozen_text, queue_state, queue_line, is_open_on};
 ghost use Rattle.cmwq_views.specs.Open.{is_open_anywhere, is_idle_queue, idle_from, queues_text, idle_text, ends_idle};
 ghost use Rattle.cmwq_views.specs.Open.{idle_line, queue_row, since_text, tick_text, call_text, cause_text};
-ghost use Rattle.cmwq_views.specs.Open.{ticket_after_sleep, is_lent_for, lent_if, lent_text, asleep_text, sleep_text};
+ghost use Rattle.cmwq_views.specs.Open.{lent_if, lent_text, asleep_text, waiting_text, sleep_text};
 ghost use Rattle.cmwq_views.specs.Open.{queueing_text, run_text, run_line, reason_text, pending_text, pending_line};
 ghost use Rattle.cmwq_views.specs.Open.{booked_text, booked_line, last_wait};
 ghost use Rattle.cmwq_views.specs.Open.{wait_text, wait_line, line_count, line_text};
@@ -18,7 +19,10 @@ ghost use Rattle.cmwq_views.specs.declared.deed.Deed.TheVariants as deed;
 
 use crate::beginnings::Beginnings;
 use crate::deed::Deed;
-use crate::number::{OF_POOL, caller_at, item_at, queue_at, worker_at};
+use crate::lent::{
+    cause_of, is_in_circle, is_lent_for, run_of_row, ticket_after_sleep, worker_rows,
+};
+use crate::number::{caller_at, item_at, queue_at, worker_at};
 use crate::row::{Row, head};
 use crate::rows::{CPUS, push_worker};
 use crate::since::Since;
@@ -29,6 +33,9 @@ use cmwq_model::{Call, Number, Place, Queueing, Ticket};
 use cmwq_obstacle::{Obstacle, obstacle_of};
 use cmwq_state::State;
 use std::marker::Model;
+
+/// What is told of a run that its work function put to sleep.
+const BY_ITSELF: &str = ", by its work function";
 
 /// How many unended tickets a caller may have.
 const OF_CALLER: usize = 64;
@@ -97,13 +104,13 @@ impl<'a> Standing<'a> {
         }
     }
 
-    fn shape(&self) -> &Shape
+    pub(crate) fn shape(&self) -> &Shape
         ensures { result.now ≡ self.now.layout }
     {
         self.shape
     }
 
-    fn state(&self) -> &State
+    pub(crate) fn state(&self) -> &State
         ensures layout { result.now.layout ≡ self.now.layout }
         ensures entries { result.now.entries ≡ self.now.entries }
     {
@@ -112,7 +119,7 @@ impl<'a> Standing<'a> {
 
     /// The last entry of this worker, item or caller that does this.
     #[tactic(auto, using(crate::proofs::Last::last_is))]
-    fn last(&self, deed: Deed, row: usize) -> Option<Since>
+    pub(crate) fn last(&self, deed: Deed, row: usize) -> Option<Since>
         requires { row < rows_of self.now.layout deed }
         ensures { result ≡ last deed (past_of self.now.entries) row }
     {
@@ -386,65 +393,7 @@ fn push_cause(row: &mut Row, cause: Option<Number>)
     }
 }
 
-/// What an unended wait is for.
-fn cause_of(standing: &Standing<'_>, ticket: Ticket) -> Option<Number>
-    requires { Contains (unended_tickets (past_of standing.now.entries)) ticket }
-    ensures { result ≡ waits_for (past_of standing.now.entries) ticket.number ticket.call }
-{
-    let state = standing.state();
-    // it shows that the history is legal, so that its tickets fit its shape
-    let _entries = state.len();
-    state.waits_for(ticket)
-}
-
-/// Whether the option is this number.
-fn is_at(option: Option<Number>, number: Number) -> bool
-    ensures { result ≡ is_at option number }
-{
-    match option {
-        Some(other) => other == number,
-        None => false,
-    }
-}
-
-/// Whether the caller of an unended wait has made no calls but those that one makes that is lent to waits.
-fn has_only_waited(standing: &Standing<'_>, ticket: Ticket) -> bool
-    requires { Contains (unended_tickets (past_of standing.now.entries)) ticket }
-    ensures { result ≡ not (is_some (last deed.Other (past_of standing.now.entries) ticket.caller.0)) }
-{
-    // it shows that the history is legal, so that its tickets fit its shape
-    let _entries = standing.state().len();
-    standing
-        .last(Deed::Other, ticket.caller.0.into())
-        .is_none()
-}
-
-/// Whether a run waits by this ticket.
-fn is_lent_for(standing: &Standing<'_>, run: Queueing, ticket: Ticket) -> bool
-    requires { Contains (unended_tickets (past_of standing.now.entries)) ticket }
-    ensures { result ≡ is_lent_for (past_of standing.now.entries) run ticket }
-{
-    has_only_waited(standing, ticket) && !is_at(cause_of(standing, ticket), run.number)
-}
-
-/// The unended wait whose entry is the next one after that by which a worker's run went to sleep.
-fn ticket_after_sleep(standing: &Standing<'_>, number: usize) -> Option<Ticket>
-    requires { number < 2 * most_workers * standing.now.layout.cpus }
-    ensures { result ≡ ticket_after_sleep (past_of standing.now.entries) number }
-{
-    let state = standing.state();
-    // it shows that the entries are few
-    let _entries = state.number();
-    match standing.last(Deed::Sleep, number) {
-        Some(sleep) => {
-            let next = sleep.entry + 1;
-            state.ticket(next)
-        }
-        None => None,
-    }
-}
-
-/// Spells by which caller a run waits, and for what, if it does.
+/// Spells by which caller a run waits, and for what, or that its work function put it to sleep.
 fn push_lent_if(row: &mut Row, is_lent: bool, ticket: Ticket, cause: Option<Number>)
     requires { length row.old + 120 ≤ 512 }
     ensures exact { row.new ≡ row.old ++ lent_if is_lent ticket cause }
@@ -454,10 +403,12 @@ fn push_lent_if(row: &mut Row, is_lent: bool, ticket: Ticket, cause: Option<Numb
         row.push_figure(", by caller c", ticket.caller.0.into());
         push_call(row, ticket.call);
         push_cause(row, cause);
+    } else {
+        row.push(BY_ITSELF);
     }
 }
 
-/// Spells by which caller a run waits, if it does by this ticket, and for what.
+/// Spells by which caller a run waits, and for what, if it does by this ticket.
 fn push_lent(row: &mut Row, standing: &Standing<'_>, run: Queueing, ticket: Ticket)
     requires unended { Contains (unended_tickets (past_of standing.now.entries)) ticket }
     requires room { length row.old + 120 ≤ 512 }
@@ -474,7 +425,7 @@ fn push_lent(row: &mut Row, standing: &Standing<'_>, run: Queueing, ticket: Tick
 
 /// Spells since when a worker's run sleeps.
 fn push_asleep(row: &mut Row, standing: &Standing<'_>, number: usize)
-    requires number { number < 2 * most_workers * standing.now.layout.cpus }
+    requires number { number < worker_rows standing.now.layout }
     requires room { length row.old + 70 ≤ 512 }
     ensures exact { row.new ≡ row.old ++ asleep_text (past_of standing.now.entries) number }
     ensures short { length row.new ≤ length row.old + 70 }
@@ -483,29 +434,40 @@ fn push_asleep(row: &mut Row, standing: &Standing<'_>, number: usize)
     push_since(row, " since entry ", standing.last(Deed::Sleep, number));
 }
 
-/// Spells since when a worker's run sleeps, if it does, and by which caller it waits.
-fn push_sleep(row: &mut Row, standing: &Standing<'_>, run: Queueing, number: usize)
-    requires number { number < 2 * most_workers * standing.now.layout.cpus }
-    requires there { (worker_of_row number).index < standing.now.layout.workers }
-    requires room { length row.old + 190 ≤ 512 }
-    ensures exact { row.new ≡ row.old ++ sleep_text (past_of standing.now.entries) run number }
-    ensures short { length row.new ≤ length row.old + 190 }
+/// Spells by which caller a worker's run that sleeps waits, and for what, or that its work function put it to sleep.
+fn push_waiting(row: &mut Row, standing: &Standing<'_>, run: Queueing, number: usize)
+    requires number { number < worker_rows standing.now.layout }
+    requires room { length row.old + 120 ≤ 512 }
+    ensures exact { row.new ≡ row.old ++ waiting_text (past_of standing.now.entries) run number }
+    ensures short { length row.new ≤ length row.old + 120 }
 {
-    let worker = worker_at(standing.shape(), number);
-    if !standing.state().runs_asleep(worker) {
-        return;
-    }
-    push_asleep(row, standing, number);
     match ticket_after_sleep(standing, number) {
         Some(ticket) => push_lent(row, standing, run, ticket),
-        None => {}
+        None => row.push(BY_ITSELF),
+    }
+}
+
+/// Spells since when a worker's run sleeps, if it does, why, and whether it waits for itself in the end.
+fn push_sleep(row: &mut Row, standing: &Standing<'_>, run: Queueing, number: usize)
+    requires number { number < worker_rows standing.now.layout }
+    requires there { (worker_of_row number).index < standing.now.layout.workers }
+    requires room { length row.old + 210 ≤ 512 }
+    ensures exact { row.new
+        ≡ row.old ++ sleep_text standing.now.layout (past_of standing.now.entries) run number }
+    ensures short { length row.new ≤ length row.old + 210 }
+{
+    let worker = worker_at(standing.shape(), number);
+    if standing.state().runs_asleep(worker) {
+        push_asleep(row, standing, number);
+        push_waiting(row, standing, run, number);
+        push_if(row, is_in_circle(standing, number), ", in a circle");
     }
 }
 
 fn run_text(standing: &Standing<'_>, number: usize, run: Queueing) -> Row
-    requires number { number < 2 * most_workers * standing.now.layout.cpus }
+    requires number { number < worker_rows standing.now.layout }
     requires there { (worker_of_row number).index < standing.now.layout.workers }
-    ensures { result ≡ run_text (past_of standing.now.entries) number run }
+    ensures { result ≡ run_text standing.now.layout (past_of standing.now.entries) number run }
 {
     let mut row = Row::new();
     row.push("worker ");
@@ -524,15 +486,10 @@ fn run_text(standing: &Standing<'_>, number: usize, run: Queueing) -> Row
 }
 
 fn run_line(standing: &Standing<'_>, number: usize) -> Row
-    requires { number < 2 * most_workers * standing.now.layout.cpus }
+    requires { number < worker_rows standing.now.layout }
     ensures { result ≡ run_line standing.now.layout (past_of standing.now.entries) number }
 {
-    let shape = standing.shape();
-    let worker = worker_at(shape, number);
-    if worker.index >= shape.counts().workers {
-        return Row::new();
-    }
-    match standing.state().queueing_run(worker) {
+    match run_of_row(standing, number) {
         Some(run) => run_text(standing, number, run),
         None => Row::new(),
     }
@@ -699,7 +656,7 @@ impl<'a, 'b> Rows for SectionLines<'a, 'b> {
         let counts = shape.counts();
         match self.section {
             Section::Queues => shape.queues().len(),
-            Section::Runs => 2 * OF_POOL * usize::from(counts.cpus),
+            Section::Runs => worker_rows(self.standing),
             Section::Pending | Section::Booked => counts.items.into(),
             Section::Waits => OF_CALLER * usize::from(counts.callers),
         }

@@ -2,7 +2,7 @@ use Rattle.std.proofs.Common.{◌∙◌, sym, arith}
 use Rattle.cmwq_model.specs.Prelude.{past_of}
 use Rattle.cmwq_views.specs.declared.deed.Deed.TheVariants.{Sleep}
 use Rattle.cmwq_views.proofs.Last.{last_below}
-use Rattle.cmwq_views.proofs.standing.ticket_after_sleep.Goals as goal
+use Rattle.cmwq_views.proofs.lent.ticket_after_sleep.Goals as goal
 
 pub overflow_add-next : goal.overflow_add-next
 overflow_add-next c =

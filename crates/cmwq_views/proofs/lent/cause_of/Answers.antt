@@ -1,6 +1,6 @@
 use Rattle.cmwq_model.specs.Prelude.{past_of}
 use Rattle.cmwq_refinement.proofs.PlacesFit.{unended_tickets_fit}
-use Rattle.cmwq_views.proofs.standing.cause_of.Goals as goal
+use Rattle.cmwq_views.proofs.lent.cause_of.Goals as goal
 
 pub waits_for-requires-clause-there : goal.waits_for-requires-clause-there
 waits_for-requires-clause-there c =

@@ -1,6 +1,6 @@
 use Rattle.cmwq_model.specs.Prelude.{past_of}
 use Rattle.cmwq_views.proofs.Unended.{unended_caller}
-use Rattle.cmwq_views.proofs.standing.has_only_waited.Goals as goal
+use Rattle.cmwq_views.proofs.lent.has_only_waited.Goals as goal
 
 pub last-requires : goal.last-requires
 last-requires c =
