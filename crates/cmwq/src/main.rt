@@ -223,11 +223,18 @@ impl Display for NoNames {
 }
 
 /// The script that gives names, or the status where it cannot be read.
-fn script_of<S: Source, E: Sink>(alloc: Global, input: &mut S, errors: &mut E) -> Result<Value, u8> {
-    read_value(alloc, input).map_err(|fault| {
-        tell(errors, NoNames(fault));
-        fault_status(fault)
-    })
+fn script_of<S: Source, E: Sink>(
+    alloc: Global,
+    input: &mut S,
+    errors: &mut E,
+) -> Result<Value, u8> {
+    match read_value(alloc, input) {
+        Ok(script) => Ok(script),
+        Err(fault) => {
+            tell(errors, NoNames(fault));
+            Err(fault_status(fault))
+        }
+    }
 }
 
 /// Writes a text with the names that a script gives.
@@ -240,9 +247,12 @@ fn write_named<O: Sink>(
 ) -> Result<(), Fault> {
     let text = match what {
         Named::Text(form) => named(alloc, script, form, text)?,
-        Named::Page => with_script(alloc, text, &script.to_string(alloc)?)?,
+        Named::Page => {
+            let json = script.to_string(alloc)?;
+            with_script(alloc, text, json.as_str())?
+        }
     };
-    write_all(output, &text)?;
+    write_all(output, text.as_slice())?;
     flush_all(output)?;
     Ok(())
 }
@@ -270,7 +280,7 @@ fn run_asked<T: Threads + Wait + Clock + Sync>(rt: &HostRuntime, asked: Asked, t
         return status;
     }
     let mut output = FromStd::new(rt.stdout());
-    match write_named(alloc, &mut output, &script, what, &text) {
+    match write_named(alloc, &mut output, &script, what, text.as_slice()) {
         Ok(()) => status,
         Err(fault) => {
             tell(&mut errors, fault);

@@ -1,6 +1,6 @@
 -- A text that is named number by number, and a number that is read digit by digit.
 use Rattle.std.proofs.Common.{◌≡◌, ◌∙◌, ℕ, zero, suc, ◌+◌, ◌-◌, ◌<◌, ◌≤◌, Bool, true, false, List, [], ◌∷◌, ◌++◌, length}
-use Rattle.std.proofs.Common.{add-one, ap, append-nil, arith, drop, drop-cons, eqb, get_or, refl, sym, subst, take}
+use Rattle.std.proofs.Common.{add-one, ap, append-nil, append_assoc, arith, drop, drop-cons, eqb, get_or, refl, sym, subst, take}
 use Rattle.std.proofs.Common.{take-append-drop}
 use Rattle.std.proofs.lemmas.List.{drop_all, length-drop}
 use Rattle.std.specs.Prelude.{◌==◌}
@@ -24,6 +24,10 @@ unfolding value_from
 value_ends n i whole ds le so_far = grind (arith, drop, drop_all)
 
 -- ---- what is left after a number is shorter
+
+empty_of : (xs : List ℕ) → length xs ≡ 0 → xs ≡ []
+empty_of [] none = refl
+empty_of (x ∷ xs) none = absurd (omega (arith, none))
 
 left_shorter : (text : List ℕ) (n : ℕ) → length text ≤ n + 1 → length (after_digits (from_digits text)) ≤ n
 left_shorter text n few =
@@ -81,3 +85,32 @@ module _ (d : Data) (f : Form) where
   pub left_less : (text : List ℕ) → 0 < length text → length (after_digits (from_digits text)) < length text
   left_less [] some = absurd (omega (arith, some))
   left_less (b ∷ bs) some = let less = left_shorter (b ∷ bs) (length bs) (omega arith) in omega (arith, less)
+
+  -- ---- what is named so far, and what is left
+
+  pub none_left : (old text : List ℕ) → length (from_digits text) ≡ 0
+      → (old ++ words_before text) ++ named d f (from_digits text) ≡ old ++ named d f text
+  none_left old text none =
+      let empty : from_digits text ≡ [] = empty_of (from_digits text) none in
+      let words = words_before text in
+      let whole : words ≡ text =
+      sym (append-nil words) ∙ ap (λ l. words ++ l) (sym empty)
+      ∙ take-append-drop (position_or_len is_ascii_digit text) text in
+      ap (λ l. (old ++ words) ++ named d f l) empty ∙ append-nil (old ++ words) ∙ ap (λ l. old ++ l) whole
+      ∙ ap (λ l. old ++ l) (sym (named_none text none))
+
+  pub some_left : (old text : List ℕ) → 0 < length (from_digits text)
+      → ((old ++ words_before text) ++ shown d f (words_before text) (digits_at (from_digits text)))
+      ++ named d f (after_digits (from_digits text)) ≡ old ++ named d f text
+  some_left old text some =
+      let words = words_before text in
+      let number = shown d f words (digits_at (from_digits text)) in
+      let left = named d f (after_digits (from_digits text)) in
+      append_assoc (old ++ words) number left ∙ append_assoc old words (number ++ left)
+      ∙ ap (λ l. old ++ l) (sym (named_next text some))
+
+  -- nothing is left
+  pub all_named : (out rest text : List ℕ) → length rest ≡ 0 → out ++ named d f rest ≡ named d f text
+      → out ≡ named d f text
+  all_named out rest text none so_far =
+      sym (append-nil out) ∙ ap (λ l. out ++ named d f l) (sym (empty_of rest none)) ∙ so_far

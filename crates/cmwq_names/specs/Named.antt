@@ -29,8 +29,11 @@ caller_headings Plain = codes "caller c" ∷ []
 caller_headings Json = codes "\"c" ∷ []
 caller_headings Xml = codes "\">c" ∷ codes "<title>c" ∷ []
 
+abbrev pub is_heading : List ℕ → List ℕ → Bool
+is_heading words heading = ends_with (λ a b. a == b) words heading
+
 abbrev pub is_after : List ℕ → List (List ℕ) → Bool
-is_after words headings = list_any (ends_with (λ a b. a == b) words) headings
+is_after words headings = list_any (is_heading words) headings
 
 abbrev pub kind_after : Form → List ℕ → Option Kind
 kind_after form words =
@@ -96,7 +99,7 @@ named_first zero script form text = text
 named_first (suc n) script form text =
     if length (from_digits text) == 0 then text
     else words_before text ++ shown script form (words_before text) (digits_at (from_digits text))
-        ++ named_first n script form (after_digits (from_digits text))
+    ++ named_first n script form (after_digits (from_digits text))
 
 -- and in a text there are no more of them than bytes
 abbrev pub named : Data → Form → List ℕ → List ℕ

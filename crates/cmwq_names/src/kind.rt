@@ -6,8 +6,8 @@ ghost use Rattle.cmwq_names.specs.Names.{key, name_of};
 use serde_json::Value;
 
 /// What has a name.
-#[derive(Clone, Copy, Debug, PartialEq, Eq)]
-pub enum Kind {
+#[derive(Clone, Copy)]
+pub(crate) enum Kind {
     Item,
     Queue,
     Caller,
@@ -26,12 +26,8 @@ fn key(kind: Kind) -> &'static str
 
 /// The name that a script gives to the item, queue or caller with this number: the text that the member there of its
 /// list has as `name`.
-pub fn name_of(script: &Value, kind: Kind, number: usize) -> Option<&str>
+pub(crate) fn name_of(script: &Value, kind: Kind, number: usize) -> Option<&str>
     ensures { option_map (λ name. name.now) result ≡ name_of (view script.now) kind number }
 {
-    script
-        .get(key(kind))?
-        .get(number)?
-        .get("name")?
-        .as_str()
+    script.get(key(kind))?.get(number)?.get("name")?.as_str()
 }

@@ -8,6 +8,5 @@ mod named;
 mod page;
 
 pub use form::Form;
-pub use kind::{Kind, name_of};
 pub use named::named;
 pub use page::with_script;

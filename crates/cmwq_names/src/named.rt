@@ -48,12 +48,7 @@ fn is_beside(form: Form, kind: Kind) -> bool
 }
 
 /// Adds digits and a name beside them.
-fn push_beside(
-    out: &mut Vec<u8>,
-    form: Form,
-    digits: &[u8],
-    name: &str,
-) -> Result<(), AllocError>
+fn push_beside(out: &mut Vec<u8>, form: Form, digits: &[u8], name: &str) -> Result<(), AllocError>
     ensures { OnOk result (out.new.items ≡ out.old.items ++ beside digits.now (escaped form name.now)) }
 {
     out.extend_from_slice(digits)?;
@@ -176,12 +171,7 @@ fn push_first<'t>(
 
 /// A text of this form, with the names that a script gives in place of the numbers of items, queues and callers. A
 /// number that has no name there stays.
-pub fn named(
-    alloc: Global,
-    script: &Value,
-    form: Form,
-    text: &[u8],
-) -> Result<Vec<u8>, AllocError>
+pub fn named(alloc: Global, script: &Value, form: Form, text: &[u8]) -> Result<Vec<u8>, AllocError>
     ensures { IfOk result (λ out. out.items ≡ named (view script.now) form text.now) }
 {
     let mut out = Vec::new(alloc);
