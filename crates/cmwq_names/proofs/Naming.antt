@@ -5,7 +5,7 @@ use Rattle.std.proofs.Common.{take-append-drop}
 use Rattle.std.proofs.lemmas.List.{drop_all, length-drop}
 use Rattle.std.specs.Prelude.{◌==◌}
 use Rattle.std.specs.List.{position_or_len}
-use Rattle.core.specs.Char.{is_ascii_digit}
+use Rattle.std.specs.Char.{is_ascii_digit}
 use Rattle.serde_json.specs.Data.{Data}
 use Rattle.cmwq_names.specs.Named.{after_digits, digits_at, digits_end, from_digits, is_no_digit, named, shown}
 use Rattle.cmwq_names.specs.Named.{with_digit, words_before}
@@ -106,7 +106,7 @@ module _ (d : Data) (f : Form) where
       let words = words_before text in
       let number = shown d f words (digits_at (from_digits text)) in
       let left = named d f (after_digits (from_digits text)) in
-      append_assoc (old ++ words) number left ∙ append_assoc old words (number ++ left)
+      ap (λ l. l ++ left) (append_assoc old words number) ∙ append_assoc old (words ++ number) left
       ∙ ap (λ l. old ++ l) (sym (named_next text some))
 
   -- nothing is left

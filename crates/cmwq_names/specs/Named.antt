@@ -3,7 +3,7 @@ use Rattle.std.specs.Prelude.{ℕ, zero, suc, ◌*◌, ◌+◌, ◌-◌, Bool, t
 use Rattle.std.specs.Prelude.{take, drop, min, Option, Some, None, option_and_then, codes}
 use Rattle.std.specs.List.{ends_with, list_any, position_or_len}
 use Rattle.std.specs.Option.{option_map_or}
-use Rattle.core.specs.Char.{is_ascii_digit}
+use Rattle.std.specs.Char.{is_ascii_digit}
 use Rattle.serde_json.specs.Data.{Data}
 use Rattle.cmwq_names.specs.Escapes.{escaped}
 use Rattle.cmwq_names.specs.Names.{name_of}

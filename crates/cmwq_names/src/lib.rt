@@ -4,9 +4,9 @@
 mod escape;
 mod form;
 mod kind;
-mod named;
 mod page;
+mod texts;
 
 pub use form::Form;
-pub use named::named;
 pub use page::with_script;
+pub use texts::named;

@@ -1,7 +1,7 @@
 use Rattle.std.proofs.Common.{◌∙◌, ap, get_or}
 use Rattle.cmwq_names.specs.Named.{value_from}
 use Rattle.cmwq_names.proofs.Naming.{value_ends, value_goes_on}
-use Rattle.cmwq_names.proofs.named.value_of.Goals as goal
+use Rattle.cmwq_names.proofs.texts.value_of.Goals as goal
 
 pub loop-digit-preserved : goal.loop-digit-preserved
 loop-digit-preserved c =

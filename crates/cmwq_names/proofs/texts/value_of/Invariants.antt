@@ -1,6 +1,6 @@
 use Rattle.std.proofs.Common.{◌≡◌, ◌<◌, drop}
 use Rattle.cmwq_names.specs.Named.{value_from}
-use Rattle.cmwq_names.proofs.named.value_of.Given as goal
+use Rattle.cmwq_names.proofs.texts.value_of.Given as goal
 
 -- what was read so far, and the digits that are left, stand for the same as all digits
 abbrev pub invariant-loop-digit : goal.invariant-loop-digit

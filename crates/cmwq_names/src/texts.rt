@@ -1,7 +1,7 @@
 //! A text with names in place of numbers.
 ghost use Rattle.std.specs.Prelude.{◌≡◌, ◌++◌, ◌<◌, ◌≤◌, length, IfOk, OnOk};
 ghost use Rattle.std.specs.List.{position_or_len};
-ghost use Rattle.core.specs.Char.{is_ascii_digit};
+ghost use Rattle.std.specs.Char.{is_ascii_digit};
 ghost use Rattle.serde_json.specs.View.{view};
 ghost use Rattle.cmwq_names.specs.Escapes.{escaped};
 ghost use Rattle.cmwq_names.specs.Named.{after_digits, digits_at, digits_end, named, of_kind, shown, value_from};
