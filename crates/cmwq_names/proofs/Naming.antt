@@ -4,10 +4,8 @@ use Rattle.std.proofs.Common.{add-one, ap, append-nil, append_assoc, arith, drop
 use Rattle.std.proofs.Common.{take-append-drop}
 use Rattle.std.proofs.lemmas.List.{drop_all, length-drop}
 use Rattle.std.specs.Prelude.{◌==◌}
-use Rattle.std.specs.List.{position_or_len}
-use Rattle.std.specs.Char.{is_ascii_digit}
 use Rattle.serde_json.specs.Data.{Data}
-use Rattle.cmwq_names.specs.Named.{after_digits, digits_at, digits_end, from_digits, is_no_digit, named, shown}
+use Rattle.cmwq_names.specs.Named.{after_digits, digits_at, digits_end, first_digit, from_digits, named, shown}
 use Rattle.cmwq_names.specs.Named.{with_digit, words_before}
 unfoldable use Rattle.cmwq_names.specs.Named.{named_first, value_from}
 use Rattle.cmwq_names.specs.declared.form.Form.{Form}
@@ -17,7 +15,9 @@ use Rattle.cmwq_names.specs.declared.form.Form.{Form}
 pub value_goes_on : (n i whole : ℕ) (ds : List ℕ) → i < length ds → value_from n (drop i ds) ≡ whole
     → value_from (with_digit n (get_or ds i 0)) (drop (i + 1) ds) ≡ whole
 unfolding value_from
-value_goes_on n i whole ds lt so_far = ap (value_from n) (sym (rw add-one (drop-cons ds i 0 lt))) ∙ so_far
+value_goes_on n i whole ds lt so_far =
+    let split : drop i ds ≡ get_or ds i 0 ∷ drop (i + 1) ds = rw add-one (drop-cons ds i 0 lt) in
+    sym (ap (value_from n) split) ∙ so_far
 
 pub value_ends : (n i whole : ℕ) (ds : List ℕ) → length ds ≤ i → value_from n (drop i ds) ≡ whole → n ≡ whole
 unfolding value_from
@@ -31,11 +31,10 @@ empty_of (x ∷ xs) none = absurd (omega (arith, none))
 
 left_shorter : (text : List ℕ) (n : ℕ) → length text ≤ n + 1 → length (after_digits (from_digits text)) ≤ n
 left_shorter text n few =
-    let at = position_or_len is_ascii_digit text in
-    let more = position_or_len is_no_digit (drop 1 (from_digits text)) in
-    let outer : length (after_digits (from_digits text)) ≡ length (from_digits text) - (1 + more) =
-    length-drop (1 + more) (from_digits text) in
-    let inner : length (from_digits text) ≡ length text - at = length-drop at text in
+    let end = digits_end (from_digits text) in
+    let outer : length (after_digits (from_digits text)) ≡ length (from_digits text) - end =
+    length-drop end (from_digits text) in
+    let inner : length (from_digits text) ≡ length text - first_digit text = length-drop (first_digit text) text in
     omega (arith, outer, inner, few)
 
 module _ (d : Data) (f : Form) where
@@ -51,16 +50,16 @@ module _ (d : Data) (f : Form) where
   same_named zero (suc m) (b ∷ bs) less more = absurd (omega (arith, less))
   same_named (suc n) zero [] less more = refl
   same_named (suc n) zero (b ∷ bs) less more = absurd (omega (arith, more))
-  same_named (suc n) (suc m) text less more = by (length (from_digits text) == 0) refl
+  same_named (suc n) (suc m) text less more =
+      by
+      (same_named n m (after_digits (from_digits text)) (left_shorter text n (omega (arith, less)))
+      (left_shorter text m (omega (arith, more)))) (length (from_digits text) == 0) refl
     where
-      by : (b : Bool) → (length (from_digits text) == 0) ≡ b
+      by : named_first n d f (after_digits (from_digits text)) ≡ named_first m d f (after_digits (from_digits text))
+          → (b : Bool) → (length (from_digits text) == 0) ≡ b
           → named_first (suc n) d f text ≡ named_first (suc m) d f text
-      by true is = rw is refl
-      by false is =
-          rw is
-          (ap (next_of text)
-          (same_named n m (after_digits (from_digits text))
-          (left_shorter text n (omega (arith, less))) (left_shorter text m (omega (arith, more)))))
+      by left true is = rw is refl
+      by left false is = rw is (ap (next_of text) left)
 
   pub named_none : (text : List ℕ) → length (from_digits text) ≡ 0 → named d f text ≡ text
   unfolding named_first
@@ -90,12 +89,13 @@ module _ (d : Data) (f : Form) where
 
   pub none_left : (old text : List ℕ) → length (from_digits text) ≡ 0
       → (old ++ words_before text) ++ named d f (from_digits text) ≡ old ++ named d f text
+  unfolding named_first
   none_left old text none =
       let empty : from_digits text ≡ [] = empty_of (from_digits text) none in
       let words = words_before text in
       let whole : words ≡ text =
       sym (append-nil words) ∙ ap (λ l. words ++ l) (sym empty)
-      ∙ take-append-drop (position_or_len is_ascii_digit text) text in
+      ∙ take-append-drop (first_digit text) text in
       ap (λ l. (old ++ words) ++ named d f l) empty ∙ append-nil (old ++ words) ∙ ap (λ l. old ++ l) whole
       ∙ ap (λ l. old ++ l) (sym (named_none text none))
 
@@ -112,5 +112,6 @@ module _ (d : Data) (f : Form) where
   -- nothing is left
   pub all_named : (out rest text : List ℕ) → length rest ≡ 0 → out ++ named d f rest ≡ named d f text
       → out ≡ named d f text
+  unfolding named_first
   all_named out rest text none so_far =
       sym (append-nil out) ∙ ap (λ l. out ++ named d f l) (sym (empty_of rest none)) ∙ so_far

@@ -1,7 +1,7 @@
 -- A text with names in place of numbers.
 use Rattle.std.specs.Prelude.{ℕ, zero, suc, ◌*◌, ◌+◌, ◌-◌, Bool, true, false, ◌==◌, not, if◌then◌else◌, List, [], ◌∷◌, ◌++◌, length}
 use Rattle.std.specs.Prelude.{take, drop, min, Option, Some, None, option_and_then, codes}
-use Rattle.std.specs.List.{ends_with, list_any, position_or_len}
+use Rattle.std.specs.List.{ends_with, list_any, position}
 use Rattle.std.specs.Option.{option_map_or}
 use Rattle.std.specs.Char.{is_ascii_digit}
 use Rattle.serde_json.specs.Data.{Data}
@@ -77,15 +77,22 @@ shown script form words digits = option_map_or (of_kind script form digits) (kin
 abbrev pub is_no_digit : ℕ → Bool
 is_no_digit byte = not (is_ascii_digit byte)
 
+abbrev pub place_or_end : Option ℕ → List ℕ → ℕ
+place_or_end None text = length text
+place_or_end (Some n) text = n
+
+abbrev pub first_digit : List ℕ → ℕ
+first_digit text = place_or_end (position is_ascii_digit text) text
+
 abbrev pub words_before : List ℕ → List ℕ
-words_before text = take (position_or_len is_ascii_digit text) text
+words_before text = take (first_digit text) text
 
 abbrev pub from_digits : List ℕ → List ℕ
-from_digits text = drop (position_or_len is_ascii_digit text) text
+from_digits text = drop (first_digit text) text
 
 -- a digit, and those that follow it
 abbrev pub digits_end : List ℕ → ℕ
-digits_end text = 1 + position_or_len is_no_digit (drop 1 text)
+digits_end text = 1 + place_or_end (position is_no_digit (drop 1 text)) (drop 1 text)
 
 abbrev pub digits_at : List ℕ → List ℕ
 digits_at text = take (digits_end text) text

@@ -1,10 +1,11 @@
 //! A text with names in place of numbers.
-ghost use Rattle.std.specs.Prelude.{◌≡◌, ◌++◌, ◌<◌, ◌≤◌, length, IfOk, OnOk};
-ghost use Rattle.std.specs.List.{position_or_len};
+ghost use Rattle.std.specs.Prelude.{◌≡◌, ◌++◌, ◌<◌, ◌≤◌, length, IfOk, IfSome, OnOk};
+ghost use Rattle.std.specs.List.{position};
 ghost use Rattle.std.specs.Char.{is_ascii_digit};
 ghost use Rattle.serde_json.specs.View.{view};
 ghost use Rattle.cmwq_names.specs.Escapes.{escaped};
-ghost use Rattle.cmwq_names.specs.Named.{after_digits, digits_at, digits_end, named, of_kind, shown, value_from};
+ghost use Rattle.cmwq_names.specs.Named.{after_digits, digits_at, digits_end, from_digits, is_no_digit, named, of_kind};
+ghost use Rattle.cmwq_names.specs.Named.{place_or_end, shown, value_from, words_before};
 ghost use Rattle.cmwq_names.specs.Named.{beside, is_beside, with_digit, with_name};
 
 use crate::escape::push_escaped;
@@ -107,13 +108,40 @@ fn push_shown(
     }
 }
 
-/// Where the first digit is, or the end.
-fn first_digit(text: &[u8]) -> usize
-    ensures { result ≡ position_or_len is_ascii_digit text.now }
+/// The place, or the end of the text where there is none.
+fn place_or_end(place: Option<usize>, text: &[u8]) -> usize
+    requires { IfSome place (λ at. at < length text.now) }
+    ensures is { result ≡ place_or_end place text.now }
+    ensures within { result ≤ length text.now }
 {
-    text.iter()
-        .position(|byte| byte.is_ascii_digit())
-        .unwrap_or(text.len())
+    match place {
+        Some(at) => at,
+        None => text.len(),
+    }
+}
+
+/// Where the first digit is.
+fn digit_in(text: &[u8]) -> Option<usize>
+    ensures is { result ≡ position is_ascii_digit text.now }
+    ensures within { IfSome result (λ at. at < length text.now) }
+{
+    text.iter().position(|byte| byte.is_ascii_digit())
+}
+
+/// Where the first byte is that is no digit.
+fn other_in(text: &[u8]) -> Option<usize>
+    ensures is { result ≡ position is_no_digit text.now }
+    ensures within { IfSome result (λ at. at < length text.now) }
+{
+    text.iter().position(|byte| !byte.is_ascii_digit())
+}
+
+/// The words of a text before its first digit, and what is left from there.
+fn split_words(text: &[u8]) -> (&[u8], &[u8])
+    ensures words { result.0.now ≡ words_before text.now }
+    ensures rest { result.1.now ≡ from_digits text.now }
+{
+    text.split_at(place_or_end(digit_in(text), text))
 }
 
 /// Where the digits end with which a text begins.
@@ -123,11 +151,7 @@ fn digits_end(text: &[u8]) -> usize
     ensures within { result ≤ length text.now }
 {
     let others = &text[1..];
-    let more = others
-        .iter()
-        .position(|byte| !byte.is_ascii_digit())
-        .unwrap_or(others.len());
-    1 + more
+    1 + place_or_end(other_in(others), others)
 }
 
 /// Adds the number with which a text begins, which stands after these words, and returns what is left.
@@ -161,12 +185,13 @@ fn push_first<'t>(
         ≡ out.old.items ++ named (view script.now) form text.now) }
     ensures less { IfOk result (λ rest. length rest.now < length text.now) }
 {
-    let (words, rest) = text.split_at(first_digit(text));
+    let (words, rest) = split_words(text);
     out.extend_from_slice(words)?;
     if rest.is_empty() {
         return Ok(rest);
     }
-    push_number(out, script, form, words, rest)
+    let left = push_number(out, script, form, words, rest)?;
+    Ok(left)
 }
 
 /// A text of this form, with the names that a script gives in place of the numbers of items, queues and callers. A

@@ -1,4 +1,3 @@
-use Rattle.std.proofs.Common.{◌∙◌, ap, get_or}
 use Rattle.cmwq_names.specs.Named.{value_from}
 use Rattle.cmwq_names.proofs.Naming.{value_ends, value_goes_on}
 use Rattle.cmwq_names.proofs.texts.value_of.Goals as goal
@@ -6,8 +5,8 @@ use Rattle.cmwq_names.proofs.texts.value_of.Goals as goal
 pub loop-digit-preserved : goal.loop-digit-preserved
 loop-digit-preserved c =
     let l = c.loop-digit in (
-      c.with_digit.ensures.few,
-      rw c.with_digit.ensures.is
+      c.with_digit-number.ensures.few,
+      rw c.with_digit-number.ensures.is
           (value_goes_on l.number l.digit-index (value_from 0 c.args.digits.now) c.args.digits.now c.loop-digit-test.true
           l.invariant.1),
     )
