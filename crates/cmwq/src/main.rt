@@ -11,13 +11,17 @@ use cmwq_cmd_run::run_run;
 use cmwq_explain::{Kept, explain_calls, explain_history, explain_unkept};
 use cmwq_explain_json::{explain_scenario, explain_script};
 use cmwq_history::{run_check, run_front_check, run_upgrade};
+use cmwq_io::{flush_all, tell, write_all};
+use cmwq_json::{Fault, fault_status, read_value};
+use cmwq_names::{Form, named, with_script};
 use cmwq_replay::run_replay;
 use cmwq_views::{Window, run_chart, run_open, run_page, run_summary, run_trace};
 use either::Either::{self, Left, Right};
+use serde_json::Value;
 use std::alloc::{AllocError, Global};
 use std::fmt::{self, Debug, Display, Formatter};
 use std::fs::File;
-use std::io::{self, IsTerminal, Stdin};
+use std::io::{self, IsTerminal, Stdin, Stdout};
 use std::process::ExitCode;
 use std::sync::Wait;
 use std::thread::{self, Builder, Threads};
@@ -191,20 +195,115 @@ fn not_opened(rt: &HostRuntime, name: &str, error: &io::Error) -> u8 {
     REFUSED_INPUT
 }
 
+/// What a word writes, if names may stand there.
+#[derive(Clone, Copy)]
+enum Named {
+    Text(Form),
+    Page,
+}
+
+fn named_of(word: Word) -> Option<Named> {
+    match word {
+        Word::Summary | Word::Open { .. } => Some(Named::Text(Form::Plain)),
+        Word::Trace => Some(Named::Text(Form::Json)),
+        Word::Chart { .. } => Some(Named::Text(Form::Xml)),
+        Word::Page { .. } => Some(Named::Page),
+        _ => None,
+    }
+}
+
+/// Why there are no names.
+#[derive(Clone, Copy)]
+struct NoNames(Fault);
+
+impl Display for NoNames {
+    fn fmt<W: fmt::Write>(&self, f: &mut Formatter<W>) -> fmt::Result {
+        write!(f, "names: {}", self.0)
+    }
+}
+
+/// The script that gives names, or the status where it cannot be read.
+fn script_of<S: Source, E: Sink>(
+    alloc: Global,
+    input: &mut S,
+    errors: &mut E,
+) -> Result<Value, u8> {
+    match read_value(alloc, input) {
+        Ok(script) => Ok(script),
+        Err(fault) => {
+            tell(errors, NoNames(fault));
+            Err(fault_status(fault))
+        }
+    }
+}
+
+/// Writes a text with the names that a script gives.
+fn write_named<O: Sink>(
+    alloc: Global,
+    output: &mut O,
+    script: &Value,
+    what: Named,
+    text: &[u8],
+) -> Result<(), Fault> {
+    let text = match what {
+        Named::Text(form) => named(alloc, script, form, text)?,
+        Named::Page => {
+            let json = script.to_string(alloc)?;
+            with_script(alloc, text, json.as_str())?
+        }
+    };
+    write_all(output, text.as_slice())?;
+    flush_all(output)?;
+    Ok(())
+}
+
 /// Does what was asked. What is to be explained is kept while it is read; there is one type of source for both, and for
-/// files and standard input, so that each word is compiled once.
+/// files and standard input, so that each word is compiled once. What is to have names is kept too.
 fn run_asked<T: Threads + Wait + Clock + Sync>(rt: &HostRuntime, asked: Asked, threads: &T) -> u8 {
+    let alloc = rt.alloc();
+    let mut other = match open(rt, asked.other) {
+        Ok(other) => FromStd::new(other),
+        Err(error) => return not_opened(rt, asked.other.unwrap_or("-"), &error),
+    };
+    let what = asked.other.and_then(|_| named_of(asked.word));
+    let Some(what) = what else {
+        return run_to(rt, asked, &mut other, Left(rt.stdout()), threads);
+    };
+    let mut errors = FromStd::new(rt.stderr());
+    let script = match script_of(alloc, &mut other, &mut errors) {
+        Ok(script) => script,
+        Err(status) => return status,
+    };
+    let mut text = Vec::new(alloc);
+    let status = run_to(rt, asked, &mut other, Right(&mut text), threads);
+    if text.is_empty() {
+        return status;
+    }
+    let mut output = FromStd::new(rt.stdout());
+    match write_named(alloc, &mut output, &script, what, text.as_slice()) {
+        Ok(()) => status,
+        Err(fault) => {
+            tell(&mut errors, fault);
+            fault_status(fault)
+        }
+    }
+}
+
+/// Does what was asked, and writes to this output.
+fn run_to<P: Source, T: Threads + Wait + Clock + Sync>(
+    rt: &HostRuntime,
+    asked: Asked,
+    other: &mut P,
+    output: Either<Stdout, &mut Vec<u8>>,
+    threads: &T,
+) -> u8 {
     let alloc = rt.alloc();
     let input = match open(rt, asked.file) {
         Ok(input) => FromStd::new(input),
         Err(error) => return not_opened(rt, asked.file.unwrap_or("-"), &error),
     };
-    let mut other = match open(rt, asked.other) {
-        Ok(other) => FromStd::new(other),
-        Err(error) => return not_opened(rt, asked.other.unwrap_or("-"), &error),
-    };
     let mut errors = FromStd::new(rt.stderr());
-    let Ok(mut output) = BufferedSink::new(alloc, FromStd::new(rt.stdout())) else {
+    let Ok(mut output) = BufferedSink::new(alloc, FromStd::new(output)) else {
         return no_memory(rt);
     };
     let mut input = if asked.explain {
@@ -217,7 +316,7 @@ fn run_asked<T: Threads + Wait + Clock + Sync>(rt: &HostRuntime, asked: Asked, t
         alloc,
         asked,
         &mut input,
-        &mut other,
+        other,
         &mut output,
         &mut errors,
         is_terminal,

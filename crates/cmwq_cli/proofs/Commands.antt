@@ -5,8 +5,8 @@ use Rattle.std.specs.Prelude.{IfOk, option_map}
 use Rattle.clap.specs.Words.{App, Row, Text, app_of, first_of}
 use Rattle.clap.specs.declared.builder.command.Command.{Command}
 use Rattle.cmwq_cli.specs.declared.word.Word.{Word}
-use Rattle.cmwq_cli.specs.Word.{asked_found, with_command, word_found}
-use Rattle.cmwq_cli.specs.Explore.{has_flag, other_found}
+use Rattle.cmwq_cli.specs.Word.{asked_found, with_command, with_named, word_found}
+use Rattle.cmwq_cli.specs.Explore.{followed_found, has_flag, other_found}
 
 pub neither : (a b : Bool) → a ≡ false → b ≡ false → (a || b) ≡ false
 neither a b h k = ap₂ (λ x y. x || y) h k
@@ -15,6 +15,11 @@ neither a b h k = ap₂ (λ x y. x || y) h k
 pub of_word : {E : Type 0} {old new : App} (program : App) (result : Result Command E) → old ≡ new
     → IfOk result (λ c. app_of c ≡ with_command program old) → IfOk result (λ c. app_of c ≡ with_command program new)
 of_word program result is h = subst (λ (a : App). IfOk result (λ c. app_of c ≡ with_command program a)) is h
+
+-- the same of one that shows a history
+pub of_named : {E : Type 0} {old new : App} (program : App) (result : Result Command E) → old ≡ new
+    → IfOk result (λ c. app_of c ≡ with_named program old) → IfOk result (λ c. app_of c ≡ with_named program new)
+of_named program result is h = subst (λ (a : App). IfOk result (λ c. app_of c ≡ with_named program a)) is h
 
 -- what is asked, of its parts
 pub asked : (name : Text) (rows : List Row) (w : Word) (e : Bool) (f o : Option Text)
@@ -38,12 +43,21 @@ asked name rows w e f o is explains has_file has_other =
       other = other;
     })) (sym is)
 
--- the name of the other file: that of the moves, if there is one
-pub other_first : (rows : List Row) (name : Text) → first_of (codes "path") rows ≡ Some name
+-- the name of the file with the moves, if there is one
+pub followed_first : (rows : List Row) (name : Text) → first_of (codes "path") rows ≡ Some name
+    → Some name ≡ followed_found rows
+followed_first rows name is = rw is refl
+
+-- and else that of the history
+pub followed_second : (rows : List Row) (o : Option Text) → first_of (codes "path") rows ≡ None
+    → o ≡ first_of (codes "follow") rows → o ≡ followed_found rows
+followed_second rows o none is = rw (none, is) refl
+
+-- before both that of the names
+pub other_first : (rows : List Row) (name : Text) → first_of (codes "names") rows ≡ Some name
     → Some name ≡ other_found rows
 other_first rows name is = rw is refl
 
--- and else that of the history
-pub other_second : (rows : List Row) (o : Option Text) → first_of (codes "path") rows ≡ None
-    → o ≡ first_of (codes "follow") rows → o ≡ other_found rows
-other_second rows o none is = rw (none, is) refl
+pub other_second : (rows : List Row) (o : Option Text) → first_of (codes "names") rows ≡ None
+    → o ≡ followed_found rows → o ≡ other_found rows
+other_second rows o none is = rw none is

@@ -37,10 +37,14 @@ options_found rows = record {
   follow = is_some (first_of (codes "follow") rows);
 }
 
--- the name of the other file: that of the moves, or else that of the history
+-- the name of the other file: that of the names, or else that of the moves, or else that of the history
+abbrev pub followed_found : List Row → Option (List ℕ)
+followed_found rows =
+    if is_some (first_of (codes "path") rows) then first_of (codes "path") rows else first_of (codes "follow") rows
+
 abbrev pub other_found : List Row → Option (List ℕ)
 other_found rows =
-    if is_some (first_of (codes "path") rows) then first_of (codes "path") rows else first_of (codes "follow") rows
+    if is_some (first_of (codes "names") rows) then first_of (codes "names") rows else followed_found rows
 
 abbrev pub ones : Bool → ℕ
 ones is = if is then 1 else 0

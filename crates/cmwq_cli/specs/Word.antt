@@ -31,7 +31,7 @@ word_found found =
     else None
 
 -- what is asked: the word, whether it explains, the name of the file that it reads, if one is given, and that of the
--- file with moves or with a history
+-- file with names, with moves or with a history
 pub record Request : Type 0 where
   pub word : Word
   pub explain : Bool
@@ -93,30 +93,35 @@ number_rule name =
           1;
     }
 
--- a word with two such options too
+-- an option with the name of a file: two dashes, its name and that
+abbrev pub file_option : List ℕ → Rule
+file_option name = record (new_rule name) { long = Some name; action = Some Set; value_names = 1 }
+
+-- a word that shows a history may have names
+abbrev pub with_named : App → App → App
+with_named a command = with_command a (with_rule command (file_option (codes "names")))
+
+-- one of them with two options with numbers too
 abbrev pub with_numbers : App → List ℕ → List ℕ → List ℕ → App
 with_numbers a name first second =
-    with_command a (with_rule (with_rule (new_app name) (number_rule first)) (number_rule second))
+    with_named a (with_rule (with_rule (new_app name) (number_rule first)) (number_rule second))
 
 -- the words whose inputs are lines and whose outputs are too, of which `step` also has `--live`, and `check` and `open`
 -- have `--front`; then those that draw a history, of which `chart` and `page` have `--from` and `--to`
 abbrev pub with_texts : App
 with_texts =
-    with_flagged
-    (with_word
+    with_named
+    (with_named
     (with_word
     (with_flagged (with_flagged without_words (codes "step") (codes "live")) (codes "check") (codes "front"))
-    (codes "upgrade")) (codes "summary"))
-    (codes "open") (codes "front")
+    (codes "upgrade")) (new_app (codes "summary")))
+    (with_rule (new_app (codes "open")) (flag_rule (codes "front")))
 
 abbrev pub with_lines : App
 with_lines =
-    with_numbers (with_word (with_numbers with_texts (codes "chart") (codes "from") (codes "to")) (codes "trace"))
+    with_numbers
+    (with_named (with_numbers with_texts (codes "chart") (codes "from") (codes "to")) (new_app (codes "trace")))
     (codes "page") (codes "from") (codes "to")
-
--- an option with the name of a file: two dashes, its name and that
-abbrev pub file_option : List ℕ → Rule
-file_option name = record (new_rule name) { long = Some name; action = Some Set; value_names = 1 }
 
 -- the word `explore`, with its options of seeds, with those of all schedules too, and with all its options
 abbrev pub seeded_word : App

@@ -2,11 +2,13 @@ ghost use Rattle.std.specs.Prelude.{◌≡◌, codes, true, false, is_some, IfOk
 ghost use Rattle.clap.specs.Words.{kind_of, app_of, first_of, new_app, rule_of, found_of, rows_of, with_rule};
 ghost use Rattle.clap.specs.declared.builder.command.Command.TheViews.{out-Command as fields_of};
 ghost use Rattle.cmwq_cli.specs.Word.{Request, file_rule, request, with_command, without_words, with_word};
-ghost use Rattle.cmwq_cli.specs.Word.{with_flagged, with_lines, with_numbers, with_texts, app, flag_rule, number_rule};
+ghost use Rattle.cmwq_cli.specs.Word.{with_flagged, with_lines, with_named, with_numbers, with_texts, app, flag_rule};
+ghost use Rattle.cmwq_cli.specs.Word.{number_rule};
 ghost use Rattle.cmwq_cli.specs.Word.{word_found, asked_found, texts, is_word_taken};
 ghost use Rattle.cmwq_cli.specs.Word.{word_matched, seeded_word, searching_word, explore_word, file_option};
 ghost use Rattle.cmwq_cli.specs.Explore.{count, has_searching, has_seeding, is_of_one_kind, of_all, of_path, of_seeds};
-ghost use Rattle.cmwq_cli.specs.Explore.{has_flag, number_found, of_history, options_found, other_found, schedules_of};
+ghost use Rattle.cmwq_cli.specs.Explore.{has_flag, number_found, of_history, options_found, followed_found, other_found};
+ghost use Rattle.cmwq_cli.specs.Explore.{schedules_of};
 
 use clap::builder::ValueParser;
 use clap::error::ErrorKind;
@@ -105,7 +107,7 @@ pub struct Asked<'a> {
     pub explain: bool,
     /// The name of the file to read, as it was given. None, or `-`: standard input.
     pub file: Option<&'a str>,
-    /// The name of the file with the moves or the history of `explore`.
+    /// The name of the file with the names, or with the moves or the history of `explore`.
     pub other: Option<&'a str>,
 }
 
@@ -137,6 +139,10 @@ const EXPLAIN_HELP: &str =
 const FRONT_HELP: &str =
     "Reads the whole lines that are there: an unfinished last line is left out, which a line on \
     standard error says, and `end` may be missing";
+
+/// What the help of a word says of its option of names.
+const NAMES_HELP: &str =
+    "Shows the names of items, queues and callers that this script gives, in place of their numbers";
 
 /// What the help of `step` shows below its usage.
 const CALLS_HELP: &str =
@@ -214,15 +220,17 @@ const STANDING_HELP: &str =
 on at its end is told line by line:
 
   entries 9, ticks 4
-  queue 0: width 1                                     each queue, and whether it is frozen, draining or gone
-  worker w0n0 runs item 2, queueing 1, queue 0 on CPU 0, asleep
-  pending item 0, queueing 2, queue 0 on CPU 0, inactive
-  booked item 1, due 9, queue 0 on CPU 0
-  caller c0: ticket 3, flush 0, waits for queueing 1   each wait that has not ended, or `may end`
+  queue 0: width 1                 each queue, and whether it is frozen, draining or gone
+  queues 1 to 7 idle
+  worker w0n0 runs item 2, queueing 1, queue 0 on CPU 0, since entry 2 at tick 0
+  pending item 0, queueing 4, queue 0 on CPU 0, since tick 0, inactive: its queue has no place left on its CPU
+  booked item 1, due 9, queue 0 on CPU 0, since entry 6 at tick 4
+  caller c0: ticket 7, flush 0, since tick 4, waits for queueing 1
 
-A queueing has the number of the entry that opened it, and a ticket that of the entry that gave it. An inactive
-queueing waits until fewer are active than its queue's width. Of an illegal history nothing is written, and the
-verdict goes to standard error.";
+A queueing has the number of the entry that opened it, and a ticket that of the entry that gave it. A queueing that
+has not started says why. A run that sleeps says since when, and by which caller it waits, if the history shows that. A
+wait that nothing holds up says `may end`. Of an illegal history nothing is written, and the verdict goes to standard
+error.";
 
 /// What the help of `chart` shows below its usage.
 const PICTURE_HELP: &str = r"A history of any format, as `step` and `run` write it:
@@ -520,13 +528,23 @@ impl Options {
     }
 }
 
-/// The name of the other file that the matches hold.
-fn other_found<'a>(matches: &ArgMatches<'a>) -> Option<&'a str>
-    ensures { option_map (λ name. name.now) result ≡ other_found (rows_of (found_of matches.now)) }
+/// The name of the file with moves or with a history that the matches hold.
+fn followed_found<'a>(matches: &ArgMatches<'a>) -> Option<&'a str>
+    ensures { option_map (λ name. name.now) result ≡ followed_found (rows_of (found_of matches.now)) }
 {
     match matches.get_str("path") {
         Some(name) => Some(name),
         None => matches.get_str("follow"),
+    }
+}
+
+/// The name of the other file that the matches hold.
+fn other_found<'a>(matches: &ArgMatches<'a>) -> Option<&'a str>
+    ensures { option_map (λ name. name.now) result ≡ other_found (rows_of (found_of matches.now)) }
+{
+    match matches.get_str("names") {
+        Some(name) => Some(name),
+        None => followed_found(matches),
     }
 }
 
@@ -659,7 +677,20 @@ fn number_rule<'a>(alloc: Global, option: Flag<'a>) -> Arg<'a>
         .help(option.help)
 }
 
-/// The program with one word more that has two options with numbers.
+/// The program with one word more that shows a history: it may have names.
+fn with_named<'a>(
+    alloc: Global,
+    program: Command<'a>,
+    word: Command<'a>,
+) -> Result<Command<'a>, AllocError>
+    requires { (fields_of word).has_globals ≡ false }
+    ensures { IfOk result (λ c. app_of c ≡ with_named (app_of program.entry) (app_of word.entry)) }
+{
+    let word = with_file(alloc, word, "names", NAMES_HELP)?;
+    with_command(alloc, program, word)
+}
+
+/// The program with one word more that shows a history and has two options with numbers.
 fn with_numbers<'a>(
     alloc: Global,
     program: Command<'a>,
@@ -675,7 +706,7 @@ fn with_numbers<'a>(
 {
     let word = bare_word(alloc, name, about, help).arg(number_rule(alloc, first))?;
     let word = word.arg(number_rule(alloc, second))?;
-    with_command(alloc, program, word)
+    with_named(alloc, program, word)
 }
 
 /// The word with one argument more.
@@ -813,13 +844,12 @@ fn with_texts<'a>(alloc: Global) -> Result<Command<'a>, AllocError>
         "Reads a history and writes it, if it is legal: one of format 1 in format 2, and others as they are";
     let command = with_word(alloc, command, "upgrade", about, FORMER_HELP)?;
     let about = "Reads a history and writes its figures, if it is legal";
-    let command = with_word(alloc, command, "summary", about, FIGURES_HELP)?;
+    let word = bare_word(alloc, "summary", about, FIGURES_HELP);
+    let command = with_named(alloc, command, word)?;
     let about = "Reads a history and writes what is still going on at its end, if it is legal";
-    let front = Flag {
-        name: "front",
-        help: FRONT_HELP,
-    };
-    with_flagged(alloc, command, "open", about, STANDING_HELP, front)
+    let word = bare_word(alloc, "open", about, STANDING_HELP);
+    let word = with_flag(alloc, word, "front", FRONT_HELP)?;
+    with_named(alloc, command, word)
 }
 
 /// The program with the words whose inputs are lines.
@@ -838,7 +868,8 @@ fn with_lines<'a>(alloc: Global) -> Result<Command<'a>, AllocError>
     };
     let command = with_numbers(alloc, command, "chart", about, PICTURE_HELP, from, to)?;
     let about = "Reads a history and writes its trace in JSON, if it is legal";
-    let command = with_word(alloc, command, "trace", about, TRACE_HELP)?;
+    let word = bare_word(alloc, "trace", about, TRACE_HELP);
+    let command = with_named(alloc, command, word)?;
     let about = "Reads a history and writes it as an HTML page to zoom and search, if it is legal";
     let from = Flag {
         name: "from",

@@ -76,9 +76,10 @@ class Chart {
     this.rows = lanes.map((lane, index) => {
       const isWorker = lane.who >= FIRST_WORKER;
       const height = isWorker ? BAR + MARK_ROW : MARK_ROW + lane.waitRows * WAIT_ROW;
-      return next({ kind: isWorker ? "worker" : "caller", name: lane.name, index, lane }, height);
+      return next({ kind: isWorker ? "worker" : "caller", label: lane.label, index, lane }, height);
     });
-    this.rows.push(...places.map((place, index) => next({ kind: "place", name: place.name, index, place }, PLACE_ROW)));
+    const rowOf = (place, index) => ({ kind: "place", label: place.label, index, place });
+    this.rows.push(...places.map((place, index) => next(rowOf(place, index), PLACE_ROW)));
     this.height = top;
   }
 
@@ -213,7 +214,8 @@ class Chart {
     for (const row of shown) {
       const y = AXIS + row.top - this.top;
       context.fillStyle = colours.text;
-      context.fillText(row.name, GUTTER - 8, y + (row.kind === "caller" ? MARK_ROW / 2 : BAR / 2));
+      const label = this.cutTo(row.label, GUTTER - 12);
+      context.fillText(label, GUTTER - 8, y + (row.kind === "caller" ? MARK_ROW / 2 : BAR / 2));
       if (row.kind === "place") {
         context.fillStyle = colours.faint;
         context.fillText(`0 to ${row.place.scale}`, GUTTER - 8, y + BAR / 2 + 13);
@@ -255,7 +257,20 @@ class Chart {
     context.globalAlpha = 1;
   }
 
-  // The item of each run whose bar is wide enough for its number.
+  // A text, or as much of it as there is room for.
+  cutTo(text, room) {
+    const fits = (shown) => this.context.measureText(shown).width <= room;
+    if (text.length <= 64 && fits(text)) {
+      return text;
+    }
+    const letters = [...text.slice(0, 64)];
+    while (letters.length > 1 && !fits(`${letters.join("")}\u2026`)) {
+      letters.pop();
+    }
+    return `${letters.join("")}\u2026`;
+  }
+
+  // The item of each run: its name, or its number, if the bar is wide enough for one of them.
   drawRunItems(lane, y) {
     const { context, colours, history } = this;
     const { runs } = history;
@@ -270,8 +285,11 @@ class Chart {
       const run = runs.order[at];
       const left = Math.max(this.xOf(runs.from[run]), GUTTER);
       const right = Math.min(this.xOf(runs.to[run] + 1), this.wide);
-      const text = String(history.item[runs.about[run]]);
-      if (right - left > context.measureText(text).width + 6) {
+      const item = history.item[runs.about[run]];
+      const room = right - left - 6;
+      const name = this.cutTo(history.names.item(item), room);
+      const text = name.endsWith("\u2026") && name.length < 5 ? String(item) : name;
+      if (room > context.measureText(text).width) {
         context.globalAlpha = this.isFaint(runs.about[run]) ? 0.3 : 1;
         context.strokeStyle = colours.page;
         context.strokeText(text, (left + right) / 2, y + BAR / 2 + 0.5);

@@ -55,6 +55,35 @@ function nameOf(who) {
   return `w${Math.floor(pool / 2)}${pool % 2 ? "h" : "n"}${(who - FIRST_WORKER) % 64}`;
 }
 
+// The names that a script gives to items, queues and callers. What has none goes by its number.
+class Names {
+  constructor(script) {
+    this.script = script;
+  }
+
+  of(list, number) {
+    const name = this.script?.[list]?.[number]?.name;
+    return typeof name === "string" ? name : undefined;
+  }
+
+  item(number) {
+    return this.of("items", number) ?? String(number);
+  }
+
+  queue(number) {
+    return this.of("queues", number) ?? String(number);
+  }
+
+  who(number) {
+    const name = number < FIRST_WORKER ? this.of("callers", number) : undefined;
+    return name === undefined ? nameOf(number) : `${nameOf(number)} (${name})`;
+  }
+
+  place(queue, cpu) {
+    return `${this.of("queues", queue) ?? `q${queue}`} CPU ${cpu}`;
+  }
+}
+
 // Reads numbers, each of which one space or line feed ends.
 class Rows {
   constructor(bytes) {
@@ -149,9 +178,10 @@ class Spans {
 // A history as it stands in the rows: first how much there is of everything and which entries to show first, and then a
 // row for each queue, entry, wait, run, sleep and level.
 class History {
-  constructor(bytes) {
+  constructor(bytes, names) {
     const rows = new Rows(bytes);
     this.bytes = bytes;
+    this.names = names;
     for (const name of ["cpus", "workers", "callers", "items", "queues", "length"]) {
       this[name] = rows.number();
     }
@@ -267,7 +297,7 @@ class History {
     used.forEach((isUsed, who) => {
       if (isUsed) {
         this.laneOf[who] = this.lanes.length;
-        this.lanes.push({ who, name: nameOf(who), waitRows: 0, firstWaitRow: 0 });
+        this.lanes.push({ who, name: nameOf(who), label: this.names.who(who), waitRows: 0, firstWaitRow: 0 });
       }
     });
     const lanes = new Uint16Array(this.length);
@@ -344,7 +374,7 @@ class History {
     const indexes = new Map(sorted.map((key, index) => [key, index]));
     this.places = sorted.map((key) => {
       const [queue, cpu] = [Math.floor(key / 64), key % 64];
-      return { queue, cpu, name: `q${queue} CPU ${cpu}`, scale: places.get(key) };
+      return { queue, cpu, label: this.names.place(queue, cpu), scale: places.get(key) };
     });
     for (let at = 0; at < count; at++) {
       keys[at] = indexes.get(keys[at]);

@@ -80,13 +80,14 @@ class Tables {
   }
 
   spans() {
-    const { waits, runs, sleeps, lanes, item } = this.history;
+    const { waits, runs, sleeps, lanes, item, names } = this.history;
+    const runOf = (queueing) => `runs item ${names.item(item[queueing])}, queueing ${queueing}`;
     return lanes.flatMap((lane, index) => {
       const rows = Array.from({ length: lane.waitRows }, (_, row) => lane.firstWaitRow + row);
       return [
-        ...rows.map((row) => this.within(waits, row, lane.name, (ticket) => `waits, ticket ${ticket}`)),
-        this.within(runs, index, lane.name, (queueing) => `runs item ${item[queueing]}, queueing ${queueing}`),
-        this.within(sleeps, index, lane.name, (queueing) => `sleeps, queueing ${queueing}`),
+        ...rows.map((row) => this.within(waits, row, lane.label, (ticket) => `waits, ticket ${ticket}`)),
+        this.within(runs, index, lane.label, runOf),
+        this.within(sleeps, index, lane.label, (queueing) => `sleeps, queueing ${queueing}`),
       ];
     });
   }
@@ -108,11 +109,22 @@ class Tables {
       const cells = (at) => {
         const level = levels.order[at];
         const [from, open, active, width] = ["from", "open", "active", "width"].map((name) => levels[name][level]);
-        return [place.queue, place.cpu, from, open, active, width];
+        return [this.history.names.queue(place.queue), place.cpu, from, open, active, width];
       };
       return { first, end, isShown: () => true, cells };
     });
   }
+}
+
+// The names of the caller, item and queue of an entry, as far as they have some.
+function namedIn(history, entry) {
+  const { names, who, item, queue } = history;
+  const named = [
+    ["caller", names.of("callers", who[entry] < FIRST_WORKER ? who[entry] : NONE)],
+    ["item", names.of("items", item[entry])],
+    ["queue", names.of("queues", queue[entry])],
+  ];
+  return named.filter(([, name]) => name !== undefined).map(([kind, name]) => `, ${kind} ${name}`).join("");
 }
 
 // What is told of the chosen entry: its line, and the entries that belong to the same queueing or wait.
@@ -142,6 +154,7 @@ function detailsOf(history, entry, choose) {
   list.append(...lines);
   const line = document.createElement("p");
   line.append(`Entry ${entry}, tick ${history.tickAt(entry)}: `, element("code", history.textOf(entry)));
+  line.append(namedIn(history, entry));
   return [line, list];
 }
 
@@ -485,7 +498,9 @@ document.addEventListener("DOMContentLoaded", () => {
     return;
   }
   const source = byId("history");
-  const made = new History(new TextEncoder().encode(source.textContent.trimStart()));
+  const script = byId("names");
+  const names = new Names(script === null ? null : JSON.parse(script.textContent));
+  const made = new History(new TextEncoder().encode(source.textContent.trimStart()), names);
   source.remove();
   const ticks = made.length === 0 ? "0" : made.tickAt(made.length - 1);
   const unit = ticks === "1" ? "tick" : "ticks";

@@ -299,6 +299,35 @@ function nameOf(who) {
   return `w${Math.floor(pool / 2)}${pool % 2 ? "h" : "n"}${(who - FIRST_WORKER) % 64}`;
 }
 
+// The names that a script gives to items, queues and callers. What has none goes by its number.
+class Names {
+  constructor(script) {
+    this.script = script;
+  }
+
+  of(list, number) {
+    const name = this.script?.[list]?.[number]?.name;
+    return typeof name === "string" ? name : undefined;
+  }
+
+  item(number) {
+    return this.of("items", number) ?? String(number);
+  }
+
+  queue(number) {
+    return this.of("queues", number) ?? String(number);
+  }
+
+  who(number) {
+    const name = number < FIRST_WORKER ? this.of("callers", number) : undefined;
+    return name === undefined ? nameOf(number) : `${nameOf(number)} (${name})`;
+  }
+
+  place(queue, cpu) {
+    return `${this.of("queues", queue) ?? `q${queue}`} CPU ${cpu}`;
+  }
+}
+
 // Reads numbers, each of which one space or line feed ends.
 class Rows {
   constructor(bytes) {
@@ -393,9 +422,10 @@ class Spans {
 // A history as it stands in the rows: first how much there is of everything and which entries to show first, and then a
 // row for each queue, entry, wait, run, sleep and level.
 class History {
-  constructor(bytes) {
+  constructor(bytes, names) {
     const rows = new Rows(bytes);
     this.bytes = bytes;
+    this.names = names;
     for (const name of ["cpus", "workers", "callers", "items", "queues", "length"]) {
       this[name] = rows.number();
     }
@@ -511,7 +541,7 @@ class History {
     used.forEach((isUsed, who) => {
       if (isUsed) {
         this.laneOf[who] = this.lanes.length;
-        this.lanes.push({ who, name: nameOf(who), waitRows: 0, firstWaitRow: 0 });
+        this.lanes.push({ who, name: nameOf(who), label: this.names.who(who), waitRows: 0, firstWaitRow: 0 });
       }
     });
     const lanes = new Uint16Array(this.length);
@@ -588,7 +618,7 @@ class History {
     const indexes = new Map(sorted.map((key, index) => [key, index]));
     this.places = sorted.map((key) => {
       const [queue, cpu] = [Math.floor(key / 64), key % 64];
-      return { queue, cpu, name: `q${queue} CPU ${cpu}`, scale: places.get(key) };
+      return { queue, cpu, label: this.names.place(queue, cpu), scale: places.get(key) };
     });
     for (let at = 0; at < count; at++) {
       keys[at] = indexes.get(keys[at]);
@@ -728,9 +758,10 @@ class Chart {
     this.rows = lanes.map((lane, index) => {
       const isWorker = lane.who >= FIRST_WORKER;
       const height = isWorker ? BAR + MARK_ROW : MARK_ROW + lane.waitRows * WAIT_ROW;
-      return next({ kind: isWorker ? "worker" : "caller", name: lane.name, index, lane }, height);
+      return next({ kind: isWorker ? "worker" : "caller", label: lane.label, index, lane }, height);
     });
-    this.rows.push(...places.map((place, index) => next({ kind: "place", name: place.name, index, place }, PLACE_ROW)));
+    const rowOf = (place, index) => ({ kind: "place", label: place.label, index, place });
+    this.rows.push(...places.map((place, index) => next(rowOf(place, index), PLACE_ROW)));
     this.height = top;
   }
 
@@ -865,7 +896,8 @@ class Chart {
     for (const row of shown) {
       const y = AXIS + row.top - this.top;
       context.fillStyle = colours.text;
-      context.fillText(row.name, GUTTER - 8, y + (row.kind === "caller" ? MARK_ROW / 2 : BAR / 2));
+      const label = this.cutTo(row.label, GUTTER - 12);
+      context.fillText(label, GUTTER - 8, y + (row.kind === "caller" ? MARK_ROW / 2 : BAR / 2));
       if (row.kind === "place") {
         context.fillStyle = colours.faint;
         context.fillText(`0 to ${row.place.scale}`, GUTTER - 8, y + BAR / 2 + 13);
@@ -907,7 +939,20 @@ class Chart {
     context.globalAlpha = 1;
   }
 
-  // The item of each run whose bar is wide enough for its number.
+  // A text, or as much of it as there is room for.
+  cutTo(text, room) {
+    const fits = (shown) => this.context.measureText(shown).width <= room;
+    if (text.length <= 64 && fits(text)) {
+      return text;
+    }
+    const letters = [...text.slice(0, 64)];
+    while (letters.length > 1 && !fits(`${letters.join("")}\u2026`)) {
+      letters.pop();
+    }
+    return `${letters.join("")}\u2026`;
+  }
+
+  // The item of each run: its name, or its number, if the bar is wide enough for one of them.
   drawRunItems(lane, y) {
     const { context, colours, history } = this;
     const { runs } = history;
@@ -922,8 +967,11 @@ class Chart {
       const run = runs.order[at];
       const left = Math.max(this.xOf(runs.from[run]), GUTTER);
       const right = Math.min(this.xOf(runs.to[run] + 1), this.wide);
-      const text = String(history.item[runs.about[run]]);
-      if (right - left > context.measureText(text).width + 6) {
+      const item = history.item[runs.about[run]];
+      const room = right - left - 6;
+      const name = this.cutTo(history.names.item(item), room);
+      const text = name.endsWith("\u2026") && name.length < 5 ? String(item) : name;
+      if (room > context.measureText(text).width) {
         context.globalAlpha = this.isFaint(runs.about[run]) ? 0.3 : 1;
         context.strokeStyle = colours.page;
         context.strokeText(text, (left + right) / 2, y + BAR / 2 + 0.5);
@@ -1218,13 +1266,14 @@ class Tables {
   }
 
   spans() {
-    const { waits, runs, sleeps, lanes, item } = this.history;
+    const { waits, runs, sleeps, lanes, item, names } = this.history;
+    const runOf = (queueing) => `runs item ${names.item(item[queueing])}, queueing ${queueing}`;
     return lanes.flatMap((lane, index) => {
       const rows = Array.from({ length: lane.waitRows }, (_, row) => lane.firstWaitRow + row);
       return [
-        ...rows.map((row) => this.within(waits, row, lane.name, (ticket) => `waits, ticket ${ticket}`)),
-        this.within(runs, index, lane.name, (queueing) => `runs item ${item[queueing]}, queueing ${queueing}`),
-        this.within(sleeps, index, lane.name, (queueing) => `sleeps, queueing ${queueing}`),
+        ...rows.map((row) => this.within(waits, row, lane.label, (ticket) => `waits, ticket ${ticket}`)),
+        this.within(runs, index, lane.label, runOf),
+        this.within(sleeps, index, lane.label, (queueing) => `sleeps, queueing ${queueing}`),
       ];
     });
   }
@@ -1246,11 +1295,22 @@ class Tables {
       const cells = (at) => {
         const level = levels.order[at];
         const [from, open, active, width] = ["from", "open", "active", "width"].map((name) => levels[name][level]);
-        return [place.queue, place.cpu, from, open, active, width];
+        return [this.history.names.queue(place.queue), place.cpu, from, open, active, width];
       };
       return { first, end, isShown: () => true, cells };
     });
   }
+}
+
+// The names of the caller, item and queue of an entry, as far as they have some.
+function namedIn(history, entry) {
+  const { names, who, item, queue } = history;
+  const named = [
+    ["caller", names.of("callers", who[entry] < FIRST_WORKER ? who[entry] : NONE)],
+    ["item", names.of("items", item[entry])],
+    ["queue", names.of("queues", queue[entry])],
+  ];
+  return named.filter(([, name]) => name !== undefined).map(([kind, name]) => `, ${kind} ${name}`).join("");
 }
 
 // What is told of the chosen entry: its line, and the entries that belong to the same queueing or wait.
@@ -1280,6 +1340,7 @@ function detailsOf(history, entry, choose) {
   list.append(...lines);
   const line = document.createElement("p");
   line.append(`Entry ${entry}, tick ${history.tickAt(entry)}: `, element("code", history.textOf(entry)));
+  line.append(namedIn(history, entry));
   return [line, list];
 }
 
@@ -1623,7 +1684,9 @@ document.addEventListener("DOMContentLoaded", () => {
     return;
   }
   const source = byId("history");
-  const made = new History(new TextEncoder().encode(source.textContent.trimStart()));
+  const script = byId("names");
+  const names = new Names(script === null ? null : JSON.parse(script.textContent));
+  const made = new History(new TextEncoder().encode(source.textContent.trimStart()), names);
   source.remove();
   const ticks = made.length === 0 ? "0" : made.tickAt(made.length - 1);
   const unit = ticks === "1" ? "tick" : "ticks";
@@ -1637,6 +1700,4 @@ document.addEventListener("DOMContentLoaded", () => {
 /// What stands after them.
 pub(crate) const TAIL: &str = r###"</script>
 <p id="end" hidden></p>
-</body>
-</html>
 "###;

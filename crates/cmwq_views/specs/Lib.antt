@@ -3,5 +3,7 @@ pub mod HistoryPage
 pub mod Trace
 pub mod Names
 pub mod Page
+pub mod Since
+pub mod Lent
 pub mod Open
 pub mod Summary

@@ -2,8 +2,11 @@
 //! any sinks.
 #![tactic(auto)]
 
+mod beginnings;
 mod chart;
+mod deed;
 mod history_page;
+mod lent;
 mod name;
 mod number;
 mod open;
@@ -11,6 +14,7 @@ mod page;
 mod progress;
 mod row;
 mod rows;
+mod since;
 mod standing;
 mod summary;
 mod table;

@@ -7,11 +7,11 @@ use Rattle.cmwq_cli.proofs.word.other_found.Goals as goal
 pub returns-in-Some : goal.returns-in-Some
 returns-in-Some c =
     let found = found_of c.args.matches.now in
-    let is = rw c.in-Some.is at (c.get_str.ensures ∙ first_value-rows found (codes "path")) in
+    let is = rw c.in-Some.is at (c.get_str.ensures ∙ first_value-rows found (codes "names")) in
     other_first (rows_of found) c.in-Some.name.now (sym is)
 
 pub returns-in-None : goal.returns-in-None
 returns-in-None c =
     let found = found_of c.args.matches.now in
-    let none = rw c.in-None.is at (c.get_str.ensures ∙ first_value-rows found (codes "path")) in
-    other_second (rows_of found) _ (sym none) (c.get_str-in-None.ensures ∙ first_value-rows found (codes "follow"))
+    let none = rw c.in-None.is at (c.get_str.ensures ∙ first_value-rows found (codes "names")) in
+    other_second (rows_of found) _ (sym none) c.followed_found.ensures
