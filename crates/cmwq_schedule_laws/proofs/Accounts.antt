@@ -1,7 +1,8 @@
 -- What each party of a script has done when a play stands somewhere: its entries, as it sees them.
 use Rattle.std.specs.Option.{option_map_or}
 use Rattle.std.specs.Prelude.{◌^◌, option_and_then}
-use Rattle.std.proofs.Common.{◌≡◌, ◌⊎◌, ◌+◌, ◌<◌, ◌≤◌, ◌++◌, ◌∷◌, ℕ, Bool, true, false, List, [], Option, Some, None}
+use Rattle.std.proofs.Common.{◌≡◌, ◌⊎◌, ◌+◌, ◌-◌, ◌<◌, ◌≤◌, ◌++◌, ◌∷◌, ℕ, Bool, true, false, List, [], Option, Some}
+use Rattle.std.proofs.Common.{None}
 use Rattle.std.proofs.Common.{length, take, slice_get, nat_lt, inl, inr}
 use mathlib.Core.List.{IsPrefix}
 use Rattle.cmwq_model.specs.Prelude.{IsScripted, Layout, has_numbers, past_of, runs_asleep, runs_awake}
@@ -112,8 +113,10 @@ pub record IsIdle (s : Layout) (does : List (List Action)) (w : WorkerId) (log :
   pub who : view.who ≡ Worker w
   pub in_turn : RunsInTurn s (plays does s) runs left_out (newcomer (Worker w)) view
   pub up : IsUpToDate log view
+      -- So had a worker that runs an item. Since it started this run, it has done the actions before the next. A run with
+      more
 
--- So had a worker that runs an item. Since it started this run, it has done the actions before the next.
+-- actions than can be counted never ends, so nothing is said of what it has done.
 pub record IsRunning (s : Layout) (does : List (List Action)) (w : WorkerId) (run : RunAt) (log : List Entry) : Type 0
   where
     pub runs : ℕ
@@ -122,10 +125,11 @@ pub record IsRunning (s : Layout) (does : List (List Action)) (w : WorkerId) (ru
     pub in_turn : RunsInTurn s (plays does s) runs others (newcomer (Worker w)) before
     pub started : View
     pub starts : StartsOne s before run.item started
-    pub within : run.next ≤ length (actions_at does run.item.0)
+    pub small : run.next ≤ 2 ^ 64 - 1
     pub left_out : LeftOut
     pub acted : View
-    pub acts : ActInTurn s run.item (take run.next (actions_at does run.item.0)) no_waits left_out started acted
+    pub acts : length (actions_at does run.item.0) < 2 ^ 64
+        → ActInTurn s run.item (take run.next (actions_at does run.item.0)) no_waits left_out started acted
     pub view : View
     pub who : view.who ≡ Worker w
     pub acted_who : acted.who ≡ Worker w
@@ -204,5 +208,4 @@ pub record IsPlayable (r : Run) : Type 0 where
   pub scripts_short : (k : ℕ) → length (actions_at r.callers k) < 2 ^ 64
   pub scripts : (k n : ℕ) (c : Call) → slice_get (actions_at r.callers k) n ≡ Some (action.Call c)
       → IsScripted r.layout c
-  pub does_short : (i : ℕ) → length (actions_at r.does i) < 2 ^ 64
   pub does : (i n : ℕ) (c : Call) → slice_get (actions_at r.does i) n ≡ Some (action.Call c) → IsItems r.layout c

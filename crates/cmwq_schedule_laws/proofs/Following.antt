@@ -1,8 +1,8 @@
 -- A caller of the script moves: it makes its next call, ends a wait, or passes a gate or a lock.
 use Rattle.std.specs.Prelude.{◌^◌, if◌then◌else◌}
 use Rattle.std.proofs.Common.{◌≡◌, ◌∙◌, ◌+◌, ◌-◌, ◌<◌, ◌≤◌, ◌++◌, ◌∷◌, ℕ, true, false, List, [], Option, Some, None}
-use Rattle.std.proofs.Common.{length, take, slice_get, nat_lt, refl, sym, ap, subst, arith, append-nil}
-use Rattle.std.proofs.lemmas.Bool.{lt-ltb}
+use Rattle.std.proofs.Common.{length, take, slice_get, nat_lt, refl, sym, ap, subst, arith, append-nil, Bool}
+use Rattle.std.proofs.lemmas.Bool.{lt-ltb, ltb-true}
 use Rattle.std.proofs.lemmas.List.{take_more}
 use Rattle.std.proofs.lemmas.Option.{get_or_from_slice_get, slice_get_within}
 use Rattle.cmwq_model.specs.Prelude.{IsScripted, Layout, fits, is_callers, is_whole}
@@ -55,6 +55,13 @@ pub place_next : (n long : ℕ) → n < long → long < 2 ^ 64 → next_place n 
 place_next n long less short =
     let room : n < 2 ^ 64 - 1 = omega arith in
     ap (λ b. if b then n + 1 else n) (lt-ltb n (2 ^ 64 - 1) room)
+
+pub next_small : (n : ℕ) → n ≤ 2 ^ 64 - 1 → next_place n ≤ 2 ^ 64 - 1
+next_small n small = at (nat_lt n (2 ^ 64 - 1)) refl
+  where
+    at : (b : Bool) → nat_lt n (2 ^ 64 - 1) ≡ b → (if b then n + 1 else n) ≤ 2 ^ 64 - 1
+    at true less = let room = ltb-true n (2 ^ 64 - 1) less in omega (arith, room)
+    at false over = small
 
 -- ---- moves
 

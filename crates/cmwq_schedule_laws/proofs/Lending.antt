@@ -1,7 +1,7 @@
 -- The wait of a run is left out, begins, or ends: what its worker and the caller that is lent have done then.
-use Rattle.std.specs.Prelude.{◌^◌, ◌&&◌, if◌then◌else◌, not, is_some, option_and_then}
-use Rattle.std.proofs.Common.{◌≡◌, ◌∙◌, ◌<◌, ℕ, Bool, true, false, List, Option, Some, None}
-use Rattle.std.proofs.Common.{length, slice_get, nat_lt, refl, sym, ap, subst, inl, inr, true≢false}
+use Rattle.std.specs.Prelude.{◌&&◌, if◌then◌else◌, not, is_some, option_and_then}
+use Rattle.std.proofs.Common.{◌≡◌, ◌∙◌, ℕ, Bool, true, false, List, Option, Some, None}
+use Rattle.std.proofs.Common.{slice_get, nat_lt, refl, sym, ap, subst, inl, inr, true≢false}
 use mathlib.Core.List.{IsPrefix}
 use Rattle.cmwq_model.specs.Prelude.{Layout, answer, fits, has_numbers, is_workers, past_of, runs_asleep, runs_awake}
 use Rattle.cmwq_model.specs.Prelude.{serial_of}
@@ -88,7 +88,7 @@ lent_is p w c caller = of_may (may_wait p.history p.workers w c) refl
 -- ---- a worker that is there
 
 module _ (s : Layout) (does : List (List Action)) (w : WorkerId) (cpu : nat_lt w.pool.cpu.0 s.cpus ≡ true)
-    (index : nat_lt w.index s.workers ≡ true) (short : (i : ℕ) → length (actions_at does i) < 2 ^ 64) (p : Stand)
+    (index : nat_lt w.index s.workers ≡ true) (p : Stand)
     (kept : IsKept s p.history) (run : RunAt) where
   abbrev h : History
   h = p.history
@@ -163,7 +163,7 @@ module _ (s : Layout) (does : List (List Action)) (w : WorkerId) (cpu : nat_lt w
           → IsRunning s does w (after_action run) h.entries
       of (same, awake) =
           let l = left_out c own acc.left_out acc.acted acc.acted_who (subst (IsUpToDate h.entries) same acc.up) none in
-          working.passes_on s does w cpu index short run h acc (action.Call c) acting next l.0
+          working.passes_on s does w cpu index run h acc (action.Call c) acting next l.0
           (acts_by c own other acc.left_out l.0 acc.acted acc.acted l.1)
 
   -- ---- it begins
@@ -269,7 +269,7 @@ module _ (s : Layout) (does : List (List Action)) (w : WorkerId) (cpu : nat_lt w
               (sym m.all)
               (made_all rested.view slept.entries (own_counted slept.entries rested.view rested_up) rested_up.book
               rested_up.older) in (
-                working.goes_on s does w cpu index short run h.entries acc (action.Call cl) next
+                working.goes_on s does w cpu index run h.entries acc (action.Call cl) next
                     (stepped g (Worker w) call.Wake).entries acc.left_out z.view
                     (acts_by cl own other acc.left_out acc.left_out acc.acted z.view
                     (inl (
@@ -306,7 +306,7 @@ module _ (s : Layout) (does : List (List Action)) (w : WorkerId) (cpu : nat_lt w
                 in_turn = acc.in_turn;
                 started = acc.started;
                 starts = acc.starts;
-                within = acc.within;
+                small = acc.small;
                 left_out = acc.left_out;
                 acted = acc.acted;
                 acts = acc.acts;
@@ -382,7 +382,7 @@ module _ (s : Layout) (does : List (List Action)) (w : WorkerId) (cpu : nat_lt w
           subst (λ (es : List Entry). IsPrefix e.last.seen es) (sym z.all)
           (prefix_trans e.last.seen g.entries (stepped g (Worker w) call.Wake).entries e.up.older
           wakes_by_itself.longer) in (
-            working.goes_on s does w cpu index short run h.entries acc (action.Call t.call) next
+            working.goes_on s does w cpu index run h.entries acc (action.Call t.call) next
                 (stepped g (Worker w) call.Wake).entries acc.left_out z.view
                 (acts_by t.call (items t.call next) (not_workers t.call x.wait) acc.left_out acc.left_out acc.acted
                 z.view

@@ -119,7 +119,7 @@ module _ (s : Layout) (old new : List Entry) where
       in_turn = acc.in_turn;
       started = acc.started;
       starts = acc.starts;
-      within = acc.within;
+      small = acc.small;
       left_out = acc.left_out;
       acted = acc.acted;
       acts = acc.acts;
