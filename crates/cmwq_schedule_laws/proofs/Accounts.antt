@@ -55,7 +55,6 @@ IsInWait s calls full first (Some t) v = (front : List Call) × (before : View) 
 -- the caller of this place has followed the calls of its actions so far
 pub record CallerStands (s : Layout) (k : ℕ) (script : List Action) (at : CallerAt) (log : List Entry) : Type 0 where
   pub id : Caller at.id ≡ caller_numbered k
-  pub within : at.next ≤ length script
   pub full : ℕ
   pub view : View
   pub who : view.who ≡ caller_numbered k

@@ -74,7 +74,6 @@ module _ (r : Run) (ok : IsPlayable r) where
       (sym (place.0 ∙ ap caller_at same))
       (record {
         id = ap caller_numbered (small k here);
-        within = omega arith;
         full = 0;
         view = newcomer (caller_numbered k);
         who = refl;

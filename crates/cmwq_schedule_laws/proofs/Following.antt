@@ -85,10 +85,8 @@ module _ (s : Layout) (k : ℕ) (script : List Action) (at : CallerAt) (h : Hist
   goes_on a next log full wait v who follows up =
       let less = slice_get_within script at.next a next in
       let place = place_next at.next (length script) less short in
-      let more : at.next + 1 ≤ length script = omega arith in
       record {
         id = stands.id;
-        within = subst (λ (n : ℕ). n ≤ length script) (sym place) more;
         full = full;
         view = v;
         who = who;
@@ -170,7 +168,6 @@ module _ (s : Layout) (k : ℕ) (script : List Action) (at : CallerAt) (h : Hist
           let e = end_by s h stands.view (Caller at.id) t is_caller kept stands.up fires may in
           record {
             id = stands.id;
-            within = stands.within;
             full = stands.full;
             view = e.last;
             who = e.ended.gains.same ∙ stands.who;

@@ -57,7 +57,6 @@ module _ (s : Layout) (old new : List Entry) where
       → CallerStands s k script at old → CallerStands s k script at new
   caller_later k script at spares stands = record {
     id = stands.id;
-    within = stands.within;
     full = stands.full;
     view = stands.view;
     who = stands.who;
