@@ -112,8 +112,8 @@ pub record IsIdle (s : Layout) (does : List (List Action)) (w : WorkerId) (log :
   pub who : view.who ≡ Worker w
   pub in_turn : RunsInTurn s (plays does s) runs left_out (newcomer (Worker w)) view
   pub up : IsUpToDate log view
-      -- So had a worker that runs an item. Since it started this run, it has done the actions before the next. Nothing is
 
+-- So had a worker that runs an item. Since it started this run, it has done the actions before the next. Nothing is
 -- said of a run with more actions than can be counted: it never ends.
 pub record IsRunning (s : Layout) (does : List (List Action)) (w : WorkerId) (run : RunAt) (log : List Entry) : Type 0
   where
