@@ -134,6 +134,29 @@ pub record IsRunning (s : Layout) (does : List (List Action)) (w : WorkerId) (ru
     pub doing : DoesNext s w (slice_get (actions_at does run.item.0) run.next) run.doing acted view log
     pub up : IsUpToDate log view
 
+-- the same run, which is doing this now
+pub runs_on : (s : Layout) (does : List (List Action)) (w : WorkerId) (run : RunAt) (old log : List Entry)
+    (acc : IsRunning s does w run old) (d : Doing) (v : View) → v.who ≡ Worker w
+    → DoesNext s w (slice_get (actions_at does run.item.0) run.next) d acc.acted v log → IsUpToDate log v
+    → IsRunning s does w (record run { doing = d }) log
+runs_on s does w run old log acc d v who doing up = record {
+  runs = acc.runs;
+  others = acc.others;
+  before = acc.before;
+  in_turn = acc.in_turn;
+  started = acc.started;
+  starts = acc.starts;
+  small = acc.small;
+  left_out = acc.left_out;
+  acted = acc.acted;
+  acts = acc.acts;
+  view = v;
+  who = who;
+  acted_who = acc.acted_who;
+  doing = doing;
+  up = up;
+}
+
 abbrev pub Works : Layout → List (List Action) → WorkerId → Option RunAt → List Entry → Type 0
 Works s does w None log = IsIdle s does w log
 Works s does w (Some run) log = IsRunning s does w run log

@@ -39,7 +39,7 @@ use Rattle.cmwq_explore.specs.Stands.{after_action, first_of, rested}
 use Rattle.cmwq_explore.specs.declared.place.Doing.{Doing}
 use Rattle.cmwq_explore.specs.declared.place.Doing.TheVariants.{Acts}
 use Rattle.cmwq_explore.specs.declared.place.RunAt.{RunAt}
-use Rattle.cmwq_schedule_laws.proofs.Accounts.{DoesNext, IsIdle, IsItems, IsRunning, SleepsOrNot, actions_at}
+use Rattle.cmwq_schedule_laws.proofs.Accounts.{DoesNext, IsIdle, IsItems, IsRunning, SleepsOrNot, actions_at, runs_on}
 use Rattle.cmwq_schedule_laws.proofs.Awake.{asleep_then, awake_then, finished_reply, is_own_call, own_call_then}
 use Rattle.cmwq_schedule_laws.proofs.Awake.{started_awake, woke_reply}
 use Rattle.cmwq_schedule_laws.proofs.Following.{next_small, place_next}
@@ -318,23 +318,11 @@ module _ (s : Layout) (does : List (List Action)) (w : WorkerId) (cpu : nat_lt w
             (stepped h (Worker w) call.Sleep).entries
         of (same, awake) =
             let f = falls_asleep h acc.acted acc.acted_who kept (subst (IsUpToDate h.entries) same acc.up) awake in
-            record {
-              runs = acc.runs;
-              others = acc.others;
-              before = acc.before;
-              in_turn = acc.in_turn;
-              started = acc.started;
-              starts = acc.starts;
-              small = acc.small;
-              left_out = acc.left_out;
-              acted = acc.acted;
-              acts = acc.acts;
-              view = f.view;
-              who = f.same;
-              acted_who = acc.acted_who;
-              doing = does_it _ f.view _ f.sleeps;
-              up = f.up;
-            }
+            runs_on s does w run h.entries (stepped h (Worker w) call.Sleep).entries acc
+            (at (is_some (replied h (Worker w) call.Sleep))) f.view f.same
+            (does_it (is_some (replied h (Worker w) call.Sleep)) f.view
+                (stepped h (Worker w) call.Sleep).entries f.sleeps)
+            f.up
 
     -- the history when it goes on
     abbrev pub woken_in : History → Bool → History
