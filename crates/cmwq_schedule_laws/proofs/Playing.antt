@@ -26,7 +26,7 @@ use Rattle.cmwq_explore.specs.Machines.{called, ended, ends, replied, retires, s
 use Rattle.cmwq_explore.specs.Stands.{Stand, action_of, after_action, after_begin, did, first_of, holds, is_free}
 use Rattle.cmwq_explore.specs.Stands.{last_free}
 use Rattle.cmwq_explore.specs.Stands.{lent_for, locked, may_act, may_call, may_do, may_work, next_place, passed, rested}
-use Rattle.cmwq_explore.specs.Stands.{script_at, slept_at, unlocked, went_on, with_history, with_run, woken}
+use Rattle.cmwq_explore.specs.Stands.{script_at, slept_at, went_on, with_history, with_run, woken}
 use Rattle.cmwq_explore.specs.Stands as stands
 unfoldable use Rattle.cmwq_explore.specs.Stands.{acted, begun_by, caller_acted, caller_moved, finished, may, moved}
 unfoldable use Rattle.cmwq_explore.specs.Stands.{run_moved, started, wait_ended, waited, worker_moved}

@@ -29,7 +29,7 @@ use Rattle.cmwq_rt.specs.Running.{EndsRun}
 use Rattle.cmwq_rt.specs.Sums.{no_waits, plus}
 use Rattle.cmwq_rt.specs.declared.left_out.LeftOut.{LeftOut}
 use Rattle.cmwq_cmd_run.specs.Interpreted as interpreted
-use Rattle.cmwq_cmd_run.specs.Interpreted.{ActInTurn, Calls, MakesIfRoom, SleepsOnce, plays}
+use Rattle.cmwq_cmd_run.specs.Interpreted.{ActInTurn, MakesIfRoom, SleepsOnce, plays}
 use Rattle.cmwq_cmd_run.proofs.Interpreting.{act_next}
 use Rattle.cmwq_theory_steps.specs.RoomSteps.{is_promised}
 use Rattle.cmwq_explore.specs.Machines.{is_made, is_retired, item_started, replied, stepped}
