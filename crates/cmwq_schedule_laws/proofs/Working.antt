@@ -321,7 +321,7 @@ module _ (s : Layout) (does : List (List Action)) (w : WorkerId) (cpu : nat_lt w
             runs_on s does w run h.entries (stepped h (Worker w) call.Sleep).entries acc
             (at (is_some (replied h (Worker w) call.Sleep))) f.view f.same
             (does_it (is_some (replied h (Worker w) call.Sleep)) f.view
-                (stepped h (Worker w) call.Sleep).entries f.sleeps)
+            (stepped h (Worker w) call.Sleep).entries f.sleeps)
             f.up
 
     -- the history when it goes on
