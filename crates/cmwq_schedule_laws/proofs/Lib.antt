@@ -16,3 +16,4 @@ pub mod Limits
 pub mod Beginning
 pub mod Ending
 pub mod Leaving
+pub mod Counted

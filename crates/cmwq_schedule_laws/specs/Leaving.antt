@@ -1,5 +1,5 @@
 -- What a schedule of a script leaves is what threads that run the script may leave.
-use Rattle.std.specs.Prelude.{ℕ, List}
+use Rattle.std.specs.Prelude.{◌≡◌, ℕ, List}
 use Rattle.cmwq_model.specs.declared.entry.Entry.{Entry}
 use Rattle.cmwq_json_script.specs.Runs.{Run}
 use Rattle.cmwq_json_script.specs.Scripts.{IsRunWithin}
@@ -21,3 +21,8 @@ SchedulesLeave r = (schedule : List ℕ) → IsSchedule (first_stand r) schedule
 -- So it is of each script inside the limits, which each script that is read keeps to.
 abbrev pub SchedulesLeaveHistories : Type 0
 SchedulesLeaveHistories = (r : Run) → IsRunWithin r → SchedulesLeave r
+
+-- A history tells how many calls of callers were left out: of two such numbers both are the same.
+abbrev pub CallsLeftOutAreTold : Type 0
+CallsLeftOutAreTold = (r : Run) → IsRunWithin r → (n m : ℕ) (l k : LeftOut) (history : List Entry)
+    → RunLeaves r n l history → RunLeaves r m k history → n ≡ m

@@ -1,7 +1,7 @@
 //! What schedules leave, threads may leave.
 
 ghost use Rattle.cmwq_json_script.specs.Scripts.{MayRun, run_of};
-ghost use Rattle.cmwq_schedule_laws.specs.Leaving.{SchedulesLeave, SchedulesLeaveHistories};
+ghost use Rattle.cmwq_schedule_laws.specs.Leaving.{CallsLeftOutAreTold, SchedulesLeave, SchedulesLeaveHistories};
 
 use cmwq_json_script::Script;
 
@@ -18,3 +18,8 @@ pub fn scripts_leave_histories(script: &Script)
 {
     let _limits = script.shape.counts();
 }
+
+/// A history tells how many calls of callers were left out.
+pub fn histories_tell_calls_left_out()
+    ensures { CallsLeftOutAreTold }
+{}
