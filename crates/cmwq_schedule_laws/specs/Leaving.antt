@@ -18,7 +18,7 @@ abbrev pub SchedulesLeave : Run → Type 0
 SchedulesLeave r = (schedule : List ℕ) → IsSchedule (first_stand r) schedule
     → IsDone (after (first_stand r) schedule) → MayLeave r (after (first_stand r) schedule).history.entries
 
--- So it is of each script inside the limits, which each script that is read keeps to.
+-- That holds for each script inside the limits of the reader.
 abbrev pub SchedulesLeaveHistories : Type 0
 SchedulesLeaveHistories = (r : Run) → IsRunWithin r → SchedulesLeave r
 
