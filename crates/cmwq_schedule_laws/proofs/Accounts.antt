@@ -1,7 +1,8 @@
 -- What each party of a script has done when a play stands somewhere: its entries, as it sees them.
 use Rattle.std.specs.Option.{option_map_or}
 use Rattle.std.specs.Prelude.{◌^◌, option_and_then}
-use Rattle.std.proofs.Common.{◌≡◌, ◌⊎◌, ◌+◌, ◌<◌, ◌≤◌, ◌++◌, ◌∷◌, ℕ, Bool, true, false, List, [], Option, Some, None}
+use Rattle.std.proofs.Common.{◌≡◌, ◌⊎◌, ◌+◌, ◌-◌, ◌<◌, ◌≤◌, ◌++◌, ◌∷◌, ℕ, Bool, true, false, List, [], Option, Some}
+use Rattle.std.proofs.Common.{None}
 use Rattle.std.proofs.Common.{length, take, slice_get, nat_lt, inl, inr}
 use mathlib.Core.List.{IsPrefix}
 use Rattle.cmwq_model.specs.Prelude.{IsScripted, Layout, has_numbers, past_of, runs_asleep, runs_awake}
@@ -54,7 +55,6 @@ IsInWait s calls full first (Some t) v = (front : List Call) × (before : View) 
 -- the caller of this place has followed the calls of its actions so far
 pub record CallerStands (s : Layout) (k : ℕ) (script : List Action) (at : CallerAt) (log : List Entry) : Type 0 where
   pub id : Caller at.id ≡ caller_numbered k
-  pub within : at.next ≤ length script
   pub full : ℕ
   pub view : View
   pub who : view.who ≡ caller_numbered k
@@ -113,7 +113,8 @@ pub record IsIdle (s : Layout) (does : List (List Action)) (w : WorkerId) (log :
   pub in_turn : RunsInTurn s (plays does s) runs left_out (newcomer (Worker w)) view
   pub up : IsUpToDate log view
 
--- So had a worker that runs an item. Since it started this run, it has done the actions before the next.
+-- So had a worker that runs an item. Since it started this run, it has done the actions before the next. Nothing is
+-- said of a run with more actions than can be counted: it never ends.
 pub record IsRunning (s : Layout) (does : List (List Action)) (w : WorkerId) (run : RunAt) (log : List Entry) : Type 0
   where
     pub runs : ℕ
@@ -122,15 +123,39 @@ pub record IsRunning (s : Layout) (does : List (List Action)) (w : WorkerId) (ru
     pub in_turn : RunsInTurn s (plays does s) runs others (newcomer (Worker w)) before
     pub started : View
     pub starts : StartsOne s before run.item started
-    pub within : run.next ≤ length (actions_at does run.item.0)
+    pub small : run.next ≤ 2 ^ 64 - 1
     pub left_out : LeftOut
     pub acted : View
-    pub acts : ActInTurn s run.item (take run.next (actions_at does run.item.0)) no_waits left_out started acted
+    pub acts : length (actions_at does run.item.0) < 2 ^ 64
+        → ActInTurn s run.item (take run.next (actions_at does run.item.0)) no_waits left_out started acted
     pub view : View
     pub who : view.who ≡ Worker w
     pub acted_who : acted.who ≡ Worker w
     pub doing : DoesNext s w (slice_get (actions_at does run.item.0) run.next) run.doing acted view log
     pub up : IsUpToDate log view
+
+-- the same run, which is doing this now
+pub runs_on : (s : Layout) (does : List (List Action)) (w : WorkerId) (run : RunAt) (old log : List Entry)
+    (acc : IsRunning s does w run old) (d : Doing) (v : View) → v.who ≡ Worker w
+    → DoesNext s w (slice_get (actions_at does run.item.0) run.next) d acc.acted v log → IsUpToDate log v
+    → IsRunning s does w (record run { doing = d }) log
+runs_on s does w run old log acc d v who doing up = record {
+  runs = acc.runs;
+  others = acc.others;
+  before = acc.before;
+  in_turn = acc.in_turn;
+  started = acc.started;
+  starts = acc.starts;
+  small = acc.small;
+  left_out = acc.left_out;
+  acted = acc.acted;
+  acts = acc.acts;
+  view = v;
+  who = who;
+  acted_who = acc.acted_who;
+  doing = doing;
+  up = up;
+}
 
 abbrev pub Works : Layout → List (List Action) → WorkerId → Option RunAt → List Entry → Type 0
 Works s does w None log = IsIdle s does w log
@@ -204,5 +229,4 @@ pub record IsPlayable (r : Run) : Type 0 where
   pub scripts_short : (k : ℕ) → length (actions_at r.callers k) < 2 ^ 64
   pub scripts : (k n : ℕ) (c : Call) → slice_get (actions_at r.callers k) n ≡ Some (action.Call c)
       → IsScripted r.layout c
-  pub does_short : (i : ℕ) → length (actions_at r.does i) < 2 ^ 64
   pub does : (i n : ℕ) (c : Call) → slice_get (actions_at r.does i) n ≡ Some (action.Call c) → IsItems r.layout c

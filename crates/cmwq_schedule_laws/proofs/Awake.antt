@@ -1,10 +1,10 @@
 -- Whether what a worker runs is awake, after one more entry.
-use Rattle.cmwq_theory_steps.specs.Common.{◌≡◌, ◌&&◌, ◌≤◌, ◌∷◌, ◌∙◌, ℕ, Bool, true, false, not, List, Option, Some}
+use Rattle.cmwq_theory_steps.specs.Common.{◌≡◌, ◌&&◌, ◌∷◌, ◌∙◌, ℕ, Bool, true, false, not, List, Option, Some}
 use Rattle.cmwq_theory_steps.specs.Common.{None}
 use Rattle.cmwq_theory_steps.specs.Common.{refl, ap, ap₂, if◌then◌else◌, is_some, Who, Worker, WorkerId}
 use Rattle.cmwq_theory_steps.specs.Common.{Call, Reply, Entry, Layout, Queueing, fits, is_by}
 use Rattle.cmwq_theory_steps.specs.Common.{asleep_after, has_run, run, runs_asleep, runs_awake, finished_answer}
-use Rattle.cmwq_theory_steps.specs.Common.{number_started, room_needed, taken_back_answer}
+use Rattle.cmwq_theory_steps.specs.Common.{number_started, taken_back_answer}
 use Rattle.cmwq_theory_steps.specs.Common.{◌+◌, ◌==◌, is_booked, is_cancelling, is_gone, is_pending, is_shut, length}
 use Rattle.cmwq_theory_steps.specs.Common.{may_call, now, runs_elsewhere, unstarted_queueing}
 unfoldable use Rattle.cmwq_model.specs.Prelude.{IsLegal, answer, cancel_answer, finish_answer, is_asleep, modify_answer}
@@ -15,7 +15,6 @@ use Rattle.cmwq_model.specs.declared.reply.Reply.TheVariants as reply
 use Rattle.cmwq_theory_steps.specs.RoomSteps.{is_promised}
 use Rattle.cmwq_theory_steps.specs.RunSteps.{run_after}
 use Rattle.cmwq_theory_steps.proofs.ItemRuns.{same_worker_itself}
-use Rattle.cmwq_theory_steps.proofs.Promised.{promised_need_no_more}
 use Rattle.cmwq_theory_steps.proofs.RunSteps.{workers_run_on}
 
 -- what it runs is as awake as before
@@ -85,10 +84,6 @@ module _ (s : Layout) (past : List Entry) (w : WorkerId) (c : Call) (fit : fits 
   asleep_by r is =
       ap₂ (λ o b. is_some o && b) (runs_next ∙ ap (λ q. run_after q (run past w)) is)
       (asleep_next ∙ ap (λ q. asleep_after q (is_asleep past w)) is)
-
-  -- what is promised needs no more room
-  pub promised_fits : is_promised entry.reply ≡ true → room_needed s (entry ∷ past) ≤ room_needed s past
-  promised_fits is = promised_need_no_more s past entry legal_next is
 
 -- ---- replies
 

@@ -1,21 +1,16 @@
 -- Before its first move a play of a script stands.
-use Rattle.std.specs.Option.{option_map_or}
-use Rattle.std.specs.Prelude.{◌^◌, option_and_then}
-use Rattle.std.specs.List.{AllByRecursion, range_with_len}
+use Rattle.std.specs.Prelude.{option_and_then}
+use Rattle.std.specs.List.{range_with_len}
 use Rattle.std.proofs.Common.{◌≡◌, ◌∙◌, ◌+◌, ◌-◌, ◌<◌, ◌≤◌, ◌∷◌, ℕ, zero, suc, List, [], Option, Some}
-use Rattle.std.proofs.Common.{None, length, map, min, slice_get, take, refl, sym, ap, subst, arith, inl}
+use Rattle.std.proofs.Common.{length, map, min, slice_get, take, refl, sym, ap, subst, arith, inl}
 use Rattle.std.proofs.lemmas.List.{length-map}
 use Rattle.std.proofs.lemmas.List.FromFn.{length-range_with_len}
-unfoldable use Rattle.cmwq_model.specs.Prelude.{IsLegal}
 use Rattle.cmwq_model.specs.declared.id.Who.{Who}
 use Rattle.cmwq_model.specs.declared.id.Who.TheVariants.{Worker}
 use Rattle.cmwq_model.proofs.Growing.{nothing_is_legal}
-use Rattle.cmwq_model.proofs.Limits.{limits_of}
 use Rattle.cmwq_json_script.specs.Runs.{Run}
-use Rattle.cmwq_json_script.specs.Scripts.{IsAction, IsCallersAction, IsCallersScript}
 use Rattle.cmwq_json_script.specs.Views.{calls_in}
 use Rattle.cmwq_json_script.specs.declared.action.Action.{Action}
-use Rattle.cmwq_json_script.specs.declared.action.Action.TheVariants as action
 use Rattle.cmwq_monitor.specs.Participants.{newcomer}
 use Rattle.cmwq_rt.specs.Scripts.{HasFollowed}
 use Rattle.cmwq_rt.proofs.Following.{followed_none}
@@ -28,71 +23,10 @@ unfoldable use Rattle.cmwq_explore.specs.Starts.{first_stand}
 use Rattle.cmwq_explore.specs.declared.place.CallerAt.{CallerAt}
 use Rattle.cmwq_explore.specs.declared.place.RunAt.{RunAt}
 use Rattle.cmwq_explore.specs.declared.place.WorkerAt.{WorkerAt}
-use Rattle.cmwq_schedule_laws.specs.Leaving.{IsReadable, IsShort}
 use Rattle.cmwq_schedule_laws.proofs.Accounts.{CallerStands, HasRested}
 use Rattle.cmwq_schedule_laws.proofs.Accounts.{IsPlayable, Stands, WorkerStands, Works, actions_at, caller_of, lent_to}
 use Rattle.cmwq_schedule_laws.proofs.Keeping.{IsKept, IsUpToDate}
 use Rattle.cmwq_schedule_laws.proofs.Ordering.{numbered, workers_end, workers_stand}
-
--- ---- what a script keeps to
-
--- what holds of each element
-each_at : {X : Type 0} (P : X → Type 0) (xs : List X) (k : ℕ) (x : X) → AllByRecursion P xs → slice_get xs k ≡ Some x
-    → P x
-each_at P [] k x all is = absurd (cc is)
-each_at P (y ∷ ys) zero x all is = let same : y ≡ x = cc is in subst P same all.0
-each_at P (y ∷ ys) (suc k) x all is = each_at P ys k x all.1 is
-
--- what holds of each list, and of the empty one
-list_at : (P : List Action → Type 0) (lists : List (List Action)) (k : ℕ) → AllByRecursion P lists → P []
-    → P (actions_at lists k)
-list_at P lists k all empty = of (slice_get lists k) refl
-  where
-    of : (o : Option (List Action)) → slice_get lists k ≡ o → P (option_map_or (λ actions. actions) o [])
-    of None is = empty
-    of (Some xs) is = each_at P lists k xs all is
-
-pub playable : (r : Run) → IsReadable r → IsPlayable r
-playable r readable =
-    let limits = limits_of r.layout readable.within.allowed in
-    let cpus = limits.cpus in
-    let workers = limits.workers in
-    let callers = limits.callers in
-    let all = readable.within.callers in
-    record {
-      cpus = cpus.0;
-      workers = workers.0;
-      few_callers = omega (arith, callers);
-      all_callers = all;
-      scripts_short = λ k. short (actions_at r.callers k)
-          (list_at (λ xs. length xs ≤ 1000) r.callers k (of_length r.callers readable.within.scripts) (omega arith));
-      scripts = λ k n c is.
-          each_at (IsCallersAction r.layout (length r.gates) (length r.locks)) (actions_at r.callers k) n
-          (action.Call c)
-          (list_at (AllByRecursion (IsCallersAction r.layout (length r.gates) (length r.locks))) r.callers k
-          (of_actions r.callers readable.within.scripts) tt) is;
-      does_short = λ i. list_at IsShort r.does i readable.short (omega arith);
-      does = λ i n c is.
-          each_at (IsAction r.layout (length r.gates) (length r.locks)) (actions_at r.does i) n (action.Call c)
-          (list_at (AllByRecursion (IsAction r.layout (length r.gates) (length r.locks))) r.does i
-          readable.within.does tt)
-          is;
-    }
-  where
-    short : (xs : List Action) → length xs ≤ 1000 → length xs < 2 ^ 64
-    short xs few = omega (arith, few)
-
-    of_length : (lists : List (List Action))
-        → AllByRecursion (IsCallersScript r.layout (length r.gates) (length r.locks)) lists
-        → AllByRecursion (λ xs. length xs ≤ 1000) lists
-    of_length [] all = tt
-    of_length (xs ∷ rest) all = (all.0.1, of_length rest all.1)
-
-    of_actions : (lists : List (List Action))
-        → AllByRecursion (IsCallersScript r.layout (length r.gates) (length r.locks)) lists
-        → AllByRecursion (AllByRecursion (IsCallersAction r.layout (length r.gates) (length r.locks))) lists
-    of_actions [] all = tt
-    of_actions (xs ∷ rest) all = (all.0.0, of_actions rest all.1)
 
 -- ---- lists by numbers
 
@@ -139,7 +73,6 @@ module _ (r : Run) (ok : IsPlayable r) where
       (sym (place.0 ∙ ap caller_at same))
       (record {
         id = ap caller_numbered (small k here);
-        within = omega arith;
         full = 0;
         view = newcomer (caller_numbered k);
         who = refl;

@@ -1,8 +1,8 @@
 -- A caller of the script moves: it makes its next call, ends a wait, or passes a gate or a lock.
 use Rattle.std.specs.Prelude.{◌^◌, if◌then◌else◌}
 use Rattle.std.proofs.Common.{◌≡◌, ◌∙◌, ◌+◌, ◌-◌, ◌<◌, ◌≤◌, ◌++◌, ◌∷◌, ℕ, true, false, List, [], Option, Some, None}
-use Rattle.std.proofs.Common.{length, take, slice_get, nat_lt, refl, sym, ap, subst, arith, append-nil}
-use Rattle.std.proofs.lemmas.Bool.{lt-ltb}
+use Rattle.std.proofs.Common.{length, take, slice_get, nat_lt, refl, sym, ap, subst, arith, append-nil, Bool}
+use Rattle.std.proofs.lemmas.Bool.{lt-ltb, ltb-true}
 use Rattle.std.proofs.lemmas.List.{take_more}
 use Rattle.std.proofs.lemmas.Option.{get_or_from_slice_get, slice_get_within}
 use Rattle.cmwq_model.specs.Prelude.{IsScripted, Layout, fits, is_callers, is_whole}
@@ -56,6 +56,13 @@ place_next n long less short =
     let room : n < 2 ^ 64 - 1 = omega arith in
     ap (λ b. if b then n + 1 else n) (lt-ltb n (2 ^ 64 - 1) room)
 
+pub next_small : (n : ℕ) → n ≤ 2 ^ 64 - 1 → next_place n ≤ 2 ^ 64 - 1
+next_small n small = at (nat_lt n (2 ^ 64 - 1)) refl
+  where
+    at : (b : Bool) → nat_lt n (2 ^ 64 - 1) ≡ b → (if b then n + 1 else n) ≤ 2 ^ 64 - 1
+    at true less = let room = ltb-true n (2 ^ 64 - 1) less in omega (arith, room)
+    at false over = small
+
 -- ---- moves
 
 module _ (s : Layout) (k : ℕ) (script : List Action) (at : CallerAt) (h : History) (kept : IsKept s h)
@@ -78,10 +85,8 @@ module _ (s : Layout) (k : ℕ) (script : List Action) (at : CallerAt) (h : Hist
   goes_on a next log full wait v who follows up =
       let less = slice_get_within script at.next a next in
       let place = place_next at.next (length script) less short in
-      let more : at.next + 1 ≤ length script = omega arith in
       record {
         id = stands.id;
-        within = subst (λ (n : ℕ). n ≤ length script) (sym place) more;
         full = full;
         view = v;
         who = who;
@@ -163,7 +168,6 @@ module _ (s : Layout) (k : ℕ) (script : List Action) (at : CallerAt) (h : Hist
           let e = end_by s h stands.view (Caller at.id) t is_caller kept stands.up fires may in
           record {
             id = stands.id;
-            within = stands.within;
             full = stands.full;
             view = e.last;
             who = e.ended.gains.same ∙ stands.who;

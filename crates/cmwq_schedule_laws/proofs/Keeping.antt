@@ -99,7 +99,6 @@ pub record Makes (s : Layout) (h : History) (v : View) (c : Call) (g : History) 
   pub is : g.entries ≡ h.entries ++ own_entry s h.entries v c ∷ []
   pub extends : Extends s v c (own_entry s h.entries v c).reply (view_after s h.entries v c)
   pub up : IsUpToDate g.entries (view_after s h.entries v c)
-  pub fit : fits s v.who c ≡ true
   pub replies : replied h v.who c ≡ Some (own_entry s h.entries v c).reply
 
 makes_own : (h : History) (v : View) (c : Call) → IsKept h.layout h → IsUpToDate h.entries v
@@ -118,7 +117,6 @@ makes_own h v c kept up made =
         book = serial_after h.layout h.entries v c up.book;
         older = prefix_self (h.entries ++ e ∷ []);
       };
-      fit = fit;
       replies = made_replies h v.who c made;
     }
 

@@ -1,7 +1,7 @@
 -- The wait of a run is left out, begins, or ends: what its worker and the caller that is lent have done then.
-use Rattle.std.specs.Prelude.{◌^◌, ◌&&◌, if◌then◌else◌, not, is_some, option_and_then}
-use Rattle.std.proofs.Common.{◌≡◌, ◌∙◌, ◌<◌, ℕ, Bool, true, false, List, Option, Some, None}
-use Rattle.std.proofs.Common.{length, slice_get, nat_lt, refl, sym, ap, subst, inl, inr, true≢false}
+use Rattle.std.specs.Prelude.{◌&&◌, if◌then◌else◌, not, is_some, option_and_then}
+use Rattle.std.proofs.Common.{◌≡◌, ◌∙◌, ℕ, Bool, true, false, List, Option, Some, None}
+use Rattle.std.proofs.Common.{slice_get, nat_lt, refl, sym, ap, subst, inl, inr, true≢false}
 use mathlib.Core.List.{IsPrefix}
 use Rattle.cmwq_model.specs.Prelude.{Layout, answer, fits, has_numbers, is_workers, past_of, runs_asleep, runs_awake}
 use Rattle.cmwq_model.specs.Prelude.{serial_of}
@@ -38,6 +38,7 @@ use Rattle.cmwq_explore.specs.declared.place.Doing.TheVariants.{Acts, Waits}
 use Rattle.cmwq_explore.specs.declared.place.RunAt.{RunAt}
 use Rattle.cmwq_explore.specs.declared.place.Ticketed.{Ticketed}
 use Rattle.cmwq_schedule_laws.proofs.Accounts.{DoesNext, HasRested, IsItems, IsRunning, IsWaitingBy, actions_at}
+use Rattle.cmwq_schedule_laws.proofs.Accounts.{runs_on}
 use Rattle.cmwq_schedule_laws.proofs.Calling.{CameOf, wait_completes}
 use Rattle.cmwq_schedule_laws.proofs.Keeping.{IsKept, IsUpToDate, kept_after, own_counted, up_later}
 use Rattle.cmwq_schedule_laws.proofs.Numbered.{MakesBy, came_by, end_by, makes_by}
@@ -88,7 +89,7 @@ lent_is p w c caller = of_may (may_wait p.history p.workers w c) refl
 -- ---- a worker that is there
 
 module _ (s : Layout) (does : List (List Action)) (w : WorkerId) (cpu : nat_lt w.pool.cpu.0 s.cpus ≡ true)
-    (index : nat_lt w.index s.workers ≡ true) (short : (i : ℕ) → length (actions_at does i) < 2 ^ 64) (p : Stand)
+    (index : nat_lt w.index s.workers ≡ true) (p : Stand)
     (kept : IsKept s p.history) (run : RunAt) where
   abbrev h : History
   h = p.history
@@ -163,7 +164,7 @@ module _ (s : Layout) (does : List (List Action)) (w : WorkerId) (cpu : nat_lt w
           → IsRunning s does w (after_action run) h.entries
       of (same, awake) =
           let l = left_out c own acc.left_out acc.acted acc.acted_who (subst (IsUpToDate h.entries) same acc.up) none in
-          working.passes_on s does w cpu index short run h acc (action.Call c) acting next l.0
+          working.passes_on s does w cpu index run h acc (action.Call c) acting next l.0
           (acts_by c own other acc.left_out l.0 acc.acted acc.acted l.1)
 
   -- ---- it begins
@@ -236,6 +237,13 @@ module _ (s : Layout) (does : List (List Action)) (w : WorkerId) (cpu : nat_lt w
       rested_up : IsUpToDate slept.entries rested.view
       rested_up = later h.entries slept.entries rested.view (caller_numbered c) rested.who (caller_spared c) rested.up
 
+      nothing_yet : (m : MakesBy s h acc.acted (Worker w) call.Sleep slept)
+          → made_by rested.view.who m.view.seen ≡ made_by rested.view.who rested.view.seen
+      nothing_yet m =
+          subst (λ (es : List Entry). made_by rested.view.who es ≡ made_by rested.view.who rested.view.seen) (sym m.all)
+          (made_all rested.view slept.entries (own_counted slept.entries rested.view rested_up) rested_up.book
+          rested_up.older)
+
       of : (acc.view ≡ acc.acted) × (runs_awake (past_of h.entries) w ≡ true)
           → BegunAs c cl (called slept (caller_numbered c) cl).history (called slept (caller_numbered c) cl).outcome
       of (same, awake) =
@@ -263,13 +271,8 @@ module _ (s : Layout) (does : List (List Action)) (w : WorkerId) (cpu : nat_lt w
               let sees : IsPrefix after.seen z.view.seen =
               subst (λ (es : List Entry). IsPrefix after.seen es) (sym z.all)
               (prefix_trans after.seen g.entries (stepped g (Worker w) call.Wake).entries up.older
-              wakes_by_itself.longer) in
-              let nothing : made_by rested.view.who m.view.seen ≡ made_by rested.view.who rested.view.seen =
-              subst (λ (es : List Entry). made_by rested.view.who es ≡ made_by rested.view.who rested.view.seen)
-              (sym m.all)
-              (made_all rested.view slept.entries (own_counted slept.entries rested.view rested_up) rested_up.book
-              rested_up.older) in (
-                working.goes_on s does w cpu index short run h.entries acc (action.Call cl) next
+              wakes_by_itself.longer) in (
+                working.goes_on s does w cpu index run h.entries acc (action.Call cl) next
                     (stepped g (Worker w) call.Wake).entries acc.left_out z.view
                     (acts_by cl own other acc.left_out acc.left_out acc.acted z.view
                     (inl (
@@ -278,7 +281,7 @@ module _ (s : Layout) (does : List (List Action)) (w : WorkerId) (cpu : nat_lt w
                           (answer s (past_in h) (Worker w) call.Sleep, m.extends)
                           (was_allowed s h p.workers w acc.acted kept acc.acted_who
                           (subst (IsUpToDate h.entries) same acc.up) cl m.view (allowed cl own is_lent.may) m.seen)
-                          nothing (ap is_caller after_who) whole
+                          (nothing_yet m) (ap is_caller after_who) whole
                           (answer s (past_in g) (Worker w) call.Wake, z.extends) saw_sleep sees,
                       refl,
                     ))) z.same z.up
@@ -294,49 +297,29 @@ module _ (s : Layout) (does : List (List Action)) (w : WorkerId) (cpu : nat_lt w
           came m g (Began t) goes (r, view, call_is, begun, up, saw) =
               let spared = goes.spares (Worker w) refl in
               let asleep = working.asleep_after_sleep s does w cpu index h acc.acted kept awake m in
-              let nothing : made_by rested.view.who m.view.seen ≡ made_by rested.view.who rested.view.seen =
-              subst (λ (es : List Entry). made_by rested.view.who es ≡ made_by rested.view.who rested.view.seen)
-              (sym m.all)
-              (made_all rested.view slept.entries (own_counted slept.entries rested.view rested_up) rested_up.book
-              rested_up.older) in
-              record {
-                runs = acc.runs;
-                others = acc.others;
-                before = acc.before;
-                in_turn = acc.in_turn;
-                started = acc.started;
-                starts = acc.starts;
-                within = acc.within;
-                left_out = acc.left_out;
-                acted = acc.acted;
-                acts = acc.acts;
-                view = m.view;
-                who = m.same;
-                acted_who = acc.acted_who;
-                doing = (
-                  next ∙ ap (λ (d : Call). Some (action.Call d)) (sym call_is),
-                  record {
-                    wait = ap is_wait call_is ∙ wait;
-                    sleeps = (answer s (past_in h) (Worker w) call.Sleep, m.extends);
-                    allowed = subst (λ (d : Call). WasAllowed s acc.acted d m.view) (sym call_is)
-                        (was_allowed s h p.workers w acc.acted kept acc.acted_who
-                        (subst (IsUpToDate h.entries) same acc.up) cl m.view (allowed cl own is_lent.may) m.seen);
-                    asleep = still_asleep slept.entries g.entries spared asleep;
-                    begun = record {
-                      before = rested.view;
-                      who = rested.who;
-                      waited = rested.waited;
-                      nothing_yet = nothing;
-                      reply = r;
-                      view = view;
-                      begun = begun;
-                      saw_sleep = subst (λ (es : List Entry). IsPrefix es view.seen) (sym m.all) saw;
-                      up = up;
-                    };
-                  },
-                );
-                up = later slept.entries g.entries m.view (Worker w) m.same spared m.up;
-              }
+              runs_on s does w run h.entries g.entries acc (Waits c t) m.view m.same (
+                next ∙ ap (λ (d : Call). Some (action.Call d)) (sym call_is),
+                record {
+                  wait = ap is_wait call_is ∙ wait;
+                  sleeps = (answer s (past_in h) (Worker w) call.Sleep, m.extends);
+                  allowed = subst (λ (d : Call). WasAllowed s acc.acted d m.view) (sym call_is)
+                      (was_allowed s h p.workers w acc.acted kept acc.acted_who
+                      (subst (IsUpToDate h.entries) same acc.up) cl m.view (allowed cl own is_lent.may) m.seen);
+                  asleep = still_asleep slept.entries g.entries spared asleep;
+                  begun = record {
+                    before = rested.view;
+                    who = rested.who;
+                    waited = rested.waited;
+                    nothing_yet = nothing_yet m;
+                    reply = r;
+                    view = view;
+                    begun = begun;
+                    saw_sleep = subst (λ (es : List Entry). IsPrefix es view.seen) (sym m.all) saw;
+                    up = up;
+                  };
+                },
+              )
+              (later slept.entries g.entries m.view (Worker w) m.same spared m.up)
 
   -- ---- it ends
 
@@ -382,7 +365,7 @@ module _ (s : Layout) (does : List (List Action)) (w : WorkerId) (cpu : nat_lt w
           subst (λ (es : List Entry). IsPrefix e.last.seen es) (sym z.all)
           (prefix_trans e.last.seen g.entries (stepped g (Worker w) call.Wake).entries e.up.older
           wakes_by_itself.longer) in (
-            working.goes_on s does w cpu index short run h.entries acc (action.Call t.call) next
+            working.goes_on s does w cpu index run h.entries acc (action.Call t.call) next
                 (stepped g (Worker w) call.Wake).entries acc.left_out z.view
                 (acts_by t.call (items t.call next) (not_workers t.call x.wait) acc.left_out acc.left_out acc.acted
                 z.view

@@ -12,6 +12,8 @@ pub mod Waiting
 pub mod Lending
 pub mod Moving
 pub mod Playing
+pub mod Limits
 pub mod Beginning
 pub mod Ending
 pub mod Leaving
+pub mod Counted

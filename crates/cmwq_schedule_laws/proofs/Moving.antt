@@ -26,7 +26,7 @@ use Rattle.cmwq_explore.specs.declared.place.RunAt.{RunAt}
 use Rattle.cmwq_explore.specs.declared.place.WorkerAt.{WorkerAt}
 use Rattle.cmwq_schedule_laws.proofs.Accounts.{AreLent, CallerStands, DoesNext, HasBegun, HasRested, Holding}
 use Rattle.cmwq_schedule_laws.proofs.Accounts.{IsLendable, IsPlayable, LentStands, SleepsOrNot, Stands}
-use Rattle.cmwq_schedule_laws.proofs.Accounts.{WorkerStands, Works, actions_at, caller_of, lent_to}
+use Rattle.cmwq_schedule_laws.proofs.Accounts.{WorkerStands, Works, actions_at, caller_of, lent_to, runs_on}
 use Rattle.cmwq_schedule_laws.proofs.Keeping.{IsKept}
 use Rattle.cmwq_schedule_laws.proofs.Lending.{later}
 use Rattle.cmwq_schedule_laws.proofs.Ordering.{one_number}
@@ -57,7 +57,6 @@ module _ (s : Layout) (old new : List Entry) where
       → CallerStands s k script at old → CallerStands s k script at new
   caller_later k script at spares stands = record {
     id = stands.id;
-    within = stands.within;
     full = stands.full;
     view = stands.view;
     who = stands.who;
@@ -112,23 +111,10 @@ module _ (s : Layout) (old new : List Entry) where
       in_turn = idle.in_turn;
       up = later old new idle.view (Worker w) idle.who spares idle.up;
     }
-    works_later does (Some run) spared acc = record {
-      runs = acc.runs;
-      others = acc.others;
-      before = acc.before;
-      in_turn = acc.in_turn;
-      started = acc.started;
-      starts = acc.starts;
-      within = acc.within;
-      left_out = acc.left_out;
-      acted = acc.acted;
-      acts = acc.acts;
-      view = acc.view;
-      who = acc.who;
-      acted_who = acc.acted_who;
-      doing = doing_later _ run.doing acc.acted acc.view spared acc.doing;
-      up = later old new acc.view (Worker w) acc.who spares acc.up;
-    }
+    works_later does (Some run) spared acc =
+        runs_on s does w run old new acc run.doing acc.view acc.who
+        (doing_later (slice_get (actions_at does run.item.0) run.next) run.doing acc.acted acc.view spared acc.doing)
+        (later old new acc.view (Worker w) acc.who spares acc.up)
 
   worker_later : (does : List (List Action)) (k : ℕ) (at : WorkerAt) → Spares (Worker at.id) old new
       → ((c : ℕ) → lent_to at ≡ Some c → Spares (caller_numbered c) old new) → WorkerStands s does k at old

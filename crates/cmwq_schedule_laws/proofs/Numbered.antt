@@ -1,14 +1,14 @@
 -- Calls of who a number names: what a caller or a worker leaves by one call, or by a whole one.
-use Rattle.std.proofs.Common.{◌≡◌, ◌∙◌, ◌≤◌, ◌++◌, ◌∷◌, ℕ, true, false, [], Some, refl, sym, ap, subst}
+use Rattle.std.proofs.Common.{◌≡◌, ◌∙◌, ◌≤◌, ◌++◌, ◌∷◌, true, false, [], Some, refl, sym, ap, subst}
 use Rattle.std.proofs.Common.{nat_lt, arith}
 use Rattle.std.specs.Cmp.Derive.{both_true}
 use Rattle.std.proofs.lemmas.Bool.{le-leb}
-use Rattle.cmwq_model.specs.Prelude.{Layout, answer, entry_for, fits, has_numbers, has_time, is_callers}
+use Rattle.cmwq_model.specs.Prelude.{Layout, answer, entry_for, fits, has_numbers, has_time}
 use Rattle.cmwq_model.specs.Prelude.{is_workers, past_of, room_needed}
 use Rattle.cmwq_model.specs.declared.call.Call.{Call}
 use Rattle.cmwq_model.specs.declared.call.Call.TheVariants as call
 use Rattle.cmwq_model.specs.declared.id.Who.{Who}
-use Rattle.cmwq_model.specs.declared.id.Who.TheVariants.{Caller, Worker}
+use Rattle.cmwq_model.specs.declared.id.Who.TheVariants.{Worker}
 use Rattle.cmwq_model.specs.declared.id.WorkerId.{WorkerId}
 use Rattle.cmwq_model.proofs.Growing.{one_more_is_newest}
 use Rattle.cmwq_core.specs.History.{History, past_in}
@@ -26,10 +26,6 @@ use Rattle.cmwq_schedule_laws.proofs.Keeping.{IsKept, IsUpToDate, having_seen, m
 use Rattle.cmwq_monitor.proofs.Entering.{view_after}
 
 -- ---- what fits
-
-pub caller_fits : (s : Layout) (k : ℕ) (c : Call) → nat_lt k s.callers ≡ true → is_callers c ≡ true
-    → has_numbers s c ≡ true → fits s (Caller (record { 0 = k })) c ≡ true
-caller_fits s k c there own numbers = rw (there, own, numbers) refl
 
 pub worker_fits : (s : Layout) (w : WorkerId) (c : Call) → nat_lt w.pool.cpu.0 s.cpus ≡ true
     → nat_lt w.index s.workers ≡ true → is_workers c ≡ true → has_numbers s c ≡ true → fits s (Worker w) c ≡ true

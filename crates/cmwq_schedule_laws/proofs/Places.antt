@@ -1,5 +1,5 @@
 -- Elements of lists at their places: one that is set, the last one, and one more.
-use Rattle.std.proofs.Common.{◌≡◌, ◌∙◌, ◌⊎◌, ◌<◌, ◌++◌, ◌∷◌, ℕ, zero, suc, List, [], Some}
+use Rattle.std.proofs.Common.{◌≡◌, ◌≤◌, ◌∙◌, ◌⊎◌, ◌<◌, ◌++◌, ◌∷◌, ℕ, zero, suc, List, [], Some, None}
 use Rattle.std.proofs.Common.{length, take, slice_get, slice_set, refl, sym, ap, subst, arith, inl, inr, ⊎_elim}
 
 -- what is set stands there
@@ -33,6 +33,12 @@ take_there (y ∷ ys) (suc n) zero x is = (is, omega arith)
 take_there (y ∷ ys) (suc n) (suc i) x is =
     let there = take_there ys n i x is in
     (there.0, (let less = there.1 in omega arith))
+
+-- where there is none, the list has ended
+pub ended_there : {X : Type 0} (xs : List X) (n : ℕ) → slice_get xs n ≡ None → length xs ≤ n
+ended_there [] n none = omega arith
+ended_there (x ∷ xs) zero none = absurd (cc none)
+ended_there (x ∷ xs) (suc n) none = let over = ended_there xs n none in omega arith
 
 -- one more at the end
 pub pushed : {X : Type 0} (xs : List X) (y x : X) (i : ℕ) → slice_get (xs ++ y ∷ []) i ≡ Some x

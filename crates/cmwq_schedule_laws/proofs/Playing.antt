@@ -26,7 +26,7 @@ use Rattle.cmwq_explore.specs.Machines.{called, ended, ends, replied, retires, s
 use Rattle.cmwq_explore.specs.Stands.{Stand, action_of, after_action, after_begin, did, first_of, holds, is_free}
 use Rattle.cmwq_explore.specs.Stands.{last_free}
 use Rattle.cmwq_explore.specs.Stands.{lent_for, locked, may_act, may_call, may_do, may_work, next_place, passed, rested}
-use Rattle.cmwq_explore.specs.Stands.{script_at, slept_at, unlocked, went_on, with_history, with_run, woken}
+use Rattle.cmwq_explore.specs.Stands.{script_at, slept_at, went_on, with_history, with_run, woken}
 use Rattle.cmwq_explore.specs.Stands as stands
 unfoldable use Rattle.cmwq_explore.specs.Stands.{acted, begun_by, caller_acted, caller_moved, finished, may, moved}
 unfoldable use Rattle.cmwq_explore.specs.Stands.{run_moved, started, wait_ended, waited, worker_moved}
@@ -213,7 +213,7 @@ module _ (r : Run) (ok : IsPlayable r) (p : Stand) (st : Stands r p) where
           gates locks)
       passes_by a acting next does_it gates locks =
           goes_on p.history gates locks (goes_nowhere r.layout (Worker at.id) p.history st.kept) (not_waiting acting)
-          (working.passes_on r.layout r.does at.id works_here.cpu works_here.index ok.does_short run p.history acc a
+          (working.passes_on r.layout r.does at.id works_here.cpu works_here.index run p.history acc a
           acting
           next acc.left_out does_it)
 
@@ -225,7 +225,7 @@ module _ (r : Run) (ok : IsPlayable r) (p : Stand) (st : Stands r p) where
           moves_alone (Some (record run { doing = door (is_some (replied p.history (Worker at.id) call.Sleep)) }))
           (stepped p.history (Worker at.id) call.Sleep) p.gates p.locks
           (stepped_goes r.layout (Worker at.id) p.history call.Sleep st.kept) (not_waiting acting) (none _)
-          (working.sleeps_at r.layout r.does at.id works_here.cpu works_here.index ok.does_short run p.history acc door
+          (working.sleeps_at r.layout r.does at.id works_here.cpu works_here.index run p.history acc door
           st.kept acting does_it)
 
       -- and wakes
@@ -238,11 +238,11 @@ module _ (r : Run) (ok : IsPlayable r) (p : Stand) (st : Stands r p) where
       wakes a true none next asleep does_it gates locks =
           goes_on (stepped p.history (Worker at.id) call.Wake) gates locks
           (stepped_goes r.layout (Worker at.id) p.history call.Wake st.kept) (not_lent none)
-          (working.wakes_up r.layout r.does at.id works_here.cpu works_here.index ok.does_short run p.history acc a true
+          (working.wakes_up r.layout r.does at.id works_here.cpu works_here.index run p.history acc a true
           st.kept next asleep does_it)
       wakes a false none next asleep does_it gates locks =
           goes_on p.history gates locks (goes_nowhere r.layout (Worker at.id) p.history st.kept) (not_lent none)
-          (working.wakes_up r.layout r.does at.id works_here.cpu works_here.index ok.does_short run p.history acc a
+          (working.wakes_up r.layout r.does at.id works_here.cpu works_here.index run p.history acc a
           false
           st.kept next asleep does_it)
 
@@ -294,7 +294,7 @@ module _ (r : Run) (ok : IsPlayable r) (p : Stand) (st : Stands r p) where
       begins c caller acting next other lent =
           came (called slept (caller_numbered caller) c).history (called slept (caller_numbered caller) c).outcome
           (called_goes r.layout (caller_numbered caller) slept c slept_goes.kept)
-          (lending.begins r.layout r.does at.id works_here.cpu works_here.index ok.does_short p st.kept run acc c
+          (lending.begins r.layout r.does at.id works_here.cpu works_here.index p st.kept run acc c
           caller acting
           next (ok.does run.item.0 run.next c next) other lent (lent_there caller free.lendable) free.rested)
         where
@@ -333,7 +333,7 @@ module _ (r : Run) (ok : IsPlayable r) (p : Stand) (st : Stands r p) where
               p.locks m (not_waiting acting) refl rests)
 
           came : (g : History) (o : Called) → GoesOn r.layout (caller_numbered caller) slept g
-              → lending.BegunAs r.layout r.does at.id works_here.cpu works_here.index ok.does_short p st.kept run
+              → lending.BegunAs r.layout r.does at.id works_here.cpu works_here.index p st.kept run
               caller c g
               o → Stands r (after_begin p k at.id run caller g o)
           came g NoRoom goes none = absurd none
@@ -355,7 +355,7 @@ module _ (r : Run) (ok : IsPlayable r) (p : Stand) (st : Stands r p) where
           by None none =
               goes_on p.history p.gates p.locks (goes_nowhere r.layout (Worker at.id) p.history st.kept)
               (not_waiting acting)
-              (lending.waits_not r.layout r.does at.id works_here.cpu works_here.index ok.does_short p st.kept run acc c
+              (lending.waits_not r.layout r.does at.id works_here.cpu works_here.index p st.kept run acc c
               acting next (ok.does run.item.0 run.next c next) other none)
           by (Some caller) lent = begins c caller acting next other lent
 
@@ -378,7 +378,7 @@ module _ (r : Run) (ok : IsPlayable r) (p : Stand) (st : Stands r p) where
 
           then_both : IsRunning r.layout r.does at.id (after_action run) g.entries × HasRested r.layout c g.entries
           then_both =
-              lending.ends_then r.layout r.does at.id works_here.cpu works_here.index ok.does_short p st.kept run acc
+              lending.ends_then r.layout r.does at.id works_here.cpu works_here.index p st.kept run acc
               c t
               waiting (λ d next. ok.does run.item.0 run.next d next) (lent_there c held.1) may
 
@@ -423,7 +423,7 @@ module _ (r : Run) (ok : IsPlayable r) (p : Stand) (st : Stands r p) where
       calls_by c acting next true own =
           goes_on (stepped p.history (Worker at.id) c) p.gates p.locks
           (stepped_goes r.layout (Worker at.id) p.history c st.kept) (not_waiting acting)
-          (working.calls_itself r.layout r.does at.id works_here.cpu works_here.index ok.does_short run p.history acc c
+          (working.calls_itself r.layout r.does at.id works_here.cpu works_here.index run p.history acc c
           st.kept acting next (ok.does run.item.0 run.next c next) own)
       calls_by c acting next false other = waits_or_not c acting next other
 
@@ -442,7 +442,7 @@ module _ (r : Run) (ok : IsPlayable r) (p : Stand) (st : Stands r p) where
       ends_run acting none =
           starts_then (rested (stepped p.history (Worker at.id) call.Finish) at.id)
           (rests (retires (stepped p.history (Worker at.id) call.Finish) at.id)) (not_waiting acting)
-          (working.finishes r.layout r.does at.id works_here.cpu works_here.index ok.does_short run p.history acc
+          (working.finishes r.layout r.does at.id works_here.cpu works_here.index run p.history acc
           st.kept
           acting none)
         where

@@ -86,21 +86,18 @@ made_spares h maker who c kept new other =
 -- a history that goes on by entries of one maker
 pub record GoesOn (s : Layout) (maker : Who) (h g : History) : Type 0 where
   pub kept : IsKept s g
-  pub longer : IsPrefix h.entries g.entries
   pub spares : (who : Who) → same_who maker who ≡ false → Spares who h.entries g.entries
 
 module _ (s : Layout) (maker : Who) where
   pub goes_nowhere : (h : History) → IsKept s h → GoesOn s maker h h
   goes_nowhere h kept = record {
     kept = kept;
-    longer = prefix_self h.entries;
     spares = λ who other. spares_itself who h.entries;
   }
 
   pub goes_further : (h g i : History) → GoesOn s maker h g → GoesOn s maker g i → GoesOn s maker h i
   goes_further h g i a b = record {
     kept = b.kept;
-    longer = prefix_trans h.entries g.entries i.entries a.longer b.longer;
     spares = λ who other. spares_further who h.entries g.entries i.entries (a.spares who other) (b.spares who other);
   }
 
@@ -121,13 +118,11 @@ module _ (s : Layout) (maker : Who) where
           subst (λ (g : History). IsKept h.layout g → GoesOn h.layout maker h g) (sym steps)
           (λ fresh. record {
             kept = fresh;
-            longer = prefix_of_prefix h.entries (next_entry h maker c ∷ []);
             spares = λ who other. made_spares h maker who c k fresh other;
           }) new
       own false not k new =
           subst (λ (g : History). GoesOn h.layout maker h g) (sym (unmade_stays h maker c not)) record {
             kept = k;
-            longer = prefix_self h.entries;
             spares = λ who other. spares_itself who h.entries;
           }
 

@@ -1,7 +1,7 @@
 -- A worker starts a run, ends it, and does actions that wait for nobody.
 use Rattle.std.specs.Option.{option_map_or}
 use Rattle.std.specs.Prelude.{◌^◌, if◌then◌else◌, MatchOption, option_and_then, option_map, is_some}
-use Rattle.std.proofs.Common.{◌≡◌, ◌∙◌, ◌+◌, ◌<◌, ◌≤◌, ◌++◌, ◌∷◌, ℕ, suc, Bool, true, false, List, [], Option, Some}
+use Rattle.std.proofs.Common.{◌≡◌, ◌∙◌, ◌<◌, ◌++◌, ◌∷◌, ℕ, suc, Bool, true, false, List, [], Option, Some}
 use Rattle.std.proofs.Common.{None}
 use Rattle.std.proofs.Common.{length, take, slice_get, nat_lt, refl, sym, ap, subst, arith, inl, inr}
 use Rattle.std.proofs.lemmas.Option.{get_or_from_slice_get, slice_get_within}
@@ -29,7 +29,7 @@ use Rattle.cmwq_rt.specs.Running.{EndsRun}
 use Rattle.cmwq_rt.specs.Sums.{no_waits, plus}
 use Rattle.cmwq_rt.specs.declared.left_out.LeftOut.{LeftOut}
 use Rattle.cmwq_cmd_run.specs.Interpreted as interpreted
-use Rattle.cmwq_cmd_run.specs.Interpreted.{ActInTurn, Calls, MakesIfRoom, SleepsOnce, plays}
+use Rattle.cmwq_cmd_run.specs.Interpreted.{ActInTurn, MakesIfRoom, SleepsOnce, plays}
 use Rattle.cmwq_cmd_run.proofs.Interpreting.{act_next}
 use Rattle.cmwq_theory_steps.specs.RoomSteps.{is_promised}
 use Rattle.cmwq_explore.specs.Machines.{is_made, is_retired, item_started, replied, stepped}
@@ -39,12 +39,13 @@ use Rattle.cmwq_explore.specs.Stands.{after_action, first_of, rested}
 use Rattle.cmwq_explore.specs.declared.place.Doing.{Doing}
 use Rattle.cmwq_explore.specs.declared.place.Doing.TheVariants.{Acts}
 use Rattle.cmwq_explore.specs.declared.place.RunAt.{RunAt}
-use Rattle.cmwq_schedule_laws.proofs.Accounts.{DoesNext, IsIdle, IsItems, IsRunning, SleepsOrNot, actions_at}
+use Rattle.cmwq_schedule_laws.proofs.Accounts.{DoesNext, IsIdle, IsItems, IsRunning, SleepsOrNot, actions_at, runs_on}
 use Rattle.cmwq_schedule_laws.proofs.Awake.{asleep_then, awake_then, finished_reply, is_own_call, own_call_then}
 use Rattle.cmwq_schedule_laws.proofs.Awake.{started_awake, woke_reply}
-use Rattle.cmwq_schedule_laws.proofs.Following.{place_next}
+use Rattle.cmwq_schedule_laws.proofs.Following.{next_small, place_next}
 use Rattle.cmwq_schedule_laws.proofs.Keeping.{IsKept, IsUpToDate, having_seen, kept_after, seen_up, unmade_replies}
 use Rattle.cmwq_schedule_laws.proofs.Keeping.{unmade_stays}
+use Rattle.cmwq_schedule_laws.proofs.Places.{ended_there}
 use Rattle.cmwq_schedule_laws.proofs.Numbered.{MakesBy, makes_by, promised_made, refused_by, worker_fits}
 
 -- ---- what a start starts
@@ -153,10 +154,10 @@ module _ (s : Layout) (does : List (List Action)) (w : WorkerId) (cpu : nat_lt w
           made.extends,
           starts_there s idle.view made.view h.entries _ item made.extends made.seen starts_it,
         );
-        within = omega arith;
+        small = omega arith;
         left_out = no_waits;
         acted = made.view;
-        acts = none_acted (actions_at does item.0) made.view;
+        acts = λ short. none_acted (actions_at does item.0) made.view;
         view = made.view;
         who = made.same;
         acted_who = made.same;
@@ -174,18 +175,14 @@ module _ (s : Layout) (does : List (List Action)) (w : WorkerId) (cpu : nat_lt w
 
   -- ---- a run goes on
 
-  module _ (short : (i : ℕ) → length (actions_at does i) < 2 ^ 64) (run : RunAt) where
+  module _ (run : RunAt) where
     -- its action is done
     pub goes_on : (old : List Entry) (acc : IsRunning s does w run old) (a : Action)
         → slice_get (actions_at does run.item.0) run.next ≡ Some a → (log : List Entry) (l : LeftOut) (u : View)
         → interpreted.Acts s run.item a acc.left_out l acc.acted u → u.who ≡ Worker w → IsUpToDate log u
         → runs_awake (past_of log) w ≡ true → IsRunning s does w (after_action run) log
     goes_on old acc a next log l u acts who up awake =
-        let xs = actions_at does run.item.0 in
         let less = slice_get_within (actions_at does run.item.0) run.next a next in
-        let few = short run.item.0 in
-        let place = place_next run.next (length (actions_at does run.item.0)) less few in
-        let more : run.next + 1 ≤ length (actions_at does run.item.0) = omega arith in
         record {
           runs = acc.runs;
           others = acc.others;
@@ -193,13 +190,14 @@ module _ (s : Layout) (does : List (List Action)) (w : WorkerId) (cpu : nat_lt w
           in_turn = acc.in_turn;
           started = acc.started;
           starts = acc.starts;
-          within = subst (λ (n : ℕ). n ≤ length (actions_at does run.item.0)) (sym place) more;
+          small = next_small run.next acc.small;
           left_out = l;
           acted = u;
-          acts = subst (λ (n : ℕ). ActInTurn s run.item (take n (actions_at does run.item.0)) no_waits l acc.started u)
-              (sym place)
+          acts = λ short.
+              subst (λ (n : ℕ). ActInTurn s run.item (take n (actions_at does run.item.0)) no_waits l acc.started u)
+              (sym (place_next run.next (length (actions_at does run.item.0)) less short))
               (act_next s run.item run.item (actions_at does run.item.0) run.next a no_waits acc.left_out l acc.started
-              acc.acted u less acc.acts refl
+              acc.acted u less (acc.acts short) refl
               (subst (λ (b : Action). interpreted.Acts s run.item b acc.left_out l acc.acted u)
               (sym (get_or_from_slice_get (actions_at does run.item.0) run.next a a next)) acts));
           view = u;
@@ -320,23 +318,11 @@ module _ (s : Layout) (does : List (List Action)) (w : WorkerId) (cpu : nat_lt w
             (stepped h (Worker w) call.Sleep).entries
         of (same, awake) =
             let f = falls_asleep h acc.acted acc.acted_who kept (subst (IsUpToDate h.entries) same acc.up) awake in
-            record {
-              runs = acc.runs;
-              others = acc.others;
-              before = acc.before;
-              in_turn = acc.in_turn;
-              started = acc.started;
-              starts = acc.starts;
-              within = acc.within;
-              left_out = acc.left_out;
-              acted = acc.acted;
-              acts = acc.acts;
-              view = f.view;
-              who = f.same;
-              acted_who = acc.acted_who;
-              doing = does_it _ f.view _ f.sleeps;
-              up = f.up;
-            }
+            runs_on s does w run h.entries (stepped h (Worker w) call.Sleep).entries acc
+            (at (is_some (replied h (Worker w) call.Sleep))) f.view f.same
+            (does_it (is_some (replied h (Worker w) call.Sleep)) f.view
+            (stepped h (Worker w) call.Sleep).entries f.sleeps)
+            f.up
 
     -- the history when it goes on
     abbrev pub woken_in : History → Bool → History
@@ -404,6 +390,12 @@ module _ (s : Layout) (does : List (List Action)) (w : WorkerId) (cpu : nat_lt w
         g : History
         g = stepped h (Worker w) call.Finish
 
+        all_short : length (actions_at does run.item.0) < 2 ^ 64
+        all_short =
+            let over = ended_there (actions_at does run.item.0) run.next ended in
+            let small = acc.small in
+            omega (arith, over, small)
+
         then_kept : IsKept s (stepped h (Worker w) call.Finish)
         then_kept = kept_after s h (Worker w) call.Finish kept
 
@@ -428,7 +420,7 @@ module _ (s : Layout) (does : List (List Action)) (w : WorkerId) (cpu : nat_lt w
             acc.left_out,
             acc.in_turn,
             acc.starts,
-            (acc.acted, all_acted acc.left_out acc.started acc.acted ended acc.acts, inl refl),
+            (acc.acted, all_acted acc.left_out acc.started acc.acted ended (acc.acts all_short), inl refl),
             ends,
             refl,
           );

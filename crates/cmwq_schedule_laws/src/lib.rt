@@ -4,4 +4,4 @@
 
 mod laws;
 
-pub use laws::schedules_leave_histories;
+pub use laws::{histories_tell_calls_left_out, schedules_leave_histories, scripts_leave_histories};
