@@ -7,7 +7,8 @@ ghost use Rattle.cmwq_cli.specs.Word.{number_rule};
 ghost use Rattle.cmwq_cli.specs.Word.{word_found, asked_found, texts, is_word_taken};
 ghost use Rattle.cmwq_cli.specs.Word.{word_matched, seeded_word, searching_word, explore_word, file_option};
 ghost use Rattle.cmwq_cli.specs.Explore.{count, has_searching, has_seeding, is_of_one_kind, of_all, of_path, of_seeds};
-ghost use Rattle.cmwq_cli.specs.Explore.{has_flag, number_found, of_history, options_found, followed_found, other_found};
+ghost use Rattle.cmwq_cli.specs.Explore.{followed_found, has_flag, number_found, of_history, options_found};
+ghost use Rattle.cmwq_cli.specs.Explore.{other_found};
 ghost use Rattle.cmwq_cli.specs.Explore.{schedules_of};
 
 use clap::builder::ValueParser;

@@ -33,7 +33,7 @@ same_front (x ∷ xs) (y ∷ ys) zs (suc k) (suc n) most less within p q =
     let both = p.1 ∙ sym q.1 in
     let first : x ≡ y = ap (λ ws. get_or ws 0 x) both in
     let rest = same_front xs ys (drop 1 zs) k n (omega arith) (omega arith) (omega arith) (p.0, ap (λ ws. drop 1 ws) p.1)
-        (q.0, ap (λ ws. drop 1 ws) q.1) in
+    (q.0, ap (λ ws. drop 1 ws) q.1) in
     ap₂ (λ w ws. w ∷ ws) first rest
 
 -- a beginning has the same entries

@@ -205,7 +205,9 @@ fn try_move<'a>(
     if !play.may_move(party) {
         return Ok(Step::Goes);
     }
-    trial.play.copy_after(play, trial.kept.min(play.history().len()))?;
+    trial
+        .play
+        .copy_after(play, trial.kept.min(play.history().len()))?;
     trial.kept = play.history().len();
     trial.play.make_move(party)?;
     if !goes_on(play, &trial.play, history) {

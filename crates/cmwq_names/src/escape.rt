@@ -1,6 +1,7 @@
 //! Names as forms of text take them.
 ghost use Rattle.std.specs.Prelude.{◌≡◌, ◌++◌, ◌<◌, OnOk, codes};
-ghost use Rattle.cmwq_names.specs.Escapes.{control_text, escaped, escaped_byte, hex, in_form, in_json, in_xml, is_control};
+ghost use Rattle.cmwq_names.specs.Escapes.{control_text, escaped, escaped_byte, hex, in_form, in_json, in_xml};
+ghost use Rattle.cmwq_names.specs.Escapes.{is_control};
 
 use crate::form::Form;
 use std::alloc::AllocError;

@@ -206,7 +206,7 @@ const HELP: [(&str, &str, &str); 11] = [
     (
         "open",
         "Reads a history and writes what is still going on at its end, if it is legal",
-        "\n  booked item 1, due 9, queue 0 on CPU 0\n",
+        "\n  booked item 1, due 9, queue 0 on CPU 0, since entry 6 at tick 4\n",
     ),
     (
         "chart",
