@@ -5,21 +5,26 @@
 use clap::error::ErrorKind;
 use cmwq_base::{BufferedSink, FromStd, Sink, Source};
 use cmwq_cli::{Asked, Schedules, Word, word_of};
-use cmwq_cmd_explore::{Task, run_explore};
+use cmwq_cmd_explore::{Seeding, Task, run_explore, run_follow, run_path};
 use cmwq_cmd_history::{run_step, run_step_live};
 use cmwq_cmd_run::run_run;
 use cmwq_explain::{Kept, explain_calls, explain_history, explain_unkept};
 use cmwq_explain_json::{explain_scenario, explain_script};
 use cmwq_history::{run_check, run_front_check, run_upgrade};
+use cmwq_io::{flush_all, tell, write_all};
+use cmwq_json::{Fault, fault_status, read_value};
+use cmwq_names::{Form, named, with_script};
 use cmwq_replay::run_replay;
-use cmwq_views::{Window, run_chart, run_open, run_summary, run_trace};
+use cmwq_views::{Window, run_chart, run_open, run_page, run_summary, run_trace};
 use either::Either::{self, Left, Right};
+use serde_json::Value;
 use std::alloc::{AllocError, Global};
+use std::fmt::{self, Debug, Display, Formatter};
 use std::fs::File;
-use std::io::{self, IsTerminal, Stdin};
+use std::io::{self, IsTerminal, Stdin, Stdout};
 use std::process::ExitCode;
 use std::sync::Wait;
-use std::thread::Threads;
+use std::thread::{self, Builder, Threads};
 use std::time::Clock;
 
 /// The exit status of input that is refused.
@@ -30,6 +35,10 @@ const WRONG_USE: u8 = 2;
 
 /// The exit status where memory runs out.
 const OUT_OF_MEMORY: u8 = 4;
+
+/// The bytes of a stack on which a search of schedules goes as deep as its longest schedule. Only what is used of it
+/// takes memory.
+const DEEP_STACK: usize = 1 << 28;
 
 /// Tells that memory ran out. A failing standard error changes no status.
 fn no_memory(rt: &impl Eprint) -> u8 {
@@ -55,21 +64,52 @@ fn texts(alloc: Global, args: &[String]) -> Result<Vec<&str>, AllocError> {
     Ok(words)
 }
 
-/// What is asked of schedules.
-fn task_of(schedules: Schedules) -> Task {
-    match schedules {
-        Schedules::OfSeed { seed, pct } => Task::OfSeed { seed, pct },
-        Schedules::OfSeeds { times, pct } => Task::OfSeeds { times, pct },
-        Schedules::All { moves, histories } => Task::All { moves, histories },
+/// What is asked of schedules, unless a file says it.
+fn task_of(schedules: Schedules) -> Option<Task> {
+    Some(match schedules {
+        Schedules::OfSeed { seed, pct, moves } => Task::OfSeed {
+            seed,
+            seeding: Seeding { pct, moves },
+        },
+        Schedules::OfSeeds {
+            from,
+            times,
+            pct,
+            moves,
+        } => Task::OfSeeds {
+            first: from,
+            times,
+            seeding: Seeding { pct, moves },
+        },
+        Schedules::All {
+            moves,
+            plain,
+            first,
+        } => Task::All {
+            moves,
+            is_plain: plain,
+            is_first: first,
+        },
+        Schedules::Histories { moves } => Task::Histories { moves },
+        Schedules::Path | Schedules::Follow { .. } => return None,
+    })
+}
+
+/// The window from one entry up to another, or of the whole history where these are not given.
+fn window(from: Option<u64>, to: Option<u64>) -> Window {
+    Window {
+        from: from.unwrap_or(0),
+        to: to.unwrap_or(u64::MAX),
     }
 }
 
 /// Does what a word says, and shows how far it is if that goes to a terminal. A run's threads are made by the last
 /// handle, which `main` alone can give.
-fn run<S: Source, O: Sink, E: Sink, T: Threads + Wait + Clock + Sync>(
+fn run<S: Source, P: Source, O: Sink, E: Sink, T: Threads + Wait + Clock + Sync>(
     alloc: Global,
     asked: Asked,
     input: &mut S,
+    other: &mut P,
     output: &mut O,
     errors: &mut E,
     is_terminal: bool,
@@ -83,20 +123,18 @@ fn run<S: Source, O: Sink, E: Sink, T: Threads + Wait + Clock + Sync>(
         Word::Upgrade => run_upgrade(alloc, input, output, errors),
         Word::Summary => run_summary(alloc, input, output, errors),
         Word::Open { front } => run_open(alloc, input, output, errors, front),
-        Word::Chart { from, to } => {
-            let window = Window {
-                from: from.unwrap_or(0),
-                to: to.unwrap_or(u64::MAX),
-            };
-            run_chart(alloc, input, output, errors, window)
-        }
+        Word::Chart { from, to } => run_chart(alloc, input, output, errors, window(from, to)),
         Word::Trace => run_trace(alloc, input, output, errors),
+        Word::Page { from, to } => run_page(alloc, input, output, errors, window(from, to)),
         Word::Replay => run_replay(alloc, input, output, errors),
         Word::Run => run_run(threads, alloc, input, output, errors, asked.explain),
-        Word::Explore { schedules } => {
-            let task = task_of(schedules);
-            run_explore(alloc, input, output, errors, task, is_terminal)
-        }
+        Word::Explore { schedules } => match (task_of(schedules), schedules) {
+            (Some(task), _) => run_explore(alloc, input, output, errors, task, is_terminal),
+            (None, Schedules::Follow { moves }) => {
+                run_follow(alloc, input, other, output, errors, moves)
+            }
+            (None, _) => run_path(alloc, input, other, output, errors),
+        },
     }
 }
 
@@ -110,6 +148,7 @@ fn explain<E: Sink>(alloc: Global, word: Word, status: u8, bytes: &[u8], errors:
         Word::Open { front } => explain_history(alloc, "open", status, bytes, front, errors),
         Word::Chart { .. } => explain_history(alloc, "chart", status, bytes, false, errors),
         Word::Trace => explain_history(alloc, "trace", status, bytes, false, errors),
+        Word::Page { .. } => explain_history(alloc, "page", status, bytes, false, errors),
         Word::Replay => explain_scenario(alloc, status, bytes, errors),
         Word::Run | Word::Explore { .. } => explain_script(alloc, status, bytes, errors),
     }
@@ -129,26 +168,142 @@ fn open(rt: &HostRuntime, name: Option<&str>) -> io::Result<Either<Stdin, File>>
     }
 }
 
-/// Tells why a file cannot be read.
-fn not_opened(rt: &HostRuntime, name: &str, kind: io::ErrorKind) -> u8 {
-    let _ = match kind {
+/// A file's name, as text for a terminal: with control characters it is quoted, and these are escaped.
+#[derive(Clone, Copy)]
+struct FileName<'a>(&'a str);
+
+impl Display for FileName<'_> {
+    fn fmt<W: fmt::Write>(&self, f: &mut Formatter<W>) -> fmt::Result {
+        if self.0.chars().any(|letter| letter.is_control()) {
+            Debug::fmt(self.0, f)
+        } else {
+            Display::fmt(self.0, f)
+        }
+    }
+}
+
+/// Tells why a file cannot be read: what the system says, where it is none of the usual reasons.
+fn not_opened(rt: &HostRuntime, name: &str, error: &io::Error) -> u8 {
+    let name = FileName(name);
+    let _ = match error.kind() {
         io::ErrorKind::OutOfMemory => return no_memory(rt),
         io::ErrorKind::NotFound => eprintln!(rt; "cmwq: {name}: no such file or directory"),
-        kind => eprintln!(rt; "cmwq: {name}: {kind}"),
+        io::ErrorKind::PermissionDenied => eprintln!(rt; "cmwq: {name}: permission denied"),
+        io::ErrorKind::IsADirectory => eprintln!(rt; "cmwq: {name}: is a directory"),
+        _ => eprintln!(rt; "cmwq: {name}: {error}"),
     };
     REFUSED_INPUT
 }
 
+/// What a word writes, if names may stand there.
+#[derive(Clone, Copy)]
+enum Named {
+    Text(Form),
+    Page,
+}
+
+fn named_of(word: Word) -> Option<Named> {
+    match word {
+        Word::Summary | Word::Open { .. } => Some(Named::Text(Form::Plain)),
+        Word::Trace => Some(Named::Text(Form::Json)),
+        Word::Chart { .. } => Some(Named::Text(Form::Xml)),
+        Word::Page { .. } => Some(Named::Page),
+        _ => None,
+    }
+}
+
+/// Why there are no names.
+#[derive(Clone, Copy)]
+struct NoNames(Fault);
+
+impl Display for NoNames {
+    fn fmt<W: fmt::Write>(&self, f: &mut Formatter<W>) -> fmt::Result {
+        write!(f, "names: {}", self.0)
+    }
+}
+
+/// The script that gives names, or the status where it cannot be read.
+fn script_of<S: Source, E: Sink>(
+    alloc: Global,
+    input: &mut S,
+    errors: &mut E,
+) -> Result<Value, u8> {
+    match read_value(alloc, input) {
+        Ok(script) => Ok(script),
+        Err(fault) => {
+            tell(errors, NoNames(fault));
+            Err(fault_status(fault))
+        }
+    }
+}
+
+/// Writes a text with the names that a script gives.
+fn write_named<O: Sink>(
+    alloc: Global,
+    output: &mut O,
+    script: &Value,
+    what: Named,
+    text: &[u8],
+) -> Result<(), Fault> {
+    let text = match what {
+        Named::Text(form) => named(alloc, script, form, text)?,
+        Named::Page => {
+            let json = script.to_string(alloc)?;
+            with_script(alloc, text, json.as_str())?
+        }
+    };
+    write_all(output, text.as_slice())?;
+    flush_all(output)?;
+    Ok(())
+}
+
 /// Does what was asked. What is to be explained is kept while it is read; there is one type of source for both, and for
-/// files and standard input, so that each word is compiled once.
+/// files and standard input, so that each word is compiled once. What is to have names is kept too.
 fn run_asked<T: Threads + Wait + Clock + Sync>(rt: &HostRuntime, asked: Asked, threads: &T) -> u8 {
+    let alloc = rt.alloc();
+    let mut other = match open(rt, asked.other) {
+        Ok(other) => FromStd::new(other),
+        Err(error) => return not_opened(rt, asked.other.unwrap_or("-"), &error),
+    };
+    let what = asked.other.and_then(|_| named_of(asked.word));
+    let Some(what) = what else {
+        return run_to(rt, asked, &mut other, Left(rt.stdout()), threads);
+    };
+    let mut errors = FromStd::new(rt.stderr());
+    let script = match script_of(alloc, &mut other, &mut errors) {
+        Ok(script) => script,
+        Err(status) => return status,
+    };
+    let mut text = Vec::new(alloc);
+    let status = run_to(rt, asked, &mut other, Right(&mut text), threads);
+    if text.is_empty() {
+        return status;
+    }
+    let mut output = FromStd::new(rt.stdout());
+    match write_named(alloc, &mut output, &script, what, text.as_slice()) {
+        Ok(()) => status,
+        Err(fault) => {
+            tell(&mut errors, fault);
+            fault_status(fault)
+        }
+    }
+}
+
+/// Does what was asked, and writes to this output.
+fn run_to<P: Source, T: Threads + Wait + Clock + Sync>(
+    rt: &HostRuntime,
+    asked: Asked,
+    other: &mut P,
+    output: Either<Stdout, &mut Vec<u8>>,
+    threads: &T,
+) -> u8 {
     let alloc = rt.alloc();
     let input = match open(rt, asked.file) {
         Ok(input) => FromStd::new(input),
-        Err(error) => return not_opened(rt, asked.file.unwrap_or("-"), error.kind()),
+        Err(error) => return not_opened(rt, asked.file.unwrap_or("-"), &error),
     };
     let mut errors = FromStd::new(rt.stderr());
-    let Ok(mut output) = BufferedSink::new(alloc, FromStd::new(rt.stdout())) else {
+    let Ok(mut output) = BufferedSink::new(alloc, FromStd::new(output)) else {
         return no_memory(rt);
     };
     let mut input = if asked.explain {
@@ -161,6 +316,7 @@ fn run_asked<T: Threads + Wait + Clock + Sync>(rt: &HostRuntime, asked: Asked, t
         alloc,
         asked,
         &mut input,
+        other,
         &mut output,
         &mut errors,
         is_terminal,
@@ -174,12 +330,24 @@ fn run_asked<T: Threads + Wait + Clock + Sync>(rt: &HostRuntime, asked: Asked, t
     status
 }
 
+/// Does what was asked on a thread with a deep stack, or without one if there can be no such thread.
+fn run_deeply<T: Threads + Wait + Clock + Sync>(rt: &HostRuntime, asked: Asked, threads: &T) -> u8 {
+    thread::scope(thread::scope_env(), threads, |scope| {
+        let deep = Builder::new().stack_size(DEEP_STACK);
+        match deep.spawn_scoped(scope, || run_asked(rt, asked, threads)) {
+            Ok(handle) => handle.join(threads),
+            Err(_) => run_asked(rt, asked, threads),
+        }
+    })
+}
+
 fn answer<T: Threads + Wait + Clock + Sync>(rt: &HostRuntime, args: &[String], threads: &T) -> u8 {
     let alloc = rt.alloc();
     let Ok(words) = texts(alloc, args) else {
         return no_memory(rt);
     };
     match word_of(alloc, &words) {
+        Ok(asked) if matches!(asked.word, Word::Explore { .. }) => run_deeply(rt, asked, threads),
         Ok(asked) => run_asked(rt, asked, threads),
         Err(error) => told(rt, &error),
     }

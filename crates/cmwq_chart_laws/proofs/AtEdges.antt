@@ -10,7 +10,7 @@ use Rattle.cmwq_chart.specs.Bars.{bars_of}
 use Rattle.cmwq_chart_text.specs.declared.figures.Figure.TheVariants as figure
 use Rattle.cmwq_chart_text.specs.declared.page.Page.{Page}
 use Rattle.cmwq_chart_text.specs.Bands.{stands_in}
-use Rattle.cmwq_chart_text.specs.Pages.{band_of, band_start, column_at, column_width, columns, end_in, entries_shown}
+use Rattle.cmwq_chart_text.specs.Pages.{band_of, band_start, column_at, column_width, columns, end_in}
 use Rattle.cmwq_chart_text.specs.Pages.{from_in, middle_of, width_of}
 use Rattle.cmwq_chart_text.specs.Spans.{span_end, span_left, span_width}
 use Rattle.cmwq_output_laws.specs.BarLaws.{AreApart, EndsBefore}
@@ -19,17 +19,10 @@ use Rattle.cmwq_chart_laws.specs.Drawn.{IsShownIn}
 use Rattle.cmwq_chart_laws.specs.Edges.{AreBeside, BarsDoNotOverlap, ColumnsAreApart, FiguresHaveEdges, GoesOnBehind}
 use Rattle.cmwq_chart_laws.specs.Edges.{MarksAreInside, span_right}
 use Rattle.cmwq_chart_laws.specs.Standing.{HasEntryIn}
-use Rattle.cmwq_chart_laws.proofs.StandIn.{band_parts, entry_of}
+use Rattle.cmwq_chart_laws.proofs.StandIn.{band_parts, entry_of, width_bounds}
 
 width_cases : (p : Page) → (1 < column_width p) × (column_width p / 2 < column_width p)
-unfolding column_width
-width_cases p = by (nat_le (entries_shown p) 45) (nat_le (entries_shown p) 90)
-  where
-    by : (a b : Bool) → (1 < (if a then 24 else if b then 12 else 6))
-        × ((if a then 24 else if b then 12 else 6) / 2 < (if a then 24 else if b then 12 else 6))
-    by true b = (omega arith, omega arith)
-    by false true = (omega arith, omega arith)
-    by false false = (omega arith, omega arith)
+width_cases p = let b = width_bounds p in (omega arith, omega arith)
 
 one_more : (b c : ℕ) → (b + 1) * c ≡ b * c + c
 one_more b c = let e : b + 1 ≡ suc b = add-one b in ap (λ n. n * c) e ∙ suc-mul b c

@@ -14,7 +14,7 @@ use Rattle.cmwq_chart_text.specs.declared.figures.Figure.{Figure}
 use Rattle.cmwq_chart_text.specs.declared.page.Page.{Page}
 use Rattle.cmwq_chart_text.specs.Bands.{bands_behind, first_band, stands_in}
 use Rattle.cmwq_chart_text.specs.Figures.{figure_from, figure_to, is_flat}
-use Rattle.cmwq_chart_text.specs.Pages.{band_of, band_start, bands, bands_end, columns, entries_shown}
+use Rattle.cmwq_chart_text.specs.Pages.{band_of, band_start, bands, bands_end, column_width, columns}
 use Rattle.cmwq_chart_text.specs.Spans.{end_shown, first_shown, span_band, span_bands_end, span_end}
 use Rattle.cmwq_chart_laws.specs.Drawn.{IsShownIn}
 use Rattle.cmwq_chart_laws.specs.Standing.{HasEntryIn, IsFirstOrLast, FiguresStandWithEntries}
@@ -22,14 +22,13 @@ use Rattle.cmwq_chart_laws.specs.Standing.{FlatLevelsStandAtTheirEnds}
 
 -- ---- bands and their entries
 
+pub width_bounds : (p : Page) → (6 ≤ column_width p) × (column_width p ≤ 24)
+unfolding column_width
+width_bounds p = (omega arith, omega arith)
+
 pub columns_some : (p : Page) → 0 < columns p
 unfolding columns
-columns_some p = by (nat_le (entries_shown p) 45) (nat_le (entries_shown p) 90)
-  where
-    by : (a b : Bool) → 0 < (if a then 45 else if b then 90 else 180)
-    by true b = omega arith
-    by false true = omega arith
-    by false false = omega arith
+columns_some p = let b = width_bounds p in le-div 1 1080 (column_width p) (omega arith) (omega arith)
 
 one_more : (b c : ℕ) → (b + 1) * c ≡ b * c + c
 one_more b c = let e : b + 1 ≡ suc b = add-one b in ap (λ n. n * c) e ∙ suc-mul b c

@@ -25,9 +25,12 @@ caption_width item = if nat_lt item 10 then 10 else if nat_lt item 100 then 17 e
 abbrev pub has_caption : Page → ℕ → Bar → Bool
 has_caption p band bar = nat_le (caption_width bar.item.0) (span_width p bar.from bar.to band)
 
--- columns are wide enough for three digits
+-- how wide a column must be for the digits of an item beside its sign
+abbrev pub label_width : ℕ → ℕ
+label_width item = if nat_lt item 10 then 13 else if nat_lt item 100 then 18 else if nat_lt item 1000 then 24 else 29
+
 abbrev pub has_label : Page → Sign → Bool
-has_label p sign = option_map_or (λ i. nat_lt i 1000 && nat_le 24 (column_width p)) sign.item false
+has_label p sign = option_map_or (λ i. nat_le (label_width i) (column_width p)) sign.item false
 
 abbrev pub note_of : Page → ℕ → Figure → Option What
 note_of p band (figure.Bar bar) = if has_caption p band bar then Some (what.Caption bar) else None

@@ -8,15 +8,16 @@ use Rattle.cmwq_chart_text.specs.declared.page.Window.{Window}
 unfoldable pub page_of : Window → ℕ → Page
 page_of w n = record { first = min w.from n; end = max (min w.to n) (min w.from n) }
 
--- how many entries are shown, how many columns a band has, and how wide each is
+-- how many entries are shown, how wide the column of each is, and how many columns a band has: those of all entries
+-- take up the width of a band, but are not wider than 24 and not narrower than 6
 abbrev pub entries_shown : Page → ℕ
 entries_shown p = p.end - p.first
 
-unfoldable pub columns : Page → ℕ
-columns p = if nat_le (entries_shown p) 45 then 45 else if nat_le (entries_shown p) 90 then 90 else 180
-
 unfoldable pub column_width : Page → ℕ
-column_width p = if nat_le (entries_shown p) 45 then 24 else if nat_le (entries_shown p) 90 then 12 else 6
+column_width p = max 6 (min 24 (1080 / max 1 (entries_shown p)))
+
+unfoldable pub columns : Page → ℕ
+columns p = 1080 / column_width p
 
 -- the band of an entry, and the first entry of a band
 unfoldable pub band_of : Page → ℕ → ℕ

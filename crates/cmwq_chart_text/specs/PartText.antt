@@ -1,7 +1,7 @@
 -- The text of each part of a picture: a template, in which each hole stands for a number. A run, a sleep, a wait or a
 -- level is a part in each band in which it stands.
 use Rattle.std.specs.Prelude.{ℕ, ◌+◌, ◌-◌, ◌*◌, ◌/◌, ◌%◌, Bool, if◌then◌else◌, List, [], ◌∷◌, ◌++◌, Option}
-use Rattle.std.specs.Prelude.{is_some, min, slice_get}
+use Rattle.std.specs.Prelude.{is_some, min, nat_lt, slice_get}
 use Rattle.std.specs.Option.{option_map_or}
 use Rattle.cmwq_model.specs.declared.entry.Entry.{Entry}
 use Rattle.cmwq_model.specs.declared.id.Who.{Who}
@@ -60,9 +60,12 @@ wait_numbers p band top wait =
     ∷ wait.caller.0 ∷ wait.from ∷ wait.from ∷ (span_end p wait.to - 1) ∷ []
 
 -- ---- levels: what is open and what is active as rectangles upwards from the base line of the row, and the width as a
--- dashed line; what is above the scale stands at the upper edge
+-- dashed line; a width above the scale is a dotted line at the upper edge
 abbrev pub level_height : ℕ → ℕ → ℕ
 level_height scale n = 28 * min n scale / scale
+
+abbrev pub level_template : ℕ → Level → List ℕ
+level_template scale level = if nat_lt scale level.height.width then template.LEVEL_ABOVE.now else template.LEVEL.now
 
 abbrev pub level_numbers : Frame → ℕ → ℕ → Level → List ℕ
 level_numbers g band top level =
@@ -126,7 +129,7 @@ figure_text g entries band top (figure.Sleep sleep) =
 figure_text g entries band top (figure.Sign sign) =
     mark_text entries (sign_template sign.kind) (sign_numbers g.page top sign) sign.at
 figure_text g entries band top (figure.Level level) =
-    filled_template template.LEVEL.now (level_numbers g band top level)
+    filled_template (level_template g.scale level) (level_numbers g band top level)
 
 -- ---- numbers of entries, each over a line through rows of this height, and the items of bars and of signs
 abbrev pub number_numbers : Page → ℕ → ℕ → ℕ → List ℕ

@@ -41,12 +41,23 @@ fn has_caption(page: &Page, band: u32, bar: &Bar) -> bool
     caption_width(bar.item.0) <= span_width(page, bar.from, bar.to, band.into())
 }
 
-/// Whether columns are wide enough for the item of a sign, which has three digits at most.
+/// How wide a column must be for the digits of an item beside its sign.
+fn label_width(item: u16) -> u64
+    ensures { result ≡ spec.label_width item }
+{
+    match item {
+        0..=9 => 13,
+        10..=99 => 18,
+        100..=999 => 24,
+        _ => 29,
+    }
+}
+
 fn has_label(page: &Page, sign: &Sign) -> bool
     ensures { result ≡ spec.has_label page.now sign.now }
 {
     match sign.item {
-        Some(item) => item < 1000 && 24 <= page.column_width(),
+        Some(item) => label_width(item) <= page.column_width(),
         None => false,
     }
 }

@@ -4,6 +4,9 @@ ghost use Rattle.cmwq_chart_text.specs.Pages as spec;
 
 use cmwq_model::WorkerId;
 
+/// How wide all columns of a band are together.
+const BAND_WIDTH: u64 = 1080;
+
 /// The entries that are shown, from the first up to the end. Each is a column, and a band has as many as fit, so that
 /// long histories go on in further bands below.
 #[derive(Clone, Copy)]
@@ -35,6 +38,17 @@ impl Page {
         }
     }
 
+    /// How wide a column is: as wide as lets all entries stand in one band, within limits.
+    #[tactic(auto, unfolding(crate::specs::Pages::column_width))]
+    pub(crate) fn column_width(&self) -> u64
+        ensures width { result ≡ spec.column_width self.now }
+        ensures some { 6 ≤ result }
+        ensures few { result ≤ 24 }
+    {
+        let shown = u64::from(self.end.saturating_sub(self.first));
+        (BAND_WIDTH / shown.max(1)).min(24).max(6)
+    }
+
     /// How many columns a band has.
     #[tactic(auto, unfolding(crate::specs::Pages::columns))]
     pub(crate) fn columns(&self) -> u64
@@ -42,24 +56,7 @@ impl Page {
         ensures some { 0 < result }
         ensures few { result ≤ 180 }
     {
-        match self.end.saturating_sub(self.first) {
-            0..=45 => 45,
-            46..=90 => 90,
-            _ => 180,
-        }
-    }
-
-    /// How wide a column is.
-    #[tactic(auto, unfolding(crate::specs::Pages::column_width))]
-    pub(crate) fn column_width(&self) -> u64
-        ensures width { result ≡ spec.column_width self.now }
-        ensures few { result ≤ 24 }
-    {
-        match self.end.saturating_sub(self.first) {
-            0..=45 => 24,
-            46..=90 => 12,
-            _ => 6,
-        }
+        BAND_WIDTH / self.column_width()
     }
 
     /// The band in which an entry stands.

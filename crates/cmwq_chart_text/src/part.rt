@@ -148,6 +148,17 @@ fn level_height(scale: u32, count: u32) -> u64
     28 * u64::from(count.min(scale)) / u64::from(scale)
 }
 
+/// The template of a level.
+fn level_template(scale: u32, level: &Level) -> &'static str
+    ensures { result.now ≡ spec.level_template scale level.now }
+{
+    if scale < level.height.width {
+        template::LEVEL_ABOVE
+    } else {
+        template::LEVEL
+    }
+}
+
 /// What the template of a level is filled with.
 fn level_numbers(frame: &Frame, band: u64, top: u64, level: &Level) -> [u64; 18]
     requires band { band ≤ 4294967295 }
@@ -355,7 +366,7 @@ fn write_figure<W: Sink>(
         Figure::Level(level) => {
             write_filled(
                 sink,
-                template::LEVEL,
+                level_template(frame.scale, level),
                 &level_numbers(frame, band, top, level),
             )
         }

@@ -15,9 +15,9 @@ pub(crate) const HEAD: &str =
     .k2{fill:rgb(150,205,140)}.k3{fill:rgb(240,150,145)}.k4{fill:rgb(150,210,205)}.k5{fill:rgb(205,170,205)}\
     .k6{fill:rgb(200,170,150)}.k7{fill:rgb(240,220,120)}.k8{fill:rgb(255,190,200)}.k9{fill:rgb(190,190,190)}\
     .k10,.delayed,.changed,.waiting{fill:none}.done,.waits{fill:currentColor}.cancelled{stroke-width:2}\
-    .tick,.changed,.refused{stroke-width:1.4}.refused{opacity:.7}.label{font-size:9px;pointer-events:none}\
+    .tick,.changed,.refused{stroke-width:1.4}.refused{opacity:.7}.label{font-size:8px;pointer-events:none}\
     .open{fill:rgb(196,208,222)}.active{fill:rgb(110,145,185)}\
-    .width{fill:none;stroke:rgb(205,60,60);stroke-width:1.5;stroke-dasharray:3 2}\
+    .width{fill:none;stroke:rgb(205,60,60);stroke-width:1.5;stroke-dasharray:3 2}.above{stroke-dasharray:1 3}\
     @media(prefers-color-scheme:dark){svg{color:rgb(230,230,230)}.page{fill:rgb(27,29,33)}\
     .item{fill:white;stroke:black}.k0{fill:rgb(62,100,137)}.k1{fill:rgb(150,95,35)}.k2{fill:rgb(62,112,55)}\
     .k3{fill:rgb(150,65,62)}.k4{fill:rgb(50,115,110)}.k5{fill:rgb(115,80,115)}.k6{fill:rgb(112,84,66)}\
@@ -30,7 +30,7 @@ pub(crate) const HEAD: &str =
     <text class=\"title\" x=\"12\" y=\"26\">Entries from $ up to $: what each caller did, and its waits below; \
     a bar for each run, hatched where it sleeps, and what its worker did below</text>\n\
     <text x=\"12\" y=\"44\">Below, for each queue on each CPU: how many are open (pale), how many of them are active \
-    (dark), and the width (dashed)</text>\n\
+    (dark), and the width (dashed, or dotted if it is above the row)</text>\n\
     <path class=\"queued mark k1\" d=\"M18 58m-3 -4h6l-3 8z\"/><text x=\"27\" y=\"62\">queued</text>\
     <path class=\"delayed mark\" d=\"M81 58m0 -4l3 4l-3 4l-3 -4z\"/><text x=\"90\" y=\"62\">delayed</text>\
     <path class=\"fired mark k1\" d=\"M150 58m0 -4l3 4l-3 4l-3 -4z\"/><text x=\"159\" y=\"62\">fired</text>\
@@ -83,6 +83,13 @@ pub(crate) const LEVEL: &str = "<g class=\"level\" data-queue=\"$\" data-cpu=\"$
     <title>$ open, $ active, width $: entries $ to $</title>\
     <rect class=\"open\" x=\"$\" y=\"$\" width=\"$\" height=\"$\"/>\
     <rect class=\"active\" x=\"$\" y=\"$\" width=\"$\" height=\"$\"/><path class=\"width\" d=\"M$ $h$\"/></g>\n";
+
+/// A level whose width is more than its row is as high as.
+pub(crate) const LEVEL_ABOVE: &str = "<g class=\"level\" data-queue=\"$\" data-cpu=\"$\">\
+    <title>$ open, $ active, width $: entries $ to $</title>\
+    <rect class=\"open\" x=\"$\" y=\"$\" width=\"$\" height=\"$\"/>\
+    <rect class=\"active\" x=\"$\" y=\"$\" width=\"$\" height=\"$\"/>\
+    <path class=\"width above\" d=\"M$ $h$\"/></g>\n";
 
 /// The items of runs and of marks.
 pub(crate) const CAPTION: &str = "<text class=\"item\" x=\"$\" y=\"$\">$</text>\n";

@@ -1,10 +1,12 @@
 -- Commands of the program, from what is known of their parts.
-use Rattle.std.proofs.Common.{◌≡◌, ◌||◌, ◌∙◌, Bool, false, List, Option, Some, Result, ap, ap₂, codes, subst, sym}
+use Rattle.std.proofs.Common.{◌≡◌, ◌||◌, ◌∙◌, Bool, false, List, Option, Some, None, Result, ap, ap₂, codes, subst, sym}
+use Rattle.std.proofs.Common.{refl}
 use Rattle.std.specs.Prelude.{IfOk, option_map}
 use Rattle.clap.specs.Words.{App, Row, Text, app_of, first_of}
 use Rattle.clap.specs.declared.builder.command.Command.{Command}
 use Rattle.cmwq_cli.specs.declared.word.Word.{Word}
-use Rattle.cmwq_cli.specs.Word.{asked_found, has_flag, with_command, word_found}
+use Rattle.cmwq_cli.specs.Word.{asked_found, with_command, with_named, word_found}
+use Rattle.cmwq_cli.specs.Explore.{followed_found, has_flag, other_found}
 
 pub neither : (a b : Bool) → a ≡ false → b ≡ false → (a || b) ≡ false
 neither a b h k = ap₂ (λ x y. x || y) h k
@@ -14,19 +16,48 @@ pub of_word : {E : Type 0} {old new : App} (program : App) (result : Result Comm
     → IfOk result (λ c. app_of c ≡ with_command program old) → IfOk result (λ c. app_of c ≡ with_command program new)
 of_word program result is h = subst (λ (a : App). IfOk result (λ c. app_of c ≡ with_command program a)) is h
 
+-- the same of one that shows a history
+pub of_named : {E : Type 0} {old new : App} (program : App) (result : Result Command E) → old ≡ new
+    → IfOk result (λ c. app_of c ≡ with_named program old) → IfOk result (λ c. app_of c ≡ with_named program new)
+of_named program result is h = subst (λ (a : App). IfOk result (λ c. app_of c ≡ with_named program a)) is h
+
 -- what is asked, of its parts
-pub asked : (name : Text) (rows : List Row) (w : Word) (e : Bool) (f : Option Text) → word_found (name, rows) ≡ Some w
-    → e ≡ has_flag (codes "explain") rows
-    → f ≡ first_of (codes "FILE") rows → Some (record { word = w; explain = e; file = f }) ≡ asked_found (name, rows)
-asked name rows w e f is explains has_file =
-    let parts : Some (record { word = w; explain = e; file = f })
-    ≡ Some (record { word = w; explain = has_flag (codes "explain") rows; file = first_of (codes "FILE") rows }) =
-    ap₂ (λ (x : Bool) (y : Option Text). Some (record { word = w; explain = x; file = y })) explains has_file in
+pub asked : (name : Text) (rows : List Row) (w : Word) (e : Bool) (f o : Option Text)
+    → word_found (name, rows) ≡ Some w → e ≡ has_flag (codes "explain") rows → f ≡ first_of (codes "FILE") rows
+    → o ≡ other_found rows
+    → Some (record { word = w; explain = e; file = f; other = o }) ≡ asked_found (name, rows)
+asked name rows w e f o is explains has_file has_other =
+    let other = other_found rows in
+    let parts : Some (record { word = w; explain = e; file = f; other = o }) ≡ Some (record {
+      word = w;
+      explain = has_flag (codes "explain") rows;
+      file = first_of (codes "FILE") rows;
+      other = other;
+    }) = rw (explains, has_file, has_other) refl in
     parts ∙ ap
     (option_map
     (λ (v : Word). record {
       word = v;
       explain = has_flag (codes "explain") rows;
-      file =
-          first_of (codes "FILE") rows;
+      file = first_of (codes "FILE") rows;
+      other = other;
     })) (sym is)
+
+-- the name of the file with the moves, if there is one
+pub followed_first : (rows : List Row) (name : Text) → first_of (codes "path") rows ≡ Some name
+    → Some name ≡ followed_found rows
+followed_first rows name is = rw is refl
+
+-- and else that of the history
+pub followed_second : (rows : List Row) (o : Option Text) → first_of (codes "path") rows ≡ None
+    → o ≡ first_of (codes "follow") rows → o ≡ followed_found rows
+followed_second rows o none is = rw (none, is) refl
+
+-- before both that of the names
+pub other_first : (rows : List Row) (name : Text) → first_of (codes "names") rows ≡ Some name
+    → Some name ≡ other_found rows
+other_first rows name is = rw is refl
+
+pub other_second : (rows : List Row) (o : Option Text) → first_of (codes "names") rows ≡ None
+    → o ≡ followed_found rows → o ≡ other_found rows
+other_second rows o none is = rw none is

@@ -1,57 +1,16 @@
 -- The command line: which words there are, and which one clap's matches hold.
-use Rattle.std.specs.Prelude.{ℕ, ◌-◌, ◌^◌, ◌||◌, Bool, true, false, List, [], map, Option, Some, None, is_some}
+use Rattle.std.specs.Prelude.{ℕ, ◌-◌, ◌^◌, Bool, true, false, List, [], map, Option, Some, None}
 use Rattle.std.specs.Prelude.{option_map, option_and_then, codes, if◌then◌else◌}
-use Rattle.std.specs.Option.{option_map_or, option_or}
 use Rattle.std.specs.Str.{bytes_eq}
-use Rattle.std.specs.Str.Parse.{digits_value, without_leading_plus}
 use Rattle.std.specs.Borrow.{Bor}
 use Rattle.clap.specs.Words.{App, Text, Row, Rule, new_app, new_rule, with_rule, with_subcommand, Shape, subcommand_of}
-use Rattle.clap.specs.Words.{one_of, first_of, takes}
-use Rattle.clap.specs.ValueTests.{is_unsigned_in}
+use Rattle.clap.specs.Words.{first_of, takes}
 use Rattle.clap.specs.declared.builder.action.ArgAction.TheVariants.{Set, SetTrue}
 use Rattle.clap.specs.declared.builder.value_parser.ValueParser.TheVariants.{Unsigned}
 use Rattle.cmwq_cli.specs.declared.word.Asked.{Asked}
-use Rattle.cmwq_cli.specs.declared.word.Schedules.{Schedules}
-use Rattle.cmwq_cli.specs.declared.word.Schedules.TheVariants as schedules
 use Rattle.cmwq_cli.specs.declared.word.Word.{Word}
 use Rattle.cmwq_cli.specs.declared.word.Word.TheVariants as word
-
--- the matches of a word have the flag of this name
-abbrev pub has_flag : List ℕ → List Row → Bool
-has_flag name rows = option_map_or (λ value. bytes_eq value (codes "true")) (one_of name rows) false
-
--- the number that the matches of a word have under this name
-abbrev pub number_of_text : List ℕ → Option ℕ
-number_of_text text = if is_unsigned_in 0 (2 ^ 64 - 1) text then Some (digits_value 10 (without_leading_plus text))
-    else None
-
-abbrev pub number_found : List ℕ → List Row → Option ℕ
-number_found name rows = option_and_then number_of_text (one_of name rows)
-
--- all schedules, where no number is given but that of moves
-abbrev pub all_schedules : Option ℕ → Option ℕ → Bool → Option Schedules
-all_schedules (Some other) moves histories = None
-all_schedules None moves histories = Some (schedules.All moves histories)
-
--- the schedules of one seed or of so many, where nothing is given that is of all schedules
-abbrev pub of_seeds : Option ℕ → Option ℕ → Option ℕ → Option Schedules
-of_seeds (Some seed) None pct = Some (schedules.OfSeed seed pct)
-of_seeds None (Some times) pct = Some (schedules.OfSeeds times pct)
-of_seeds seed times pct = None
-
-abbrev pub seeded_schedules : Option ℕ → Option ℕ → Option ℕ → Bool → Option Schedules
-seeded_schedules seed times pct others = if others then None else of_seeds seed times pct
-
--- the schedules that matches ask for, where they are of one kind
-abbrev pub schedules_found : List Row → Option Schedules
-schedules_found rows =
-    if has_flag (codes "all") rows
-    then all_schedules
-    (option_or (option_or (number_found (codes "seed") rows) (number_found (codes "times") rows))
-    (number_found (codes "pct") rows)) (number_found (codes "moves") rows) (has_flag (codes "histories") rows)
-    else seeded_schedules (number_found (codes "seed") rows) (number_found (codes "times") rows)
-    (number_found (codes "pct") rows)
-    (is_some (number_found (codes "moves") rows) || has_flag (codes "histories") rows)
+use Rattle.cmwq_cli.specs.Explore.{has_flag, number_found, options_found, schedules_of, other_found}
 
 -- the word with this name and these matches
 abbrev pub word_found : Text × List Row → Option Word
@@ -64,25 +23,39 @@ word_found found =
     else if bytes_eq found.0 (codes "chart")
     then Some (word.Chart (number_found (codes "from") found.1) (number_found (codes "to") found.1))
     else if bytes_eq found.0 (codes "trace") then Some word.Trace
+    else if bytes_eq found.0 (codes "page")
+    then Some (word.Page (number_found (codes "from") found.1) (number_found (codes "to") found.1))
     else if bytes_eq found.0 (codes "replay") then Some word.Replay
     else if bytes_eq found.0 (codes "run") then Some word.Run
-    else if bytes_eq found.0 (codes "explore") then option_map word.Explore (schedules_found found.1)
+    else if bytes_eq found.0 (codes "explore") then option_map word.Explore (schedules_of (options_found found.1))
     else None
 
--- what is asked: the word, whether it explains, and the name of the file that it reads, if one is given
+-- what is asked: the word, whether it explains, the name of the file that it reads, if one is given, and that of the
+-- file with names, with moves or with a history
 pub record Request : Type 0 where
   pub word : Word
   pub explain : Bool
   pub file : Option Text
+  pub other : Option Text
 
 abbrev pub request : Asked → Request
-request a = record { word = a.word; explain = a.explain; file = option_map (λ s. s.now) a.file }
+request a =
+    record {
+      word = a.word;
+      explain = a.explain;
+      file = option_map (λ s. s.now) a.file;
+      other = option_map (λ s. s.now) a.other;
+    }
 
 abbrev pub asked_found : Text × List Row → Option Request
 asked_found found =
     option_map
-    (λ w. record { word = w; explain = has_flag (codes "explain") found.1; file = first_of (codes "FILE") found.1 })
-    (word_found found)
+    (λ w. record {
+      word = w;
+      explain = has_flag (codes "explain") found.1;
+      file = first_of (codes "FILE") found.1;
+      other = other_found found.1;
+    }) (word_found found)
 
 -- what clap reads of the program's command line: a word is a subcommand, and there is one
 abbrev pub program : Shape
@@ -120,36 +93,54 @@ number_rule name =
           1;
     }
 
--- a word with two such options too
+-- an option with the name of a file: two dashes, its name and that
+abbrev pub file_option : List ℕ → Rule
+file_option name = record (new_rule name) { long = Some name; action = Some Set; value_names = 1 }
+
+-- a word that shows a history may have names
+abbrev pub with_named : App → App → App
+with_named a command = with_command a (with_rule command (file_option (codes "names")))
+
+-- one of them with two options with numbers too
 abbrev pub with_numbers : App → List ℕ → List ℕ → List ℕ → App
 with_numbers a name first second =
-    with_command a (with_rule (with_rule (new_app name) (number_rule first)) (number_rule second))
+    with_named a (with_rule (with_rule (new_app name) (number_rule first)) (number_rule second))
 
--- the words whose inputs are lines, of which `step` also has `--live`, `check` and `open` `--front`, and `chart`
--- `--from` and `--to`, and then those whose inputs are JSON
-abbrev pub with_lines : App
-with_lines =
-    with_word
-    (with_numbers
-    (with_flagged
-    (with_word
+-- the words whose inputs are lines and whose outputs are too, of which `step` also has `--live`, and `check` and `open`
+-- have `--front`; then those that draw a history, of which `chart` and `page` have `--from` and `--to`
+abbrev pub with_texts : App
+with_texts =
+    with_named
+    (with_named
     (with_word
     (with_flagged (with_flagged without_words (codes "step") (codes "live")) (codes "check") (codes "front"))
-    (codes "upgrade")) (codes "summary"))
-    (codes "open") (codes "front"))
-    (codes "chart") (codes "from") (codes "to")) (codes "trace")
+    (codes "upgrade")) (new_app (codes "summary")))
+    (with_rule (new_app (codes "open")) (flag_rule (codes "front")))
 
--- the word `explore`, with its options of one schedule or of so many, and with all its options
+abbrev pub with_lines : App
+with_lines =
+    with_numbers
+    (with_named (with_numbers with_texts (codes "chart") (codes "from") (codes "to")) (new_app (codes "trace")))
+    (codes "page") (codes "from") (codes "to")
+
+-- the word `explore`, with its options of seeds, with those of all schedules too, and with all its options
 abbrev pub seeded_word : App
 seeded_word =
     with_rule
+    (with_rule
     (with_rule (with_rule (new_app (codes "explore")) (number_rule (codes "seed"))) (number_rule (codes "times")))
-    (number_rule (codes "pct"))
+    (number_rule (codes "from"))) (number_rule (codes "pct"))
+
+abbrev pub searching_word : App
+searching_word =
+    with_rule
+    (with_rule (with_rule (with_rule seeded_word (flag_rule (codes "all"))) (flag_rule (codes "plain")))
+    (flag_rule (codes "first"))) (flag_rule (codes "histories"))
 
 abbrev pub explore_word : App
 explore_word =
-    with_rule (with_rule (with_rule seeded_word (flag_rule (codes "all"))) (number_rule (codes "moves")))
-    (flag_rule (codes "histories"))
+    with_rule (with_rule (with_rule searching_word (number_rule (codes "moves"))) (file_option (codes "path")))
+    (file_option (codes "follow"))
 
 abbrev pub app : App
 app = with_command (with_word (with_word with_lines (codes "replay")) (codes "run")) explore_word

@@ -1,11 +1,15 @@
-ghost use Rattle.std.specs.Prelude.{◌≡◌, codes, true, false, IfOk, IfErr, IsSome, Some, option_map};
-ghost use Rattle.clap.specs.Words.{kind_of, app_of, new_app, rule_of, found_of, rows_of, with_rule};
+ghost use Rattle.std.specs.Prelude.{◌≡◌, codes, true, false, is_some, IfOk, IfErr, IsSome, Some, option_map};
+ghost use Rattle.clap.specs.Words.{kind_of, app_of, first_of, new_app, rule_of, found_of, rows_of, with_rule};
 ghost use Rattle.clap.specs.declared.builder.command.Command.TheViews.{out-Command as fields_of};
 ghost use Rattle.cmwq_cli.specs.Word.{Request, file_rule, request, with_command, without_words, with_word};
-ghost use Rattle.cmwq_cli.specs.Word.{with_flagged, with_lines, with_numbers, app, flag_rule, number_rule};
-ghost use Rattle.cmwq_cli.specs.Word.{number_found, has_flag, word_found, asked_found, texts, is_word_taken};
-ghost use Rattle.cmwq_cli.specs.Word.{word_matched, schedules_found, all_schedules, seeded_schedules};
-ghost use Rattle.cmwq_cli.specs.Word.{seeded_word, explore_word};
+ghost use Rattle.cmwq_cli.specs.Word.{with_flagged, with_lines, with_named, with_numbers, with_texts, app, flag_rule};
+ghost use Rattle.cmwq_cli.specs.Word.{number_rule};
+ghost use Rattle.cmwq_cli.specs.Word.{word_found, asked_found, texts, is_word_taken};
+ghost use Rattle.cmwq_cli.specs.Word.{word_matched, seeded_word, searching_word, explore_word, file_option};
+ghost use Rattle.cmwq_cli.specs.Explore.{count, has_searching, has_seeding, is_of_one_kind, of_all, of_path, of_seeds};
+ghost use Rattle.cmwq_cli.specs.Explore.{followed_found, has_flag, number_found, of_history, options_found};
+ghost use Rattle.cmwq_cli.specs.Explore.{other_found};
+ghost use Rattle.cmwq_cli.specs.Explore.{schedules_of};
 
 use clap::builder::ValueParser;
 use clap::error::ErrorKind;
@@ -43,6 +47,13 @@ pub enum Word {
     },
     /// Writes the trace of a legal history.
     Trace,
+    /// Writes the page of a legal history.
+    Page {
+        /// At which entry it opens, if not at the first.
+        from: Option<u64>,
+        /// Up to which entry, without that one, if not to the end.
+        to: Option<u64>,
+    },
     /// Writes the table of a scenario.
     Replay,
     /// Runs a script on threads and writes its history.
@@ -57,12 +68,36 @@ pub enum Word {
 /// Which schedules of a script are played.
 #[derive(Clone, Copy, Debug, PartialEq, Eq)]
 pub enum Schedules {
-    /// The one of a seed, chosen by so many priority changes less one, or else uniformly.
-    OfSeed { seed: u64, pct: Option<u64> },
-    /// Those of so many seeds.
-    OfSeeds { times: u64, pct: Option<u64> },
-    /// All, up to so many moves, and the histories of those that end if they are asked for.
-    All { moves: Option<u64>, histories: bool },
+    /// The one of a seed, chosen by so many priority changes less one, or else uniformly, and of so many moves at most.
+    OfSeed {
+        seed: u64,
+        pct: Option<u64>,
+        moves: Option<u64>,
+    },
+    /// Those of so many seeds from one on.
+    OfSeeds {
+        from: u64,
+        times: u64,
+        pct: Option<u64>,
+        moves: Option<u64>,
+    },
+    /// All, up to so many moves: each state once or each schedule by itself, and to the end or to the first that is
+    /// stuck.
+    All {
+        moves: Option<u64>,
+        plain: bool,
+        first: bool,
+    },
+    /// The history of each that ends, up to so many moves.
+    Histories {
+        moves: Option<u64>,
+    },
+    /// The one whose moves a file says.
+    Path,
+    /// The one that left the history in a file, found by so many tries of a move.
+    Follow {
+        moves: Option<u64>,
+    },
 }
 
 /// A subcommand, what it reads, and whether what it refuses is explained.
@@ -73,6 +108,24 @@ pub struct Asked<'a> {
     pub explain: bool,
     /// The name of the file to read, as it was given. None, or `-`: standard input.
     pub file: Option<&'a str>,
+    /// The name of the file with the names, or with the moves or the history of `explore`.
+    pub other: Option<&'a str>,
+}
+
+/// The options of `explore`.
+#[derive(Clone, Copy)]
+struct Options {
+    seed: Option<u64>,
+    times: Option<u64>,
+    pct: Option<u64>,
+    moves: Option<u64>,
+    from: Option<u64>,
+    all: bool,
+    histories: bool,
+    plain: bool,
+    first: bool,
+    path: bool,
+    follow: bool,
 }
 
 /// What the help of a subcommand says of its file.
@@ -87,6 +140,10 @@ const EXPLAIN_HELP: &str =
 const FRONT_HELP: &str =
     "Reads the whole lines that are there: an unfinished last line is left out, which a line on \
     standard error says, and `end` may be missing";
+
+/// What the help of a word says of its option of names.
+const NAMES_HELP: &str =
+    "Shows the names of items, queues and callers that this script gives, in place of their numbers";
 
 /// What the help of `step` shows below its usage.
 const CALLS_HELP: &str =
@@ -164,15 +221,17 @@ const STANDING_HELP: &str =
 on at its end is told line by line:
 
   entries 9, ticks 4
-  queue 0: width 1                                     each queue, and whether it is frozen, draining or gone
-  worker w0n0 runs item 2, queueing 1, queue 0 on CPU 0, asleep
-  pending item 0, queueing 2, queue 0 on CPU 0, inactive
-  booked item 1, due 9, queue 0 on CPU 0
-  caller c0: ticket 3, flush 0, waits for queueing 1   each wait that has not ended, or `may end`
+  queue 0: width 1                 each queue, and whether it is frozen, draining or gone
+  queues 1 to 7 idle
+  worker w0n0 runs item 2, queueing 1, queue 0 on CPU 0, since entry 2 at tick 0
+  pending item 0, queueing 4, queue 0 on CPU 0, since tick 0, inactive: its queue has no place left on its CPU
+  booked item 1, due 9, queue 0 on CPU 0, since entry 6 at tick 4
+  caller c0: ticket 7, flush 0, since tick 4, waits for queueing 1
 
-A queueing has the number of the entry that opened it, and a ticket that of the entry that gave it. An inactive
-queueing waits until fewer are active than its queue's width. Of an illegal history nothing is written, and the
-verdict goes to standard error.";
+A queueing has the number of the entry that opened it, and a ticket that of the entry that gave it. A queueing that
+has not started says why. A run that sleeps says since when, and by which caller it waits, if the history shows that. A
+wait that nothing holds up says `may end`. Of an illegal history nothing is written, and the verdict goes to standard
+error.";
 
 /// What the help of `chart` shows below its usage.
 const PICTURE_HELP: &str = r"A history of any format, as `step` and `run` write it:
@@ -205,6 +264,22 @@ each worker, and on it each of its runs and sleeps; and for each queue on each C
 how many are open and active, and of its width. The time is the number of the entry. Of an illegal history nothing is
 written, and the verdict goes to standard error.";
 
+/// What the help of `page` shows below its usage.
+const PAGE_HELP: &str = r"A history of any format, as `step` and `run` write it:
+
+  history 2
+  shape 1 2 1 3 100
+  wq 1 -
+  c0 0 queue 0 0 0 = yes 0
+  w0n0 0 take = started 0 enlist 1
+  w0n0 1 finish = finished 0
+
+gives one HTML file, which any browser shows, and which loads nothing from elsewhere. It has the rows of `chart`: marks
+and waits of callers, runs and sleeps of workers, and how many are open and active of each queue on each CPU. The wheel
+and the keys zoom and move, a click tells the line of an entry, filters show what is of one item, queue or caller, and
+tables have the same for screen readers. A million entries make a file of about 40 MB. Of an illegal history nothing is
+written, and the verdict goes to standard error.";
+
 /// What the help of `replay` shows below its usage.
 const SCENARIO_HELP: &str =
     r#"A scenario says which items are queued at 0 ms on one CPU, in this order, and of each how long it burns CPU,
@@ -221,7 +296,7 @@ An item has 1 to 8 parts of 1 to 1000 ms."#;
 
 /// What the help of `run` shows below its usage.
 const SCRIPT_HELP: &str =
-    r#"A script says what each item does when it runs, and what each caller calls, one after the other, in a thread of
+    r#"A script says what each item does when it runs, and what each caller does, one after the other, in a thread of
 its own:
 
   {"cpus":1,"workers":2,"room":100,
@@ -231,7 +306,7 @@ its own:
    "callers":[[["queue","A","q0",0],["queue","B","q0",0],["flush","q0"]]]}
 
 There are 1 to 4 CPUs, 1 to 8 workers in each of their two pools, room for up to 1,000,000 entries, 1 to 64 queues, 1 to
-256 items of up to 64 actions, and 1 to 64 callers of up to 1,000 calls. Names are as in `replay`; a queue may say
+256 items of up to 64 actions, and 1 to 64 callers of up to 1,000 actions. Names are as in `replay`; a queue may say
 "freezable":true. Calls:
 
   ["queue",item,queue,cpu]           ["cancel",item]          ["flush",queue]          ["set_max",queue,n]
@@ -239,18 +314,19 @@ There are 1 to 4 CPUs, 1 to 8 workers in each of their two pools, room for up to
   ["modify",item,queue,cpu,ticks]    ["tick",n]               ["flush_delayed",item]   ["thaw"]
                                      ["drain",queue]          ["destroy",queue]
 
-An action is queue, delay, modify or cancel, or ["open",gate], or ["sleep_at",gate]: the run sleeps until the gate is
-open. There are at most 16 gates, and a name makes one. An action may also be flush_item, flush_delayed, cancel_sync,
-flush or drain: the run sleeps until that has ended. One run may do so at a time, or as many as "waits":n says. A wait
-that could never end is refused, and one without room is left out; both are told. The output is the history of this
-one run, which `check` accepts.
+An action of a caller is a call, or ["open",gate], ["wait",gate], ["lock",lock] or ["unlock",lock]. One of an item is
+queue, delay, modify or cancel, or ["open",gate], ["sleep_at",gate], ["lock",lock] or ["unlock",lock]: the run sleeps
+until the gate is open, or the lock is free. There are at most 16 gates and 16 locks, and a name makes one. An action of
+an item may also be flush_item, flush_delayed, cancel_sync, flush or drain: the run sleeps until that has ended. One run
+may do so at a time, or as many as "waits":n says. A wait that could never end is refused, and one without room is left
+out; both are told. The output is the history of this one run, which `check` accepts.
 
 These are not refused, and may wait for ever:
 
   a call or a wait for what a freeze holds back: it ends only if another caller thaws it
   a drain or a destroy of a queue whose runs go on queueing items there
   a wait that could end when it began, and cannot since max_active was made smaller or a freeze came
-  what waits for a run at a gate that nobody opens: `run` lets that run go on after some seconds
+  what waits at a gate that nobody opens or for a lock that nobody lets go: `run` lets it go on after some seconds
 
 With "format":3 beside "room" it is of format 3, and there may be 1 to 64 CPUs and workers in a pool, 1 to 255 queues
 and callers, 1 to 65,535 items, and room for up to 4,611,686,018,427,387,904 entries. With "journal":64 it is written
@@ -259,7 +335,7 @@ as it is made too, and so many entries are kept at a time."#;
 /// What the help of `explore` shows below its usage.
 const EXPLORE_HELP: &str =
     r#"The input is a script, as `run` reads one. Its schedules are played in one thread: a seed chooses who moves next,
-or all choices are tried. A move is a call of a caller, the end of a wait, or what a worker does next.
+or all choices are tried. A move is an action of a caller, the end of a wait, or what a worker does next.
 
   cmwq explore --seed 7 SCRIPT       the history of one schedule, always the same
   cmwq explore --times 1000 SCRIPT   how many of the schedules of the seeds 0 to 999 ended, and how many got stuck
@@ -304,9 +380,14 @@ fn word_found(name: &str, matches: &ArgMatches) -> Option<Word>
             to: number_found(matches, "to"),
         }),
         "trace" => Some(Word::Trace),
+        "page" => {
+            let from = number_found(matches, "from");
+            let to = number_found(matches, "to");
+            Some(Word::Page { from, to })
+        }
         "replay" => Some(Word::Replay),
         "run" => Some(Word::Run),
-        "explore" => match schedules_found(matches) {
+        "explore" => match options_found(matches).schedules() {
             Some(schedules) => Some(Word::Explore { schedules }),
             None => None,
         },
@@ -314,49 +395,157 @@ fn word_found(name: &str, matches: &ArgMatches) -> Option<Word>
     }
 }
 
-/// Which schedules the matches ask for, if they ask for those of one kind.
-fn schedules_found(matches: &ArgMatches) -> Option<Schedules>
-    ensures { result ≡ schedules_found (rows_of (found_of matches.now)) }
+/// Whether the matches of a word have a text under this name.
+fn has_text(matches: &ArgMatches, name: &str) -> bool
+    ensures { result ≡ is_some (first_of name.now (rows_of (found_of matches.now))) }
 {
-    let seed = number_found(matches, "seed");
-    let times = number_found(matches, "times");
-    let pct = number_found(matches, "pct");
-    let moves = number_found(matches, "moves");
-    let all = has_flag(matches, "all");
-    let histories = has_flag(matches, "histories");
-    if all {
-        all_schedules(seed.or(times).or(pct), moves, histories)
-    } else {
-        seeded_schedules(seed, times, pct, moves.is_some() || histories)
+    matches.get_str(name).is_some()
+}
+
+/// The options of `explore` that the matches hold.
+fn options_found(matches: &ArgMatches) -> Options
+    ensures { result ≡ options_found (rows_of (found_of matches.now)) }
+{
+    Options {
+        seed: number_found(matches, "seed"),
+        times: number_found(matches, "times"),
+        pct: number_found(matches, "pct"),
+        moves: number_found(matches, "moves"),
+        from: number_found(matches, "from"),
+        all: has_flag(matches, "all"),
+        histories: has_flag(matches, "histories"),
+        plain: has_flag(matches, "plain"),
+        first: has_flag(matches, "first"),
+        path: has_text(matches, "path"),
+        follow: has_text(matches, "follow"),
     }
 }
 
-/// All schedules, if no number beside that of moves is given.
-fn all_schedules(other: Option<u64>, moves: Option<u64>, histories: bool) -> Option<Schedules>
-    ensures { result ≡ all_schedules other moves histories }
+/// How many of these are so.
+fn count(one: bool, two: bool, three: bool) -> u8
+    ensures { result ≡ count one two three }
 {
-    match other {
-        Some(_) => None,
-        None => Some(Schedules::All { moves, histories }),
+    u8::from(one) + u8::from(two) + u8::from(three)
+}
+
+impl Options {
+    /// Whether they say of one kind which schedules are meant.
+    fn is_of_one_kind(self) -> bool
+        ensures { result ≡ is_of_one_kind self }
+    {
+        let played = count(self.seed.is_some(), self.times.is_some(), self.all);
+        played + count(self.path, self.follow, false) == 1
+    }
+
+    /// Whether one is given that is of seeds alone.
+    fn has_seeding(self) -> bool
+        ensures { result ≡ has_seeding self }
+    {
+        self.pct.is_some() || self.from.is_some()
+    }
+
+    /// Whether one is given that is of all schedules alone.
+    fn has_searching(self) -> bool
+        ensures { result ≡ has_searching self }
+    {
+        self.histories || self.plain || self.first
+    }
+
+    /// The schedules of seeds, if nothing is given that is not of them.
+    fn of_seeds(self) -> Option<Schedules>
+        ensures { result ≡ of_seeds self }
+    {
+        let (pct, moves) = (self.pct, self.moves);
+        match (self.seed, self.times) {
+            (Some(_), _) if self.from.is_some() => None,
+            (Some(seed), _) => Some(Schedules::OfSeed { seed, pct, moves }),
+            (None, Some(times)) => Some(Schedules::OfSeeds {
+                from: self.from.unwrap_or(0),
+                times,
+                pct,
+                moves,
+            }),
+            (None, None) => None,
+        }
+    }
+
+    /// All schedules, or the history of each.
+    fn of_all(self) -> Option<Schedules>
+        ensures { result ≡ of_all self }
+    {
+        let (moves, plain, first) = (self.moves, self.plain, self.first);
+        match (self.histories, plain || first) {
+            (false, _) => Some(Schedules::All {
+                moves,
+                plain,
+                first,
+            }),
+            (true, false) => Some(Schedules::Histories { moves }),
+            (true, true) => None,
+        }
+    }
+
+    /// The schedules that are meant, if they are of one kind.
+    fn schedules(self) -> Option<Schedules>
+        ensures { result ≡ schedules_of self }
+    {
+        if !self.is_of_one_kind() {
+            return None;
+        }
+        let (has_seeding, has_searching) = (self.has_seeding(), self.has_searching());
+        if self.path {
+            self.of_path()
+        } else if self.follow {
+            self.of_history()
+        } else if self.all {
+            if has_seeding { None } else { self.of_all() }
+        } else if has_searching {
+            None
+        } else {
+            self.of_seeds()
+        }
+    }
+
+    /// The schedule that a file says, if no other option is given.
+    fn of_path(self) -> Option<Schedules>
+        ensures { result ≡ of_path self }
+    {
+        if self.has_seeding() || self.has_searching() || self.moves.is_some() {
+            None
+        } else {
+            Some(Schedules::Path)
+        }
+    }
+
+    /// The schedule that left a history, if no other option is given than how many tries there are.
+    fn of_history(self) -> Option<Schedules>
+        ensures { result ≡ of_history self }
+    {
+        if self.has_seeding() || self.has_searching() {
+            None
+        } else {
+            Some(Schedules::Follow { moves: self.moves })
+        }
     }
 }
 
-/// The schedules of one seed or of so many, if nothing is given that is of all schedules.
-fn seeded_schedules(
-    seed: Option<u64>,
-    times: Option<u64>,
-    pct: Option<u64>,
-    has_others: bool,
-) -> Option<Schedules>
-    ensures { result ≡ seeded_schedules seed times pct has_others }
+/// The name of the file with moves or with a history that the matches hold.
+fn followed_found<'a>(matches: &ArgMatches<'a>) -> Option<&'a str>
+    ensures { option_map (λ name. name.now) result ≡ followed_found (rows_of (found_of matches.now)) }
 {
-    if has_others {
-        return None;
+    match matches.get_str("path") {
+        Some(name) => Some(name),
+        None => matches.get_str("follow"),
     }
-    match (seed, times) {
-        (Some(seed), None) => Some(Schedules::OfSeed { seed, pct }),
-        (None, Some(times)) => Some(Schedules::OfSeeds { times, pct }),
-        _ => None,
+}
+
+/// The name of the other file that the matches hold.
+fn other_found<'a>(matches: &ArgMatches<'a>) -> Option<&'a str>
+    ensures { option_map (λ name. name.now) result ≡ other_found (rows_of (found_of matches.now)) }
+{
+    match matches.get_str("names") {
+        Some(name) => Some(name),
+        None => followed_found(matches),
     }
 }
 
@@ -369,6 +558,7 @@ fn asked_found<'a>(name: &str, matches: &ArgMatches<'a>) -> Option<Asked<'a>>
             word,
             explain: has_flag(matches, "explain"),
             file: matches.get_str("FILE"),
+            other: other_found(matches),
         }),
         None => None,
     }
@@ -488,7 +678,20 @@ fn number_rule<'a>(alloc: Global, option: Flag<'a>) -> Arg<'a>
         .help(option.help)
 }
 
-/// The program with one word more that has two options with numbers.
+/// The program with one word more that shows a history: it may have names.
+fn with_named<'a>(
+    alloc: Global,
+    program: Command<'a>,
+    word: Command<'a>,
+) -> Result<Command<'a>, AllocError>
+    requires { (fields_of word).has_globals ≡ false }
+    ensures { IfOk result (λ c. app_of c ≡ with_named (app_of program.entry) (app_of word.entry)) }
+{
+    let word = with_file(alloc, word, "names", NAMES_HELP)?;
+    with_command(alloc, program, word)
+}
+
+/// The program with one word more that shows a history and has two options with numbers.
 fn with_numbers<'a>(
     alloc: Global,
     program: Command<'a>,
@@ -504,7 +707,7 @@ fn with_numbers<'a>(
 {
     let word = bare_word(alloc, name, about, help).arg(number_rule(alloc, first))?;
     let word = word.arg(number_rule(alloc, second))?;
-    with_command(alloc, program, word)
+    with_named(alloc, program, word)
 }
 
 /// The word with one argument more.
@@ -546,7 +749,33 @@ fn with_flag<'a>(
     with_argument(word, rule(alloc, Flag { name, help }))
 }
 
-/// The word `explore`, with its options of one schedule or of so many.
+/// The argument of an option with the name of a file: two dashes, its name and that.
+fn file_option<'a>(alloc: Global, option: Flag<'a>) -> Arg<'a>
+    ensures rule { rule_of result ≡ file_option option.entry.name.now }
+    ensures local { result.global ≡ false }
+{
+    Arg::new(alloc, option.name)
+        .long(option.name)
+        .action(ArgAction::Set)
+        .value_name("FILE")
+        .help(option.help)
+}
+
+/// The word with an option more that has the name of a file.
+fn with_file<'a>(
+    alloc: Global,
+    word: Command<'a>,
+    name: &'a str,
+    help: &'a str,
+) -> Result<Command<'a>, AllocError>
+    requires { (fields_of word).has_globals ≡ false }
+    ensures shape { IfOk result (λ c. app_of c ≡ with_rule (app_of word.entry) (file_option name.entry.now)) }
+    ensures local { IfOk result (λ c. (fields_of c).has_globals ≡ false) }
+{
+    with_argument(word, file_option(alloc, Flag { name, help }))
+}
+
+/// The word `explore`, with its options of seeds.
 fn seeded_word<'a>(alloc: Global) -> Result<Command<'a>, AllocError>
     ensures shape { IfOk result (λ c. app_of c ≡ seeded_word) }
     ensures local { IfOk result (λ c. (fields_of c).has_globals ≡ false) }
@@ -555,12 +784,29 @@ fn seeded_word<'a>(alloc: Global) -> Result<Command<'a>, AllocError>
     let word = bare_word(alloc, "explore", about, EXPLORE_HELP);
     let help = "Plays the schedule of this seed, and writes its history";
     let word = with_number(alloc, word, "seed", help)?;
-    let help = "Plays the schedules of so many seeds, from 0 on";
+    let help = "Plays the schedules of so many seeds";
     let word = with_number(alloc, word, "times", help)?;
+    let help = "Begins with this seed, in place of 0";
+    let word = with_number(alloc, word, "from", help)?;
     let help =
         "Lets the first in a random order move, in which so many less one go to the end at random moves; without it, \
         each that may move is equally likely";
     with_number(alloc, word, "pct", help)
+}
+
+/// The word `explore`, with its options of all schedules too.
+fn searching_word<'a>(alloc: Global) -> Result<Command<'a>, AllocError>
+    ensures shape { IfOk result (λ c. app_of c ≡ searching_word) }
+    ensures local { IfOk result (λ c. (fields_of c).has_globals ≡ false) }
+{
+    let help = "Tries all schedules, and visits each state once";
+    let word = with_flag(alloc, seeded_word(alloc)?, "all", help)?;
+    let help = "Plays each schedule by itself, also where it comes to a state that was visited";
+    let word = with_flag(alloc, word, "plain", help)?;
+    let help = "Ends with the first schedule that gets stuck";
+    let word = with_flag(alloc, word, "first", help)?;
+    let help = "Writes the history of each schedule that ends, in place of how many there are";
+    with_flag(alloc, word, "histories", help)
 }
 
 /// The word `explore`, with all its options.
@@ -568,16 +814,20 @@ fn explore_word<'a>(alloc: Global) -> Result<Command<'a>, AllocError>
     ensures shape { IfOk result (λ c. app_of c ≡ explore_word) }
     ensures local { IfOk result (λ c. (fields_of c).has_globals ≡ false) }
 {
-    let word = with_flag(alloc, seeded_word(alloc)?, "all", "Plays all schedules")?;
-    let help = "Makes at most so many moves, in place of 100,000,000";
-    let word = with_number(alloc, word, "moves", help)?;
-    let help = "Writes the history of each schedule that ends, in place of how many there are";
-    with_flag(alloc, word, "histories", help)
+    let help =
+        "Makes at most so many moves: of all schedules, and in search of one, in place of 100,000,000; or of each one, \
+        in place of as many as its room allows";
+    let word = with_number(alloc, searching_word(alloc)?, "moves", help)?;
+    let help = "Plays the schedule with the moves in this file, as a report prints them";
+    let word = with_file(alloc, word, "path", help)?;
+    let help =
+        "Finds the schedule that left the history in this file, or the first entry that none leaves";
+    with_file(alloc, word, "follow", help)
 }
 
-/// The program with the words whose inputs are lines.
-fn with_lines<'a>(alloc: Global) -> Result<Command<'a>, AllocError>
-    ensures { IfOk result (λ c. app_of c ≡ with_lines) }
+/// The program with the words whose inputs are lines and whose outputs are too.
+fn with_texts<'a>(alloc: Global) -> Result<Command<'a>, AllocError>
+    ensures { IfOk result (λ c. app_of c ≡ with_texts) }
 {
     let about = "Reads call lines and writes the history of their answers";
     let live = Flag {
@@ -595,13 +845,19 @@ fn with_lines<'a>(alloc: Global) -> Result<Command<'a>, AllocError>
         "Reads a history and writes it, if it is legal: one of format 1 in format 2, and others as they are";
     let command = with_word(alloc, command, "upgrade", about, FORMER_HELP)?;
     let about = "Reads a history and writes its figures, if it is legal";
-    let command = with_word(alloc, command, "summary", about, FIGURES_HELP)?;
+    let word = bare_word(alloc, "summary", about, FIGURES_HELP);
+    let command = with_named(alloc, command, word)?;
     let about = "Reads a history and writes what is still going on at its end, if it is legal";
-    let front = Flag {
-        name: "front",
-        help: FRONT_HELP,
-    };
-    let command = with_flagged(alloc, command, "open", about, STANDING_HELP, front)?;
+    let word = bare_word(alloc, "open", about, STANDING_HELP);
+    let word = with_flag(alloc, word, "front", FRONT_HELP)?;
+    with_named(alloc, command, word)
+}
+
+/// The program with the words whose inputs are lines.
+fn with_lines<'a>(alloc: Global) -> Result<Command<'a>, AllocError>
+    ensures { IfOk result (λ c. app_of c ≡ with_lines) }
+{
+    let command = with_texts(alloc)?;
     let about = "Reads a history and writes its picture as SVG, if it is legal";
     let from = Flag {
         name: "from",
@@ -613,7 +869,18 @@ fn with_lines<'a>(alloc: Global) -> Result<Command<'a>, AllocError>
     };
     let command = with_numbers(alloc, command, "chart", about, PICTURE_HELP, from, to)?;
     let about = "Reads a history and writes its trace in JSON, if it is legal";
-    with_word(alloc, command, "trace", about, TRACE_HELP)
+    let word = bare_word(alloc, "trace", about, TRACE_HELP);
+    let command = with_named(alloc, command, word)?;
+    let about = "Reads a history and writes it as an HTML page to zoom and search, if it is legal";
+    let from = Flag {
+        name: "from",
+        help: "Opens at this entry",
+    };
+    let to = Flag {
+        name: "to",
+        help: "Opens with the entries up to this one, without it",
+    };
+    with_numbers(alloc, command, "page", about, PAGE_HELP, from, to)
 }
 
 /// The program's command line, as `--help` shows it.
@@ -658,7 +925,8 @@ fn unclear(alloc: Global) -> Result<Error, AllocError> {
     let mut command = command(alloc)?;
     command.error(
         ErrorKind::MissingRequiredArgument,
-        "explore takes one of --seed N, --times N and --all: the first two with --pct D, the last with --moves N and \
-        --histories",
+        "cmwq explore takes one of --seed N, --times N, --all, --path FILE and --follow FILE: --times also with \
+        --from N, --seed and --times with --pct D and --moves N, --all with --moves N and either --histories or \
+        --plain and --first, --follow with --moves N",
     )
 }

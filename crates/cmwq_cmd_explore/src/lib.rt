@@ -1,8 +1,13 @@
 //! The subcommand `explore`, over any source of bytes and any sinks.
 #![tactic(auto)]
 
+mod all;
 mod explore;
+mod history;
+mod path;
 mod report;
+mod seeds;
+mod verdict;
 mod watching;
 
-pub use explore::{Task, never_both, run_explore};
+pub use explore::{Seeding, Task, never_both, run_explore, run_follow, run_path};

@@ -1,14 +1,11 @@
 //! What is written while schedules are played: how far it is, and histories.
 
 use arrayvec::ArrayString;
-use cmwq_explore::{Found, Play, Standing, Watch};
+use cmwq_explore::{Play, Progress, Standing, Watch};
 use cmwq_history::write_history;
 use cmwq_io::{Sink, flush_all, write_all};
 use std::fmt;
 use std::fmt::Write;
-
-/// After how many moves it is shown how far it is.
-const MOVES_A_LOOK: u64 = 1_000_000;
 
 /// Where to all that goes.
 #[derive(Drop)]
@@ -18,15 +15,14 @@ pub(crate) struct Watching<'a, O, E> {
     shows_progress: bool,
     writes_histories: bool,
     has_failed: bool,
-    next_look: u64,
 }
 
 /// Room for what is shown of how far it is.
 type Shown = ArrayString<128>;
 
-fn spell(found: &Found) -> Result<Shown, fmt::Error> {
+fn spell(progress: &Progress) -> Result<Shown, fmt::Error> {
     let mut shown = Shown::new();
-    let (moves, ended, stuck) = (found.moves, found.ended, found.stuck);
+    let (moves, ended, stuck) = (progress.moves, progress.ended, progress.stuck);
     write!(shown, "\rcmwq: {moves} moves, {ended} ended, {stuck} stuck")?;
     Ok(shown)
 }
@@ -44,7 +40,6 @@ impl<'a, O: Sink, E: Sink> Watching<'a, O, E> {
             shows_progress,
             writes_histories,
             has_failed: false,
-            next_look: MOVES_A_LOOK,
         }
     }
 
@@ -52,22 +47,9 @@ impl<'a, O: Sink, E: Sink> Watching<'a, O, E> {
         self.output
     }
 
-    pub(crate) fn writes_histories(&self) -> bool {
-        self.writes_histories
-    }
-
     /// Whether a history wasn't written.
     pub(crate) fn has_failed(&self) -> bool {
         self.has_failed
-    }
-
-    /// So many moves more were made.
-    pub(crate) fn count(&mut self, found: &mut Found, moves: u64) {
-        found.moves = found.moves.saturating_add(moves);
-        if found.moves >= self.next_look {
-            self.next_look = found.moves.saturating_add(MOVES_A_LOOK);
-            self.looks(found);
-        }
     }
 
     fn show(&mut self, text: &str) {
@@ -84,8 +66,8 @@ impl<'a, O: Sink, E: Sink> Watching<'a, O, E> {
 }
 
 impl<'a, O: Sink, E: Sink> Watch for Watching<'a, O, E> {
-    fn looks(&mut self, found: &Found) {
-        if let Ok(shown) = spell(found) {
+    fn looks(&mut self, progress: &Progress) {
+        if let Ok(shown) = spell(progress) {
             self.show(shown.as_str());
         }
     }

@@ -1,2 +1,3 @@
 mod Ends
+mod Following
 pub mod Interpreting

@@ -19,6 +19,10 @@ abbrev pub SleepsOnce : Layout → View → View → Type 0
 SleepsOnce s v w = ((asleep : View) × MakesOne s v call.Sleep asleep × MakesIfRoom s asleep call.Wake w)
     ⊎ Refused s v call.Sleep Full w
 
+-- It took a lock that nobody held, without an entry; or it slept, and woke when it had taken the lock.
+abbrev pub TakesLock : Layout → View → View → Type 0
+TakesLock s v w = (w ≡ v) ⊎ SleepsOnce s v w
+
 -- The wait of an item's run was refused, with nothing made, but that a run that was asleep woke. There was a reason: it
 -- was for the run itself, or it could never end, as was found under the lock; or it might have ended, and no caller was
 -- left to be lent.
@@ -38,12 +42,15 @@ abbrev pub Calls : Layout → ItemId → LeftOut → LeftOut → View → Call �
 Calls s item old new v c w =
     MatchBool (is_workers c) (MakesIfRoom s v c w × (new ≡ old)) (WaitsIfMay s item old new v c w)
 
--- One action of an item: a call that makes no sense of a run is left out, and a gate is opened without an entry.
+-- One action of an item: a call that makes no sense of a run is left out. A gate is opened, and a lock is let go,
+-- without an entry.
 abbrev pub Acts : Layout → ItemId → Action → LeftOut → LeftOut → View → View → Type 0
 Acts s item (action.Call c) old new v w =
     MatchBool (is_own c && has_numbers s c) (Calls s item old new v c w) ((w ≡ v) × (new ≡ old))
 Acts s item (action.Open gate) old new v w = (w ≡ v) × (new ≡ old)
 Acts s item (action.SleepAt gate) old new v w = SleepsOnce s v w × (new ≡ old)
+Acts s item (action.Lock lock) old new v w = TakesLock s v w × (new ≡ old)
+Acts s item (action.Unlock lock) old new v w = (w ≡ v) × (new ≡ old)
 
 -- actions in turn, of a run that had left out so many waits, `old`, and then has left out `new`
 abbrev pub ActInTurn : Layout → ItemId → List Action → LeftOut → LeftOut → View → View → Type 0

@@ -1,3 +1,4 @@
 pub mod Common
+pub mod Followed
 pub mod Interpreted
 pub mod Run

@@ -4,6 +4,7 @@ ghost use Rattle.cmwq_cmd_run.specs.declared.failure.Failure.TheVariants as fail
 ghost use Rattle.cmwq_json.specs.declared.fault.Fault.TheVariants as fault;
 ghost use Rattle.cmwq_cmd_run.specs.Run.{failure_status, failed_run};
 
+use crate::lock_fault::LockFault;
 use arrayvec::ArrayString;
 use cmwq_json::{Fault, fault_status};
 use cmwq_rt::RunFault;
@@ -23,9 +24,12 @@ pub enum Failure {
     /// 4 no place for a caller, 5 closed, 6 a stranger, 7 no thread.
     #[error("run fault {number}")]
     Run { number: u8 },
-    /// A run looked at this gate in vain, and so many calls were left out for want of room.
+    /// A run or a caller looked at this gate in vain, and so many calls were left out for want of room.
     #[error("gate {name} was not opened")]
     Gate { name: GateName, left_out: u64 },
+    /// This went wrong at a lock.
+    #[error("{0}")]
+    Lock(LockFault),
 }
 
 impl From<Fault> for Failure {
@@ -68,6 +72,6 @@ pub fn failure_status_of(failure: Failure) -> u8
     match failure {
         Failure::Input(fault) => fault_status(fault),
         Failure::Run { .. } => 5,
-        Failure::Gate { .. } => 1,
+        Failure::Gate { .. } | Failure::Lock(_) => 1,
     }
 }

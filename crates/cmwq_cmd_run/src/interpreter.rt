@@ -1,4 +1,4 @@
-//! The work functions of a script: what each item does when it runs.
+//! What the items of a script do when they run.
 ghost use Rattle.std.specs.Prelude.{◌≡◌, ◌⊎◌, ◌+◌, true, false, map, string_bytes, IfOk, IfErr, IfSome, None, Some};
 ghost use Rattle.std.specs.Prelude.{Err};
 ghost use Rattle.cmwq_monitor.specs.Faults.{is_full};
@@ -11,17 +11,22 @@ ghost use Rattle.cmwq_json_script.specs.declared.action.Action.TheVariants as ac
 ghost use Rattle.cmwq_cmd_run.specs.Interpreted.{Acts, ActInTurn, SleepsOnce};
 ghost use Rattle.cmwq_cmd_run.specs.Run.{IsNamed, told_count};
 
+use crate::locks::Locks;
 use crate::refusals::{ActionId, Refusals, RefusedWaits};
-use cmwq_json_script::Action;
+use crate::room::unless_full;
+use cmwq_json_script::{Action, Holder};
 use cmwq_model::{Call, ItemId, Reply};
 use cmwq_rt::{Gate, Gates, HubName, LeftOut, RunCtx, RunFault, WaitFault, Work};
 use std::sync::Wait;
 
-/// Runs an item by doing its actions, one after another.
+/// Interprets a script: runs an item by doing its actions, one after another, and does those of a caller. All share the
+/// gates and the locks.
 #[derive(Drop)]
 pub struct Interpreter<'a> {
     does: &'a [Vec<Action>],
-    gates: Gates,
+    pub(crate) callers: &'a [Vec<Action>],
+    pub(crate) gates: Gates,
+    pub(crate) locks: Locks,
     refusals: Refusals,
 }
 
@@ -43,30 +48,22 @@ fn is_own(call: Call) -> bool
     )
 }
 
-/// An action for which there is no room is left out.
-fn unless_full(answer: Result<Reply, RunFault>) -> Result<(), RunFault>
-    ensures passes { IfOk result (λ _. IfErr answer (λ f. f ≡ Full)) }
-    ensures broke { IfErr result (λ f. IfOk answer (λ _. ⊥) × IfErr answer (λ e. e ≡ f) × (is_full f ≡ false)) }
-{
-    match answer {
-        Ok(_) | Err(RunFault::Full) => Ok(()),
-        Err(fault) => Err(fault),
-    }
-}
-
 impl<'a> Interpreter<'a> {
-    /// What each item does, by its number; all gates are shut.
-    pub fn new(does: &'a [Vec<Action>]) -> Interpreter<'a>
-        ensures { result.does.now ≡ does.now }
+    /// What each item and each caller does, by its number; all gates are shut, and nobody holds a lock.
+    pub fn new(does: &'a [Vec<Action>], callers: &'a [Vec<Action>]) -> Interpreter<'a>
+        ensures does { result.does.now ≡ does.now }
+        ensures callers { result.callers.now ≡ callers.now }
     {
         Interpreter {
             does,
+            callers,
             gates: Gates::new(),
+            locks: Locks::new(),
             refusals: Refusals::new(),
         }
     }
 
-    /// Whether a run passed this gate after it had looked at it in vain.
+    /// Whether a run or a caller passed this gate after it had looked at it in vain.
     pub fn was_missed<R: Wait>(&self, rt: &R, gate: u8) -> bool {
         self.gates.was_missed(rt, gate)
     }
@@ -178,6 +175,12 @@ impl<'a> Interpreter<'a> {
                 Ok(())
             }
             Action::SleepAt { gate } => self.sleep_at(context, gate),
+            Action::Lock { lock } => self.locks.lock_in_run(context, lock),
+            Action::Unlock { lock } => {
+                let holder = Holder::Run(context.item());
+                self.locks.unlock(context.rt(), lock, holder);
+                Ok(())
+            }
         }
     }
 

@@ -5,12 +5,14 @@ ghost use Rattle.cmwq_io.specs.Counts.{Rises};
 ghost use Rattle.cmwq_cmd_run.specs.declared.failure.Failure.{Failure as TheFailure};
 ghost use Rattle.cmwq_cmd_run.specs.declared.run.Done.{Done as TheDone};
 ghost use Rattle.cmwq_cmd_run.specs.declared.failure.Failure.TheVariants as failure;
-ghost use Rattle.cmwq_cmd_run.specs.Run.{InputEnds, ScriptEnds, RunLeaves, FailsOn, IsNamed, done_status, run_status};
+ghost use Rattle.cmwq_cmd_run.specs.Run.{InputEnds, ScriptEnds, RunLeaves, FailsOn, IsBetween, IsNamed, done_status};
+ghost use Rattle.cmwq_cmd_run.specs.Run.{run_status};
 ghost use Rattle.cmwq_json.specs.declared.fault.Fault.TheVariants as fault;
 ghost use Rattle.cmwq_json_script.specs.Scripts.{run_of, MayRun};
 
 use crate::failure::{Failure, GateName, failure_status_of};
 use crate::interpreter::Interpreter;
+use crate::lock_fault::fault_of_locks;
 use crate::refusals::RefusedWaits;
 use cmwq_explain::explain_gate;
 use cmwq_history::{tell_full, write_history};
@@ -48,7 +50,26 @@ fn missed_gate<R: Wait>(rt: &R, interpreter: &Interpreter, gates: &[String]) -> 
     None
 }
 
-/// Runs a script on threads. A gate that was not opened is told before calls that had no room.
+/// What went wrong between the callers and the items of a run that has ended, where so many calls were left out: a gate
+/// that was not opened, or else a fault of a lock.
+fn fault_between<R: Wait>(
+    rt: &R,
+    script: &Script,
+    interpreter: &Interpreter,
+    left_out: u64,
+) -> Option<Failure>
+    requires gates { length script.now.gates.items ≤ 16 }
+    requires locks { length script.now.locks.items ≤ 16 }
+    ensures { IfSome result (IsBetween (run_of script.now) left_out) }
+{
+    if let Some(name) = missed_gate(rt, interpreter, &script.gates) {
+        return Some(Failure::Gate { name, left_out });
+    }
+    let fault = fault_of_locks(rt, &interpreter.locks, script)?;
+    Some(Failure::Lock(fault))
+}
+
+/// Runs a script on threads.
 fn run_script<R: Threads + Wait + Sync>(
     rt: &R,
     alloc: Global,
@@ -57,19 +78,24 @@ fn run_script<R: Threads + Wait + Sync>(
 ) -> Result<Report, Failure>
     requires may { MayRun script.now }
     requires plays { interpreter.now.does.now ≡ script.now.does.items }
+    requires calls { interpreter.now.callers.now ≡ script.now.callers.items }
     ensures leaves { IfOk result (λ r. RunLeaves (run_of script.now) r.full r.left_out r.history.items) }
     ensures failed { IfErr result (λ f. FailsOn (run_of script.now) f) }
 {
-    let (shape, callers) = (&script.shape, &script.callers);
-    let report = match run_scripts_lending(rt, alloc, shape, callers, script.waits, interpreter) {
+    let shape = &script.shape;
+    let report = match run_scripts_lending(
+        rt,
+        alloc,
+        shape,
+        &*interpreter,
+        script.waits,
+        &*interpreter,
+    ) {
         Ok(report) => report,
         Err(fault) => return Err(Failure::from(fault)),
     };
-    match missed_gate(rt, interpreter, &script.gates) {
-        Some(name) => Err(Failure::Gate {
-            name,
-            left_out: report.full,
-        }),
+    match fault_between(rt, script, interpreter, report.full) {
+        Some(failure) => Err(failure),
         None => Ok(report),
     }
 }
@@ -89,7 +115,7 @@ fn run_and_write<O: Sink, R: Threads + Wait + Sync>(
     ensures write_fault { IsErrOf result (failure.Input fault.WriteFault)
         → Rises (O.troubles output.old) (O.troubles output.new) }
 {
-    let interpreter = Interpreter::new(&script.does);
+    let interpreter = Interpreter::new(&script.does, &script.callers);
     let report = match run_script(rt, alloc, script, &interpreter) {
         Ok(report) => report,
         Err(failure) => return Err(failure),
@@ -120,13 +146,12 @@ fn run_with_journal<O: Sink, R: Threads + Wait + Clock + Sync>(
     ensures write_fault { IsErrOf result (failure.Input fault.WriteFault)
         → Rises (O.troubles output.old) (O.troubles output.new) }
 {
-    let interpreter = Interpreter::new(&script.does);
-    let (shape, callers) = (&script.shape, &script.callers);
+    let interpreter = Interpreter::new(&script.does, &script.callers);
     let Written { full, left_out, .. } = match run_scripts_with_journal(
         rt,
         alloc,
-        shape,
-        callers,
+        &script.shape,
+        &interpreter,
         script.waits,
         &interpreter,
         kept,
@@ -136,11 +161,8 @@ fn run_with_journal<O: Sink, R: Threads + Wait + Clock + Sync>(
         Err(Unwritten::Sink) => return Err(Failure::Input(Fault::WriteFault)),
         Err(Unwritten::Run(fault)) => return Err(Failure::from(fault)),
     };
-    match missed_gate(rt, &interpreter, &script.gates) {
-        Some(name) => Err(Failure::Gate {
-            name,
-            left_out: full,
-        }),
+    match fault_between(rt, script, &interpreter, full) {
+        Some(failure) => Err(failure),
         None => Ok(Done {
             full,
             left_out,
@@ -193,13 +215,13 @@ fn run<S: Source, O: Sink, R: Threads + Wait + Clock + Sync>(
 
 /// Reads all of a script in JSON, runs it on threads, and writes the history that it leaves with its shape, and nothing
 /// else: when the run is over, or with a journal as it is made. What went wrong is told on `errors`, whose own failing
-/// changes nothing: of a run that came to its end the first of a fault of the hub, a gate that was not opened, calls
-/// left out for want of room, and waits of items that were refused. Answers the exit status: 0 done, 1 refused input or
-/// a gate, 4 no memory, or calls left out, 5 a fault of reading, writing or running, 6 waits that were refused. At
-/// calls left out and at refused waits the history is written all the same; at a fault of writing a front of it is; at
-/// all else nothing is. With a journal the history is whole at a gate too, and at want of memory and at a fault of the
-/// hub or of writing a front of a legal history is written. Where it is to explain, of a gate it is told too how many
-/// calls were left out for want of room, if any were.
+/// changes nothing: the first of a fault of the hub, a gate that was not opened, a fault of a lock, calls left out for
+/// want of room, and waits of items that were refused. Answers the exit status: 0 done, 1 refused input, a gate or a
+/// lock, 4 no memory, or calls left out, 5 a fault of reading, writing or running, 6 waits that were refused. At calls
+/// left out and at refused waits the history is written all the same; at a fault of writing a front of it is; at all
+/// else nothing is. With a journal the history is whole at a gate and at a lock too, and at want of memory and at a
+/// fault of the hub or of writing a front of a legal history is written. Where it is to explain, of a gate it is told
+/// too how many calls were left out for want of room, if any were.
 pub fn run_run<S: Source, O: Sink, E: Sink, R: Threads + Wait + Clock + Sync>(
     rt: &R,
     alloc: Global,

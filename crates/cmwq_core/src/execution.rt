@@ -1,9 +1,10 @@
-ghost use Rattle.std.specs.Prelude.{◌≡◌, ◌<◌, ◌≤◌, [], length, count_by, is_ok, IfOk, OnErr, IsTrue};
+ghost use Rattle.std.specs.Prelude.{◌≡◌, ◌<◌, ◌≤◌, [], length, count_by, is_ok, IfOk, IsOk, OnErr, IsTrue};
 ghost use Rattle.cmwq_model.specs.Prelude.{fits, most_room, IsLegal, still_open, room_needed, is_active, opening};
 ghost use Rattle.cmwq_model.specs.Calls as calls;
 ghost use Rattle.cmwq_model.specs.Legal as legal;
 ghost use Rattle.cmwq_model.specs.Widths as widths;
 ghost use Rattle.cmwq_state.specs.Pwqs.{AreActiveCounts};
+ghost use Rattle.cmwq_state.specs.State.{AreOfOneSize};
 ghost use Rattle.cmwq_state.specs.Tables as tables;
 ghost use Rattle.cmwq_theory_steps.specs.Endings.{ending};
 ghost use Rattle.cmwq_theory_steps.specs.TicketSteps.{ticket_ended};
@@ -43,7 +44,7 @@ impl Model for Execution {
 }
 
 impl Execution {
-    /// An execution with no entries. No later call takes memory; the error says that it ran out.
+    /// An execution with no entries. No later call takes memory, except `copy_from`; the error says that it ran out.
     pub fn new(alloc: Global, shape: &Shape, room: u64) -> Result<Execution, NoMemory>
         requires { room ≤ most_room }
         ensures { IfOk result (λ execution. execution ≡ record { layout = shape.now; room = room; entries = [] }) }
@@ -56,6 +57,19 @@ impl Execution {
     /// Lets the execution go, as `State::end` does a state.
     pub fn end(self) {
         self.state.end();
+    }
+
+    /// Makes this a copy of another execution. Each goes on by itself then. Where both are of as many CPUs, workers,
+    /// callers, items and queues, no memory is taken.
+    ///
+    /// # Errors
+    /// `NoMemory` where it ran out. The execution is then the old one.
+    pub fn copy_from(&mut self, other: &Execution) -> Result<(), NoMemory>
+        ensures copy { IfOk result (λ done. self.new ≡ other.now) }
+        ensures old { OnErr result (self.new ≡ self.old) }
+        ensures succeeds { AreOfOneSize self.old.layout other.now.layout → IsOk result }
+    {
+        self.state.copy_from(&other.state)
     }
 
     /// How many entries there are.

@@ -1,4 +1,4 @@
-//! Calls of callers and actions of items: a list of a word and its arguments.
+//! Actions of callers and of items: a list of a word and its arguments.
 
 use crate::grammar::Grammar;
 use crate::members::{Path, names_in, say_value};
@@ -11,14 +11,14 @@ use itoa::Buffer;
 use serde_json::Value;
 use std::alloc::AllocError;
 
-/// Who makes a call.
+/// Whose action it is.
 #[derive(Clone, Copy, PartialEq, Eq)]
 pub enum Maker {
     Caller,
     Item,
 }
 
-/// Where a call stands: who makes it, in which list, and at which place there.
+/// Where an action stands: whose it is, in which list, and at which place there.
 #[derive(Clone, Copy)]
 pub struct CallSite<'a> {
     pub maker: Maker,
@@ -27,19 +27,16 @@ pub struct CallSite<'a> {
 }
 
 impl CallSite<'_> {
-    /// Says which call is told.
+    /// Says which action is told.
     fn say(self, text: &mut Text) {
         self.path.say(text);
-        text.say(match self.maker {
-            Maker::Caller => ", call ",
-            Maker::Item => ", action ",
-        });
+        text.say(", action ");
         text.number(self.index as u64);
         text.say(": ");
     }
 }
 
-/// What stands in a call after its word.
+/// What stands in an action after its word.
 #[derive(Clone, Copy)]
 enum Argument {
     Item,
@@ -48,6 +45,7 @@ enum Argument {
     Ticks,
     MaxActive,
     Gate,
+    Lock,
 }
 
 impl Argument {
@@ -60,6 +58,7 @@ impl Argument {
             Argument::Ticks => "4",
             Argument::MaxActive => "5",
             Argument::Gate => "\"g\"",
+            Argument::Lock => "\"m\"",
         }
     }
 
@@ -72,6 +71,7 @@ impl Argument {
             Argument::Ticks => "how many ticks",
             Argument::MaxActive => "a max_active",
             Argument::Gate => "a gate's name",
+            Argument::Lock => "a lock's name",
         }
     }
 }
@@ -84,7 +84,7 @@ struct Slot {
     argument: Argument,
 }
 
-/// A call or an action: its word, and its arguments.
+/// An action: its word, and its arguments.
 type Sample = (&'static str, [Option<Argument>; 4]);
 
 const ITEM: Option<Argument> = Some(Argument::Item);
@@ -99,12 +99,14 @@ const WIDTH: Option<Argument> = Some(Argument::MaxActive);
 
 const GATE: Option<Argument> = Some(Argument::Gate);
 
+const LOCK: Option<Argument> = Some(Argument::Lock);
+
 const NONE: Option<Argument> = None;
 
-/// How many calls and actions there are.
-const SAMPLE_COUNT: usize = 16;
+/// How many actions there are.
+const SAMPLE_COUNT: usize = 19;
 
-/// Each call and action.
+/// Each action.
 const SAMPLES: [Sample; SAMPLE_COUNT] = [
     ("queue", [ITEM, QUEUE, CPU, NONE]),
     ("delay", [ITEM, QUEUE, CPU, TICKS]),
@@ -122,6 +124,9 @@ const SAMPLES: [Sample; SAMPLE_COUNT] = [
     ("thaw", [NONE, NONE, NONE, NONE]),
     ("open", [GATE, NONE, NONE, NONE]),
     ("sleep_at", [GATE, NONE, NONE, NONE]),
+    ("wait", [GATE, NONE, NONE, NONE]),
+    ("lock", [LOCK, NONE, NONE, NONE]),
+    ("unlock", [LOCK, NONE, NONE, NONE]),
 ];
 
 /// The actions by which a run waits.
@@ -155,17 +160,17 @@ pub fn any_waits(world: World<'_>) -> bool {
     false
 }
 
-/// The call or action with this number.
+/// The action with this number.
 fn sample_of(number: usize) -> Option<Sample> {
     SAMPLES.get(number).copied()
 }
 
-/// The word of a call or action.
+/// The word of an action.
 fn word_of(number: usize) -> Option<&'static str> {
     Some(sample_of(number)?.0)
 }
 
-/// An argument of a call or action, if it has so many.
+/// An argument of an action, if it has so many.
 fn argument_of(number: usize, index: usize) -> Option<Argument> {
     let (_, arguments) = sample_of(number)?;
     *arguments.get(index)?
@@ -239,15 +244,7 @@ fn number_of(word: &str) -> Option<usize> {
     (0..SAMPLE_COUNT).find(|number| word_of(*number) == Some(word))
 }
 
-/// What a call is called.
-fn role(maker: Maker) -> &'static str {
-    match maker {
-        Maker::Caller => " is no call",
-        Maker::Item => " is no action",
-    }
-}
-
-/// Tells what is wrong with a call.
+/// Tells what is wrong with an action.
 pub fn tell_call(
     text: &mut Text,
     world: World<'_>,
@@ -263,7 +260,7 @@ pub fn tell_call(
         site.say(text);
         say_value(text, world, call)?;
         text.say(match maker {
-            Maker::Caller => ": expected is a call, as [\"flush\",\"q0\"]",
+            Maker::Caller => ": expected is an action, as [\"flush\",\"q0\"]",
             Maker::Item => ": expected is an action, as [\"cancel\",\"A\"]",
         });
         return Ok(true);
@@ -276,7 +273,7 @@ pub fn tell_call(
         _ => {
             site.say(text);
             text.quoted(word.as_str().as_bytes());
-            text.say(role(maker));
+            text.say(" is no action");
             say_names(text, words.as_slice(), word.as_str());
             Ok(true)
         }
@@ -295,7 +292,7 @@ fn tell_arguments(
         let Some(wanted) = argument_of(number, at) else {
             site.say(text);
             say_value(text, world, argument)?;
-            text.say(": the call should end before it");
+            text.say(": the action should end before it");
             return Ok(true);
         };
         let slot = Slot {
@@ -310,7 +307,7 @@ fn tell_arguments(
     match argument_of(number, arguments.len()) {
         Some(argument) => {
             site.say(text);
-            text.say("here ends the call; expected is ");
+            text.say("here ends the action; expected is ");
             text.say(argument.wanted());
             Ok(true)
         }
@@ -329,15 +326,15 @@ fn tell_argument(
     match slot.argument {
         Argument::Item => tell_name(text, world, site, "items", " is no item", argument),
         Argument::Queue => tell_name(text, world, site, "queues", " is no queue", argument),
-        Argument::Gate => tell_gate(text, world, site, argument),
+        Argument::Gate | Argument::Lock => tell_new_name(text, world, site, argument),
         Argument::Cpu => tell_cpu(text, world, site, argument),
         Argument::Ticks => tell_number(text, world, site, "ticks ", slot, argument),
         Argument::MaxActive => tell_number(text, world, site, "max_active ", slot, argument),
     }
 }
 
-/// Tells the name of a gate that is none.
-fn tell_gate(
+/// Tells the name of a gate or a lock that is none.
+fn tell_new_name(
     text: &mut Text,
     world: World<'_>,
     site: CallSite<'_>,
@@ -461,7 +458,7 @@ fn say_limit(
     Ok(())
 }
 
-/// Tells that a list has too many calls.
+/// Tells that a list has too many actions.
 pub fn tell_count(
     text: &mut Text,
     world: World<'_>,
@@ -485,15 +482,12 @@ pub fn tell_count(
     path.say(text);
     text.say(": ");
     text.number(count);
-    text.say(match maker {
-        Maker::Caller => " calls: at most ",
-        Maker::Item => " actions: at most ",
-    });
+    text.say(" actions: at most ");
     text.number(low);
     Ok(true)
 }
 
-/// Whether so many calls are taken.
+/// Whether so many actions are taken.
 fn fits_count(world: World<'_>, maker: Maker, count: u64) -> Result<bool, AllocError> {
     let mut calls = Json::new(world.alloc);
     calls.put_times("[\"cancel\",\"i\"]", count);

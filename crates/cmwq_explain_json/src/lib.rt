@@ -3,7 +3,6 @@
 #![tactic(auto)]
 
 mod calls;
-mod gates;
 mod grammar;
 mod inputs;
 mod limits;
@@ -12,6 +11,7 @@ mod members;
 mod names;
 mod objects;
 mod scripts;
+mod used;
 mod values;
 
 pub use inputs::{explain_scenario, explain_script};

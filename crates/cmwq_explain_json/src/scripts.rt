@@ -1,10 +1,10 @@
 //! The first member of an input that is refused, of each part.
 
 use crate::calls::{CallSite, Maker, any_waits, tell_call, tell_count};
-use crate::gates::tell_gates;
 use crate::grammar::ObjectKind;
 use crate::members::{Path, say_value, tell_object};
 use crate::objects::World;
+use crate::used::tell_used;
 use cmwq_explain::Text;
 use cmwq_json::{Part, Refused};
 use serde_json::Value;
@@ -57,7 +57,7 @@ fn tell_member(
     } else {
         tell_object(text, world, place, path, member)? || tell_twice(text, path, members, member)
     };
-    if !is_told && !tell_gates(text, world, path, members)? {
+    if !is_told && !tell_used(text, world, path)? {
         path.say(text);
         text.say(": one too many; at most ");
         text.number(path.index as u64);
@@ -111,30 +111,30 @@ fn name_of(member: &Value) -> Option<&str> {
     member.get("name")?.as_str()
 }
 
-/// Tells that a caller has too many calls, or the first that is wrong. The count comes first, so that few are tried.
+/// Tells that a caller has too many actions, or the first that is wrong. The count comes first, so that few are tried.
 fn tell_caller(
     text: &mut Text,
     world: World<'_>,
     path: Path<'_>,
     caller: &Value,
 ) -> Result<bool, AllocError> {
-    let Some(calls) = caller.as_array() else {
+    let Some(actions) = caller.as_array() else {
         path.say(text);
         text.say(": ");
         say_value(text, world, caller)?;
-        text.say(": expected is a list of calls");
+        text.say(": expected is a list of actions");
         return Ok(true);
     };
-    if tell_count(text, world, Maker::Caller, path, calls.len())? {
+    if tell_count(text, world, Maker::Caller, path, actions.len())? {
         return Ok(true);
     }
-    for (index, call) in calls.iter().enumerate() {
+    for (index, action) in actions.iter().enumerate() {
         let site = CallSite {
             maker: Maker::Caller,
             path,
             index,
         };
-        if tell_call(text, world, site, call)? {
+        if tell_call(text, world, site, action)? {
             return Ok(true);
         }
     }

@@ -1,12 +1,12 @@
 -- One move more of those that a seed chooses, and one more who may move.
-use Rattle.std.proofs.Common.{ℕ, zero, suc, ◌≡◌, ◌<◌, ◌+◌, ◌-◌, true, false, List, [], ◌∷◌, ◌++◌}
-use Rattle.std.proofs.Common.{length, inl, inr}
-use Rattle.std.proofs.Common.{refl, subst, sym, ap, ◌∙◌, arith, add-one}
+use Rattle.std.proofs.Common.{ℕ, zero, suc, ◌≡◌, ◌<◌, ◌+◌, true, false, List, [], ◌∷◌, ◌++◌, length, ◌==◌, Bool, refl}
+use Rattle.std.proofs.Common.{sym, ap, ◌∙◌, arith, add-one}
+use Rattle.std.proofs.lemmas.Bool.{eqb-true}
 use Rattle.std.specs.List.{filter, range_with_len}
 use Rattle.std.proofs.lemmas.List.{append-nil}
 use Rattle.std.proofs.lemmas.List.Elements.{filter-append}
 use Rattle.cmwq_explore.specs.Stands.{Stand, may, moved}
-use Rattle.cmwq_explore.specs.Chances.{IsPlayed, after_draw, chosen, movers_of}
+use Rattle.cmwq_explore.specs.Chances.{after_draw, chosen, chosen_by, movers_of}
 use Rattle.cmwq_explore.proofs.First.{range_next}
 
 -- one more who may move, or who may not
@@ -26,44 +26,35 @@ filter_without p k xs so is =
     ∙ filter-append (may p) (range_with_len 0 k) (k ∷ [])
     ∙ ap (λ ys. filter (may p) (range_with_len 0 k) ++ ys) none ∙ append-nil (filter (may p) (range_with_len 0 k)))
 
--- a list of no length
-no_length : (xs : List ℕ) → length xs ≡ 0 → xs ≡ []
-no_length [] none = refl
-no_length (x ∷ xs) none = absurd (omega arith)
-
-some_length : (xs : List ℕ) → 0 < length xs → xs ≡ [] → ⊥
-some_length [] some empty = omega arith
-some_length (x ∷ xs) some empty = cc
-
 -- ---- moves of which so many are to be made
 
+-- none
+pub chosen_none : (s : ℕ) (p : Stand) → chosen_by 0 s p ≡ []
+unfolding chosen_by
+chosen_none s p = refl
+
 -- nobody may move
-pub played_end : (most k s : ℕ) (p : Stand) (movers : List ℕ) (Goal : Stand → Type 0) → k < most
-    → ((n : ℕ) → k + n ≡ most → (q : Stand) → IsPlayed n s p q → Goal q) → movers ≡ movers_of p
-    → length movers ≡ 0 → Goal p
-unfolding IsPlayed
-played_end most k s p movers Goal less so all none =
-    so (suc (most - suc k)) (omega arith) p (here (most - suc k) (sym all ∙ no_length movers none))
-  where
-    here : (n : ℕ) → movers_of p ≡ [] → IsPlayed (suc n) s p p
-    here n empty = inl (empty, refl)
+pub chosen_end : (n s : ℕ) (p : Stand) (movers : List ℕ) → movers ≡ movers_of p → length movers ≡ 0
+    → chosen_by n s p ≡ []
+unfolding chosen_by
+chosen_end zero s p movers all none = refl
+chosen_end (suc n) s p movers all none =
+    let empty : length (movers_of p) ≡ 0 = ap length (sym all) ∙ none in
+    rw empty refl
 
--- all were made
-pub played_all : (most k s : ℕ) (p : Stand) (Goal : Stand → Type 0) → k ≡ most
-    → ((n : ℕ) → k + n ≡ most → (q : Stand) → IsPlayed n s p q → Goal q) → Goal p
-unfolding IsPlayed
-played_all most k s p Goal is so = so zero (omega arith) p here
+-- one more is chosen
+pub chosen_more : (n s : ℕ) (p : Stand) (movers : List ℕ) (party : ℕ) → movers ≡ movers_of p → 0 < length movers
+    → party ≡ chosen s movers → chosen_by (suc n) s p ≡ party ∷ chosen_by n (after_draw s) (moved p party)
+unfolding chosen_by
+chosen_more n s p movers party all some is = here (length (movers_of p) == 0) refl
   where
-    here : IsPlayed zero s p p
-    here = refl
+    same : length (movers_of p) ≡ length movers
+    same = ap length (sym all)
 
--- one more was made
-pub played_more : (n s : ℕ) (p q : Stand) (movers : List ℕ) (party : ℕ) → movers ≡ movers_of p → 0 < length movers
-    → party ≡ chosen s movers → IsPlayed n (after_draw s) (moved p party) q → IsPlayed (suc n) s p q
-unfolding IsPlayed
-played_more n s p q movers party all some is goes =
-    let chose : party ≡ chosen s (movers_of p) = is ∙ ap (chosen s) all in
-    inr (
-      (λ empty. some_length movers some (all ∙ empty)),
-      subst (λ (k : ℕ). IsPlayed n (after_draw s) (moved p k) q) chose goes,
-    )
+    chose : chosen s (movers_of p) ≡ party
+    chose = ap (chosen s) (sym all) ∙ sym is
+
+    here : (b : Bool) → (length (movers_of p) == 0) ≡ b
+        → chosen_by (suc n) s p ≡ party ∷ chosen_by n (after_draw s) (moved p party)
+    here true none = absurd (let no = eqb-true (length (movers_of p)) 0 none in omega (arith, some, same))
+    here false not = rw (not, chose) refl

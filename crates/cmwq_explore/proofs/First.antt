@@ -1,6 +1,6 @@
 -- One caller or worker more.
-use Rattle.std.proofs.Common.{ℕ, suc, zero, ◌≡◌, ◌+◌, List, [], ◌∷◌, ◌++◌, min, ap, sym, ◌∙◌, append_assoc}
-use Rattle.std.proofs.Common.{arith, add-one}
+use Rattle.std.proofs.Common.{ℕ, suc, zero, ◌≡◌, ◌+◌, List, [], ◌∷◌, ◌++◌, min, ap, sym, ◌∙◌, append_assoc, arith}
+use Rattle.std.proofs.Common.{add-one}
 use Rattle.std.specs.List.{range_with_len, flat_map}
 use Rattle.std.proofs.lemmas.List.{append-nil}
 use Rattle.std.proofs.lemmas.List.FromFn.{map-range_with_len_more}

@@ -1,6 +1,5 @@
 -- Steps one after another, and what is known once all who may move were tried.
-use Rattle.std.proofs.Common.{ℕ, zero, suc, ◌≡◌, ◌<◌, ◌+◌, Bool, true, false, List, [], ◌∷◌, ◌++◌, length, get_or}
-use Rattle.std.proofs.Common.{take}
+use Rattle.std.proofs.Common.{ℕ, zero, suc, ◌≡◌, ◌<◌, ◌+◌, Bool, true, false, List, [], ◌∷◌, ◌++◌, length, get_or, take}
 use Rattle.std.proofs.Common.{add-one, refl, subst, sym, ap, ◌∙◌, arith, ◌-◌, ◌==◌, Result, Ok, Err}
 use Rattle.std.proofs.Math.Seq.{take-suc}
 use Rattle.std.proofs.lemmas.List.{get_or_default}
@@ -8,8 +7,8 @@ use Rattle.std.proofs.lemmas.List.Elements.{All-get_or}
 use Rattle.std.proofs.lemmas.Bool.Decides.{nat_tests}
 use Rattle.std.specs.Prelude.{All, Contains, IfOk}
 use Rattle.cmwq_explore.specs.Stands.{Stand, IsDone, may, moved}
-use Rattle.cmwq_explore.specs.Searches.{AllEnd, AllEndAfter, AllEndOrOneIsStuck, GetsStuck, IsSchedule, NoneStuck}
-use Rattle.cmwq_explore.specs.Searches.{IsFine, NoneStuckAfter, StuckAreLong, after}
+use Rattle.cmwq_explore.specs.Searches.{AllEnd, AllEndAfter, AllEndOrOneIsStuck, GetsStuck, IsPathTo, IsSchedule}
+use Rattle.cmwq_explore.specs.Searches.{NoneStuck, IsFine, NoneStuckAfter, StuckAreLong, after}
 
 -- after one move more
 pub after_more : (p : Stand) (schedule : List ℕ) (party : ℕ)
@@ -35,6 +34,14 @@ schedule_push start p schedule longer party was goes is pushed =
     subst (IsSchedule start) (sym pushed) (schedule_more start schedule party goes
     (subst (λ q. may q party ≡ true) was is))
 
+-- a path that is longer by one who may move
+pub path_push : (start p q : Stand) (path longer : List ℕ) (party : ℕ) → IsPathTo start path p → may p party ≡ true
+    → q ≡ moved p party → longer ≡ path ++ party ∷ [] → IsPathTo start longer q
+path_push start p q path longer party goes is moves pushed = (
+  schedule_push start p path longer party goes.1 goes.0 is pushed,
+  after_push start p q path longer party goes.1 moves pushed,
+)
+
 -- after the first so many moves and the next one
 pub after_next : (p : Stand) (schedule : List ℕ) (n d : ℕ) → n < length schedule
     → after p (take (suc n) schedule) ≡ moved (after p (take n schedule)) (get_or schedule n d)
@@ -52,12 +59,12 @@ false_unless : (b : Bool) → (b ≡ true → ⊥) → b ≡ false
 false_unless true never = absurd (never refl)
 false_unless false never = refl
 
-false_or : (b : Bool) → b ≡ true → b ≡ false → ⊥
+pub false_or : (b : Bool) → b ≡ true → b ≡ false → ⊥
 false_or true is not = cc
 false_or false is not = cc
 
 -- none of no movers may move
-none_of_none : (p : Stand) (movers : List ℕ) → ((k : ℕ) → may p k ≡ true → Contains movers k) → length movers ≡ 0
+pub none_of_none : (p : Stand) (movers : List ℕ) → ((k : ℕ) → may p k ≡ true → Contains movers k) → length movers ≡ 0
     → (k : ℕ) → may p k ≡ false
 none_of_none p movers all none k = false_unless (may p k) (λ is. let at = all k is in absurd (none_at at.0 at.1))
   where
@@ -124,6 +131,10 @@ all_known (suc n) p movers all sound some known =
     let less : suc n - 1 ≡ n = omega arith in
     all_known_more n p movers all sound some (subst (λ m. NoneStuckAfter m p movers (length movers)) less known)
 
+pub nonzero : (n : ℕ) → (n ≡ 0 → ⊥) → 0 < n
+nonzero zero not = absurd (not refl)
+nonzero (suc n) not = omega arith
+
 -- what is known of a number that is 0 or not
 pub is_none : (n len : ℕ) (b : Bool) → n ≡ len → b ≡ (n == 0) → b ≡ true → len ≡ 0
 is_none n len b same is holds = grind (arith, nat_tests)
@@ -139,6 +150,10 @@ always (Err e) holds = tt
 pub then_so : {T E P Q : Type 0} (r : Result T E) → (P → Q) → IfOk r (λ _. P) → IfOk r (λ _. Q)
 then_so (Ok x) so holds = so holds
 then_so (Err e) so holds = tt
+
+pub ok_so : {T E : Type 0} (P Q : T → Type 0) (r : Result T E) → ((x : T) → P x → Q x) → IfOk r P → IfOk r Q
+ok_so P Q (Ok x) so holds = so x holds
+ok_so P Q (Err e) so holds = tt
 
 -- none of them
 pub none_tried : (n : ℕ) (p : Stand) (movers : List ℕ) → AllEndAfter n p movers 0

@@ -1,7 +1,9 @@
 -- Whose move comes next, by a seed.
-use Rattle.std.specs.Prelude.{◌≡◌, ◌⊎◌, ◌+◌, ◌%◌, ℕ, zero, suc, List, [], length, max, slice_index}
+use Rattle.std.specs.Prelude.{◌≡◌, ◌<◌, ◌≤◌, ◌+◌, ◌%◌, ◌==◌, ℕ, zero, suc, if◌then◌else◌, List, [], ◌∷◌, length, max}
+use Rattle.std.specs.Prelude.{slice_index}
 use Rattle.std.specs.List.{filter, range_with_len}
 use Rattle.rand_xoshiro.specs.SplitMix64.{mix_u64}
+use Rattle.cmwq_explore.specs.Searches.{IsPathTo, Rests, after}
 use Rattle.cmwq_explore.specs.Stands.{Stand, may, moved}
 
 -- the number that a state of the generator draws, and the state after it
@@ -23,9 +25,21 @@ movers_of p = filter (may p) (range_with_len 0 (length p.callers + length p.work
 abbrev pub chosen : ℕ → List ℕ → ℕ
 chosen s movers = slice_index movers (drawn_below (length movers) s)
 
--- So many moves were made, or fewer where nobody may move any more: each by the one who is chosen of those who may.
-unfoldable pub IsPlayed : ℕ → ℕ → Stand → Stand → Type 0
-IsPlayed zero s p q = q ≡ p
-IsPlayed (suc n) s p q =
-    ((movers_of p ≡ []) × (q ≡ p))
-    ⊎ ((movers_of p ≡ [] → ⊥) × IsPlayed n (after_draw s) (moved p (chosen s (movers_of p))) q)
+-- The first so many moves that a seed chooses from a stand on, or fewer where nobody may move any more: each is made by
+-- the one who is chosen of those who may move.
+unfoldable pub chosen_by : ℕ → ℕ → Stand → List ℕ
+chosen_by zero s p = []
+chosen_by (suc n) s p =
+    if length (movers_of p) == 0 then []
+    else chosen s (movers_of p) ∷ chosen_by n (after_draw s) (moved p (chosen s (movers_of p)))
+
+-- and the stand after them
+abbrev pub played : ℕ → ℕ → Stand → Stand
+played n s p = after p (chosen_by n s p)
+
+-- a schedule of so many moves, which are as many as are allowed, unless nobody may move after them
+pub record IsPlay (start : Stand) (moves made : ℕ) (path : List ℕ) (p : Stand) : Type 0 where
+  pub goes : IsPathTo start path p
+  pub long : made ≡ length path
+  pub within : made ≤ moves
+  pub rests : made < moves → Rests p

@@ -1,8 +1,5 @@
 -- What a search of all schedules finds out.
-use Rattle.std.specs.Prelude.{◌≡◌, ℕ, zero, suc, true, false, List, [], ◌∷◌, ◌<◌, ◌≤◌, length, slice_index}
-use Rattle.std.specs.Prelude.{Option, None, IfSome}
-use Rattle.std.specs.declared.alloc.Global.{Global}
-use Rattle.std.specs.declared.vec.Vec.{Vec}
+use Rattle.std.specs.Prelude.{◌≡◌, ℕ, zero, suc, true, false, List, [], ◌∷◌, ◌<◌, ◌≤◌, length, slice_index, take}
 use Rattle.cmwq_explore.specs.Stands.{Stand, IsDone, may, moved}
 
 -- the stand after the moves of these
@@ -14,6 +11,16 @@ after p (party ∷ more) = after (moved p party) more
 abbrev pub IsSchedule : Stand → List ℕ → Type 0
 IsSchedule p [] = Unit {0}
 IsSchedule p (party ∷ more) = (may p party ≡ true) × IsSchedule (moved p party) more
+
+-- this schedule leads to a stand
+abbrev pub IsPathTo : Stand → List ℕ → Stand → Type 0
+IsPathTo start path p = IsSchedule start path × (p ≡ after start path)
+
+-- the parties before this place may move, each in its turn, and lead to a stand in which the one of this place may not
+pub record BreaksOff (start : Stand) (path : List ℕ) (p : Stand) (place : ℕ) : Type 0 where
+  pub within : place < length path
+  pub goes : IsPathTo start (take place path) p
+  pub stays : may p (slice_index path place) ≡ false
 
 -- nobody may move
 abbrev pub Rests : Stand → Type 0
@@ -46,18 +53,6 @@ NoneStuck (suc n) p = IsFine p × ((k : ℕ) → may p k ≡ true → NoneStuck 
 -- none after a move of the first so many of these
 abbrev pub NoneStuckAfter : ℕ → Stand → List ℕ → ℕ → Type 0
 NoneStuckAfter n p movers count = (j : ℕ) → j < count → NoneStuck n (moved p (slice_index movers j))
-
--- a shortest schedule that is known gets stuck
-abbrev pub TellsStuck : Stand → Option (Vec ℕ Global) → Type 0
-TellsStuck start shortest = IfSome shortest (λ s. GetsStuck start s.items)
-
--- it has so many moves at least
-abbrev pub HasAtLeast : ℕ → Option (Vec ℕ Global) → Type 0
-HasAtLeast n shortest = IfSome shortest (λ s. n ≤ length s.items)
-
--- if none is known, none was counted
-abbrev pub KnowsStuck : ℕ → Option (Vec ℕ Global) → Type 0
-KnowsStuck stuck shortest = shortest ≡ None → stuck ≡ 0
 
 -- where every schedule ends, none gets stuck
 abbrev pub AllEndOrOneIsStuck : Type 0

@@ -1,6 +1,6 @@
 -- Where a script stands while it is played, who may move, and what a move makes of it.
-use Rattle.std.specs.Prelude.{◌≡◌, ◌+◌, ◌-◌, ◌^◌, ◌||◌, ℕ, Bool, true, false, if◌then◌else◌, List, [], ◌∷◌, ◌++◌}
-use Rattle.std.specs.Prelude.{length, take, count_by, Option, Some, None, is_some, nat_lt, slice_get, slice_set}
+use Rattle.std.specs.Prelude.{◌≡◌, ◌+◌, ◌-◌, ◌^◌, ◌||◌, ℕ, Bool, true, false, if◌then◌else◌, List, [], ◌∷◌, ◌++◌, ◌==◌}
+use Rattle.std.specs.Prelude.{length, take, count_by, Option, Some, None, is_some, not, nat_lt, slice_get, slice_set}
 use Rattle.std.specs.Prelude.{option_and_then}
 use Rattle.std.specs.List.{list_any}
 use Rattle.std.specs.Option.{option_map_or}
@@ -12,53 +12,92 @@ use Rattle.cmwq_model.specs.declared.id.WorkerId.{WorkerId}
 use Rattle.cmwq_model.specs.declared.id.Who.TheVariants.{Caller, Worker}
 use Rattle.cmwq_json_script.specs.declared.action.Action.{Action}
 use Rattle.cmwq_json_script.specs.declared.action.Action.TheVariants as action
+use Rattle.cmwq_json_script.specs.declared.action.Holder.{Holder}
+use Rattle.cmwq_json_script.specs.declared.action.Holder.TheVariants as holders
 use Rattle.cmwq_core.specs.History.{History, past_in}
 use Rattle.cmwq_explore.specs.declared.machine.Called.{Called}
 use Rattle.cmwq_explore.specs.declared.machine.Called.TheVariants.{Waits as Began}
 use Rattle.cmwq_explore.specs.declared.place.Ticketed.{Ticketed}
 use Rattle.cmwq_explore.specs.declared.place.CallerAt.{CallerAt}
 use Rattle.cmwq_explore.specs.declared.place.Doing.{Doing}
-use Rattle.cmwq_explore.specs.declared.place.Doing.TheVariants.{Acts, AtGate, Waits}
+use Rattle.cmwq_explore.specs.declared.place.Doing.TheVariants.{Acts, AtGate, AtLock, Waits}
 use Rattle.cmwq_explore.specs.declared.place.RunAt.{RunAt}
 use Rattle.cmwq_explore.specs.declared.place.WorkerAt.{WorkerAt}
 use Rattle.cmwq_explore.specs.Machines.{AfterCall, stepped, replied, starts, ends, retires, ended, called}
 use Rattle.cmwq_explore.specs.Machines.{has_wait_room}
 use Rattle.cmwq_explore.specs.Waiting.{may_wait}
 
--- the calls of each caller and the actions of each item, which stay; the history; where callers and workers stand;
--- which gates are open; and the callers that may be lent, of which the last is lent next
+-- the actions of each caller and of each item, which stay; the history; where callers and workers stand; which gates
+-- are open; who holds each lock; and the callers that may be lent, of which the last is lent next
 pub record Stand : Type 0 where
-  pub scripts : List (List Call)
+  pub scripts : List (List Action)
   pub does : List (List Action)
   pub history : History
   pub callers : List CallerAt
   pub workers : List WorkerAt
   pub gates : List Bool
+  pub locks : List (Option Holder)
   pub free : List ℕ
 
-abbrev pub script_at : Stand → ℕ → List Call
-script_at p k = option_map_or (λ calls. calls) (slice_get p.scripts k) []
+abbrev pub script_at : Stand → ℕ → List Action
+script_at p k = option_map_or (λ actions. actions) (slice_get p.scripts k) []
+
+-- ---- gates and locks
+
+abbrev pub is_open : Stand → ℕ → Bool
+is_open p gate = option_map_or (λ is. is) (slice_get p.gates gate) false
+
+abbrev pub is_free : Stand → ℕ → Bool
+is_free p lock = option_map_or (λ (holder : Option Holder). not (is_some holder)) (slice_get p.locks lock) false
+
+abbrev pub is_same : Holder → Holder → Bool
+is_same (holders.Caller c) (holders.Caller d) = c.0 == d.0
+is_same (holders.Run i) (holders.Run j) = i.0 == j.0
+is_same a b = false
+
+abbrev pub is_held_by : Holder → Option Holder → Bool
+is_held_by holder held = option_map_or (is_same holder) held false
+
+abbrev pub holds : Stand → Holder → ℕ → Bool
+holds p holder lock = option_map_or (is_held_by holder) (slice_get p.locks lock) false
+
+abbrev pub opened : Stand → ℕ → Stand
+opened p gate = record p { gates = slice_set p.gates gate true }
+
+abbrev pub locked : Stand → Holder → ℕ → Stand
+locked p holder lock = record p { locks = slice_set p.locks lock (Some holder) }
+
+-- a lock that is held by another, or by nobody, stays as it is
+abbrev pub unlocked : Stand → Holder → ℕ → Stand
+unlocked p holder lock = if holds p holder lock then record p { locks = slice_set p.locks lock None } else p
 
 abbrev pub action_of : Stand → RunAt → Option Action
 action_of p run = option_map_or (λ actions. slice_get actions run.next) (slice_get p.does run.item.0) None
 
 -- ---- who may move
 
--- a caller: by its next call, or by the end of its wait
+-- a caller's next action: at a gate that is open, and by a lock that is free
+abbrev pub may_act : Stand → Action → Bool
+may_act p (action.SleepAt gate) = is_open p gate
+may_act p (action.Lock lock) = is_free p lock
+may_act p a = true
+
+-- a caller: by its next action, or by the end of its wait
 abbrev pub may_call : Stand → ℕ → CallerAt → Bool
 may_call p k at =
-    option_map_or (λ w. ends p.history (Caller at.id) w.ticket) at.wait (nat_lt at.next (length (script_at p k)))
+    option_map_or (λ w. ends p.history (Caller at.id) w.ticket) at.wait
+    (option_map_or (may_act p) (slice_get (script_at p k) at.next) false)
 
--- what a run is doing may go on: at a gate that is open, and in a wait that would end
+-- what a run is doing may go on: at a gate that is open, at a lock that is free, and in a wait that would end
 abbrev pub may_do : Stand → Doing → Bool
-may_do p (AtGate gate slept) = option_map_or (λ is_open. is_open) (slice_get p.gates gate) false
+may_do p (AtGate gate slept) = is_open p gate
+may_do p (AtLock lock slept) = is_free p lock
 may_do p (Waits caller wait) = ends p.history (Caller (record { 0 = caller })) wait.ticket
-may_do p doing = true
+may_do p Acts = true
 
 abbrev pub may_work : Stand → WorkerAt → Bool
 may_work p at = option_map_or (λ (run : RunAt). may_do p run.doing) at.run (is_some (starts p.history at.id))
 
--- the parties are the callers and, after them, the workers
 unfoldable pub may : Stand → ℕ → Bool
 may p k =
     if nat_lt k (length p.callers) then option_map_or (may_call p k) (slice_get p.callers k) false
@@ -73,14 +112,14 @@ calls_left p k at = is_some at.wait || nat_lt at.next (length (script_at p k))
 abbrev pub active_in : History → ℕ
 active_in h = count_by (is_active h.layout (past_in h)) (still_open (past_in h))
 
--- no caller waits, or has calls left to make
+-- no caller waits, or has actions left to do
 abbrev pub NoneLeft : Stand → Type 0
 NoneLeft p = (k : ℕ) (at : CallerAt) → slice_get p.callers k ≡ Some at → calls_left p k at ≡ false
 
 abbrev pub has_run : WorkerAt → Bool
 has_run at = is_some at.run
 
--- all callers have made their calls, no run is under way, and nothing active is open
+-- all callers have done their actions, no run is under way, and nothing active is open
 pub record IsDone (p : Stand) : Type 0 where
   pub callers : NoneLeft p
   pub workers : list_any has_run p.workers ≡ false
@@ -109,12 +148,23 @@ abbrev pub after_call : Stand → ℕ → CallerAt → AfterCall → Stand
 after_call p k at r =
     with_caller (with_history p r.history) k (record at { next = next_place at.next; wait = wait_of r.outcome })
 
--- a caller ends its wait, or makes its next call
+-- a caller goes on to its next action
+abbrev pub passed : Stand → ℕ → CallerAt → Stand
+passed p k at = with_caller p k (record at { next = next_place at.next })
+
+-- a caller's next action
+unfoldable pub caller_acted : Stand → ℕ → CallerAt → Action → Stand
+caller_acted p k at (action.Call c) = after_call p k at (called p.history (Caller at.id) c)
+caller_acted p k at (action.Open gate) = passed (opened p gate) k at
+caller_acted p k at (action.SleepAt gate) = passed p k at
+caller_acted p k at (action.Lock lock) = passed (locked p (holders.Caller at.id) lock) k at
+caller_acted p k at (action.Unlock lock) = passed (unlocked p (holders.Caller at.id) lock) k at
+
+-- a caller ends its wait, or does its next action
 unfoldable pub caller_moved : Stand → ℕ → CallerAt → Stand
 caller_moved p k at =
     option_map_or (λ w. with_caller (with_history p (ended p.history (Caller at.id) w)) k (record at { wait = None }))
-    at.wait
-    (option_map_or (λ c. after_call p k at (called p.history (Caller at.id) c)) (slice_get (script_at p k) at.next) p)
+    at.wait (option_map_or (caller_acted p k at) (slice_get (script_at p k) at.next) p)
 
 abbrev pub first_of : ItemId → RunAt
 first_of item = record { item = item; next = 0; doing = Acts }
@@ -180,20 +230,36 @@ wait_ended p k id run caller w =
       free = p.free ++ caller ∷ [];
     }) k id run
 
+-- a run sleeps, if there is room for it, and waits at a gate or a lock
+abbrev pub slept_at : (Bool → Doing) → Stand → ℕ → WorkerId → RunAt → Stand
+slept_at at p k id run =
+    with_run (with_history p (stepped p.history (Worker id) call.Sleep)) k id
+    (Some (record run { doing = at (is_some (replied p.history (Worker id) call.Sleep)) }))
+
+-- it wakes, if it slept
+abbrev pub woken : Stand → WorkerId → Bool → Stand
+woken p id slept = if slept then with_history p (stepped p.history (Worker id) call.Wake) else p
+
+-- a run takes a lock, or sleeps until it is free
+abbrev pub lock_wanted : Stand → ℕ → WorkerId → RunAt → ℕ → Stand
+lock_wanted p k id run lock =
+    if is_free p lock then went_on (locked p (holders.Run run.item) lock) k id run else slept_at (AtLock lock) p k id
+    run
+
 unfoldable pub acted : Stand → ℕ → WorkerId → RunAt → Action → Stand
 acted p k id run (action.Call c) =
     if is_workers c then went_on (with_history p (stepped p.history (Worker id) c)) k id run
     else waited p k id run c
-acted p k id run (action.Open g) = went_on (record p { gates = slice_set p.gates g true }) k id run
-acted p k id run (action.SleepAt g) =
-    with_run (with_history p (stepped p.history (Worker id) call.Sleep)) k id
-    (Some (record run { doing = AtGate g (is_some (replied p.history (Worker id) call.Sleep)) }))
+acted p k id run (action.Open gate) = went_on (opened p gate) k id run
+acted p k id run (action.SleepAt gate) = slept_at (AtGate gate) p k id run
+acted p k id run (action.Lock lock) = lock_wanted p k id run lock
+acted p k id run (action.Unlock lock) = went_on (unlocked p (holders.Run run.item) lock) k id run
 
 -- what a run does next
 abbrev pub did : Stand → ℕ → WorkerId → RunAt → Doing → Stand
 did p k id run Acts = option_map_or (acted p k id run) (action_of p run) (finished p k id)
-did p k id run (AtGate g slept) =
-    went_on (if slept then with_history p (stepped p.history (Worker id) call.Wake) else p) k id run
+did p k id run (AtGate gate slept) = went_on (woken p id slept) k id run
+did p k id run (AtLock lock slept) = went_on (woken (locked p (holders.Run run.item) lock) id slept) k id run
 did p k id run (Waits caller w) = wait_ended p k id run caller w
 
 unfoldable pub run_moved : Stand → ℕ → WorkerId → RunAt → Stand

@@ -12,7 +12,7 @@ use Rattle.cmwq_core.specs.History.{History, past_in}
 use Rattle.cmwq_waits.specs.Registered.{refusal_of, registered, wait_of}
 use Rattle.cmwq_waits.specs.declared.run_wait.RunWait.{RunWait}
 use Rattle.cmwq_explore.specs.declared.place.Doing.{Doing}
-use Rattle.cmwq_explore.specs.declared.place.Doing.TheVariants.{Acts, AtGate, Waits}
+use Rattle.cmwq_explore.specs.declared.place.Doing.TheVariants.{Acts, AtGate, AtLock, Waits}
 use Rattle.cmwq_explore.specs.declared.place.RunAt.{RunAt}
 use Rattle.cmwq_explore.specs.declared.place.WorkerAt.{WorkerAt}
 
@@ -29,6 +29,7 @@ abbrev pub noted_doing : History → List RunWait → WorkerId → Doing → Lis
 noted_doing h waits w (Waits caller wait) = noted h waits w (record { 0 = caller }) wait.ticket
 noted_doing h waits w Acts = waits
 noted_doing h waits w (AtGate gate slept) = waits
+noted_doing h waits w (AtLock lock slept) = waits
 
 unfoldable pub noted_at : History → List RunWait → WorkerAt → List RunWait
 noted_at h waits at = option_map_or (λ (run : RunAt). noted_doing h waits at.id run.doing) at.run waits

@@ -1,12 +1,11 @@
 //! Schedules by chance: whose move comes next is a function of a seed.
 
-ghost use Rattle.std.specs.Prelude.{◌≡◌, ◌<◌, max, IfOk};
-ghost use Rattle.cmwq_explore.specs.Chances.{IsPlayed, after_draw, drawn_below};
+ghost use Rattle.std.specs.Prelude.{◌≡◌, ◌<◌, [], length, max, IfOk};
+ghost use Rattle.cmwq_explore.specs.Chances.{IsPlay, after_draw, chosen_by, drawn_below};
 ghost use Rattle.cmwq_explore.specs.Starts.{start_of};
-ghost use Rattle.cmwq_explore.specs.declared.chance.Chooser.TheVariants as chooser_is;
+ghost use Rattle.cmwq_explore.specs.declared.chance.Chooser.TheVariants as choosers;
 
 use crate::play::Play;
-use crate::search::MOST_MOVES;
 use crate::setup::Setup;
 use rand_core::SeedableRng;
 use rand_core::utils::NextWord;
@@ -82,15 +81,15 @@ impl Order {
         }
     }
 
-    /// The first of these.
-    fn first_of(&self, movers: &[usize]) -> usize {
+    /// The place of the first of these.
+    fn first_of(&self, movers: &[usize]) -> usize
+        requires { 0 < length movers.now }
+        ensures { result < length movers.now }
+    {
         let mut first = 0usize;
-        let mut most = 0u64;
-        for (k, party) in movers.iter().enumerate() {
-            let priority = self.priority(*party);
-            if k == 0 || priority > most {
-                first = *party;
-                most = priority;
+        for place in 1..movers.len() {
+            if self.priority(movers[place]) > self.priority(movers[first]) {
+                first = place;
             }
         }
         first
@@ -108,7 +107,8 @@ impl Order {
     }
 }
 
-/// Plays from the start, by a seed, until nobody may move, or for `MOST_MOVES`. Returns how many moves were made.
+/// Plays from the start, by a seed, until nobody may move, or so many moves were made. The path takes those who moved,
+/// in place of what it held. Returns how many moves were made.
 ///
 /// # Errors
 /// Want of memory.
@@ -118,56 +118,71 @@ pub fn play_by<'a>(
     play: &mut Play<'a>,
     seed: u64,
     chooser: Chooser,
+    moves: u64,
+    path: &mut Vec<usize>,
 ) -> Result<u64, AllocError>
-    ensures { chooser ≡ chooser_is.Uniform
-        → IfOk result (λ _. IsPlayed MOST_MOVES seed (start_of setup.now) play.new) }
+    ensures plays { IfOk result (λ made. IsPlay (start_of setup.now) moves made path.new.items play.new) }
+    ensures chosen { chooser ≡ choosers.Uniform
+        → IfOk result (λ _. path.new.items ≡ chosen_by moves seed (start_of setup.now)) }
 {
     play.restart(setup)?;
+    path.clear();
     let mut generator = SplitMix64::seed_from_u64(seed);
     match chooser {
-        Chooser::Uniform => play_uniform(play, &mut generator),
-        Chooser::Pct { depth, moves } => {
-            let order = Order::new(alloc, play.parties(), &mut generator, depth, moves)?;
-            play_in_order(play, order)
+        Chooser::Uniform => play_uniform(play, &mut generator, moves, path),
+        Chooser::Pct {
+            depth,
+            moves: among,
+        } => {
+            let order = Order::new(alloc, play.parties(), &mut generator, depth, among)?;
+            play_in_order(play, order, moves, path)
         }
     }
 }
 
 /// Each of those who may move is as likely.
-fn play_uniform(play: &mut Play<'_>, generator: &mut SplitMix64) -> Result<u64, AllocError>
-    ensures { IfOk result (λ _. IsPlayed MOST_MOVES generator.old play.old play.new) }
+fn play_uniform(
+    play: &mut Play<'_>,
+    generator: &mut SplitMix64,
+    moves: u64,
+    path: &mut Vec<usize>,
+) -> Result<u64, AllocError>
+    requires { path.old.items ≡ [] }
+    ensures plays { IfOk result (λ made. IsPlay play.old moves made path.new.items play.new) }
+    ensures chosen { IfOk result (λ _. path.new.items ≡ chosen_by moves generator.old play.old) }
 {
-    for number in 0..MOST_MOVES {
+    for number in 0..moves {
         let movers = play.movers()?;
         if movers.is_empty() {
-            return Ok(number as u64);
+            return Ok(number);
         }
-        let place = below(generator, movers.len() as u64) as usize;
-        play.make_move(movers[place])?;
+        let party = movers[below(generator, movers.len() as u64) as usize];
+        play.make_move(party)?;
+        path.push(party)?;
     }
-    Ok(MOST_MOVES as u64)
+    Ok(moves)
 }
 
 /// The first in the order moves.
-fn play_in_order(play: &mut Play<'_>, order: Order) -> Result<u64, AllocError> {
+fn play_in_order(
+    play: &mut Play<'_>,
+    order: Order,
+    moves: u64,
+    path: &mut Vec<usize>,
+) -> Result<u64, AllocError>
+    requires { path.old.items ≡ [] }
+    ensures plays { IfOk result (λ made. IsPlay play.old moves made path.new.items play.new) }
+{
     let mut order = order;
-    for number in 0..MOST_MOVES {
+    for number in 0..moves {
         let movers = play.movers()?;
         if movers.is_empty() {
-            return Ok(number as u64);
+            return Ok(number);
         }
-        let party = order.first_of(&movers);
+        let party = movers[order.first_of(&movers)];
         play.make_move(party)?;
-        order.has_moved(party, number as u64);
+        path.push(party)?;
+        order.has_moved(party, number);
     }
-    Ok(MOST_MOVES as u64)
-}
-
-/// How many moves the schedule of seed 0 has, each of those who may move being as likely.
-pub fn length_of_first<'a>(
-    alloc: Global,
-    setup: &'a Setup<'a>,
-    play: &mut Play<'a>,
-) -> Result<u64, AllocError> {
-    play_by(alloc, setup, play, 0, Chooser::Uniform)
+    Ok(moves)
 }

@@ -1,6 +1,6 @@
 //! The runtime of a play, with its history: calls that make no sense there change nothing.
 
-ghost use Rattle.std.specs.Prelude.{◌≡◌, [], IfOk, IfSome};
+ghost use Rattle.std.specs.Prelude.{◌≡◌, ◌≤◌, [], IfOk, IfSome, length, take};
 ghost use Rattle.cmwq_model.specs.Prelude.{IsLegal, is_done};
 ghost use Rattle.cmwq_core.specs.History.{past_in};
 ghost use Rattle.cmwq_explore.specs.Machines as spec;
@@ -134,6 +134,23 @@ impl<'a> Machine<'a> {
             execution,
             entries: Vec::new(alloc),
         })
+    }
+
+    /// Becomes a copy of the other one, in the tables that it has. Both have the same first entries, so many of them,
+    /// which are not copied. Where memory runs out it stays as it is.
+    pub fn copy_after(&mut self, other: &Machine<'a>, same: usize) -> Result<(), AllocError>
+        requires within { same ≤ length other.now.entries }
+        requires same { take same self.old.entries ≡ take same other.now.entries }
+        ensures { IfOk result (λ _. self.new ≡ other.now) }
+    {
+        let more = &other.entries[same..];
+        self.entries.reserve(more.len())?;
+        if self.execution.copy_from(&other.execution).is_err() {
+            return Err(AllocError);
+        }
+        self.shape = other.shape;
+        self.entries.truncate(same);
+        self.entries.extend_from_slice(more)
     }
 
     pub fn shape(&self) -> &'a Shape

@@ -1,17 +1,26 @@
 //! What callers and workers wait for, in words.
 
-use crate::place::{Doing, RunAt, Ticketed, WorkerAt};
+use crate::noted::{ActionId, Unwaited};
+use crate::place::{CallerAt, Doing, RunAt, Ticketed, WorkerAt};
 use crate::play::Play;
-use cmwq_json_script::Script;
-use cmwq_model::{Call, CallerId, ItemId, Number, Queueing, Reply, Who, WorkerId};
+use cmwq_json_script::{Action, Holder, Script};
+use cmwq_model::{Call, CallerId, CpuId, ItemId, Number, PoolId, Queueing, Reply, Who, WorkerId};
 use std::fmt;
 use std::fmt::{Display, Formatter, Write};
 
-/// The names of items and gates, by their numbers.
+/// The names of items, gates and locks, by their numbers.
 #[derive(Clone, Copy)]
 struct Names<'a> {
     items: &'a [String],
     gates: &'a [String],
+    locks: &'a [String],
+}
+
+fn name_at<'a>(names: &'a [String], number: usize) -> &'a str {
+    match names.get(number) {
+        Some(name) => name.as_str(),
+        None => "?",
+    }
 }
 
 impl<'a> Names<'a> {
@@ -19,21 +28,12 @@ impl<'a> Names<'a> {
         Names {
             items: &script.names,
             gates: &script.gates,
+            locks: &script.locks,
         }
     }
 
     fn item(&self, item: ItemId) -> &'a str {
-        match self.items.get(usize::from(item.0)) {
-            Some(name) => name.as_str(),
-            None => "?",
-        }
-    }
-
-    fn gate(&self, gate: u8) -> &'a str {
-        match self.gates.get(usize::from(gate)) {
-            Some(name) => name.as_str(),
-            None => "?",
-        }
+        name_at(self.items, usize::from(item.0))
     }
 }
 
@@ -44,6 +44,13 @@ struct Awaited {
     queueing: Option<(Number, Option<ItemId>)>,
 }
 
+/// What a party cannot pass now.
+#[derive(Clone, Copy)]
+enum Door {
+    Gate(u8),
+    Lock { lock: u8, holder: Option<Holder> },
+}
+
 #[derive(Clone, Copy)]
 enum State {
     /// A caller of the script waits.
@@ -51,11 +58,16 @@ enum State {
         caller: u8,
         wait: Awaited,
     },
-    /// A run waits at a gate.
-    AtGate {
+    /// A caller of the script waits at a gate or a lock.
+    CallerAt {
+        caller: u8,
+        door: Door,
+    },
+    /// A run waits at a gate or a lock.
+    RunAt {
         worker: WorkerId,
         item: ItemId,
-        gate: u8,
+        door: Door,
     },
     /// A run waits by a caller.
     Waits {
@@ -101,16 +113,43 @@ fn opened_by(play: &Play<'_>, number: Number) -> Option<ItemId> {
     entry.item()
 }
 
+/// The lock, and who holds it.
+fn lock_of(play: &Play<'_>, lock: u8) -> Door {
+    let holder = play.holder(lock);
+    Door::Lock { lock, holder }
+}
+
+/// Where a caller that does this next waits.
+fn door_of(play: &Play<'_>, action: Action) -> Option<Door> {
+    match action {
+        Action::SleepAt { gate } => Some(Door::Gate(gate)),
+        Action::Lock { lock } => Some(lock_of(play, lock)),
+        Action::Call(_) | Action::Open { .. } | Action::Unlock { .. } => None,
+    }
+}
+
+/// What keeps a caller, if it waits.
+fn caller_state(play: &Play<'_>, k: usize, at: CallerAt) -> Option<State> {
+    let caller = at.id.0;
+    if let Some(wait) = at.wait {
+        let wait = awaits(play, Who::Caller(at.id), wait);
+        return Some(State::Calls { caller, wait });
+    }
+    if play.may_move(k) {
+        return None;
+    }
+    let actions = play.script().callers.get(k)?;
+    let door = door_of(play, *actions.get(at.next)?)?;
+    Some(State::CallerAt { caller, door })
+}
+
 impl<'a> Party<'a> {
     /// The caller of this place, if it waits.
     pub fn caller(play: &Play<'a>, k: usize) -> Option<Party<'a>> {
-        let at = play.callers().get(k)?;
-        let wait = at.wait?;
-        let wait = awaits(play, Who::Caller(at.id), wait);
-        let caller = at.id.0;
+        let state = caller_state(play, k, *play.callers().get(k)?)?;
         Some(Party {
             names: Names::of(play.script()),
-            state: State::Calls { caller, wait },
+            state,
         })
     }
 
@@ -120,7 +159,14 @@ impl<'a> Party<'a> {
         let RunAt { item, doing, .. } = run?;
         let worker = id;
         let state = match doing {
-            Doing::AtGate { gate, .. } => State::AtGate { worker, item, gate },
+            Doing::AtGate { gate, .. } => {
+                let door = Door::Gate(gate);
+                State::RunAt { worker, item, door }
+            }
+            Doing::AtLock { lock, .. } => {
+                let door = lock_of(play, lock);
+                State::RunAt { worker, item, door }
+            }
             Doing::Waits { caller, wait } => State::Waits {
                 worker,
                 item,
@@ -217,7 +263,76 @@ impl<'a> Display for QueueingWords<'a> {
     }
 }
 
+/// A wait of a run that was refused, or found no caller.
+#[derive(Clone, Copy)]
+pub struct Refused<'a> {
+    names: Names<'a>,
+    place: ActionId,
+    why: Unwaited,
+}
+
+impl<'a> Refused<'a> {
+    /// The first one of a play, if there is one.
+    pub fn first(play: &Play<'a>) -> Option<Refused<'a>> {
+        let (place, why) = play.noted().first_refused?;
+        Some(Refused {
+            names: Names::of(play.script()),
+            place,
+            why,
+        })
+    }
+}
+
+impl<'a> Display for Refused<'a> {
+    fn fmt<W: Write>(&self, f: &mut Formatter<W>) -> fmt::Result {
+        let (item, action) = (self.names.item(self.place.item), self.place.action);
+        let why = match self.why {
+            Unwaited::NoCaller => "too many runs wait",
+            Unwaited::NoRoom => "no room",
+            Unwaited::Refused => "would wait for ever",
+        };
+        write!(f, "item {item}, action {action}: {why}")
+    }
+}
+
+/// A gate or a lock that is not passed.
+#[derive(Clone, Copy)]
+struct DoorWords<'a> {
+    names: Names<'a>,
+    door: Door,
+}
+
+impl<'a> Display for DoorWords<'a> {
+    fn fmt<W: Write>(&self, f: &mut Formatter<W>) -> fmt::Result {
+        let (lock, holder) = match self.door {
+            Door::Gate(gate) => {
+                let gate = name_at(self.names.gates, usize::from(gate));
+                return write!(f, "at gate {gate}");
+            }
+            Door::Lock { lock, holder } => (lock, holder),
+        };
+        let lock = name_at(self.names.locks, usize::from(lock));
+        match holder {
+            Some(Holder::Caller(caller)) => {
+                write!(f, "for lock {lock}, which caller c{} holds", caller.0)
+            }
+            Some(Holder::Run(item)) => {
+                let item = self.names.item(item);
+                write!(f, "for lock {lock}, which item {item} holds")
+            }
+            None => write!(f, "for lock {lock}"),
+        }
+    }
+}
+
 impl<'a> Party<'a> {
+    fn door_words(&self, door: Door) -> DoorWords<'a> {
+        DoorWords {
+            names: self.names,
+            door,
+        }
+    }
+
     fn call_words(&self, wait: Awaited) -> CallWords<'a> {
         CallWords {
             names: self.names,
@@ -240,13 +355,14 @@ impl<'a> Display for Party<'a> {
                 let (call, queueing) = (self.call_words(wait), self.queueing_words(wait));
                 write!(f, "caller c{caller} waits for {call}{queueing}")
             }
-            State::AtGate { worker, item, gate } => {
-                let worker = WorkerName { id: worker };
-                let (item, gate) = (self.names.item(item), self.names.gate(gate));
-                write!(
-                    f,
-                    "worker {worker} runs item {item} and waits at gate {gate}"
-                )
+            State::CallerAt { caller, door } => {
+                let door = self.door_words(door);
+                write!(f, "caller c{caller} waits {door}")
+            }
+            State::RunAt { worker, item, door } => {
+                let (worker, item) = (WorkerName { id: worker }, self.names.item(item));
+                let door = self.door_words(door);
+                write!(f, "worker {worker} runs item {item} and waits {door}")
             }
             State::Waits {
                 worker,
@@ -280,12 +396,44 @@ impl<'a> Display for Party<'a> {
 /// The name of one who takes part: `c0`, `w0n1`.
 #[derive(Clone, Copy)]
 pub struct PartyName {
-    who: Who,
+    pub(crate) who: Who,
+}
+
+/// The number that these digits spell, if it is small.
+fn small_number(digits: &str) -> Option<u8> {
+    match digits.parse::<u8>() {
+        Ok(number) => Some(number),
+        Err(_) => None,
+    }
+}
+
+/// The worker that a name says after its `w`.
+fn worker_named(text: &str) -> Option<WorkerId> {
+    let (cpu, high, index) = match (text.split_once('n'), text.split_once('h')) {
+        (Some((cpu, index)), _) => (cpu, false, index),
+        (None, Some((cpu, index))) => (cpu, true, index),
+        (None, None) => return None,
+    };
+    let cpu = CpuId(small_number(cpu)?);
+    Some(WorkerId {
+        pool: PoolId { cpu, high },
+        index: small_number(index)?,
+    })
 }
 
 impl PartyName {
     pub(crate) fn of(who: Who) -> PartyName {
         PartyName { who }
+    }
+
+    /// Reads a name.
+    pub fn parse(text: &str) -> Option<PartyName> {
+        if let Some(caller) = text.strip_prefix('c') {
+            let caller = CallerId(small_number(caller)?);
+            return Some(PartyName::of(Who::Caller(caller)));
+        }
+        let worker = worker_named(text.strip_prefix('w')?)?;
+        Some(PartyName::of(Who::Worker(worker)))
     }
 }
 

@@ -12,7 +12,7 @@ pub struct Ticketed {
     pub call: Call,
 }
 
-/// A caller, which call of its script is next, and the wait that it is in.
+/// A caller, which action of its script is next, and the wait that it is in.
 #[derive(Clone, Copy, Debug)]
 pub struct CallerAt {
     pub id: CallerId,
@@ -27,6 +27,8 @@ pub enum Doing {
     Acts,
     /// It waits at a gate, asleep unless there was no room for that.
     AtGate { gate: u8, slept: bool },
+    /// It waits for a lock, asleep unless there was no room for that.
+    AtLock { lock: u8, slept: bool },
     /// It waits by a caller, which is lent to it.
     Waits { caller: u8, wait: Ticketed },
 }

@@ -1,410 +1,372 @@
-//! All schedules of a script, depth first.
+//! All schedules of a script, depth first. A state that comes again is not searched again, if that is asked for.
 
-ghost use Rattle.std.specs.Prelude.{◌≡◌, ◌≤◌, ◌<◌, ◌+◌, ◌-◌, ◌++◌, ◌∷◌, ℕ, [], true, length, All, None, IfOk, IfSome};
+ghost use Rattle.std.specs.Prelude.{◌≡◌, ◌<◌, ◌+◌, ◌-◌, ◌^◌, ℕ, true, false, length, All, IfOk, IfSome};
+ghost use Rattle.std.specs.Prelude.{map};
+ghost use Rattle.std.specs.List.{list_any};
+ghost use Rattle.cmwq_json_script.specs.Scripts.{run_of};
 ghost use Rattle.cmwq_explore.specs.Stands as spec;
-ghost use Rattle.cmwq_explore.specs.Searches.{AllEnd, AllEndAfter, AllEndOrOneIsStuck, GetsStuck, HasAtLeast};
-ghost use Rattle.cmwq_explore.specs.Searches.{IsSchedule, KnowsStuck, NoneStuck, NoneStuckAfter, Rests};
-ghost use Rattle.cmwq_explore.specs.Searches.{StuckAreLong, TellsStuck, after};
-ghost use Rattle.cmwq_explore.specs.Counts.{CountsEnd, CountsStuck};
-ghost use Rattle.cmwq_explore.specs.declared.play.Standing.TheVariants as standing;
-ghost use Rattle.cmwq_explore.specs.Starts.{start_of};
+ghost use Rattle.cmwq_explore.specs.Alike.{IsStand, names_ticket};
+ghost use Rattle.cmwq_explore.specs.Findings.{IsReached, JoinsMove, Tells, TellsAll};
+ghost use Rattle.cmwq_explore.specs.Searches.{AllEndOrOneIsStuck, Rests, StuckAreLong};
+ghost use Rattle.cmwq_explore.specs.Seens.{IsKeyed, IsSearch, JoinsSeen, KnowsOf};
+ghost use Rattle.cmwq_explore.specs.Starts.{first_stand, start_of};
 
-use crate::play::{Play, Standing};
+use crate::finding::{Finding, Marks, copy_of};
+use crate::key::KeyWriter;
+use crate::play::Play;
+use crate::progress::{Progress, Watch};
+use crate::seen::{Key, Seen};
 use crate::setup::Setup;
+use cmwq_json_script::{Action, Script};
+use cmwq_model::Call;
 use std::alloc::{AllocError, Global};
 
-/// How many moves a schedule has at most; a longer one is cut off.
+/// How many moves a schedule of a search has at most; a longer one is cut off.
 pub const MOST_MOVES: usize = 2_000;
 
-/// After how many moves a search is looked at.
-const MOVES_A_LOOK: u64 = 1_000_000;
-
-/// What limits a search.
+/// What limits a search, and how it goes.
 #[derive(Clone, Copy, Debug)]
 pub struct Limits {
-    /// How many moves are made at most, in all. Those that are made again count too.
+    /// How many moves are made at most, in all.
     pub moves: u64,
-}
-
-/// What a search found.
-#[derive(Clone, Copy, Debug, PartialEq, Eq)]
-pub struct Found {
-    /// How many states were visited.
-    pub states: u64,
-    /// How many schedules ended, with nothing left to do.
-    pub ended: u64,
-    /// How many got stuck.
-    pub stuck: u64,
-    /// How many were cut off by a limit.
-    pub cut: u64,
-    /// In how many of those that ended or got stuck calls were left out for want of room.
-    pub short_of_room: u64,
-    /// In how many of them waits of runs were refused.
-    pub with_refusals: u64,
-    /// How many moves were made.
-    pub moves: u64,
-}
-
-impl Found {
-    /// Nothing yet.
-    pub fn nothing() -> Found
-        ensures { (result.stuck ≡ 0) × (result.ended ≡ 0) × (result.cut ≡ 0) }
-    {
-        Found {
-            states: 0,
-            ended: 0,
-            stuck: 0,
-            cut: 0,
-            short_of_room: 0,
-            with_refusals: 0,
-            moves: 0,
-        }
-    }
-
-    /// How a play ended that may not go on.
-    pub fn count_end(&mut self, play: &Play<'_>) -> Standing
-        ensures ended { result ≡ standing.Ended → CountsEnd self.old self.new × spec.IsDone play.now }
-        ensures stuck { result ≡ standing.Stuck → CountsStuck self.old self.new × (spec.IsDone play.now → ⊥) }
-        ensures goes { result ≡ standing.Goes → ⊥ }
-        ensures cut { self.new.cut ≡ self.old.cut }
-        ensures more { self.old.stuck ≤ self.new.stuck }
-    {
-        let standing = play.standing_still();
-        match standing {
-            Standing::Stuck => self.stuck = self.stuck.saturating_add(1),
-            _ => self.ended = self.ended.saturating_add(1),
-        }
-        if play.left_out() > 0 {
-            self.short_of_room = self.short_of_room.saturating_add(1);
-        }
-        if play.refused() > 0 {
-            self.with_refusals = self.with_refusals.saturating_add(1);
-        }
-        standing
-    }
-}
-
-/// Who looks on at a search.
-pub trait Watch {
-    /// So much was found so far.
-    fn looks(&mut self, found: &Found);
-
-    /// A play may not go on.
-    fn ends(&mut self, play: &Play<'_>, standing: Standing);
+    /// Whether each schedule is played, even where it comes to a state that was searched already.
+    pub is_plain: bool,
+    /// Whether the search ends with the first schedule that gets stuck.
+    pub is_first: bool,
 }
 
 /// A search under way.
 #[derive(Drop)]
-struct Search {
+struct Search<'a> {
     alloc: Global,
     limits: Limits,
-    found: Found,
-    shortest: Option<Vec<usize>>,
-    next_look: u64,
+    progress: Progress,
+    /// Whether a state that comes again is not searched again.
+    merges: bool,
+    /// What was found of the states that were searched.
+    seen: Seen,
+    writer: KeyWriter,
+    /// The key of the state that was come to last.
+    key: Key,
+    /// Plays that are not used now.
+    spare: Vec<Play<'a>>,
 }
 
-/// The schedule, copied.
-fn copy_of(alloc: Global, schedule: &[usize]) -> Result<Vec<usize>, AllocError>
-    ensures { IfOk result (λ copy. copy.items ≡ schedule.now) }
-{
-    Ok(schedule.to_vec(alloc)?)
-}
-
-impl Search {
-    fn new(alloc: Global, limits: Limits) -> Search
-        ensures shortest { result.shortest ≡ None }
-        ensures stuck { result.found.stuck ≡ 0 }
+impl<'a> Search<'a> {
+    /// No state was searched yet.
+    fn new(alloc: Global, limits: Limits, merges: bool) -> Search<'a>
+        ensures { (start : spec.Stand) → (merges ≡ true → IsStand start) → IsSearch start result }
     {
         Search {
             alloc,
             limits,
-            found: Found::nothing(),
-            shortest: None,
-            next_look: MOVES_A_LOOK,
+            progress: Progress::nothing(),
+            merges,
+            seen: Seen::new(alloc),
+            writer: KeyWriter::new(alloc),
+            key: Vec::new(alloc),
+            spare: Vec::new(alloc),
         }
     }
 
-    /// One state more was visited.
+    /// One state more is searched.
     fn count_state(&mut self)
-        ensures counts { (self.new.found.cut ≡ self.old.found.cut) × (self.new.found.stuck ≡ self.old.found.stuck) }
-        ensures shortest { self.new.shortest ≡ self.old.shortest }
+        ensures { (self.new.seen ≡ self.old.seen) × (self.new.merges ≡ self.old.merges) }
     {
-        self.found.states = self.found.states.saturating_add(1);
+        self.progress.states = self.progress.states.saturating_add(1);
     }
 
-    /// So many moves more were made.
-    fn count_moves<W: Watch>(&mut self, moves: usize, watch: &mut W)
-        ensures counts { (self.new.found.cut ≡ self.old.found.cut) × (self.new.found.stuck ≡ self.old.found.stuck) }
-        ensures shortest { self.new.shortest ≡ self.old.shortest }
+    /// A state came again.
+    fn count_again(&mut self)
+        ensures { (self.new.seen ≡ self.old.seen) × (self.new.merges ≡ self.old.merges) }
     {
-        self.found.moves = self.found.moves.saturating_add(moves as u64);
-        if self.found.moves >= self.next_look {
-            self.next_look = self.found.moves.saturating_add(MOVES_A_LOOK);
-            watch.looks(&self.found);
-        }
+        self.progress.again = self.progress.again.saturating_add(1);
     }
 
     /// Whether no move more is to be made.
     fn is_at_limit(&self) -> bool {
-        self.found.moves >= self.limits.moves
-    }
-
-    /// Keeps a schedule that got stuck, if none that is shorter is known.
-    fn keep_shortest(&mut self, path: &[usize]) -> Result<(), AllocError>
-        ensures sound { IfOk result (λ _. (start : spec.Stand) → GetsStuck start path.now
-            → TellsStuck start self.old.shortest → TellsStuck start self.new.shortest) }
-        ensures within { IfOk result (λ _. IfSome self.new.shortest (λ s. length s.items ≤ length path.now)) }
-        ensures shorter { IfOk result (λ _. (n : ℕ) → HasAtLeast n self.new.shortest
-            → HasAtLeast n self.old.shortest) }
-        ensures some { IfOk result (λ _. self.new.shortest ≡ None → ⊥) }
-        ensures found { self.new.found ≡ self.old.found }
-    {
-        match &self.shortest {
-            Some(known) if known.len() <= path.len() => Ok(()),
-            _ => {
-                self.shortest = Some(copy_of(self.alloc, path)?);
-                Ok(())
-            }
-        }
+        self.progress.moves >= self.limits.moves
+            || (self.limits.is_first && self.progress.stuck > 0)
     }
 
     /// A schedule may not go on.
-    fn note_end<W: Watch>(
-        &mut self,
-        play: &Play<'_>,
-        path: &[usize],
-        watch: &mut W,
-    ) -> Result<(), AllocError>
-        ensures done { self.new.found.stuck ≡ 0 → spec.IsDone play.now }
-        ensures cut { self.new.found.cut ≡ self.old.found.cut }
-        ensures stuck { self.old.found.stuck ≤ self.new.found.stuck }
-        ensures sound { IfOk result (λ _. (start : spec.Stand) → play.now ≡ after start path.now
-            → IsSchedule start path.now → Rests play.now
-            → TellsStuck start self.old.shortest → TellsStuck start self.new.shortest) }
-        ensures none { IfOk result (λ _. (n : ℕ) → HasAtLeast n self.new.shortest → length path.now < n
-            → spec.IsDone play.now) }
-        ensures shorter { IfOk result (λ _. (n : ℕ) → HasAtLeast n self.new.shortest
-            → HasAtLeast n self.old.shortest) }
-        ensures known { IfOk result (λ _. KnowsStuck self.old.found.stuck self.old.shortest
-            → KnowsStuck self.new.found.stuck self.new.shortest) }
+    fn end<W: Watch>(&mut self, play: &Play<'a>, watch: &mut W) -> Finding
+        ensures same { (self.new.seen ≡ self.old.seen) × (self.new.merges ≡ self.old.merges) }
+        ensures tells { Rests play.now → (depth : ℕ) → Tells depth result play.now }
     {
-        let standing = self.found.count_end(play);
+        let standing = play.standing_still();
         watch.ends(play, standing);
-        match standing {
-            Standing::Stuck => self.keep_shortest(path),
-            Standing::Goes | Standing::Ended => Ok(()),
-        }
+        self.progress.count_end(standing);
+        Finding::at_end(self.alloc, standing, play.holds_a_lock())
     }
 
-    /// A schedule was cut off.
-    fn cut(&mut self)
-        ensures cut { 1 ≤ self.new.found.cut }
-        ensures more { self.old.found.cut ≤ self.new.found.cut }
-        ensures stuck { self.new.found.stuck ≡ self.old.found.stuck }
-        ensures shortest { self.new.shortest ≡ self.old.shortest }
+    /// A copy of this play.
+    fn copy_of(&mut self, setup: &'a Setup<'a>, play: &Play<'a>) -> Result<Play<'a>, AllocError>
+        ensures same { (self.new.seen ≡ self.old.seen) × (self.new.merges ≡ self.old.merges) }
+        ensures copy { IfOk result (λ copy. copy ≡ play.now) }
     {
-        self.found.cut = self.found.cut.saturating_add(1);
+        let mut copy = match self.spare.pop() {
+            Some(spare) => spare,
+            None => Play::new(self.alloc, setup)?,
+        };
+        copy.copy_from(play)?;
+        Ok(copy)
     }
 
-    /// The play stands at the end of the path: it stands there before the first of those who may move there has moved,
-    /// and for each other one it is played again.
-    fn stand_at<'a, W: Watch>(
+    /// Searches all schedules from the state at which the play stands.
+    #[cycle(searching)]
+    fn visit<W: Watch>(
         &mut self,
         setup: &'a Setup<'a>,
         play: &mut Play<'a>,
-        path: &[usize],
-        is_first: bool,
-        watch: &mut W,
-    ) -> Result<(), AllocError>
-        requires { is_first ≡ true → play.old ≡ after (start_of setup.now) path.now }
-        ensures play { IfOk result (λ _. play.new ≡ after (start_of setup.now) path.now) }
-        ensures counts { (self.new.found.cut ≡ self.old.found.cut) × (self.new.found.stuck ≡ self.old.found.stuck) }
-        ensures shortest { self.new.shortest ≡ self.old.shortest }
-    {
-        if is_first {
-            return Ok(());
-        }
-        play.replay(setup, path)?;
-        self.count_moves(path.len(), watch);
-        Ok(())
-    }
-
-    /// Makes a move, which is the last one of the path from then on.
-    fn move_on<W: Watch>(
-        &mut self,
-        play: &mut Play<'_>,
-        path: &mut Vec<usize>,
-        party: usize,
-        watch: &mut W,
-    ) -> Result<(), AllocError>
-        ensures play { IfOk result (λ _. play.new ≡ spec.moved play.old party) }
-        ensures path { IfOk result (λ _. path.new.items ≡ path.old.items ++ party ∷ []) }
-        ensures at { IfOk result (λ _. (start : spec.Stand) → play.old ≡ after start path.old.items
-            → play.new ≡ after start path.new.items) }
-        ensures goes { IfOk result (λ _. (start : spec.Stand) → play.old ≡ after start path.old.items
-            → IsSchedule start path.old.items → spec.may play.old party ≡ true
-            → IsSchedule start path.new.items) }
-        ensures counts { (self.new.found.cut ≡ self.old.found.cut) × (self.new.found.stuck ≡ self.old.found.stuck) }
-        ensures shortest { self.new.shortest ≡ self.old.shortest }
-    {
-        play.make_move(party)?;
-        self.count_moves(1, watch);
-        path.push(party)?;
-        Ok(())
-    }
-
-    /// Visits all states to which the path leads, at the end of which the play stands.
-    #[cycle(visiting)]
-    fn visit<'a, W: Watch>(
-        &mut self,
-        setup: &'a Setup<'a>,
-        play: &mut Play<'a>,
-        path: &mut Vec<usize>,
         depth: usize,
         watch: &mut W,
-    ) -> Result<(), AllocError>
-        requires at { play.old ≡ after (start_of setup.now) path.old.items }
-        requires goes { IsSchedule (start_of setup.now) path.old.items }
-        ensures all { IfOk result
-            (λ _. self.new.found.cut ≡ 0 → self.new.found.stuck ≡ 0 → AllEnd depth play.old) }
-        ensures path { IfOk result (λ _. path.new.items ≡ path.old.items) }
-        ensures cut { self.old.found.cut ≤ self.new.found.cut }
-        ensures stuck { self.old.found.stuck ≤ self.new.found.stuck }
-        ensures none { IfOk result (λ _. self.new.found.cut ≡ 0 → (n : ℕ) → HasAtLeast n self.new.shortest
-            → NoneStuck (n - length path.old.items) play.old) }
-        ensures sound { IfOk result (λ _. TellsStuck (start_of setup.now) self.old.shortest
-            → TellsStuck (start_of setup.now) self.new.shortest) }
-        ensures shorter { IfOk result (λ _. (n : ℕ) → HasAtLeast n self.new.shortest
-            → HasAtLeast n self.old.shortest) }
-        ensures known { IfOk result (λ _. KnowsStuck self.old.found.stuck self.old.shortest
-            → KnowsStuck self.new.found.stuck self.new.shortest) }
+    ) -> Result<Finding, AllocError>
+        requires search { IsSearch (start_of setup.now) self.old }
+        requires reached { IsReached (start_of setup.now) play.old }
+        ensures search { IfOk result (λ _. IsSearch (start_of setup.now) self.new) }
+        ensures tells { IfOk result (λ finding. Tells depth finding play.old) }
     {
         self.count_state();
         let movers = play.movers()?;
         if movers.is_empty() {
-            return self.note_end(play, path, watch);
+            return Ok(self.end(play, watch));
         }
         if depth == 0 {
-            self.cut();
-            return Ok(());
+            let mut finding = Finding::nothing();
+            finding.cut_here(self.alloc);
+            return Ok(finding);
         }
-        self.visit_after(setup, play, path, depth - 1, &movers, watch)
+        self.visit_after(setup, play, depth - 1, &movers, watch)
     }
 
-    /// Visits all states after a move of each of these.
-    #[cycle(visiting)]
-    fn visit_after<'a, W: Watch>(
+    /// Searches all schedules that go on by a move of one of these. The last of them moves in the play itself.
+    #[cycle(searching)]
+    fn visit_after<W: Watch>(
         &mut self,
         setup: &'a Setup<'a>,
         play: &mut Play<'a>,
-        path: &mut Vec<usize>,
         depth: usize,
         movers: &[usize],
         watch: &mut W,
-    ) -> Result<(), AllocError>
-        requires at { play.old ≡ after (start_of setup.now) path.old.items }
-        requires goes { IsSchedule (start_of setup.now) path.old.items }
+    ) -> Result<Finding, AllocError>
+        requires search { IsSearch (start_of setup.now) self.old }
+        requires reached { IsReached (start_of setup.now) play.old }
         requires movers { All (λ k. spec.may play.old k ≡ true) movers.now }
-        ensures all { IfOk result (λ _. self.new.found.cut ≡ 0 → self.new.found.stuck ≡ 0
-            → AllEndAfter depth play.old movers.now (length movers.now)) }
-        ensures path { IfOk result (λ _. path.new.items ≡ path.old.items) }
-        ensures cut { self.old.found.cut ≤ self.new.found.cut }
-        ensures stuck { self.old.found.stuck ≤ self.new.found.stuck }
-        ensures none { IfOk result (λ _. self.new.found.cut ≡ 0 → (n : ℕ) → HasAtLeast n self.new.shortest
-            → NoneStuckAfter (n - (length path.old.items + 1)) play.old movers.now (length movers.now)) }
-        ensures sound { IfOk result (λ _. TellsStuck (start_of setup.now) self.old.shortest
-            → TellsStuck (start_of setup.now) self.new.shortest) }
-        ensures shorter { IfOk result (λ _. (n : ℕ) → HasAtLeast n self.new.shortest
-            → HasAtLeast n self.old.shortest) }
-        ensures known { IfOk result (λ _. KnowsStuck self.old.found.stuck self.old.shortest
-            → KnowsStuck self.new.found.stuck self.new.shortest) }
+        requires some { 0 < length movers.now }
+        requires deep { depth < 2 ^ 64 - 1 }
+        ensures search { IfOk result (λ _. IsSearch (start_of setup.now) self.new) }
+        ensures tells { IfOk result (λ finding. TellsAll (depth + 1) finding play.old movers.now) }
     {
+        let mut finding = Finding::nothing();
+        let last = movers.len() - 1;
         for k in 0..movers.len() {
             if self.is_at_limit() {
-                self.cut();
-                return Ok(());
+                finding.cut_here(self.alloc);
+                return Ok(finding);
             }
-            self.stand_at(setup, play, path, k == 0, watch)?;
-            self.visit_move(setup, play, path, depth, movers[k], watch)?;
+            self.visit_move(
+                setup,
+                play,
+                depth,
+                movers[k],
+                k == last,
+                &mut finding,
+                watch,
+            )?;
         }
-        Ok(())
+        Ok(finding)
     }
 
-    /// Makes a move, and visits all states after it.
-    #[cycle(visiting)]
-    fn visit_move<'a, W: Watch>(
+    /// Adds all schedules that go on by a move of this party. Where it is the last, it moves in the play itself.
+    #[cycle(searching)]
+    fn visit_move<W: Watch>(
         &mut self,
         setup: &'a Setup<'a>,
         play: &mut Play<'a>,
-        path: &mut Vec<usize>,
         depth: usize,
         party: usize,
+        is_last: bool,
+        finding: &mut Finding,
         watch: &mut W,
     ) -> Result<(), AllocError>
-        requires at { play.old ≡ after (start_of setup.now) path.old.items }
-        requires goes { IsSchedule (start_of setup.now) path.old.items }
+        requires search { IsSearch (start_of setup.now) self.old }
+        requires reached { IsReached (start_of setup.now) play.old }
         requires may { spec.may play.old party ≡ true }
-        ensures all { IfOk result (λ _. self.new.found.cut ≡ 0 → self.new.found.stuck ≡ 0
-            → AllEnd depth (spec.moved play.old party)) }
-        ensures path { IfOk result (λ _. path.new.items ≡ path.old.items) }
-        ensures cut { self.old.found.cut ≤ self.new.found.cut }
-        ensures stuck { self.old.found.stuck ≤ self.new.found.stuck }
-        ensures none { IfOk result (λ _. self.new.found.cut ≡ 0 → (n : ℕ) → HasAtLeast n self.new.shortest
-            → NoneStuck (n - (length path.old.items + 1)) (spec.moved play.old party)) }
-        ensures sound { IfOk result (λ _. TellsStuck (start_of setup.now) self.old.shortest
-            → TellsStuck (start_of setup.now) self.new.shortest) }
-        ensures shorter { IfOk result (λ _. (n : ℕ) → HasAtLeast n self.new.shortest
-            → HasAtLeast n self.old.shortest) }
-        ensures known { IfOk result (λ _. KnowsStuck self.old.found.stuck self.old.shortest
-            → KnowsStuck self.new.found.stuck self.new.shortest) }
+        requires deep { depth < 2 ^ 64 - 1 }
+        ensures search { IfOk result (λ _. IsSearch (start_of setup.now) self.new) }
+        ensures play { IfOk result (λ _. is_last ≡ false → play.new ≡ play.old) }
+        ensures joins { IfOk result (λ _. JoinsMove depth play.old party finding.old finding.new) }
     {
-        self.move_on(play, path, party, watch)?;
-        self.visit(setup, play, path, depth, watch)?;
-        path.pop();
+        if is_last {
+            return self.go_on(setup, play, depth, party, finding, watch);
+        }
+        let mut next = self.copy_of(setup, play)?;
+        self.go_on(setup, &mut next, depth, party, finding, watch)?;
+        self.spare.push(next)?;
         Ok(())
     }
 
-    /// Visits all states.
-    fn visit_all<'a, W: Watch>(
+    /// Makes the move of this party in the play, and adds all schedules that go on from there.
+    #[cycle(searching)]
+    fn go_on<W: Watch>(
+        &mut self,
+        setup: &'a Setup<'a>,
+        play: &mut Play<'a>,
+        depth: usize,
+        party: usize,
+        finding: &mut Finding,
+        watch: &mut W,
+    ) -> Result<(), AllocError>
+        requires search { IsSearch (start_of setup.now) self.old }
+        requires reached { IsReached (start_of setup.now) play.old }
+        requires may { spec.may play.old party ≡ true }
+        requires deep { depth < 2 ^ 64 - 1 }
+        ensures search { IfOk result (λ _. IsSearch (start_of setup.now) self.new) }
+        ensures joins { IfOk result (λ _. JoinsMove depth play.old party finding.old finding.new) }
+    {
+        let before = *play.noted();
+        play.make_move(party)?;
+        self.progress.count_moves(1, watch);
+        let marks = Marks::between(&before, play.noted());
+        if self.joins_seen(play, depth, party, marks, finding)? {
+            return Ok(());
+        }
+        let key = self.kept_key()?;
+        let child = self.visit(setup, play, depth, watch)?;
+        finding.join(self.alloc, &child, party, marks)?;
+        self.keep(key, child)
+    }
+
+    /// Adds what is known of the state to which this party's move led, if it came again. Its key is kept.
+    fn joins_seen(
+        &mut self,
+        play: &Play<'a>,
+        depth: usize,
+        party: usize,
+        marks: Marks,
+        finding: &mut Finding,
+    ) -> Result<bool, AllocError>
+        requires { depth < 2 ^ 64 - 1 }
+        ensures same { (self.new.seen ≡ self.old.seen) × (self.new.merges ≡ self.old.merges) }
+        ensures key { IfOk result (λ is. is ≡ false → IsKeyed play.now self.new) }
+        ensures kept { IfOk result (λ is. is ≡ false → finding.new ≡ finding.old) }
+        ensures joins { IfOk result (λ is. is ≡ true
+            → JoinsSeen self.old.seen play.now depth party finding.old finding.new) }
+    {
+        if !self.merges {
+            return Ok(false);
+        }
+        self.writer.write(&mut self.key, play)?;
+        match self.seen.get(&self.key) {
+            Some(known) if known.height <= depth => {
+                finding.join(self.alloc, known, party, marks)?;
+                self.count_again();
+                Ok(true)
+            }
+            _ => Ok(false),
+        }
+    }
+
+    /// The key at hand, if what is found of its state is to be kept.
+    fn kept_key(&self) -> Result<Option<Key>, AllocError>
+        ensures { IfOk result (λ key. IfSome key
+            (λ key. (self.now.merges ≡ true) × (key.items ≡ self.now.key.items))) }
+    {
+        if !self.merges {
+            return Ok(None);
+        }
+        let key = copy_of(self.alloc, &self.key)?;
+        Ok(Some(key))
+    }
+
+    /// Keeps what was found of the state with this key, if there is one, unless something was cut off there.
+    fn keep(&mut self, key: Option<Key>, finding: Finding) -> Result<(), AllocError>
+        ensures { (start : spec.Stand) → IsSearch start self.old
+            → IfSome key (λ key. KnowsOf start key.items finding) → IfOk result (λ _. IsSearch start self.new) }
+    {
+        match key {
+            Some(key) if finding.cut == 0 => self.seen.put(key, finding),
+            _ => Ok(()),
+        }
+    }
+
+    /// Searches all schedules of the script.
+    fn visit_all<W: Watch>(
         &mut self,
         setup: &'a Setup<'a>,
         watch: &mut W,
-    ) -> Result<(), AllocError>
-        ensures all { IfOk result (λ _. self.new.found.cut ≡ 0 → self.new.found.stuck ≡ 0
-            → AllEnd MOST_MOVES (start_of setup.now)) }
-        ensures none { IfOk result (λ _. self.new.found.cut ≡ 0 → (n : ℕ) → HasAtLeast n self.new.shortest
-            → NoneStuck n (start_of setup.now)) }
-        ensures sound { IfOk result (λ _. TellsStuck (start_of setup.now) self.old.shortest
-            → TellsStuck (start_of setup.now) self.new.shortest) }
-        ensures known { IfOk result (λ _. KnowsStuck self.old.found.stuck self.old.shortest
-            → KnowsStuck self.new.found.stuck self.new.shortest) }
+    ) -> Result<Finding, AllocError>
+        requires { IsSearch (start_of setup.now) self.old }
+        ensures { IfOk result (λ finding. Tells MOST_MOVES finding (start_of setup.now)) }
     {
         let mut play = Play::new(self.alloc, setup)?;
-        let mut path = Vec::new(self.alloc);
-        self.visit(setup, &mut play, &mut path, MOST_MOVES, watch)
+        self.visit(setup, &mut play, MOST_MOVES, watch)
     }
 }
 
-/// Plays all schedules of a script, depth first, within the limits. Returns what it found, and the shortest schedule
-/// that got stuck, of those the first.
-///
-/// # Errors
-/// Want of memory.
-pub fn search_all<'a, W: Watch>(
+/// Searches all schedules of this setup.
+fn search_from<'a, W: Watch>(
     alloc: Global,
     setup: &'a Setup<'a>,
     limits: Limits,
+    merges: bool,
     watch: &mut W,
-) -> Result<(Found, Option<Vec<usize>>), AllocError>
-    ensures all { IfOk result (λ r. r.0.cut ≡ 0 → r.0.stuck ≡ 0 → AllEnd MOST_MOVES (start_of setup.now)) }
-    ensures stuck { IfOk result (λ r. TellsStuck (start_of setup.now) r.1) }
-    ensures known { IfOk result (λ r. KnowsStuck r.0.stuck r.1) }
-    ensures shortest { IfOk result (λ r. r.0.cut ≡ 0
-        → IfSome r.1 (λ schedule. NoneStuck (length schedule.items) (start_of setup.now))) }
+) -> Result<(Finding, Progress), AllocError>
+    requires { merges ≡ true → IsStand (start_of setup.now) }
+    ensures { IfOk result (λ r. Tells MOST_MOVES r.0 (start_of setup.now)) }
 {
-    let mut search = Search::new(alloc, limits);
-    search.visit_all(setup, watch)?;
-    Ok((search.found, search.shortest))
+    let mut search = Search::new(alloc, limits, merges);
+    let finding = search.visit_all(setup, watch)?;
+    Ok((finding, search.progress))
+}
+
+/// Whether an action names a ticket, which in a script none does.
+fn names_ticket(action: Action) -> bool
+    ensures { result ≡ names_ticket action }
+{
+    matches!(action, Action::Call(Call::End { .. }))
+}
+
+fn names_one(actions: &[Action]) -> bool
+    ensures { result ≡ list_any names_ticket actions.now }
+{
+    actions.iter().any(|action| names_ticket(*action))
+}
+
+fn any_names_ticket(all: &[Vec<Action>]) -> bool
+    ensures { result ≡ list_any (list_any names_ticket) (map (λ actions. actions.items) all.now) }
+{
+    all.iter().any(|actions| names_one(actions))
+}
+
+/// Whether a state that comes again need not be searched again: not where each schedule is to be played, nor where an
+/// action of the script names a ticket, since then states that differ in their numbers are not the same.
+fn may_merge(script: &Script, limits: Limits) -> bool
+    ensures { result ≡ true → IsStand (first_stand (run_of script.now)) }
+{
+    if limits.is_plain || any_names_ticket(&script.callers) {
+        return false;
+    }
+    !any_names_ticket(&script.does)
+}
+
+/// Tries all schedules of a script, depth first, within the limits, and returns what was found of them, and how far it
+/// came. Unless the search is plain, a state that comes again is not searched again: what was found of it counts once
+/// more for each way to it. States are the same if they differ in nothing but the numbers of entries.
+///
+/// # Errors
+/// Want of memory.
+pub fn search_all<W: Watch>(
+    alloc: Global,
+    script: &Script,
+    limits: Limits,
+    watch: &mut W,
+) -> Result<(Finding, Progress), AllocError>
+    ensures { IfOk result (λ r. Tells MOST_MOVES r.0 (first_stand (run_of script.now))) }
+{
+    let setup = Setup::new(alloc, script)?;
+    search_from(alloc, &setup, limits, may_merge(script, limits), watch)
 }
 
 /// Where every schedule ends, none gets stuck: so what `search_all` tells is never both.

@@ -3,12 +3,18 @@
 ghost use Rattle.std.specs.Prelude.{◌≡◌, ◌++◌, IfOk};
 ghost use Rattle.cmwq_json_script.specs.Scripts.{run_of};
 ghost use Rattle.cmwq_explore.specs.Firsts.{callers_from, lent_from, of_cpu, of_pool, workers_from};
-ghost use Rattle.cmwq_explore.specs.Starts.{first_stand, start_of};
+ghost use Rattle.cmwq_explore.specs.Starts.{first_stand, most_moves, start_of};
 
 use crate::place::{CallerAt, WorkerAt};
 use cmwq_json_script::Script;
 use cmwq_model::{CallerId, CpuId, PoolId, WorkerId};
 use std::alloc::{AllocError, Global};
+
+/// How many moves there are at most for an entry: itself, and two for each action of the run that it may begin.
+const MOVES_FOR_AN_ENTRY: u64 = 129;
+
+/// How many moves of a caller make no entry at most, and the one after which it is known that there is none.
+const MOVES_OF_A_CALLER: u64 = 1_001;
 
 /// A script, with its callers and workers as they stand before the first move.
 #[derive(Drop)]
@@ -90,7 +96,8 @@ impl<'a> Setup<'a> {
     /// Want of memory.
     #[tactic(auto, unfolding(crate::specs::Starts::start_of, crate::specs::Starts::first_stand))]
     pub fn new(alloc: Global, script: &'a Script) -> Result<Setup<'a>, AllocError>
-        ensures { IfOk result (λ setup. start_of setup ≡ first_stand (run_of script.now)) }
+        ensures start { IfOk result (λ setup. start_of setup ≡ first_stand (run_of script.now)) }
+        ensures script { IfOk result (λ setup. setup.script.now ≡ script.now) }
     {
         let counts = script.shape.counts();
         let first = script.callers.len();
@@ -100,6 +107,17 @@ impl<'a> Setup<'a> {
             workers: workers_at(alloc, counts.cpus, counts.workers)?,
             lent: lent_at(alloc, first, script.waits)?,
         })
+    }
+
+    /// More moves than a schedule has: each makes an entry, is an action of a caller, of which one has at most 1,000,
+    /// or belongs to one of at most 64 actions of a run, of which each begins with an entry.
+    pub fn most_moves(&self) -> u64
+        ensures { result ≡ most_moves (run_of self.now.script.now) }
+    {
+        let room = self.script.shape.counts().room;
+        let callers = self.script.callers.len() as u64;
+        let of_runs = room.saturating_mul(MOVES_FOR_AN_ENTRY);
+        of_runs.saturating_add(callers.saturating_mul(MOVES_OF_A_CALLER))
     }
 
     /// The script.

@@ -55,7 +55,7 @@ fn note_at(waits: &mut RunWaits, machine: &Machine<'_>, at: &WorkerAt) -> Result
         Doing::Waits { caller, wait } => {
             note(waits, machine, at.id, CallerId(caller), wait.ticket)
         }
-        Doing::Acts | Doing::AtGate { .. } => Ok(()),
+        Doing::Acts | Doing::AtGate { .. } | Doing::AtLock { .. } => Ok(()),
     }
 }
 

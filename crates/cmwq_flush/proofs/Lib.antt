@@ -11,3 +11,4 @@ mod Rightness
 mod Queues
 mod ItemRows
 mod NodeRowSteps
+mod Copies

@@ -30,3 +30,22 @@ pub record AreQueuesRight (items : ℕ) (rows : List (List Row)) (overflow : Lis
     pub lists : length overflow ≡ length fs
     pub each : (q : ℕ) (d : Flushes) → q < length fs
         → IsQueueRight items (rows_at rows q) (tickets_at overflow q) (get_or fs q d)
+
+-- what is kept of a queue is what is kept of another, in a table that has room for all served flushes
+pub record IsKeptAs (f other : Flushes) : Type 0 where
+  pub next : f.next ≡ other.next
+  pub counts : f.counts ≡ other.counts
+  pub served : f.served.items ≡ other.served.items
+  pub colours : f.colours ≡ other.colours
+  pub served_room : 15 ≤ vec_capacity f.served
+
+abbrev pub AreKeptAs : List Flushes → List Flushes → Type 0
+AreKeptAs fs others = (length fs ≡ length others) × ((q : ℕ) (d e : Flushes) → q < length others
+    → IsKeptAs (get_or fs q d) (get_or others q e))
+
+-- no more flushes are served of a queue than may be, and there is room for as many
+abbrev pub HaveFewServed : List Flushes → Type 0
+HaveFewServed fs = (q : ℕ) (d : Flushes) → q < length fs → length (get_or fs q d).served.items ≤ 15
+
+abbrev pub HaveServedRoom : List Flushes → Type 0
+HaveServedRoom fs = (q : ℕ) (d : Flushes) → q < length fs → 15 ≤ vec_capacity (get_or fs q d).served

@@ -1,11 +1,11 @@
 ghost use Rattle.std.specs.List.{list_all};
 ghost use Rattle.std.specs.Prelude.{◌≡◌, [], ◌*◌, ◌<◌, ◌≤◌, nat_le, ◌↔◌, ℕ, All, Contains, IfOk, IfSome, IsTrue};
-ghost use Rattle.std.specs.Prelude.{length, replicate, slice_get};
+ghost use Rattle.std.specs.Prelude.{is_some, length, replicate, slice_get};
 ghost use Rattle.cmwq_flush.specs.ItemNumbers.{IsItemReady, item_waits_for, numbers_open};
 ghost use Rattle.cmwq_flush.specs.Colouring.{IsToldByColours};
 ghost use Rattle.cmwq_flush.specs.FlushBook.{IsReady, flush_tickets, flushes_with_wait, flushes_without_wait};
-ghost use Rattle.cmwq_flush.specs.FlushBook.{is_waited_for, new_book};
-ghost use Rattle.cmwq_flush.specs.Queues.{AreQueuesRight, books_by};
+ghost use Rattle.cmwq_flush.specs.FlushBook.{is_waited_for, new_book, served_of};
+ghost use Rattle.cmwq_flush.specs.Queues.{AreKeptAs, AreQueuesRight, HaveFewServed, HaveServedRoom, books_by};
 ghost use Rattle.cmwq_flush.specs.FlushBooks.{CanBegin, CanOpenOn, IsOpenOn, book_in, new_flush_state, with_book};
 ghost use Rattle.cmwq_flush.specs.FlushBooks.{with_open, without_open};
 
@@ -58,6 +58,19 @@ impl FlushBooks {
             overflow: Overflow::new(alloc, queues as u16, room)?,
             openings: Openings::new(alloc, queues as u16, items)?,
         })
+    }
+
+    /// Makes these books a copy of the others. There are as many queues and items of both, and as much room for flushes
+    /// in overflow, so that no memory is taken.
+    pub fn copy_from(&mut self, other: &FlushBooks)
+        requires room { self.old.room ≡ other.now.room }
+        requires queues { length self.old.books ≡ length other.now.books }
+        requires items { length self.old.opened ≡ length other.now.opened }
+        ensures { self.new ≡ other.now }
+    {
+        self.openings.copy_from(&other.openings);
+        self.overflow.copy_from(&other.overflow);
+        copy_queues(&mut self.queues, &other.queues);
     }
 
     /// A queueing of the item was opened on the queue (`insert_work`, which gives it the current colour).
@@ -119,6 +132,14 @@ impl FlushBooks {
         self.queues[usize::from(queue.0)].waits_for(ticket, number)
     }
 
+    /// Whether a flush is served. One that stands and isn't is in overflow.
+    pub fn is_served(&self, queue: QueueId, ticket: Number) -> bool
+        requires { queue.0 < length self.now.books }
+        ensures { result ≡ is_some (served_of (book_in self.now.books queue.0) ticket) }
+    {
+        self.queues[usize::from(queue.0)].is_served(ticket)
+    }
+
     /// A flush that is ready ends (`__flush_workqueue` after its wait). Where it was served, the oldest of the overflow
     /// is served from now on.
     pub fn end(&mut self, queue: QueueId, ticket: Number)
@@ -152,4 +173,16 @@ fn new_queues(alloc: Global, queues: usize) -> Result<Vec<Flushes>, AllocError>
         made.push_reserved(Flushes::new(alloc)?);
     }
     Ok(made)
+}
+
+/// Makes what is kept of each queue a copy of what is kept of another.
+fn copy_queues(queues: &mut [Flushes], others: &[Flushes])
+    requires many { length queues.old ≡ length others.now }
+    requires few { HaveFewServed others.now }
+    requires room { HaveServedRoom queues.old }
+    ensures { AreKeptAs queues.new others.now }
+{
+    for index in 0..queues.len() {
+        queues[index].copy_from(&others[index]);
+    }
 }

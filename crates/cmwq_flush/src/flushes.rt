@@ -1,11 +1,11 @@
 ghost use Rattle.std.specs.Prelude.{◌≡◌, ℕ, ◌+◌, List, ◌∷◌, ◌++◌, [], ◌<◌, ◌≤◌, ◌==◌, ◌↔◌, All, Contains, IfOk, IsTrue};
-ghost use Rattle.std.specs.Prelude.{length, slice_index, take, vec_capacity, vec_len};
+ghost use Rattle.std.specs.Prelude.{is_some, length, slice_index, take, vec_capacity, vec_len};
 ghost use Rattle.std.specs.List.{list_all, remove, sum_by};
 ghost use Rattle.std.specs.List.Sorted.{IsNonDecreasingBy};
 ghost use Rattle.cmwq_flush.specs.declared.openings.Row.{Row};
 ghost use Rattle.cmwq_flush.specs.FlushBook.{CanOpen, IsLatestFlush, IsReady, flush_tickets, flushes_with_open};
 ghost use Rattle.cmwq_flush.specs.FlushBook.{flushes_with_wait, flushes_without_open, flushes_without_wait, new_book};
-ghost use Rattle.cmwq_flush.specs.FlushBook.{is_waited_for, served_with_oldest, without_oldest};
+ghost use Rattle.cmwq_flush.specs.FlushBook.{is_waited_for, served_of, served_with_oldest, without_oldest};
 ghost use Rattle.cmwq_flush.specs.Colouring.{AreUnused, IsColouring, IsToldByColours, WaitsForNothing};
 ghost use Rattle.cmwq_flush.specs.Overflow.{tickets_at, with_tickets};
 ghost use Rattle.cmwq_flush.specs.Rows.{IsTally, without_row};
@@ -30,7 +30,8 @@ pub(crate) struct Flushes {
 }
 
 impl Flushes {
-    ghost use Rattle.cmwq_flush.specs.Queues.{IsQueueRight, book_by};
+    ghost use Rattle.cmwq_flush.specs.Queues.{IsKeptAs, IsQueueRight, book_by};
+    ghost use Rattle.cmwq_flush.specs.declared.limits.TheConstants.{MOST_SERVED};
 
     /// No flush.
     pub(crate) fn new(alloc: Global) -> Result<Self, AllocError>
@@ -43,6 +44,19 @@ impl Flushes {
             served: Vec::with_capacity(alloc, MOST_SERVED)?,
             colours: [0, 1, 2, 3, 4, 5, 6, 7, 8, 9, 10, 11, 12, 13, 14, 15],
         })
+    }
+
+    /// Makes these a copy of another queue's. There is room for as many served flushes as there may be.
+    pub(crate) fn copy_from(&mut self, other: &Flushes)
+        requires few { length other.now.served.items ≤ MOST_SERVED }
+        requires room { MOST_SERVED ≤ vec_capacity self.old.served }
+        ensures { IsKeptAs self.new other.now }
+    {
+        self.next = other.next;
+        self.counts = other.counts;
+        self.served.clear();
+        self.served.extend_from_slice(&other.served).unwrap();
+        self.colours = other.colours;
     }
 
     /// A queueing of this number was opened. It has the current colour, which is answered.
@@ -124,6 +138,18 @@ impl Flushes {
         match find_served(&self.served, ticket) {
             Some(place) => number < self.served[place].bound,
             None => true,
+        }
+    }
+
+    /// Whether a flush is served.
+    pub(crate) fn is_served(&self, ticket: Number) -> bool
+        requires { (items : ℕ) × (rows : List Row) × (overflow : List ℕ) × IsQueueRight items rows overflow self.now }
+        ensures { (items : ℕ) (rows : List Row) (overflow : List ℕ) → IsQueueRight items rows overflow self.now
+            → result ≡ is_some (served_of (book_by items rows overflow self.now) ticket) }
+    {
+        match find_served(&self.served, ticket) {
+            Some(_) => true,
+            None => false,
         }
     }
 

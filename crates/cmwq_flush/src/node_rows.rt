@@ -37,6 +37,15 @@ impl NodeRows {
         })
     }
 
+    /// Makes these rows a copy of the others, which are of as many nodes.
+    pub(crate) fn copy_from(&mut self, other: &NodeRows)
+        requires { length self.old ≡ length other.now }
+        ensures { self.new ≡ other.now }
+    {
+        self.numbers.copy_from_slice(&other.numbers);
+        self.colours.copy_from_slice(&other.colours);
+    }
+
     /// The row of a node.
     pub(crate) fn at(&self, node: u32) -> Row
         requires { node < length self.now }

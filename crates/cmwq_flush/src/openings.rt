@@ -81,6 +81,17 @@ impl Openings {
         })
     }
 
+    /// Makes these a copy of the others, which are of as many queues and items.
+    pub(crate) fn copy_from(&mut self, other: &Openings)
+        requires queues { length self.old.rows ≡ length other.now.rows }
+        requires items { length self.old.opened ≡ length other.now.opened }
+        ensures { self.new ≡ other.now }
+    {
+        self.items = other.items;
+        self.lists.copy_from(&other.lists);
+        self.rows.copy_from(&other.rows);
+    }
+
     /// A queueing of the item is open on the queue, with the latest of all numbers.
     pub(crate) fn open(&mut self, queue: QueueId, item: ItemId, row: Row)
         requires queue { queue.0 < length self.old.rows }

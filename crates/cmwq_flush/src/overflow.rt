@@ -48,6 +48,16 @@ impl Overflow {
         Ok(Overflow { lists, tickets })
     }
 
+    /// Makes these flushes a copy of the others, which are of as many queues, with as much room.
+    pub(crate) fn copy_from(&mut self, other: &Overflow)
+        requires room { self.old.room ≡ other.now.room }
+        requires queues { length self.old.queues ≡ length other.now.queues }
+        ensures { self.new ≡ other.now }
+    {
+        self.lists.copy_from(&other.lists);
+        self.tickets.copy_from_slice(&other.tickets);
+    }
+
     /// A flush of the queue is in overflow, the youngest of them.
     pub(crate) fn push_back(&mut self, queue: QueueId, ticket: Number)
         requires queue { queue.0 < length self.old.queues }

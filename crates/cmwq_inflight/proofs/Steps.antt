@@ -2,7 +2,7 @@
 use Rattle.std.proofs.Common.{◌≡◌, ◌≢◌, ℕ, ◌+◌, ◌<◌, true, List, length, set, get_or, replicate, map, Option, Some}
 use Rattle.std.proofs.Common.{None, refl, sym, ap, ◌∙◌, arith, [], ◌∷◌, zero, suc}
 use Rattle.std.specs.Prelude.{is_some}
-use Rattle.std.proofs.lemmas.List.{length-map}
+use Rattle.std.proofs.lemmas.List.{get_or-set_same, length-map, set-set}
 use Rattle.slab.specs.Slab.{Slab, get, slab_len, Updates}
 use Rattle.cmwq_model.specs.declared.record.Queueing.{Queueing}
 use Rattle.cmwq_inflight.specs.declared.flights.Keys.{Keys}
@@ -285,3 +285,17 @@ finished_leaves old new rows n i k row kept removes at runs read is =
     step_leaves old new rows n i (record { run = None; unstarted = row.unstarted }) without_run kept at
     (finished_step old new rows i k row kept removes within row_is is)
     (finished_row old new rows i k row kept removes row_is is)
+
+-- ---- a queueing that is opened and starts at once
+
+pub opened_and_started : (flights : List Flight) (i : ℕ) (q : Queueing) (run : Option Queueing) → run ≡ Some q
+    → q.item.0 ≡ i → i < length flights
+    → flight_at flights i ≡ no_flight
+    → flights_with_run (flights_with_open flights q) i ≡ set flights i (record { run = run; unstarted = None })
+opened_and_started flights i q run is of_item there none =
+    let x : Flight = record (flight_at flights i) { unstarted = Some q } in
+    let by : Option Queueing → Flight = λ r. record { run = r; unstarted = None } in
+    ap (λ k. flights_with_run (with_flight (with_unstarted (Some q)) k flights) i) of_item
+    ∙ ap (λ f. set (set flights i x) i (with_started f)) (get_or-set_same flights i x no_flight there)
+    ∙ set-set flights i x (by (Some q))
+    ∙ ap (λ r. set flights i (by r)) (sym is)

@@ -1,6 +1,7 @@
-ghost use Rattle.std.specs.Prelude.{◌≡◌, ◌<◌, Some, None, IfOk, IfSome, IsSome, length, replicate};
+ghost use Rattle.std.specs.Prelude.{◌≡◌, ◌<◌, Some, None, IfOk, IfSome, IsSome, length, replicate, slice_set};
 ghost use Rattle.cmwq_inflight.specs.Flights.{no_flight, flight_at, open_count, flights_with_open};
 ghost use Rattle.cmwq_inflight.specs.Flights.{flights_without_open, flights_with_run, flights_without_run};
+ghost use Rattle.cmwq_inflight.specs.Flights.{with_flight, with_unstarted};
 
 use crate::key::Key;
 use cmwq_model::{ItemId, NoMemory, Queueing};
@@ -56,6 +57,55 @@ impl Flights {
         };
         let rows = vec![in alloc; keys; items]?;
         Ok(Flights { queueings, rows })
+    }
+
+    /// Makes these a copy of the others, which are of as many items. No memory is taken.
+    pub fn copy_from(&mut self, other: &Flights)
+        requires { length self.old ≡ length other.now }
+        ensures { self.new ≡ other.now }
+    {
+        self.clear();
+        for number in 0..other.items() {
+            let item = ItemId(number);
+            self.put_run(item, other.run(item));
+            self.put_unstarted(item, other.unstarted(item));
+        }
+    }
+
+    /// Lets all queueings go.
+    fn clear(&mut self)
+        ensures { self.new ≡ replicate (length self.old) no_flight }
+    {
+        self.queueings.clear();
+        self.rows.fill(Keys {
+            run: Key::none(),
+            unstarted: Key::none(),
+        });
+    }
+
+    /// An item without queueings runs this one, if there is one.
+    fn put_run(&mut self, item: ItemId, run: Option<Queueing>)
+        requires there { item.0 < length self.old }
+        requires of_item { IfSome run (λ queueing. queueing.item.0 ≡ item.0) }
+        requires none { flight_at self.old item.0 ≡ no_flight }
+        ensures { self.new ≡ slice_set self.old item.0 (record { run = run; unstarted = None }) }
+    {
+        if let Some(queueing) = run {
+            self.open(queueing);
+            self.start(item);
+        }
+    }
+
+    /// An item without an unstarted queueing gets this one, if there is one.
+    fn put_unstarted(&mut self, item: ItemId, unstarted: Option<Queueing>)
+        requires there { item.0 < length self.old }
+        requires of_item { IfSome unstarted (λ queueing. queueing.item.0 ≡ item.0) }
+        requires none { (flight_at self.old item.0).unstarted ≡ None }
+        ensures { self.new ≡ with_flight (with_unstarted unstarted) item.0 self.old }
+    {
+        if let Some(queueing) = unstarted {
+            self.open(queueing);
+        }
     }
 
     /// How many items there are. Their numbers are below it.

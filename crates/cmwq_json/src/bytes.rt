@@ -15,7 +15,7 @@ pub const MOST_BYTES: usize = 1_048_576;
 const PIECE: usize = 8_192;
 
 /// All the bytes of a source, where there are not too many. Of too many it reads at most a piece more than it may take.
-pub(crate) fn read_bytes<S: Source>(alloc: Global, source: &mut S) -> Result<Vec<u8>, Fault>
+pub fn read_bytes<S: Source>(alloc: Global, source: &mut S) -> Result<Vec<u8>, Fault>
     ensures whole { IfOk result (λ bytes. IfSome (S.left source.old) (λ text. (bytes.items ≡ text) × IsShort text)) }
     ensures long { IsErrOf result Fault.TooLong → IfSome (S.left source.old) IsLong }
     ensures only { IfErr result (λ e. (e ≡ Fault.NoMemory) ⊎ (e ≡ Fault.TooLong) ⊎ (e ≡ Fault.ReadFault)) }

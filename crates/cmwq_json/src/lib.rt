@@ -13,7 +13,7 @@ mod refused;
 mod status;
 mod value;
 
-pub use bytes::MOST_BYTES;
+pub use bytes::{MOST_BYTES, read_bytes};
 pub use fault::Fault;
 pub use keys::{array_at, has_keys, has_keys_with_optional};
 pub use names::{Members, in_order, is_name, number_of, read_name};

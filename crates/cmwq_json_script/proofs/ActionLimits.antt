@@ -1,138 +1,222 @@
--- Actions that are read have numbers inside the layout, and gates that there are.
+-- Actions that are read have numbers inside the layout, and gates and locks that there are.
 use Rattle.cmwq_json_script.specs.Common.{◌≡◌, ℕ, ◌≤◌, ◌<◌, Bool, true, false, nat_lt, List, [], ◌∷◌, ◌++◌, length}
 use Rattle.cmwq_json_script.specs.Common.{Option, Some, None, refl, arith, if◌then◌else◌, length-append}
 use Rattle.cmwq_json_script.specs.Common.{option_and_then, IfSome, bytes_eq, AllByRecursion, nat_tests, Data, Items}
-use Rattle.cmwq_json_script.specs.Common.{as_array, Layout, name_said, number_of_name, placed, All_push}
+use Rattle.cmwq_json_script.specs.Common.{as_array, Call, Layout, has_numbers, IsScripted, IfSome_then, name_said}
+use Rattle.cmwq_json_script.specs.Common.{number_of_name, placed, All_push}
 use Rattle.cmwq_json_script.specs.declared.word.Word.{Word}
 use Rattle.cmwq_json_script.specs.declared.word.Word.TheVariants as word
+use Rattle.cmwq_json_script.specs.declared.used.Used.{Used}
 use Rattle.cmwq_json_script.specs.declared.action.Action.{Action}
 use Rattle.cmwq_json_script.specs.declared.action.Action.TheVariants as action
+use Rattle.cmwq_json_script.specs.declared.action.Actor.{Actor}
+use Rattle.cmwq_json_script.specs.declared.action.Actor.TheVariants.{Item, Caller}
 use Rattle.cmwq_json_script.specs.Lists.{word_of_items, whole, first_item}
 use Rattle.cmwq_json_script.specs.Known.{Known}
 use Rattle.cmwq_json_script.specs.Calls.{own_call_after}
-use Rattle.cmwq_json_script.specs.Gates.{with_gate, gate_said}
-use Rattle.cmwq_json_script.specs.Actions.{only_gate, gate_after, call_action_after, action_after, action_said, Does}
-use Rattle.cmwq_json_script.specs.Actions.{with_action, add_action, does_said}
-use Rattle.cmwq_json_script.specs.Scripts.{IsAction}
+use Rattle.cmwq_json_script.specs.Numbering.{numbered, number_said}
+use Rattle.cmwq_json_script.specs.Used.{gate_said, lock_said}
+use Rattle.cmwq_json_script.specs.Actions.{most_actions, call_after, with_call, only_named, at_gate, at_lock}
+use Rattle.cmwq_json_script.specs.Actions.{action_after, action_said, Does, with_action, add_action, does_said}
+use Rattle.cmwq_json_script.specs.Scripts.{is_own, IsActionOf}
 use Rattle.cmwq_json_script.proofs.Readings.{any_read, then_holds, when_read, list_read, whole_holds}
-use Rattle.cmwq_json_script.proofs.CallLimits.{AreIn, IsOwn, own_call_in}
+use Rattle.cmwq_json_script.proofs.CallLimits.{AreIn, own_call_in, call_in}
 use Rattle.cmwq_lemmas.proofs.Lists.{All_map}
 
--- there are no fewer gates than before, and not too many
+-- ---- what is used grows
+
+-- there are no fewer names than before, and not too many
 pub record Grows (before after : List (List ℕ)) : Type 0 where
   pub more : length before ≤ length after
   pub few : length before ≤ 16 → length after ≤ 16
 
-same_gates : (gates : List (List ℕ)) → Grows gates gates
-same_gates gates = record { more = omega arith; few = λ h. h }
+pub record UsesMore (before after : Used) : Type 0 where
+  pub gates : Grows before.gates after.gates
+  pub locks : Grows before.locks after.locks
 
-gate_in : (gates : List (List ℕ)) (d : Data) → IfSome (gate_said gates d) (λ r. (r.0 < length r.1) × Grows gates r.1)
-gate_in gates d =
-    then_holds (λ _. Unit {0}) (λ r. (r.0 < length r.1) × Grows gates r.1)
-    (λ name. with_gate gates name (number_of_name gates name)) (name_said d) (any_read (name_said d))
-    (λ name _. at name (number_of_name gates name) (placed (bytes_eq name) gates))
+same_names : (names : List (List ℕ)) → Grows names names
+same_names names = record { more = omega arith; few = λ h. h }
+
+pub same_used : (used : Used) → UsesMore used used
+same_used used = record { gates = same_names used.gates; locks = same_names used.locks }
+
+grows_on : (a b c : List (List ℕ)) → Grows a b → Grows b c → Grows a c
+grows_on a b c g h =
+    let x = g.more in
+    let y = h.more in
+    record { more = omega arith; few = λ few. h.few (g.few few) }
+
+pub uses_more : (a b c : Used) → UsesMore a b → UsesMore b c → UsesMore a c
+uses_more a b c g h =
+    record {
+      gates = grows_on a.gates b.gates c.gates g.gates h.gates;
+      locks = grows_on a.locks b.locks c.locks g.locks h.locks;
+    }
+
+number_in : (names : List (List ℕ)) (d : Data)
+    → IfSome (number_said names d) (λ r. (r.0 < length r.1) × Grows names r.1)
+number_in names d =
+    then_holds (λ _. Unit {0}) (λ r. (r.0 < length r.1) × Grows names r.1)
+    (λ name. numbered names name (number_of_name names name)) (name_said d) (any_read (name_said d))
+    (λ name _. at name (number_of_name names name) (placed (bytes_eq name) names))
   where
-    room : (name : List ℕ) (b : Bool) → nat_lt (length gates) 16 ≡ b
-        → IfSome {T = ℕ × List (List ℕ)} (if b then Some (length gates, gates ++ name ∷ []) else None)
-        (λ r. (r.0 < length r.1) × Grows gates r.1)
+    room : (name : List ℕ) (b : Bool) → nat_lt (length names) 16 ≡ b
+        → IfSome {T = ℕ × List (List ℕ)} (if b then Some (length names, names ++ name ∷ []) else None)
+        (λ r. (r.0 < length r.1) × Grows names r.1)
     room name true h =
-        let less : length gates < 16 = grind (arith, nat_tests) in
-        let more = length-append gates (name ∷ []) in
+        let less : length names < 16 = grind (arith, nat_tests) in
+        let more = length-append names (name ∷ []) in
         (omega arith, record { more = omega arith; few = λ _. omega arith })
     room name false h = tt
 
-    at : (name : List ℕ) (o : Option ℕ) → IfSome o (λ i. i < length gates)
-        → IfSome (with_gate gates name o) (λ r. (r.0 < length r.1) × Grows gates r.1)
-    at name (Some gate) less = (less, same_gates gates)
-    at name None _ = room name (nat_lt (length gates) 16) refl
+    at : (name : List ℕ) (o : Option ℕ) → IfSome o (λ i. i < length names)
+        → IfSome (numbered names name o) (λ r. (r.0 < length r.1) × Grows names r.1)
+    at name (Some n) less = (less, same_names names)
+    at name None _ = room name (nat_lt (length names) 16) refl
 
-action_grows : (s : Layout) (n m : ℕ) → n ≤ m → (a : Action) → IsAction s n a → IsAction s m a
-action_grows s n m more (action.Call c) h = h
-action_grows s n m more (action.Open gate) h = omega arith
-action_grows s n m more (action.SleepAt gate) h = omega arith
+gate_in : (used : Used) (d : Data)
+    → IfSome (gate_said used d) (λ r. (r.0 < length r.1.gates) × UsesMore used r.1)
+gate_in used d =
+    then_holds (λ r. (r.0 < length r.1) × Grows used.gates r.1)
+    (λ (r : ℕ × Used). (r.0 < length r.1.gates) × UsesMore used r.1)
+    (λ gate. Some (gate.0, record used { gates = gate.1 })) (number_said used.gates d) (number_in used.gates d)
+    (λ gate h. (h.0, record { gates = h.1; locks = same_names used.locks }))
 
-pub actions_grow : (s : Layout) (n m : ℕ) → n ≤ m → (actions : List Action) → AllByRecursion (IsAction s n) actions
-    → AllByRecursion (IsAction s m) actions
-actions_grow s n m more actions = All_map (IsAction s n) (IsAction s m) actions (action_grows s n m more)
+lock_in : (used : Used) (d : Data)
+    → IfSome (lock_said used d) (λ r. (r.0 < length r.1.locks) × UsesMore used r.1)
+lock_in used d =
+    then_holds (λ r. (r.0 < length r.1) × Grows used.locks r.1)
+    (λ (r : ℕ × Used). (r.0 < length r.1.locks) × UsesMore used r.1)
+    (λ lock. Some (lock.0, record used { locks = lock.1 })) (number_said used.locks d) (number_in used.locks d)
+    (λ lock h. (h.0, record { gates = same_names used.gates; locks = h.1 }))
 
--- actions, and the gates after them where there were these before
-pub record AreActions (s : Layout) (before : List (List ℕ)) (m : Does) : Type 0 where
-  pub each : AllByRecursion (IsAction s (length m.gates)) m.actions
-  pub gates : Grows before m.gates
+-- ---- actions
+
+-- the calls that items, or callers, may make
+abbrev pub MayCall : Actor → Layout → Call → Type 0
+MayCall Item s = λ c. (is_own c ≡ true) × (has_numbers s c ≡ true)
+MayCall Caller s = IsScripted s
+
+-- an action among what is used
+abbrev pub IsIn : Actor → Layout → Used → Action → Type 0
+IsIn actor s used = IsActionOf (MayCall actor s) (length used.gates) (length used.locks)
+
+action_grows : (actor : Actor) (s : Layout) (u v : Used) → UsesMore u v → (a : Action) → IsIn actor s u a
+    → IsIn actor s v a
+action_grows actor s u v more (action.Call c) h = h
+action_grows actor s u v more (action.Open gate) h = let k = more.gates.more in omega arith
+action_grows actor s u v more (action.SleepAt gate) h = let k = more.gates.more in omega arith
+action_grows actor s u v more (action.Lock lock) h = let k = more.locks.more in omega arith
+action_grows actor s u v more (action.Unlock lock) h = let k = more.locks.more in omega arith
+
+pub actions_grow : (actor : Actor) (s : Layout) (u v : Used) → UsesMore u v → (actions : List Action)
+    → AllByRecursion (IsIn actor s u) actions → AllByRecursion (IsIn actor s v) actions
+actions_grow actor s u v more actions =
+    All_map (IsIn actor s u) (IsIn actor s v) actions (action_grows actor s u v more)
+
+-- actions, and what is used after them where this was used before
+pub record AreRead (actor : Actor) (s : Layout) (before : Used) (m : Does) : Type 0 where
+  pub each : AllByRecursion (IsIn actor s m.used) m.actions
+  pub few : length m.actions ≤ most_actions actor
+  pub used : UsesMore before m.used
 
 module _ (known : Known) (s : Layout) (are : AreIn known s) where
-  abbrev IsNext : List (List ℕ) → Action × List (List ℕ) → Type 0
-  IsNext gates r = IsAction s (length r.1) r.0 × Grows gates r.1
+  abbrev IsNext : Actor → Used → Action × Used → Type 0
+  IsNext actor used r = IsIn actor s r.1 r.0 × UsesMore used r.1
 
-  at_gate : (make : ℕ → Action) → ((gate n : ℕ) → gate < n → IsAction s n (make gate))
-      → (gates : List (List ℕ)) (ds : Items) → IfSome (gate_after make gates ds) (IsNext gates)
-  at_gate make is gates ds =
-      then_holds (λ r. (r.0 < length r.1) × Grows gates r.1) (IsNext gates) (λ gate. Some (make gate.0, gate.1))
-      (only_gate gates ds)
-      (then_holds (λ _. Unit {0}) (λ r. (r.0 < length r.1) × Grows gates r.1) (gate_said gates) (whole (first_item ds))
-      (any_read (whole (first_item ds))) (λ d _. gate_in gates d)) (λ r h. (is r.0 (length r.1) h.0, h.1))
+  may_call : (actor : Actor) (w : Word) (ds : Items) → IfSome (call_after actor known w ds) (λ r. MayCall actor s r.0)
+  may_call Item w ds =
+      IfSome_then (own_call_after known w ds) (own_call_in known s are w ds) (λ r h. (h.own, h.numbers))
+  may_call Caller w ds = call_in known s are w ds
 
-  of_call : (w : Word) (gates : List (List ℕ)) (ds : Items) → IfSome (call_action_after known w gates ds) (IsNext gates)
-  of_call w gates ds =
-      then_holds (IsOwn s) (IsNext gates) (λ call. Some (action.Call call, gates)) (whole (own_call_after known w ds))
-      (whole_holds (IsOwn s) (own_call_after known w ds) (own_call_in known s are w ds))
-      (λ c h. ((h.own, h.numbers), same_gates gates))
+  of_call : (actor : Actor) (w : Word) (used : Used) (ds : Items)
+      → IfSome (with_call actor known w used ds) (IsNext actor used)
+  of_call actor w used ds =
+      then_holds (MayCall actor s) (IsNext actor used) (λ call. Some (action.Call call, used))
+      (whole (call_after actor known w ds))
+      (whole_holds (MayCall actor s) (call_after actor known w ds) (may_call actor w ds)) (λ c h. (h, same_used used))
 
-  next_in : (w : Word) (gates : List (List ℕ)) (ds : Items) → IfSome (action_after known w gates ds) (IsNext gates)
+  of_gate : (actor : Actor) (make : ℕ → Action)
+      → ((gate : ℕ) (used : Used) → gate < length used.gates → IsIn actor s used (make gate))
+      → (used : Used) (ds : Items) → IfSome (at_gate make used ds) (IsNext actor used)
+  of_gate actor make is used ds =
+      then_holds (λ r. (r.0 < length r.1.gates) × UsesMore used r.1) (IsNext actor used)
+      (λ gate. Some (make gate.0, gate.1)) (only_named gate_said used ds)
+      (then_holds (λ _. Unit {0}) (λ r. (r.0 < length r.1.gates) × UsesMore used r.1) (gate_said used)
+      (whole (first_item ds)) (any_read (whole (first_item ds))) (λ d _. gate_in used d))
+      (λ r h. (is r.0 r.1 h.0, h.1))
+
+  of_lock : (actor : Actor) (make : ℕ → Action)
+      → ((lock : ℕ) (used : Used) → lock < length used.locks → IsIn actor s used (make lock))
+      → (used : Used) (ds : Items) → IfSome (at_lock make used ds) (IsNext actor used)
+  of_lock actor make is used ds =
+      then_holds (λ r. (r.0 < length r.1.locks) × UsesMore used r.1) (IsNext actor used)
+      (λ lock. Some (make lock.0, lock.1)) (only_named lock_said used ds)
+      (then_holds (λ _. Unit {0}) (λ r. (r.0 < length r.1.locks) × UsesMore used r.1) (lock_said used)
+      (whole (first_item ds)) (any_read (whole (first_item ds))) (λ d _. lock_in used d))
+      (λ r h. (is r.0 r.1 h.0, h.1))
+
+  next_in : (actor : Actor) (w : Word) (used : Used) (ds : Items)
+      → IfSome (action_after actor known w used ds) (IsNext actor used)
   unfolding action_after
-  next_in word.Open gates ds = at_gate action.Open (λ gate n less. less) gates ds
-  next_in word.SleepAt gates ds = at_gate action.SleepAt (λ gate n less. less) gates ds
-  next_in word.Queue gates ds = of_call word.Queue gates ds
-  next_in word.Delay gates ds = of_call word.Delay gates ds
-  next_in word.Modify gates ds = of_call word.Modify gates ds
-  next_in word.Cancel gates ds = of_call word.Cancel gates ds
-  next_in word.Tick gates ds = of_call word.Tick gates ds
-  next_in word.Flush gates ds = of_call word.Flush gates ds
-  next_in word.FlushItem gates ds = of_call word.FlushItem gates ds
-  next_in word.FlushDelayed gates ds = of_call word.FlushDelayed gates ds
-  next_in word.CancelSync gates ds = of_call word.CancelSync gates ds
-  next_in word.Drain gates ds = of_call word.Drain gates ds
-  next_in word.SetMax gates ds = of_call word.SetMax gates ds
-  next_in word.Freeze gates ds = of_call word.Freeze gates ds
-  next_in word.Thaw gates ds = of_call word.Thaw gates ds
-  next_in word.Destroy gates ds = of_call word.Destroy gates ds
+  next_in actor word.Open used ds = of_gate actor action.Open (λ gate u less. less) used ds
+  next_in actor word.Lock used ds = of_lock actor action.Lock (λ lock u less. less) used ds
+  next_in actor word.Unlock used ds = of_lock actor action.Unlock (λ lock u less. less) used ds
+  next_in Item word.SleepAt used ds = of_gate Item action.SleepAt (λ gate u less. less) used ds
+  next_in Caller word.SleepAt used ds = of_call Caller word.SleepAt used ds
+  next_in Item word.Wait used ds = of_call Item word.Wait used ds
+  next_in Caller word.Wait used ds = of_gate Caller action.SleepAt (λ gate u less. less) used ds
+  next_in actor word.Queue used ds = of_call actor word.Queue used ds
+  next_in actor word.Delay used ds = of_call actor word.Delay used ds
+  next_in actor word.Modify used ds = of_call actor word.Modify used ds
+  next_in actor word.Cancel used ds = of_call actor word.Cancel used ds
+  next_in actor word.Tick used ds = of_call actor word.Tick used ds
+  next_in actor word.Flush used ds = of_call actor word.Flush used ds
+  next_in actor word.FlushItem used ds = of_call actor word.FlushItem used ds
+  next_in actor word.FlushDelayed used ds = of_call actor word.FlushDelayed used ds
+  next_in actor word.CancelSync used ds = of_call actor word.CancelSync used ds
+  next_in actor word.Drain used ds = of_call actor word.Drain used ds
+  next_in actor word.SetMax used ds = of_call actor word.SetMax used ds
+  next_in actor word.Freeze used ds = of_call actor word.Freeze used ds
+  next_in actor word.Thaw used ds = of_call actor word.Thaw used ds
+  next_in actor word.Destroy used ds = of_call actor word.Destroy used ds
 
-  action_in : (gates : List (List ℕ)) (d : Data) → IfSome (action_said known gates d) (IsNext gates)
-  action_in gates d =
-      then_holds (λ _. Unit {0}) (IsNext gates)
-      (λ ds. option_and_then (λ w. action_after known w.0 gates w.1) (word_of_items ds)) (as_array d)
+  action_in : (actor : Actor) (used : Used) (d : Data) → IfSome (action_said actor known used d) (IsNext actor used)
+  action_in actor used d =
+      then_holds (λ _. Unit {0}) (IsNext actor used)
+      (λ ds. option_and_then (λ w. action_after actor known w.0 used w.1) (word_of_items ds)) (as_array d)
       (any_read (as_array d))
-      (λ ds _. then_holds (λ _. Unit {0}) (IsNext gates) (λ w. action_after known w.0 gates w.1) (word_of_items ds)
-      (any_read (word_of_items ds)) (λ w _. next_in w.0 gates w.1))
+      (λ ds _. then_holds (λ _. Unit {0}) (IsNext actor used) (λ w. action_after actor known w.0 used w.1)
+      (word_of_items ds) (any_read (word_of_items ds)) (λ w _. next_in actor w.0 used w.1))
 
-  one_more : (before : List (List ℕ)) (m : Does) → AreActions s before m → (x : Action × List (List ℕ))
-      → IsNext m.gates x → IfSome (with_action m x) (AreActions s before)
-  one_more before m k x h = at (nat_lt (length m.actions) 64)
+  one_more : (actor : Actor) (before : Used) (m : Does) → AreRead actor s before m → (x : Action × Used)
+      → IsNext actor m.used x → IfSome (with_action actor m x) (AreRead actor s before)
+  one_more actor before m k x h = at (nat_lt (length m.actions) (most_actions actor)) refl
     where
-      at : (b : Bool)
-          → IfSome (if b then Some (record { actions = m.actions ++ x.0 ∷ []; gates = x.1 }) else None)
-          (AreActions s before)
-      at true =
-          let a = k.gates.more in
-          let b = h.1.more in
+      at : (b : Bool) → nat_lt (length m.actions) (most_actions actor) ≡ b
+          → IfSome (if b then Some (record { actions = m.actions ++ x.0 ∷ []; used = x.1 }) else None)
+          (AreRead actor s before)
+      at true room =
+          let less : length m.actions < most_actions actor = grind (arith, nat_tests) in
+          let more = length-append m.actions (x.0 ∷ []) in
           record {
-            each =
-                All_push (IsAction s (length x.1)) m.actions x.0
-                (actions_grow s (length m.gates) (length x.1) b m.actions k.each) h.0;
-            gates =
-                record { more = omega arith; few = λ few. h.1.few (k.gates.few few) };
+            each = All_push (IsIn actor s x.1) m.actions x.0
+                (actions_grow actor s m.used x.1 h.1 m.actions k.each) h.0;
+            few = omega arith;
+            used = uses_more before m.used x.1 k.used h.1;
           }
-      at false = tt
+      at false room = tt
 
-  pub does_in : (gates : List (List ℕ)) (d : Data) → IfSome (does_said known gates d) (AreActions s gates)
-  does_in gates d =
-      then_holds (λ _. Unit {0}) (AreActions s gates) _ (as_array d) (any_read (as_array d))
-      (λ ds _. list_read (AreActions s gates) (add_action known) (record { actions = []; gates = gates }) keeps
-      (record { each = tt; gates = same_gates gates }) ds)
+  pub does_in : (actor : Actor) (used : Used) (d : Data)
+      → IfSome (does_said actor known used d) (AreRead actor s used)
+  does_in actor used d =
+      then_holds (λ _. Unit {0}) (AreRead actor s used) _ (as_array d) (any_read (as_array d))
+      (λ ds _. list_read (AreRead actor s used) (add_action actor known) (record { actions = []; used = used }) keeps
+      (record { each = tt; few = omega arith; used = same_used used }) ds)
     where
-      keeps : (m : Does) (d : Data) (after : Does) → AreActions s gates m → add_action known m d ≡ Some after
-          → AreActions s gates after
+      keeps : (m : Does) (d : Data) (after : Does) → AreRead actor s used m → add_action actor known m d ≡ Some after
+          → AreRead actor s used after
       keeps m d after k is =
-          when_read (AreActions s gates) (add_action known m d) after
-          (then_holds (IsNext m.gates) (AreActions s gates) (with_action m) (action_said known m.gates d)
-          (action_in m.gates d) (one_more gates m k)) is
+          when_read (AreRead actor s used) (add_action actor known m d) after
+          (then_holds (IsNext actor m.used) (AreRead actor s used) (with_action actor m)
+          (action_said actor known m.used d) (action_in actor m.used d) (one_more actor used m k)) is

@@ -2,16 +2,15 @@
 use Rattle.cmwq_json_script.specs.Common.{◌≡◌, ℕ, ◌≤◌, ◌<◌, Bool, true, false, ◌&&◌, nat_lt, nat_le, List, length}
 use Rattle.cmwq_json_script.specs.Common.{Option, Some, None, refl, arith, if◌then◌else◌, option_and_then, IfSome}
 use Rattle.cmwq_json_script.specs.Common.{bytes_eq, lt-ltb, nat_tests, IfSome_then, Data, Items, as_str, as_number}
-use Rattle.cmwq_json_script.specs.Common.{as_u64, as_array, ItemId, QueueId, CpuId, Call, Layout, has_numbers, is_whole}
+use Rattle.cmwq_json_script.specs.Common.{as_u64, ItemId, QueueId, CpuId, Call, Layout, has_numbers, is_whole}
 use Rattle.cmwq_json_script.specs.Common.{IsScripted, number_of_name, number_limits, placed}
 use Rattle.cmwq_model.specs.declared.call.Call.TheVariants as call
 use Rattle.cmwq_json_script.specs.declared.word.Word.{Word}
 use Rattle.cmwq_json_script.specs.declared.word.Word.TheVariants as word
-use Rattle.cmwq_json_script.specs.Lists.{word_of_items}
 use Rattle.cmwq_json_script.specs.Known.{Known, item_known, queue_known, cpu_said}
-use Rattle.cmwq_json_script.specs.Calls.{ticks_said, width_in_call, own_call_after, call_with_members, call_said}
+use Rattle.cmwq_json_script.specs.Calls.{ticks_said, width_in_call, own_call_after, call_with_members}
 use Rattle.cmwq_json_script.specs.Scripts.{is_own}
-use Rattle.cmwq_json_script.proofs.Readings.{any_read, then_holds, whole_holds, one_holds, two_holds, three_holds}
+use Rattle.cmwq_json_script.proofs.Readings.{any_read, then_holds, one_holds, two_holds, three_holds}
 use Rattle.cmwq_json_script.proofs.Readings.{four_holds}
 use Rattle.std.proofs.lemmas.Bool.{and_from}
 
@@ -121,11 +120,14 @@ module _ (known : Known) (s : Layout) (are : AreIn known s) where
   own_call_in word.Destroy ds = tt
   own_call_in word.Open ds = tt
   own_call_in word.SleepAt ds = tt
+  own_call_in word.Wait ds = tt
+  own_call_in word.Lock ds = tt
+  own_call_in word.Unlock ds = tt
 
   own_is_scripted : (w : Word) (ds : Items) → IfSome (own_call_after known w ds) (λ r. IsScripted s r.0)
   own_is_scripted w ds = IfSome_then (own_call_after known w ds) (own_call_in w ds) (λ r h. (h.whole, h.numbers))
 
-  call_in : (w : Word) (ds : Items) → IfSome (call_with_members known w ds) (λ r. IsScripted s r.0)
+  pub call_in : (w : Word) (ds : Items) → IfSome (call_with_members known w ds) (λ r. IsScripted s r.0)
   unfolding call_with_members
   call_in word.Tick ds = one_holds _ (IsScripted s) ticks_said call.Tick any_ticks (λ t h. (refl, refl)) ds
   call_in word.SetMax ds =
@@ -145,9 +147,6 @@ module _ (known : Known) (s : Layout) (are : AreIn known s) where
   call_in word.Drain ds = own_is_scripted word.Drain ds
   call_in word.Open ds = own_is_scripted word.Open ds
   call_in word.SleepAt ds = own_is_scripted word.SleepAt ds
-
-  pub said_is_scripted : (d : Data) → IfSome (call_said known d) (IsScripted s)
-  said_is_scripted d =
-      then_holds (λ _. Unit {0}) (IsScripted s) _ (as_array d) (any_read (as_array d))
-      (λ ds _. then_holds (λ _. Unit {0}) (IsScripted s) _ (word_of_items ds) (any_read (word_of_items ds))
-      (λ w _. whole_holds (IsScripted s) (call_with_members known w.0 w.1) (call_in w.0 w.1)))
+  call_in word.Wait ds = own_is_scripted word.Wait ds
+  call_in word.Lock ds = own_is_scripted word.Lock ds
+  call_in word.Unlock ds = own_is_scripted word.Unlock ds

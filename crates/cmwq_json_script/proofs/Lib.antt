@@ -1,7 +1,7 @@
 mod Lists
 mod Waiting
 mod Naming
-mod Gating
+mod Numbers
 mod Readings
 mod CallLimits
 mod ActionLimits

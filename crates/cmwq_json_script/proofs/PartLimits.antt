@@ -3,19 +3,21 @@ use Rattle.cmwq_json_script.specs.Common.{◌≡◌, ℕ, ◌+◌, ◌≤◌, �
 use Rattle.cmwq_json_script.specs.Common.{◌++◌, length, Option, Some, None, Ok, Err, refl, ap, ◌∙◌, arith}
 use Rattle.cmwq_json_script.specs.Common.{if◌then◌else◌, length-append, option_and_then, IfSome, codes, option_map_or}
 use Rattle.cmwq_json_script.specs.Common.{AllByRecursion, result_unwrap_or, nat_tests, same_Some, Data, Items, no_items}
-use Rattle.cmwq_json_script.specs.Common.{item, get, as_bool, as_array, Call, QueueShape, Layout, IsScripted, in_turn}
-use Rattle.cmwq_json_script.specs.Common.{has_keys, Named, nobody, add_named, is_taken, parts_said, AreKept, added}
-use Rattle.cmwq_json_script.specs.Common.{parts_limits, kept, All_push}
+use Rattle.cmwq_json_script.specs.Common.{item, get, as_bool, QueueShape, Layout, in_turn, has_keys, Named, nobody}
+use Rattle.cmwq_json_script.specs.Common.{add_named, is_taken, parts_said, AreKept, added, parts_limits, kept, All_push}
+use Rattle.cmwq_json_script.specs.declared.used.Used.{Used}
+use Rattle.cmwq_json_script.specs.declared.action.Action.{Action}
+use Rattle.cmwq_json_script.specs.declared.action.Actor.TheVariants.{Item, Caller}
 use Rattle.cmwq_json_script.specs.Known.{Known, known_name, with_name, names_after}
+use Rattle.cmwq_json_script.specs.Used.{none_used}
 use Rattle.cmwq_json_script.specs.Actions.{Does, does_said}
 use Rattle.cmwq_json_script.specs.Items.{item_said, Work, no_work, add_item}
 use Rattle.cmwq_json_script.specs.Queues.{has_queue_keys, freezable_said, queue_said, add_queue}
-use Rattle.cmwq_json_script.specs.Calls.{call_said}
-use Rattle.cmwq_json_script.specs.Callers.{add_few, add_call, calls_said, add_caller}
-use Rattle.cmwq_json_script.specs.Scripts.{IsAction, AreCalls}
-use Rattle.cmwq_json_script.proofs.Readings.{any_read, then_holds, when_read, list_read}
-use Rattle.cmwq_json_script.proofs.CallLimits.{AreIn, said_is_scripted}
-use Rattle.cmwq_json_script.proofs.ActionLimits.{AreActions, actions_grow, does_in}
+use Rattle.cmwq_json_script.specs.Callers.{Crew, no_crew, with_script, add_caller}
+use Rattle.cmwq_json_script.specs.Scripts.{IsCallersScript}
+use Rattle.cmwq_json_script.proofs.Readings.{any_read, then_holds, when_read}
+use Rattle.cmwq_json_script.proofs.CallLimits.{AreIn}
+use Rattle.cmwq_json_script.proofs.ActionLimits.{UsesMore, same_used, uses_more, IsIn, actions_grow, AreRead, does_in}
 use Rattle.cmwq_lemmas.proofs.Lists.{All_map}
 
 named_kept : {X : Type 0} (most : ℕ) (P : X → Type 0) (before : Named X) (x : List ℕ × X) → AreKept most P before
@@ -72,57 +74,56 @@ queues_kept most ds qs is =
 
 -- ---- items
 
+-- items and what they use
 pub record AreItems (most : ℕ) (s : Layout) (w : Work) : Type 0 where
-  pub items : AreKept most (AllByRecursion (IsAction s (length w.gates))) w.items
-  pub few_gates : length w.gates ≤ 16
+  pub items : AreKept most (AllByRecursion (IsIn Item s w.used)) w.items
+  pub used : UsesMore none_used w.used
 
 module _ (most : ℕ) (known : Known) (s : Layout) (are : AreIn known s) where
-  item_in : (gates : List (List ℕ)) (d : Data) → IfSome (item_said known gates d) (λ said. AreActions s gates said.1)
-  item_in gates d = at (has_keys (codes "does" ∷ codes "name" ∷ []) d)
+  item_in : (used : Used) (d : Data) → IfSome (item_said known used d) (λ said. AreRead Item s used said.1)
+  item_in used d = at (has_keys (codes "does" ∷ codes "name" ∷ []) d)
     where
       at : (b : Bool)
           → IfSome (if b
           then option_and_then
           (λ name. option_and_then
-          (λ actions. option_and_then (λ does. Some (name, does)) (does_said known gates actions))
-          (get (codes "does") d)) (known_name d) else None) (λ (said : List ℕ × Does). AreActions s gates said.1)
+          (λ actions. option_and_then (λ does. Some (name, does)) (does_said Item known used actions))
+          (get (codes "does") d)) (known_name d) else None) (λ (said : List ℕ × Does). AreRead Item s used said.1)
       at false = tt
       at true =
-          then_holds (λ _. Unit {0}) (λ (said : List ℕ × Does). AreActions s gates said.1) _ (known_name d)
+          then_holds (λ _. Unit {0}) (λ (said : List ℕ × Does). AreRead Item s used said.1) _ (known_name d)
           (any_read (known_name d))
-          (λ name _. then_holds (λ _. Unit {0}) (λ (said : List ℕ × Does). AreActions s gates said.1) _
+          (λ name _. then_holds (λ _. Unit {0}) (λ (said : List ℕ × Does). AreRead Item s used said.1) _
           (get (codes "does") d) (any_read (get (codes "does") d))
-          (λ actions _. then_holds (AreActions s gates) (λ (said : List ℕ × Does). AreActions s gates said.1) _
-          (does_said known gates actions) (does_in known s are gates actions) (λ does h. h)))
+          (λ actions _. then_holds (AreRead Item s used) (λ (said : List ℕ × Does). AreRead Item s used said.1) _
+          (does_said Item known used actions) (does_in known s are Item used actions) (λ does h. h)))
 
-  one_more : (before : Work) → AreItems most s before → (said : List ℕ × Does) → AreActions s before.gates said.1
-      → IfSome (option_and_then (λ items. Some (record { items = items; gates = said.1.gates }))
+  one_more : (before : Work) → AreItems most s before → (said : List ℕ × Does) → AreRead Item s before.used said.1
+      → IfSome (option_and_then (λ items. Some (record { items = items; used = said.1.used }))
       (add_named most before.items (said.0, said.1.actions))) (AreItems most s)
   one_more before k said h =
-      let more = h.gates.more in
-      let grown : AreKept most (AllByRecursion (IsAction s (length said.1.gates))) before.items = record {
+      let grown : AreKept most (AllByRecursion (IsIn Item s said.1.used)) before.items = record {
         same = k.items.same;
         few = k.items.few;
-        values = All_map (AllByRecursion (IsAction s (length before.gates)))
-            (AllByRecursion (IsAction s (length said.1.gates))) before.items.values
-            (actions_grow s (length before.gates) (length said.1.gates) more) k.items.values;
+        values = All_map (AllByRecursion (IsIn Item s before.used)) (AllByRecursion (IsIn Item s said.1.used))
+            before.items.values (actions_grow Item s before.used said.1.used h.used) k.items.values;
       } in
-      then_holds (AreKept most (AllByRecursion (IsAction s (length said.1.gates)))) (AreItems most s) _
+      then_holds (AreKept most (AllByRecursion (IsIn Item s said.1.used))) (AreItems most s) _
       (add_named most before.items (said.0, said.1.actions))
-      (named_kept most (AllByRecursion (IsAction s (length said.1.gates))) before.items (said.0, said.1.actions) grown
-      h.each) (λ items l. record { items = l; few_gates = h.gates.few k.few_gates })
+      (named_kept most (AllByRecursion (IsIn Item s said.1.used)) before.items (said.0, said.1.actions) grown h.each)
+      (λ items l. record { items = l; used = uses_more none_used before.used said.1.used k.used h.used })
 
   pub items_kept : (ds : Items) (w : Work) → in_turn (add_item most known) 0 no_work ds ≡ Ok w → AreItems most s w
   items_kept ds w is =
       kept (AreItems most s) (add_item most known) one 0 no_work ds w
-      (record { items = record { same = refl; few = omega arith; values = tt }; few_gates = omega arith }) is
+      (record { items = record { same = refl; few = omega arith; values = tt }; used = same_used none_used }) is
     where
       one : (before : Work) (d : Data) (after : Work) → AreItems most s before
           → add_item most known before d ≡ Some after → AreItems most s after
       one before d after k said =
           when_read (AreItems most s) (add_item most known before d) after
-          (then_holds (λ x. AreActions s before.gates x.1) (AreItems most s) _ (item_said known before.gates d)
-          (item_in before.gates d) (one_more before k)) said
+          (then_holds (λ x. AreRead Item s before.used x.1) (AreItems most s) _ (item_said known before.used d)
+          (item_in before.used d) (one_more before k)) said
 
 -- each item that is read has a name
 pub items_named : (most : ℕ) (known : Known) (ds : Items) (w : Work) → in_turn (add_item most known) 0 no_work ds ≡ Ok w
@@ -136,21 +137,21 @@ items_named most known ds w is =
     one before d after k said =
         when_read (λ (m : Work). AreKept most (λ _. Unit {0}) m.items) (add_item most known before d) after
         (then_holds (λ _. Unit {0}) (λ (m : Work). AreKept most (λ _. Unit {0}) m.items) _
-        (item_said known before.gates d) (any_read (item_said known before.gates d))
+        (item_said known before.used d) (any_read (item_said known before.used d))
         (λ x _. then_holds (AreKept most (λ _. Unit {0})) (λ (m : Work). AreKept most (λ _. Unit {0}) m.items) _
         (add_named most before.items (x.0, x.1.actions))
         (named_kept most (λ _. Unit {0}) before.items (x.0, x.1.actions) k tt) (λ items l. l))) said
 
 -- the names of the items that are read are those that are known
 name_added : (most : ℕ) (before : Work) (name : List ℕ) (does : Does) (after : Work)
-    → option_and_then (λ items. Some (record { items = items; gates = does.gates }))
+    → option_and_then (λ items. Some (record { items = items; used = does.used }))
     (add_named most before.items (name, does.actions)) ≡ Some after → with_name most before.items.names (Some name)
     ≡ after.items.names
 name_added most before name does after is =
     at (nat_lt (length before.items.names) most && not (is_taken before.items.names name)) is
   where
     at : (b : Bool)
-        → option_and_then (λ items. Some (record { items = items; gates = does.gates }))
+        → option_and_then (λ items. Some (record { items = items; used = does.used }))
         (if b then Some
         (record { names = before.items.names ++ name ∷ []; values = before.items.values ++ does.actions ∷ [] })
         else None) ≡ Some after
@@ -161,8 +162,7 @@ name_added most before name does after is =
         (record {
           items =
               record { names = before.items.names ++ name ∷ []; values = before.items.values ++ does.actions ∷ [] };
-          gates =
-              does.gates;
+          used = does.used;
         }) after h)
     at false h = cc
 
@@ -172,7 +172,7 @@ name_known most known before d after is = at (has_keys (codes "does" ∷ codes "
   where
     does_at : (name : List ℕ) (o : Option Does)
         → option_and_then
-        (λ (said : List ℕ × Does). option_and_then (λ items. Some (record { items = items; gates = said.1.gates }))
+        (λ (said : List ℕ × Does). option_and_then (λ items. Some (record { items = items; used = said.1.used }))
         (add_named most before.items (said.0, said.1.actions))) (option_and_then (λ does. Some (name, does)) o)
         ≡ Some after → with_name most before.items.names (Some name) ≡ after.items.names
     does_at name None h = cc
@@ -180,21 +180,22 @@ name_known most known before d after is = at (has_keys (codes "does" ∷ codes "
 
     actions_at : (name : List ℕ) (o : Option Data)
         → option_and_then
-        (λ (said : List ℕ × Does). option_and_then (λ items. Some (record { items = items; gates = said.1.gates }))
+        (λ (said : List ℕ × Does). option_and_then (λ items. Some (record { items = items; used = said.1.used }))
         (add_named most before.items (said.0, said.1.actions)))
-        (option_and_then (λ actions. option_and_then (λ does. Some (name, does)) (does_said known before.gates actions))
-        o) ≡ Some after
+        (option_and_then
+        (λ actions. option_and_then (λ does. Some (name, does)) (does_said Item known before.used actions)) o)
+        ≡ Some after
         → with_name most before.items.names (Some name) ≡ after.items.names
     actions_at name None h = cc
-    actions_at name (Some actions) h = does_at name (does_said known before.gates actions) h
+    actions_at name (Some actions) h = does_at name (does_said Item known before.used actions) h
 
     at : (b : Bool) (name : Option (List ℕ))
         → option_and_then
-        (λ (said : List ℕ × Does). option_and_then (λ items. Some (record { items = items; gates = said.1.gates }))
+        (λ (said : List ℕ × Does). option_and_then (λ items. Some (record { items = items; used = said.1.used }))
         (add_named most before.items (said.0, said.1.actions)))
         (if b then option_and_then
         (λ name. option_and_then
-        (λ actions. option_and_then (λ does. Some (name, does)) (does_said known before.gates actions))
+        (λ actions. option_and_then (λ does. Some (name, does)) (does_said Item known before.used actions))
         (get (codes "does") d)) name else None) ≡ Some after
         → with_name most before.items.names name ≡ after.items.names
     at false name h = cc
@@ -219,41 +220,50 @@ names_are_known most known n before (item d ds) after is =
 
 -- ---- callers
 
-few_more : {X : Type 0} (most : ℕ) (P : X → Type 0) (before : List X) (x : X) → AllByRecursion P before → P x
-    → IfSome (add_few most before x) (λ xs. AllByRecursion P xs × (length xs ≤ most))
-few_more {X} most P before x all one = at (nat_lt (length before) most) refl
-  where
-    at : (b : Bool) → nat_lt (length before) most ≡ b
-        → IfSome (if b then Some (before ++ x ∷ []) else None) (λ xs. AllByRecursion P xs × (length xs ≤ most))
-    at true h =
-        let less : length before < most = grind (arith, nat_tests) in
-        let more = length-append before (x ∷ []) in
-        (All_push P before x all one, omega arith)
-    at false h = tt
+abbrev IsScriptIn : Layout → Used → List Action → Type 0
+IsScriptIn s used = IsCallersScript s (length used.gates) (length used.locks)
+
+-- callers, of whom there are so many at most, and what they use where this was used before
+pub record AreCallers (most : ℕ) (s : Layout) (before : Used) (c : Crew) : Type 0 where
+  pub scripts : AllByRecursion (IsScriptIn s c.used) c.scripts
+  pub few : length c.scripts ≤ most
+  pub used : UsesMore before c.used
+
+scripts_grow : (s : Layout) (u v : Used) → UsesMore u v → (scripts : List (List Action))
+    → AllByRecursion (IsScriptIn s u) scripts → AllByRecursion (IsScriptIn s v) scripts
+scripts_grow s u v more scripts =
+    All_map (IsScriptIn s u) (IsScriptIn s v) scripts (λ actions h. (actions_grow Caller s u v more actions h.0, h.1))
 
 module _ (most : ℕ) (known : Known) (s : Layout) (are : AreIn known s) where
-  calls_in : (d : Data) → IfSome (calls_said known d) (AreCalls s)
-  calls_in d =
-      then_holds (λ _. Unit {0}) (AreCalls s) _ (as_array d) (any_read (as_array d))
-      (λ ds _. list_read (AreCalls s) (add_call known) [] keeps (tt, omega arith) ds)
+  one_more_caller : (first : Used) (before : Crew) → AreCallers most s first before → (does : Does)
+      → AreRead Caller s before.used does → IfSome (with_script most before does) (AreCallers most s first)
+  one_more_caller first before k does h = at (nat_lt (length before.scripts) most) refl
     where
-      keeps : (calls : List Call) (d : Data) (after : List Call) → AreCalls s calls
-          → add_call known calls d ≡ Some after → AreCalls s after
-      keeps calls d after k is =
-          when_read (AreCalls s) (add_call known calls d) after
-          (then_holds (IsScripted s) (AreCalls s) (add_few 1000 calls) (call_said known d)
-          (said_is_scripted known s are d) (λ call h. few_more 1000 (IsScripted s) calls call k.0 h)) is
+      at : (b : Bool) → nat_lt (length before.scripts) most ≡ b
+          → IfSome (if b
+          then Some (record { scripts = before.scripts ++ does.actions ∷ []; used = does.used }) else None)
+          (AreCallers most s first)
+      at true room =
+          let less : length before.scripts < most = grind (arith, nat_tests) in
+          let more = length-append before.scripts (does.actions ∷ []) in
+          record {
+            scripts = All_push (IsScriptIn s does.used) before.scripts does.actions
+                (scripts_grow s before.used does.used h.used before.scripts k.scripts) (h.each, h.few);
+            few = omega arith;
+            used = uses_more first before.used does.used k.used h.used;
+          }
+      at false room = tt
 
-  pub callers_kept : (ds : Items) (cs : List (List Call)) → in_turn (add_caller most known) 0 [] ds ≡ Ok cs
-      → AllByRecursion (AreCalls s) cs × (length cs ≤ most)
-  callers_kept ds cs is =
-      kept (λ xs. AllByRecursion (AreCalls s) xs × (length xs ≤ most)) (add_caller most known) one 0 [] ds cs
-      (tt, omega arith) is
+  pub callers_kept : (used : Used) (ds : Items) (c : Crew) → in_turn (add_caller most known) 0 (no_crew used) ds ≡ Ok c
+      → AreCallers most s used c
+  callers_kept used ds c is =
+      kept (AreCallers most s used) (add_caller most known) one 0 (no_crew used) ds c
+      (record { scripts = tt; few = omega arith; used = same_used used }) is
     where
-      one : (before : List (List Call)) (d : Data) (after : List (List Call)) → AllByRecursion (AreCalls s) before
-          × (length before ≤ most) → add_caller most known before d ≡ Some after
-          → AllByRecursion (AreCalls s) after × (length after ≤ most)
+      one : (before : Crew) (d : Data) (after : Crew) → AreCallers most s used before
+          → add_caller most known before d ≡ Some after → AreCallers most s used after
       one before d after k said =
-          when_read (λ xs. AllByRecursion (AreCalls s) xs × (length xs ≤ most)) (add_caller most known before d) after
-          (then_holds (AreCalls s) (λ xs. AllByRecursion (AreCalls s) xs × (length xs ≤ most)) (add_few most before)
-          (calls_said known d) (calls_in d) (λ calls h. few_more most (AreCalls s) before calls k.0 h)) said
+          when_read (AreCallers most s used) (add_caller most known before d) after
+          (then_holds (AreRead Caller s before.used) (AreCallers most s used) (with_script most before)
+          (does_said Caller known before.used d) (does_in known s are Caller before.used d)
+          (one_more_caller used before k)) said

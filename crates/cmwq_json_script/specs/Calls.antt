@@ -1,11 +1,9 @@
--- Calls: a list of a word and what it is about.
-use Rattle.cmwq_text.specs.Words.{◌>>=◌}
-use Rattle.cmwq_json_script.specs.Common.{ℕ, Option, None, Data, Items, as_array, Call, number_between}
+-- Calls, after the word that each begins with.
+use Rattle.cmwq_json_script.specs.Common.{ℕ, Option, None, Data, Items, Call, number_between}
 use Rattle.cmwq_model.specs.declared.call.Call.TheVariants as call
 use Rattle.cmwq_json_script.specs.declared.word.Word.{Word}
 use Rattle.cmwq_json_script.specs.declared.word.Word.TheVariants as word
-use Rattle.cmwq_json_script.specs.Lists.{whole, word_of_items, items_none, items_one, items_two, items_three}
-use Rattle.cmwq_json_script.specs.Lists.{items_four}
+use Rattle.cmwq_json_script.specs.Lists.{items_none, items_one, items_two, items_three, items_four}
 use Rattle.cmwq_json_script.specs.Known.{Known, item_known, queue_known, cpu_said}
 
 abbrev pub ticks_said : Data → Option ℕ
@@ -36,9 +34,3 @@ call_with_members known word.Freeze = items_none call.Freeze
 call_with_members known word.Thaw = items_none call.Thaw
 call_with_members known word.Destroy = items_one (queue_known known) call.Destroy
 call_with_members known w = own_call_after known w
-
-abbrev pub call_said : Known → Data → Option Call
-call_said known d = do
-  ds ← as_array d
-  word ← word_of_items ds
-  whole (call_with_members known word.0 word.1)

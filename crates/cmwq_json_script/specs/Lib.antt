@@ -4,7 +4,8 @@ pub mod Limits
 pub mod Lists
 pub mod Known
 pub mod Calls
-pub mod Gates
+pub mod Numbering
+pub mod Used
 pub mod Actions
 pub mod Items
 pub mod Queues

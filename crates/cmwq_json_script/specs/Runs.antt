@@ -1,7 +1,7 @@
 -- What a JSON value says of a run, or which member of it is refused first.
 use Rattle.std.specs.Prelude.{◌+◌, ◌-◌, if◌then◌else◌}
 use Rattle.cmwq_json_script.specs.Common.{ℕ, List, [], length, Option, Some, None, Result, Ok, Err, nat_lt, list_any}
-use Rattle.cmwq_json_script.specs.Common.{option_map_or, Data, Call, QueueShape, Layout, Refused, in_turn, Named}
+use Rattle.cmwq_json_script.specs.Common.{option_map_or, Data, QueueShape, Layout, Refused, in_turn, Named}
 use Rattle.cmwq_json_script.specs.Common.{nobody}
 use Rattle.cmwq_json.specs.Parts.{top, queues, items, callers}
 use Rattle.cmwq_json_script.specs.declared.action.Action.{Action}
@@ -11,16 +11,17 @@ use Rattle.cmwq_json_script.specs.Limits.{callers_in, items_in, queues_in}
 use Rattle.cmwq_json_script.specs.Known.{Known, names_after}
 use Rattle.cmwq_json_script.specs.Items.{Work, no_work, add_item}
 use Rattle.cmwq_json_script.specs.Queues.{add_queue}
-use Rattle.cmwq_json_script.specs.Callers.{add_caller}
+use Rattle.cmwq_json_script.specs.Callers.{Crew, no_crew, add_caller}
 
--- the layout, the items by name and what each does, the gates by name, the calls of each caller, how many runs may wait
--- at once, and how the history is written
+-- the layout, the items by name and what each does, the gates and the locks by name, what each caller does, how many
+-- runs may wait at once, and how the history is written
 pub record Run : Type 0 where
   pub layout : Layout
   pub names : List (List ℕ)
   pub does : List (List Action)
   pub gates : List (List ℕ)
-  pub callers : List (List Call)
+  pub locks : List (List ℕ)
+  pub callers : List (List Action)
   pub waits : ℕ
   pub version : ℕ
   pub journal : Option ℕ
@@ -42,44 +43,46 @@ abbrev pub waits_of : Option ℕ → List (List Action) → ℕ
 waits_of (Some n) does = n
 waits_of None does = if list_any (list_any is_wait) does then 1 else 0
 
-abbrev pub waits_in : Top → Work → ℕ
-waits_in t w = waits_of t.waits w.items.values
+abbrev pub waits_in : Top → Named (List Action) → ℕ
+waits_in t is = waits_of t.waits is.values
 
 -- the callers of runs that wait are among those that there may be
-abbrev pub callers_said : Known → Top → Work → Result (List (List Call)) Refused
+abbrev pub callers_said : Known → Top → Work → Result Crew Refused
 callers_said known t w =
-    some_of callers length (in_turn (add_caller (callers_in t.version - waits_in t w) known) 0 [] t.callers)
+    some_of callers (λ c. length c.scripts)
+    (in_turn (add_caller (callers_in t.version - waits_in t w.items) known) 0 (no_crew w.used) t.callers)
 
 abbrev pub known_in : Top → Named QueueShape → Known
 known_in t qs = record { items = names_after (items_in t.version) [] t.items; queues = qs.names; cpus = t.cpus }
 
-abbrev pub layout_in : Top → List QueueShape → Work → List (List Call) → Layout
-layout_in t qs w cs =
+abbrev pub layout_in : Top → List QueueShape → Named (List Action) → Crew → Layout
+layout_in t qs is c =
     record {
       cpus = t.cpus;
       workers = t.workers;
-      callers = length cs + waits_in t w;
-      items = length w.items.values;
+      callers = length c.scripts + waits_in t is;
+      items = length is.values;
       room = t.room;
       queues = qs;
     }
 
-abbrev pub run_in : Top → List QueueShape → Work → List (List Call) → Run
-run_in t qs w cs =
+abbrev pub run_in : Top → List QueueShape → Named (List Action) → Crew → Run
+run_in t qs is c =
     record {
-      layout = layout_in t qs w cs;
-      names = w.items.names;
-      does = w.items.values;
-      gates = w.gates;
-      callers = cs;
-      waits = waits_in t w;
+      layout = layout_in t qs is c;
+      names = is.names;
+      does = is.values;
+      gates = c.used.gates;
+      locks = c.used.locks;
+      callers = c.scripts;
+      waits = waits_in t is;
       version = t.version;
       journal = t.journal;
     }
 
-abbrev pub with_callers : Top → Named QueueShape → Work → Result (List (List Call)) Refused → Result Run Refused
+abbrev pub with_callers : Top → Named QueueShape → Work → Result Crew Refused → Result Run Refused
 with_callers t qs w (Err refused) = Err refused
-with_callers t qs w (Ok cs) = Ok (run_in t qs.values w cs)
+with_callers t qs w (Ok c) = Ok (run_in t qs.values w.items c)
 
 abbrev pub with_items : Top → Named QueueShape → Result Work Refused → Result Run Refused
 with_items t qs (Err refused) = Err refused

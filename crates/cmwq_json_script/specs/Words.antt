@@ -21,6 +21,9 @@ word_text word.Thaw = codes "thaw"
 word_text word.Destroy = codes "destroy"
 word_text word.Open = codes "open"
 word_text word.SleepAt = codes "sleep_at"
+word_text word.Wait = codes "wait"
+word_text word.Lock = codes "lock"
+word_text word.Unlock = codes "unlock"
 
 abbrev pub is_word_text : List ℕ → Word → Bool
 is_word_text bytes word = bytes_eq (word_text word) bytes

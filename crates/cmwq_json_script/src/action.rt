@@ -1,30 +1,42 @@
-//! What an item does: its actions in turn.
+//! What an item or a caller does: its actions in turn.
 
 ghost use Rattle.std.specs.Prelude.{◌≡◌, IfOk, map, option_map, if◌then◌else◌, Some, None};
 ghost use Rattle.std.specs.List.{list_any};
 ghost use Rattle.serde_json.specs.View.{view, items_view};
 ghost use Rattle.cmwq_json_script.specs.Lists.{whole, first_item};
-ghost use Rattle.cmwq_json_script.specs.Calls as calls;
+ghost use Rattle.cmwq_json_script.specs.Used.{gate_said, lock_said};
 ghost use Rattle.cmwq_json_script.specs.Actions as spec;
 
-use crate::call::own_call_after;
-use crate::gates::Gates;
+use crate::call::{call_after, own_call_after};
 use crate::names::Names;
 use crate::parts::{first_in, is_end, word_in};
+use crate::used::Used;
 use crate::word::Word;
-use cmwq_model::Call;
+use cmwq_model::{Call, CallerId, ItemId};
 use serde_json::Value;
 use std::alloc::{AllocError, Global};
 
-/// What the function of an item does, one after the other.
+/// What a caller, or the function of an item, does, one after the other.
 #[derive(Clone, Copy, Debug)]
 pub enum Action {
-    /// Makes a call: Queue, Delay, Modify or Cancel; or waits: FlushItem, FlushDelayed, CancelSync, Flush or Drain.
+    /// Makes a call. A run makes Queue, Delay, Modify or Cancel; and it waits by FlushItem, FlushDelayed, CancelSync,
+    /// Flush or Drain.
     Call(Call),
     /// Opens a gate.
     Open { gate: u8 },
-    /// Sleeps, passes a gate, and wakes.
+    /// Passes a gate once it is open. A run sleeps before, and wakes after.
     SleepAt { gate: u8 },
+    /// Takes a lock once nobody holds it. A run that has to wait for it sleeps before, and wakes after.
+    Lock { lock: u8 },
+    /// Lets a lock go. One that somebody else holds, or nobody, stays as it is.
+    Unlock { lock: u8 },
+}
+
+/// Who holds a lock: a caller, or the run of an item, of which there is one at most.
+#[derive(Clone, Copy, Debug, PartialEq, Eq)]
+pub enum Holder {
+    Caller(CallerId),
+    Run(ItemId),
 }
 
 impl Action {
@@ -52,8 +64,35 @@ pub fn any_waits(does: &[Vec<Action>]) -> bool
     does.iter().any(|actions| has_wait(actions))
 }
 
-/// The greatest number of actions of an item.
-const MOST_ACTIONS: usize = 64;
+/// Whose actions are read.
+#[derive(Clone, Copy)]
+pub enum Actor {
+    Item,
+    Caller,
+}
+
+impl Actor {
+    /// The greatest number of its actions.
+    fn most_actions(self) -> usize
+        ensures { result ≡ spec.most_actions self }
+    {
+        match self {
+            Actor::Item => 64,
+            Actor::Caller => 1_000,
+        }
+    }
+
+    /// The call after its word, which is the last of the list.
+    fn read_call(self, names: &Names, word: Word, parts: &[Value]) -> Option<Call>
+        ensures { result ≡ whole (spec.call_after self names.now word (items_view parts.now)) }
+    {
+        let (call, parts) = match self {
+            Actor::Item => own_call_after(names, word, parts)?,
+            Actor::Caller => call_after(names, word, parts)?,
+        };
+        if is_end(parts) { Some(call) } else { None }
+    }
+}
 
 /// The only part.
 fn only(parts: &[Value]) -> Option<&Value>
@@ -64,106 +103,111 @@ fn only(parts: &[Value]) -> Option<&Value>
 }
 
 /// The gate that the only part names.
-fn read_gate(alloc: Global, gates: &mut Gates, parts: &[Value]) -> Result<Option<u8>, AllocError>
+fn read_gate(alloc: Global, used: &mut Used, parts: &[Value]) -> Result<Option<u8>, AllocError>
     ensures { IfOk result
-        (λ r. option_map (λ gate. (gate, gates.new)) r ≡ spec.only_gate gates.old (items_view parts.now)) }
+        (λ r. option_map (λ gate. (gate, used.new)) r ≡ spec.only_named gate_said used.old (items_view parts.now)) }
 {
     match only(parts) {
-        Some(part) => gates.read(alloc, part),
+        Some(part) => used.read_gate(alloc, part),
         None => Ok(None),
     }
 }
 
-fn read_own_call(names: &Names, word: Word, parts: &[Value]) -> Option<Call>
-    ensures { result ≡ whole (calls.own_call_after names.now word (items_view parts.now)) }
+/// The lock that the only part names.
+fn read_lock(alloc: Global, used: &mut Used, parts: &[Value]) -> Result<Option<u8>, AllocError>
+    ensures { IfOk result
+        (λ r. option_map (λ lock. (lock, used.new)) r ≡ spec.only_named lock_said used.old (items_view parts.now)) }
 {
-    let (call, parts) = own_call_after(names, word, parts)?;
-    if is_end(parts) { Some(call) } else { None }
+    match only(parts) {
+        Some(part) => used.read_lock(alloc, part),
+        None => Ok(None),
+    }
 }
 
 /// The action after its word.
 #[tactic(auto, unfolding(crate::specs::Actions::action_after))]
 fn action_after(
     alloc: Global,
+    actor: Actor,
     names: &Names,
-    gates: &mut Gates,
+    used: &mut Used,
     word: Word,
     parts: &[Value],
 ) -> Result<Option<Action>, AllocError>
-    ensures { IfOk result (λ r. option_map (λ action. (action, gates.new)) r
-        ≡ spec.action_after names.now word gates.old (items_view parts.now)) }
+    ensures { IfOk result (λ r. option_map (λ action. (action, used.new)) r
+        ≡ spec.action_after actor names.now word used.old (items_view parts.now)) }
 {
-    match word {
-        Word::Open => match read_gate(alloc, gates, parts)? {
-            Some(gate) => Ok(Some(Action::Open { gate })),
-            None => Ok(None),
-        },
-        Word::SleepAt => match read_gate(alloc, gates, parts)? {
-            Some(gate) => Ok(Some(Action::SleepAt { gate })),
-            None => Ok(None),
-        },
-        _ => match read_own_call(names, word, parts) {
-            Some(call) => Ok(Some(Action::Call(call))),
-            None => Ok(None),
-        },
-    }
+    let action = match (word, actor) {
+        (Word::Open, _) => read_gate(alloc, used, parts)?.map(|gate| Action::Open { gate }),
+        (Word::SleepAt, Actor::Item) | (Word::Wait, Actor::Caller) => {
+            read_gate(alloc, used, parts)?.map(|gate| Action::SleepAt { gate })
+        }
+        (Word::Lock, _) => read_lock(alloc, used, parts)?.map(|lock| Action::Lock { lock }),
+        (Word::Unlock, _) => read_lock(alloc, used, parts)?.map(|lock| Action::Unlock { lock }),
+        _ => actor.read_call(names, word, parts).map(Action::Call),
+    };
+    Ok(action)
 }
 
 fn read_action(
     alloc: Global,
+    actor: Actor,
     names: &Names,
-    gates: &mut Gates,
+    used: &mut Used,
     value: &Value,
 ) -> Result<Option<Action>, AllocError>
-    ensures { IfOk result (λ r. option_map (λ action. (action, gates.new)) r
-        ≡ spec.action_said names.now gates.old (view value.now)) }
+    ensures { IfOk result (λ r. option_map (λ action. (action, used.new)) r
+        ≡ spec.action_said actor names.now used.old (view value.now)) }
 {
     let Some(list) = value.as_array() else {
         return Ok(None);
     };
     match word_in(list) {
-        Some((word, parts)) => action_after(alloc, names, gates, word, parts),
+        Some((word, parts)) => action_after(alloc, actor, names, used, word, parts),
         None => Ok(None),
     }
 }
 
 fn add_action(
     alloc: Global,
+    actor: Actor,
     names: &Names,
-    gates: &mut Gates,
+    used: &mut Used,
     actions: &mut Vec<Action>,
     value: &Value,
 ) -> Result<bool, AllocError>
     ensures { IfOk result
-        (λ added. spec.add_action names.now (record { actions = actions.old.items; gates = gates.old }) (view value.now)
-        ≡ (if added then Some (record { actions = actions.new.items; gates = gates.new }) else None)) }
+        (λ added. spec.add_action actor names.now (record { actions = actions.old.items; used = used.old })
+        (view value.now)
+        ≡ (if added then Some (record { actions = actions.new.items; used = used.new }) else None)) }
 {
-    let Some(action) = read_action(alloc, names, gates, value)? else {
+    let Some(action) = read_action(alloc, actor, names, used, value)? else {
         return Ok(false);
     };
-    if actions.len() >= MOST_ACTIONS {
+    if actions.len() >= actor.most_actions() {
         return Ok(false);
     }
     actions.push(action)?;
     Ok(true)
 }
 
-/// The actions of an item, at most 64.
+/// The actions of an item, of which there are at most 64, or of a caller, of which there are at most 1,000.
 pub fn read_actions(
     alloc: Global,
+    actor: Actor,
     names: &Names,
-    gates: &mut Gates,
+    used: &mut Used,
     value: &Value,
 ) -> Result<Option<Vec<Action>>, AllocError>
-    ensures { IfOk result (λ r. option_map (λ actions. record { actions = actions.items; gates = gates.new }) r
-        ≡ spec.does_said names.now gates.old (view value.now)) }
+    ensures { IfOk result (λ r. option_map (λ actions. record { actions = actions.items; used = used.new }) r
+        ≡ spec.does_said actor names.now used.old (view value.now)) }
 {
     let Some(parts) = value.as_array() else {
         return Ok(None);
     };
     let mut actions = Vec::new(alloc);
     for part in parts {
-        if !add_action(alloc, names, gates, &mut actions, part)? {
+        if !add_action(alloc, actor, names, used, &mut actions, part)? {
             return Ok(None);
         }
     }

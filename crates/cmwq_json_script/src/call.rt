@@ -1,13 +1,13 @@
-//! Calls: a list of a word and what it is about.
+//! Calls, after the word that each begins with.
 
 ghost use Rattle.std.specs.Prelude.{◌≡◌, option_map};
-ghost use Rattle.serde_json.specs.View.{view, items_view};
+ghost use Rattle.serde_json.specs.View.{items_view};
 ghost use Rattle.cmwq_json_script.specs.Lists.{part_in};
 ghost use Rattle.cmwq_json_script.specs.Known as known;
 ghost use Rattle.cmwq_json_script.specs.Calls as spec;
 
 use crate::names::Names;
-use crate::parts::{first_in, is_end, word_in};
+use crate::parts::first_in;
 use crate::word::Word;
 use cmwq_json::read_number;
 use cmwq_model::{Call, CpuId, ItemId, QueueId};
@@ -128,9 +128,9 @@ pub fn own_call_after<'v>(
     }
 }
 
-/// The call after its word.
+/// The call after its word, of those that callers make.
 #[tactic(auto, unfolding(crate::specs::Calls::call_with_members))]
-fn call_after<'v>(names: &Names, word: Word, parts: &'v [Value]) -> Option<(Call, &'v [Value])>
+pub fn call_after<'v>(names: &Names, word: Word, parts: &'v [Value]) -> Option<(Call, &'v [Value])>
     ensures { option_map (λ r. (r.0, items_view r.1.now)) result
         ≡ spec.call_with_members names.now word (items_view parts.now) }
 {
@@ -152,13 +152,4 @@ fn call_after<'v>(names: &Names, word: Word, parts: &'v [Value]) -> Option<(Call
         }
         _ => own_call_after(names, word, parts),
     }
-}
-
-/// A call of a caller.
-pub fn read_call(names: &Names, value: &Value) -> Option<Call>
-    ensures { result ≡ spec.call_said names.now (view value.now) }
-{
-    let (word, parts) = word_in(value.as_array()?.as_slice())?;
-    let (call, parts) = call_after(names, word, parts)?;
-    if is_end(parts) { Some(call) } else { None }
 }

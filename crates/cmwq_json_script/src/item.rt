@@ -9,29 +9,29 @@ ghost use Rattle.cmwq_json_script.specs.Items as spec;
 ghost use Rattle.cmwq_json_script.specs.Runs.{some_of};
 ghost use Rattle.cmwq_json_script.specs.Views.{work_of};
 
-use crate::action::{Action, read_actions};
-use crate::gates::Gates;
+use crate::action::{Action, Actor, read_actions};
 use crate::names::{Names, name_at};
+use crate::used::Used;
 use cmwq_json::{Members, Part, Refused, has_keys};
 use serde_json::Value;
 use std::alloc::{AllocError, Global};
 
-/// Items, and the gates that they name.
+/// Items, and the gates and locks that they use.
 #[derive(Drop)]
 pub struct Items {
     pub members: Members<Vec<Action>>,
-    pub gates: Gates,
+    pub used: Used,
 }
 
 /// An item: an object with a name, and what it does.
 fn read_item<'v>(
     alloc: Global,
     names: &Names,
-    gates: &mut Gates,
+    used: &mut Used,
     value: &'v Value,
 ) -> Result<Option<(&'v str, Vec<Action>)>, AllocError>
-    ensures { IfOk result (λ r. option_map (λ x. (x.0.now, record { actions = x.1.items; gates = gates.new })) r
-        ≡ spec.item_said names.now gates.old (view value.now)) }
+    ensures { IfOk result (λ r. option_map (λ x. (x.0.now, record { actions = x.1.items; used = used.new })) r
+        ≡ spec.item_said names.now used.old (view value.now)) }
 {
     if !has_keys(value, &["does", "name"]) {
         return Ok(None);
@@ -39,7 +39,7 @@ fn read_item<'v>(
     let (Some(name), Some(actions)) = (name_at(value), value.get("does")) else {
         return Ok(None);
     };
-    match read_actions(alloc, names, gates, actions)? {
+    match read_actions(alloc, Actor::Item, names, used, actions)? {
         Some(actions) => Ok(Some((name, actions))),
         None => Ok(None),
     }
@@ -56,7 +56,7 @@ fn add_item(
     ensures { IfOk result (λ added. spec.add_item most names.now (work_of items.old) (view value.now)
         ≡ (if added then Some (work_of items.new) else None)) }
 {
-    match read_item(alloc, names, &mut items.gates, value)? {
+    match read_item(alloc, names, &mut items.used, value)? {
         Some((name, actions)) => items.members.add(alloc, most, name, actions),
         None => Ok(false),
     }
@@ -74,7 +74,7 @@ fn add_items(
 {
     let mut items = Items {
         members: Members::new(alloc),
-        gates: Gates::new(alloc),
+        used: Used::new(alloc),
     };
     for (index, value) in values.iter().enumerate() {
         if !add_item(alloc, most, names, &mut items, value)? {

@@ -5,15 +5,16 @@
 mod action;
 mod call;
 mod caller;
-mod gates;
 mod item;
 mod limits;
 mod names;
+mod numbering;
 mod parts;
 mod queue;
 mod script;
 mod top;
+mod used;
 mod word;
 
-pub use action::Action;
+pub use action::{Action, Holder};
 pub use script::{Script, read_script};

@@ -7,22 +7,22 @@ ghost use Rattle.cmwq_json.specs.Readings.{map_ok};
 ghost use Rattle.cmwq_json_script.specs.Limits.{callers_in};
 ghost use Rattle.cmwq_json_script.specs.Runs as spec;
 ghost use Rattle.cmwq_json_script.specs.Scripts.{run_of, IsRunWithin, MayRun};
-ghost use Rattle.cmwq_json_script.specs.Views.{top_of, queues_of, work_of, calls_of};
+ghost use Rattle.cmwq_json_script.specs.Views.{top_of, queues_of, named_actions_of, work_of, crew_of};
 
 use crate::action::{Action, any_waits};
-use crate::caller::read_callers;
+use crate::caller::{Callers, read_callers};
 use crate::item::{Items, read_items};
 use crate::limits::{callers_in, items_in, queues_in};
 use crate::names::Names;
 use crate::queue::read_queues;
 use crate::top::Top;
 use cmwq_json::{Members, Part, Refused, in_order};
-use cmwq_model::{Call, Counts, QueueShape, Shape};
+use cmwq_model::{Counts, QueueShape, Shape};
 use serde_json::Value;
 use std::alloc::{AllocError, Global};
 
-/// What a run does: its shape, the names of the items and what the function of each does, the names of the gates, the
-/// calls of each caller, how many runs may wait at once, and how its history is written.
+/// What a run does: its shape, the names of the items and what the function of each does, the names of the gates and of
+/// the locks, what each caller does, how many runs may wait at once, and how its history is written.
 #[derive(Drop)]
 pub struct Script {
     pub shape: Shape,
@@ -32,8 +32,10 @@ pub struct Script {
     pub does: Vec<Vec<Action>>,
     /// The name of each gate, by its number.
     pub gates: Vec<String>,
-    /// The calls of each caller, by its number.
-    pub callers: Vec<Vec<Call>>,
+    /// The name of each lock, by its number.
+    pub locks: Vec<String>,
+    /// The actions of each caller, by its number.
+    pub callers: Vec<Vec<Action>>,
     /// How many runs may wait at once: so many callers come after those.
     pub waits: u8,
     /// The format of the history: 2 or 3.
@@ -43,13 +45,13 @@ pub struct Script {
 }
 
 /// How many runs may wait at once.
-fn waits_in(top: &Top<'_>, items: &Items) -> u8
-    ensures is { result ≡ spec.waits_in (top_of top.now) (work_of items.now) }
+fn waits_in(top: &Top<'_>, items: &Members<Vec<Action>>) -> u8
+    ensures is { result ≡ spec.waits_in (top_of top.now) (named_actions_of items.now) }
     ensures few { result < callers_in top.now.version }
 {
     match top.waits {
         Some(waits) => waits,
-        None if any_waits(&items.members.values) => 1,
+        None if any_waits(&items.values) => 1,
         None => 0,
     }
 }
@@ -59,37 +61,41 @@ fn script_of(
     alloc: Global,
     top: &Top<'_>,
     queues: Vec<QueueShape>,
-    items: Items,
-    callers: Vec<Vec<Call>>,
+    items: Members<Vec<Action>>,
+    callers: Callers,
     waits: u8,
 ) -> Result<Script, AllocError>
-    requires within { IsRunWithin (spec.run_in (top_of top.now) queues.items (work_of items) (calls_of callers)) }
-    requires waits { waits ≡ spec.waits_in (top_of top.now) (work_of items) }
+    requires within { IsRunWithin
+        (spec.run_in (top_of top.now) queues.items (named_actions_of items) (crew_of callers)) }
+    requires waits { waits ≡ spec.waits_in (top_of top.now) (named_actions_of items) }
     ensures says { IfOk result
-        (λ script. run_of script ≡ spec.run_in (top_of top.now) queues.items (work_of items) (calls_of callers)) }
+        (λ script. run_of script
+        ≡ spec.run_in (top_of top.now) queues.items (named_actions_of items) (crew_of callers)) }
     ensures within { IfOk result MayRun }
 {
-    let Items { members, gates } = items;
     let Members {
         names,
         values: does,
-    } = members;
+    } = items;
+    let Callers { scripts, used } = callers;
     let counts = Counts {
         cpus: top.cpus,
         workers: top.workers,
-        callers: callers.len() as u8 + waits,
+        callers: scripts.len() as u8 + waits,
         items: does.len() as u16,
         room: top.room,
     };
     let shape = Shape::new(counts, queues).unwrap();
     let names = in_order(alloc, names)?;
-    let gates = gates.into_names(alloc)?;
+    let gates = used.gates.into_names(alloc)?;
+    let locks = used.locks.into_names(alloc)?;
     Ok(Script {
         shape,
         names,
         does,
         gates,
-        callers,
+        locks,
+        callers: scripts,
         waits,
         version: top.version,
         journal: top.journal,
@@ -112,11 +118,12 @@ fn with_items(
         (spec.callers_said names.now (top_of top.now) (work_of items))) }
     ensures within { IfOk result (λ r. IfOk r MayRun) }
 {
-    let waits = waits_in(top, &items);
+    let Items { members, used } = items;
+    let waits = waits_in(top, &members);
     let most = usize::from(callers_in(top.version) - waits);
-    match read_callers(alloc, most, names, top.callers)? {
+    match read_callers(alloc, most, names, used, top.callers)? {
         Ok(callers) => {
-            let script = script_of(alloc, top, queues, items, callers, waits)?;
+            let script = script_of(alloc, top, queues, members, callers, waits)?;
             Ok(Ok(script))
         }
         Err(refused) => Ok(Err(refused)),

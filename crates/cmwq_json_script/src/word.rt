@@ -22,10 +22,13 @@ pub enum Word {
     Destroy,
     Open,
     SleepAt,
+    Wait,
+    Lock,
+    Unlock,
 }
 
 /// Every word.
-const WORDS: [Word; 16] = [
+const WORDS: [Word; 19] = [
     Word::Queue,
     Word::Delay,
     Word::Modify,
@@ -42,6 +45,9 @@ const WORDS: [Word; 16] = [
     Word::Destroy,
     Word::Open,
     Word::SleepAt,
+    Word::Wait,
+    Word::Lock,
+    Word::Unlock,
 ];
 
 impl Word {
@@ -67,6 +73,9 @@ impl Word {
             Word::Destroy => "destroy",
             Word::Open => "open",
             Word::SleepAt => "sleep_at",
+            Word::Wait => "wait",
+            Word::Lock => "lock",
+            Word::Unlock => "unlock",
         }
     }
 }

@@ -54,6 +54,18 @@ impl Lists {
         })
     }
 
+    /// Makes these lists a copy of the others. There are as many lists and items of both, so that no memory is taken.
+    pub fn copy_from(&mut self, other: &Lists)
+        requires items { self.old.items ≡ other.now.items }
+        requires lists { length self.old.lists ≡ length other.now.lists }
+        ensures { self.new ≡ other.now }
+    {
+        self.next.copy_from_slice(&other.next);
+        self.prev.copy_from_slice(&other.prev);
+        self.owners.copy_from_slice(&other.owners);
+        self.lens.copy_from_slice(&other.lens);
+    }
+
     /// How many items are in a list: at most as many as there are. No item is twice in a list, or in two.
     pub fn len(&self, list: u16) -> u32
         requires { list < length self.now.lists }

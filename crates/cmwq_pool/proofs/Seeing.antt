@@ -1,24 +1,24 @@
 -- What the parts of the pools are seen as, and what a change of the parts changes.
-use Rattle.cmwq_pool.specs.Common.{◌≡◌, ◌≢◌, ℕ, zero, suc, ◌+◌, ◌<◌, ◌&&◌, ◌||◌, Option, Some, None, ltb, is_some, true}
+use Rattle.cmwq_pool.specs.Common.{◌≡◌, ◌≢◌, ℕ, zero, suc, ◌+◌, ◌<◌, ◌||◌, true}
 use Rattle.cmwq_pool.specs.Common.{false, not, List, [], ◌∷◌, ◌++◌, length, get_or, set, map, find, option_map, refl}
 use Rattle.cmwq_pool.specs.Common.{sym, ap, ap₂, ◌∙◌, arith, replicate, slice_set, slice_index_or, range_with_len}
 use Rattle.cmwq_pool.specs.Common.{list_any, length-set, length-replicate, get_or-set_same, get_or-set_other}
 use Rattle.std.proofs.Common.{⊎_elim}
-use Rattle.std.proofs.lemmas.Bool.{cases_eq, cases_lt, false_from_ne_true, false≢true, lt-ltb, or_right}
+use Rattle.std.proofs.lemmas.Bool.{cases_eq, cases_lt, false_from_ne_true, false≢true, or_right}
 use Rattle.std.proofs.lemmas.List.{ext_get_or, get_or-map, get_or-replicate, get_or_default, get_or_past}
 use Rattle.std.proofs.lemmas.List.FromFn.{fill_by_all, get_or-map-range_with_len, length-map-range_with_len}
-use Rattle.cmwq_list.specs.Lists.{Listed, list_at, list_of, has_item, without_item, lists_with, lists_without}
+use Rattle.cmwq_list.specs.Lists.{Listed, list_at, has_item, without_item, lists_with, lists_without}
 use Rattle.cmwq_list.specs.Lists.{AreListedOnce}
 use Rattle.cmwq_pool.specs.declared.note.Note.{Note}
 use Rattle.cmwq_pool.specs.declared.slot.Slot.{Slot}
 use Rattle.cmwq_pool.specs.Slots.{slots_run_item, slots_started}
 use Rattle.cmwq_pool.specs.PoolState.{PoolState, task, is_task, next_task, pool_with_run, pool_with_task}
 use Rattle.cmwq_pool.specs.PoolState.{pool_without_task}
-use Rattle.cmwq_pool.specs.Pools.{no_pool, pool_numbered, with_pool, lists_item, may_list}
+use Rattle.cmwq_pool.specs.Pools.{no_pool, pool_numbered, with_pool, lists_item, may_list, AreOfOneShape}
 use Rattle.cmwq_pool.specs.Upkeep.{note_at, noted_task, pool_seen, pools_seen}
 use Rattle.cmwq_pool.proofs.Starting.{same_pool_state}
-use Rattle.cmwq_pool.proofs.Tasks.{any_item, no_owner, taken, kept_notes, added, first_startable, filter_lacking}
-use Rattle.cmwq_list.proofs.Members.{without_none, owner_has}
+use Rattle.cmwq_pool.proofs.Tasks.{any_item, taken, kept_notes, added, first_startable, filter_lacking}
+use Rattle.cmwq_list.proofs.Members.{without_none}
 
 -- ---- each pool by its number
 
@@ -30,6 +30,26 @@ seen_at lists notes workers p less =
 pub seen_many : (lists : Listed) (notes : List Note) (workers : List (List Slot))
     → length (pools_seen lists notes workers) ≡ length workers
 seen_many lists notes workers = length-map-range_with_len (pool_seen lists notes workers) 0 (length workers)
+
+-- pools of one shape have parts of one size
+module _ (lists lists1 : Listed) (notes notes1 : List Note) (workers workers1 : List (List Slot))
+    (shape : AreOfOneShape (pools_seen lists notes workers) (pools_seen lists1 notes1 workers1)) where
+  pub as_many : length workers ≡ length workers1
+  as_many = sym (seen_many lists notes workers) ∙ (shape.many ∙ seen_many lists1 notes1 workers1)
+
+  pub as_many_items : 0 < length workers → lists.items ≡ lists1.items
+  as_many_items some =
+      ap (λ (l : PoolState). l.items) (sym (seen_at lists notes workers 0 some))
+      ∙ (shape.items 0
+      ∙ ap (λ (l : PoolState). l.items) (seen_at lists1 notes1 workers1 0 (omega (arith, as_many))))
+
+  pub as_many_workers : (p : ℕ) → length (slice_index_or workers p []) ≡ length (slice_index_or workers1 p [])
+  as_many_workers p = ⊎_elim
+      (λ less. ap (λ (l : PoolState). length l.slots) (sym (seen_at lists notes workers p less))
+      ∙ (shape.workers p
+      ∙ ap (λ (l : PoolState). length l.slots) (seen_at lists1 notes1 workers1 p (omega (arith, less, as_many)))))
+      (λ past. ap length (get_or_past workers p [] past)
+      ∙ sym (ap length (get_or_past workers1 p [] (omega (arith, past, as_many))))) (cases_lt p (length workers))
 
 -- one of them changes
 pub one_changed : (a b : List PoolState) (p : ℕ) (y : PoolState) → length b ≡ length a → p < length a

@@ -5,6 +5,8 @@ use Rattle.cmwq_pool.specs.Common.{option_map, nat_eq, list_any, get_or-set_same
 use Rattle.std.proofs.lemmas.Bool.{and_parts, eqb-true, eqb-false, eq-eqb, or_parts, false≢true}
 use Rattle.std.proofs.lemmas.List.{get_or_past, map_push}
 use Rattle.std.proofs.lemmas.List.Sums.{fails_before_first}
+use Rattle.std.proofs.lemmas.Option.{same_Some, slice_get-map}
+use Rattle.std.specs.Prelude.{slice_get}
 use Rattle.cmwq_lemmas.proofs.Truth.{not_chosen, same_bools, and_false, and_true}
 use Rattle.cmwq_list.specs.Lists.{Listed, AreListedOnce, list_at, list_of, has_item, without_item}
 use Rattle.cmwq_pool.specs.declared.note.Note.{Note}
@@ -121,3 +123,17 @@ empty_lacks i (x ∷ xs) h = absurd (omega arith)
 pub some_first : {A B C : Type 0} (f : B → C) (g : A → B) (o : Option A) → is_some (option_map f (option_map g o))
     ≡ true → is_some o ≡ true
 some_first f g o h = grind arith
+
+-- an item stands where its task is listed
+pub listed_item : (notes : List Note) (xs : List ℕ) (k i : ℕ) (t : Task)
+    → slice_get (map (noted_task notes) xs) k ≡ Some t
+    → t.item.0 ≡ i → slice_get xs k ≡ Some i
+listed_item notes xs k i t at item = by (slice_get xs k) refl (sym (slice_get-map (noted_task notes) xs k) ∙ at)
+  where
+    by : (o : Option ℕ) → slice_get xs k ≡ o → option_map (noted_task notes) (slice_get xs k) ≡ Some t
+        → slice_get xs k ≡ Some i
+    by None is h = let bad : None ≡ Some t = sym (ap (option_map (noted_task notes)) is) ∙ h in cc
+    by (Some j) is h =
+        let task : noted_task notes j ≡ t =
+        same_Some (noted_task notes j) t (sym (ap (option_map (noted_task notes)) is) ∙ h) in
+        is ∙ ap Some (ap (λ (u : Task). u.item.0) task ∙ item)

@@ -1,6 +1,6 @@
 //! What stands in the lists of pools, each item with what is noted of it.
 
-ghost use Rattle.std.specs.Prelude.{◌≡◌, ◌<◌, ◌^◌, length, map, find, not};
+ghost use Rattle.std.specs.Prelude.{◌≡◌, ℕ, ◌+◌, ◌<◌, ◌^◌, Some, IfSome, length, map, find, not, slice_get};
 ghost use Rattle.std.specs.List.{list_any};
 ghost use Rattle.cmwq_list.specs.Lists.{list_at, AreListedOnce};
 ghost use Rattle.cmwq_pool.specs.Slots.{slots_run_item};
@@ -42,6 +42,41 @@ pub(crate) fn first_free(lists: &Lists, list: u16, workers: &PoolWorkers) -> Opt
         at = lists.next(item);
     }
     None
+}
+
+/// The first task of a list.
+pub(crate) fn first_task(lists: &Lists, notes: &Notes, list: u16) -> Option<Task>
+    requires list { list < length lists.now.lists }
+    requires noted { length notes.now ≡ lists.now.items }
+    requires few { length notes.now < 2 ^ 16 }
+    ensures { result ≡ slice_get (map (noted_task notes.now) (list_at lists.now.lists list)) 0 }
+{
+    if lists.len(list) == 0 {
+        return None;
+    }
+    let item = lists.first(list)?;
+    Some(task_of(notes, item))
+}
+
+/// The task after an item's in a list. Where the item isn't in the list, any task or none.
+pub(crate) fn task_after(lists: &Lists, notes: &Notes, list: u16, item: u32) -> Option<Task>
+    requires list { list < length lists.now.lists }
+    requires item { item < lists.now.items }
+    requires noted { length notes.now ≡ lists.now.items }
+    requires few { length notes.now < 2 ^ 16 }
+    ensures next { (k : ℕ) → slice_get (list_at lists.now.lists list) k ≡ Some item
+        → result ≡ slice_get (map (noted_task notes.now) (list_at lists.now.lists list)) (k + 1) }
+    ensures known { IfSome result (λ task. task.item.0 < lists.now.items) }
+{
+    if lists.len(list) == 0 {
+        return None;
+    }
+    let next = lists.next(item)?;
+    if (next as usize) < notes.len() {
+        Some(task_of(notes, next))
+    } else {
+        None
+    }
 }
 
 /// Whether this queueing of an item stands in a list.

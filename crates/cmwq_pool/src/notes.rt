@@ -37,6 +37,15 @@ impl Notes {
         })
     }
 
+    /// Makes these notes a copy of the others, which are of as many items.
+    pub(crate) fn copy_from(&mut self, other: &Notes)
+        requires { length self.old ≡ length other.now }
+        ensures { self.new ≡ other.now }
+    {
+        self.numbers.copy_from_slice(&other.numbers);
+        self.intensive.copy_from_slice(&other.intensive);
+    }
+
     /// How many items there are.
     pub(crate) fn len(&self) -> usize
         ensures { result ≡ length self.now }

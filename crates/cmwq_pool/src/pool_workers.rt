@@ -1,4 +1,5 @@
-ghost use Rattle.std.specs.Prelude.{◌≡◌, ◌<◌, length, map, replicate, slice_set, IsSome, IfOk, IfSome, Some};
+ghost use Rattle.std.specs.Prelude.{◌≡◌, ℕ, ◌<◌, [], length, map, replicate, slice_index_or, slice_set};
+ghost use Rattle.std.specs.Prelude.{IsSome, IfOk, IfSome, Some};
 ghost use Rattle.std.specs.List.{range_with_len};
 ghost use Rattle.cmwq_pool.specs.Slots.{new_slot, slot_at, slots_runnable, slots_run_item, slots_enlisted_by};
 ghost use Rattle.cmwq_pool.specs.Slots.{slots_started, slot_may_retire, slot_asleep, slot_awake, slot_free};
@@ -43,6 +44,16 @@ impl PoolWorkers {
             counts: WorkerCounts::new(workers),
             reserve: new_reserve(workers),
         })
+    }
+
+    /// Makes these workers a copy of the others, which are as many.
+    pub(crate) fn copy_from(&mut self, other: &PoolWorkers)
+        requires { length self.old ≡ length other.now }
+        ensures { self.new ≡ other.now }
+    {
+        self.slots.copy_from_slice(&other.slots);
+        self.counts = other.counts;
+        self.reserve = other.reserve;
     }
 
     pub(crate) fn len(&self) -> u8
@@ -205,4 +216,15 @@ pub(crate) fn new_workers(
         made.push_reserved(PoolWorkers::new(alloc, workers)?);
     }
     Ok(made)
+}
+
+/// Makes the workers of so many pools a copy of others, of which each pool has as many.
+pub(crate) fn copy_workers(workers: &mut [PoolWorkers], others: &[PoolWorkers])
+    requires many { length workers.old ≡ length others.now }
+    requires each { (p : ℕ) → length (slice_index_or workers.old p []) ≡ length (slice_index_or others.now p []) }
+    ensures { workers.new ≡ others.now }
+{
+    for pool in 0..workers.len() {
+        workers[pool].copy_from(&others[pool]);
+    }
 }

@@ -1,15 +1,17 @@
-ghost use Rattle.std.specs.Prelude.{◌≡◌, ◌<◌, length, replicate, IsTrue, IsSome, IfSome, IfOk, Some};
+ghost use Rattle.std.specs.Prelude.{◌≡◌, ℕ, ◌+◌, ◌<◌, length, replicate, slice_get, IsTrue, IsSome, IfSome, IfOk};
+ghost use Rattle.std.specs.Prelude.{Some};
+ghost use Rattle.cmwq_pool.specs.declared.task.Task.{Task};
 ghost use Rattle.cmwq_pool.specs.Slots.{slot_at, slot_is_idle, slot_runs_awake, slot_runs_asleep, run_number};
 ghost use Rattle.cmwq_pool.specs.Slots.{slots_runnable, slots_enlisted_by, slot_may_retire, slot_asleep, slot_awake};
 ghost use Rattle.cmwq_pool.specs.Slots.{slot_free, slot_retired};
 ghost use Rattle.cmwq_pool.specs.PoolState.{new_pool_state, task, pool_with_task, pool_without_task, next_task};
 ghost use Rattle.cmwq_pool.specs.PoolState.{next_number, pool_with_run, with_slot_again};
-ghost use Rattle.cmwq_pool.specs.Pools.{pool_numbered, with_pool, may_list};
+ghost use Rattle.cmwq_pool.specs.Pools.{pool_numbered, with_pool, may_list, AreOfOneShape};
 
-use crate::listing::{first_free, is_listed, task_of};
+use crate::listing::{first_free, first_task, is_listed, task_after, task_of};
 use crate::note::Note;
 use crate::notes::Notes;
-use crate::pool_workers::{PoolWorkers, new_workers};
+use crate::pool_workers::{PoolWorkers, copy_workers, new_workers};
 use crate::slot::Slot;
 use crate::task::Task;
 use cmwq_list::Lists;
@@ -56,6 +58,20 @@ impl Pools {
         })
     }
 
+    /// Makes these pools a copy of the others. There are as many pools, items and workers of both, so that no memory is
+    /// taken.
+    pub fn copy_from(&mut self, other: &Pools)
+        requires { AreOfOneShape self.old other.now }
+        ensures { self.new ≡ other.now }
+    {
+        // where there is no pool, there is nothing to copy
+        if !self.workers.is_empty() {
+            self.lists.copy_from(&other.lists);
+            self.notes.copy_from(&other.notes);
+            copy_workers(&mut self.workers, &other.workers);
+        }
+    }
+
     /// How many pools there are. Their numbers are below it.
     pub fn len(&self) -> usize
         ensures { result ≡ length self.now }
@@ -84,6 +100,25 @@ impl Pools {
         if is_listed(&self.lists, &self.notes, pool, number, item) {
             self.lists.remove(u32::from(item.0));
         }
+    }
+
+    /// The first task that a pool lists.
+    pub fn first(&self, pool: u16) -> Option<Task>
+        requires { pool < length self.now }
+        ensures { result ≡ slice_get (pool_numbered self.now pool).listed 0 }
+    {
+        first_task(&self.lists, &self.notes, pool)
+    }
+
+    /// The task that a pool lists after that of an item. Where it lists none of the item, any task or none.
+    pub fn after(&self, pool: u16, item: ItemId) -> Option<Task>
+        requires pool { pool < length self.now }
+        requires item { item.0 < (pool_numbered self.now pool).items }
+        ensures next { (k : ℕ) (task : Task) → slice_get (pool_numbered self.now pool).listed k ≡ Some task
+            → task.item.0 ≡ item.0 → result ≡ slice_get (pool_numbered self.now pool).listed (k + 1) }
+        ensures known { IfSome result (λ task. task.item.0 < (pool_numbered self.now pool).items) }
+    {
+        task_after(&self.lists, &self.notes, pool, u32::from(item.0))
     }
 
     /// The task that a pool would start next: the first whose item has no run there.

@@ -52,6 +52,18 @@ impl Pwqs {
         })
     }
 
+    /// Makes these a copy of the others, which are of as many queues and items. What the last pass made active is
+    /// forgotten. No memory is taken.
+    pub fn copy_from(&mut self, other: &Pwqs)
+        requires items { self.old.items ≡ other.now.items }
+        requires queues { length self.old.counts ≡ length other.now.counts }
+        ensures { self.new ≡ record other.now { activated = [] } }
+    {
+        self.counts.copy_from_slice(&other.counts);
+        self.waiting.copy_from(&other.waiting);
+        self.activated.clear();
+    }
+
     /// A queueing is opened, and waits after the others.
     pub fn open(&mut self, queueing: Queueing)
         requires { MayOpen queueing self.old }

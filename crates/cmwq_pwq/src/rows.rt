@@ -41,6 +41,15 @@ impl Rows {
         })
     }
 
+    /// Makes these rows a copy of the others, which are of as many items.
+    pub(crate) fn copy_from(&mut self, other: &Rows)
+        requires { length self.old ≡ length other.now }
+        ensures { self.new ≡ other.now }
+    {
+        self.numbers.copy_from_slice(&other.numbers);
+        self.places.copy_from_slice(&other.places);
+    }
+
     /// The row of an item, if there is one.
     pub(crate) fn get(&self, item: u32) -> Option<Queueing>
         ensures { result ≡ slice_get self.now item }

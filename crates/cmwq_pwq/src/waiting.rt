@@ -67,6 +67,17 @@ impl Waiting {
         })
     }
 
+    /// Makes this a copy of what waits of as many items and at as many places.
+    pub(crate) fn copy_from(&mut self, other: &Waiting)
+        requires items { self.old.items ≡ other.now.items }
+        requires places { self.old.places ≡ other.now.places }
+        ensures { self.new ≡ other.now }
+    {
+        self.rows.copy_from(&other.rows);
+        self.all.copy_from(&other.all);
+        self.pwqs.copy_from(&other.pwqs);
+    }
+
     /// How many wait.
     pub(crate) fn len(&self) -> u32
         ensures len { result ≡ length self.now.queueings }

@@ -15,6 +15,8 @@ use Rattle.cmwq_model.specs.Prelude.{steps}
 use Rattle.cmwq_model_examples.specs.Words.{call_made, flush}
 use Rattle.cmwq_model_examples.proofs.Definitions.{definitions}
 use Rattle.cmwq_theory_laws.proofs.OneEntry.{steps_are_legal}
+use Rattle.cmwq_json_script.specs.declared.action.Action.{Action}
+use Rattle.cmwq_json_script.specs.declared.action.Action.TheVariants as action
 use Rattle.cmwq_core.specs.History.{IsThere}
 use Rattle.cmwq_theory_wakes.specs.Starting.{Attendant, IsAttended, allows_start, worker_is_idle}
 use Rattle.cmwq_theory_wakes.specs.Rest.{NoneForgotten}
@@ -28,17 +30,17 @@ use Rattle.cmwq_dispatch.specs.declared.resting.RestingWorkers.{RestingWorkers}
 use Rattle.cmwq_dispatch.proofs.Sets.{has_more, none_has}
 use Rattle.cmwq_explore.specs.Machines.{called, ends, replied, starts, stepped}
 use Rattle.cmwq_explore.specs.Searches.{IsSchedule, after}
-use Rattle.cmwq_explore.specs.Stands.{Stand, IsDone, caller_moved, may, moved}
+use Rattle.cmwq_explore.specs.Stands.{Stand, IsDone, caller_acted, caller_moved, may, moved}
 use Rattle.cmwq_explore.specs.declared.place.CallerAt.{CallerAt}
-use Rattle.cmwq_explore.specs.declared.place.Doing.TheVariants.{Acts, AtGate, Waits}
+use Rattle.cmwq_explore.specs.declared.place.Doing.TheVariants.{Acts, AtGate, AtLock, Waits}
+use Rattle.cmwq_explore.specs.declared.place.Doing.{Doing}
 use Rattle.cmwq_explore.specs.declared.place.WorkerAt.{WorkerAt}
 use Rattle.cmwq_rest_laws.specs.Asleep.{AllSleep, CallerSleeps, SleepsFor, WorkerSleeps}
-use Rattle.cmwq_rest_laws.specs.Needed.{Holds, IsNeeded, Premise, PremisesAreNeeded, SomeSleepForEver, frozen}
-use Rattle.cmwq_rest_laws.specs.Needed.{frozen_hub}
-use Rattle.cmwq_rest_laws.specs.Needed.{frozen_stand, history_of, hub_where, pool_where, queued, flushed, running}
-use Rattle.cmwq_rest_laws.specs.Needed.{small}
-use Rattle.cmwq_rest_laws.specs.Needed.{elsewhere, freezing, made_up, queued_behind}
-use Rattle.cmwq_rest_laws.specs.Needed.{waiting, ticket_where, unbegun, flusher, queuer, runner, wait_where}
+use Rattle.cmwq_rest_laws.specs.Needed.{Holds, IsNeeded, Premise, PremisesAreNeeded, SleepForEver, SomeSleepForEver}
+use Rattle.cmwq_rest_laws.specs.Needed.{about_to, elsewhere, empty_hub, flushed, flusher, freezing, frozen, frozen_hub}
+use Rattle.cmwq_rest_laws.specs.Needed.{frozen_stand, history_of, hub_where, locked_stand, locking, made_up}
+use Rattle.cmwq_rest_laws.specs.Needed.{pool_where, queued, queued_behind, queuer, runner, running, small}
+use Rattle.cmwq_rest_laws.specs.Needed.{ticket_where, wait_where, waiting}
 use Rattle.cmwq_rest_laws.specs.Needed as needed
 use Rattle.cmwq_rest_laws.proofs.Resting.{sleepers_are_stuck}
 
@@ -246,15 +248,15 @@ frozen_asleep = record {
     both false is = refl
 
 frozen_leads : after freezing (0 ∷ 0 ∷ 0 ∷ []) ≡ frozen_stand
-unfolding definitions moved caller_moved called stepped replied ends
+unfolding definitions moved caller_moved caller_acted called stepped replied ends
 frozen_leads = refl
 
 frozen_goes : IsSchedule freezing (0 ∷ 0 ∷ 0 ∷ [])
-unfolding definitions may moved caller_moved called stepped replied ends
+unfolding definitions may moved caller_moved caller_acted called stepped replied ends
 frozen_goes = (refl, (refl, (refl, tt)))
 
-pub some_sleep_for_ever : SomeSleepForEver
-some_sleep_for_ever = record {
+frozen_for_ever : SleepForEver freezing (0 ∷ 0 ∷ 0 ∷ []) frozen_hub frozen_stand
+frozen_for_ever = record {
   leads = frozen_leads;
   asleep = frozen_asleep;
   stuck = sleepers_are_stuck freezing (0 ∷ 0 ∷ 0 ∷ []) frozen_hub frozen_goes
@@ -262,7 +264,7 @@ some_sleep_for_ever = record {
       (λ done. both_ways _ ((subst IsDone frozen_leads done).callers 0 _ refl) refl);
 }
 
--- ---- where a premise is left out, one moves
+-- ---- all sleep in an empty hub
 
 -- which of the two workers rest
 both_rest : (high : Bool) → rests_where true true high ≡ true
@@ -276,6 +278,66 @@ none_rests false is = cc
 empty_legal : IsLegal small []
 unfolding IsLegal
 empty_legal = tt
+
+-- a hub in which nobody sleeps but these workers
+resting_hub : (entries : List Entry) (a b : Bool)
+    → ((high : Bool) → rests_where a b high ≡ true → allows_start small (past_of entries) (pool high) ≡ false)
+    → ((high : Bool) → rests_where a b high ≡ true
+    → worker_is_idle (past_of entries) (worker_at (pool high) 0) ≡ true) → Stands (hub_where entries false [] a b)
+resting_hub entries a b none rests_idle =
+    stands_open entries [] a b
+    (looked_after (past_of entries) [] a b
+    (record { known = tt; callers = tt; workers = attended (past_of entries) a b none }) tt rests_idle)
+
+empty_stands : Stands empty_hub
+unfolding definitions
+empty_stands = resting_hub [] true true none at_rest
+  where
+    none : (high : Bool) → rests_where true true high ≡ true → allows_start small [] (pool high) ≡ false
+    none true is = refl
+    none false is = refl
+
+    at_rest : (high : Bool) → rests_where true true high ≡ true → worker_is_idle [] (worker_at (pool high) 0) ≡ true
+    at_rest true is = refl
+    at_rest false is = refl
+
+empty_rest : (w : WorkerId) → IsThere small (Worker w) → worker_is_idle [] w ≡ true
+    → rests (pools_where true true) w ≡ true
+empty_rest = idle_rest [] true true (λ high is. both_rest high)
+
+locked_asleep : AllSleep empty_hub locked_stand
+locked_asleep = record {
+  legal = empty_legal;
+  stands = empty_stands;
+  lives = refl;
+  idle = λ lasts. empty_rest;
+  layout = refl;
+  past = refl;
+  callers = only_caller empty_hub locked_stand _ refl (λ is. cc);
+  workers = both_workers empty_hub locked_stand _ _ refl tt tt;
+}
+
+locked_leads : after locking (0 ∷ []) ≡ locked_stand
+unfolding moved caller_moved caller_acted
+locked_leads = refl
+
+locked_goes : IsSchedule locking (0 ∷ [])
+unfolding may
+locked_goes = (refl, tt)
+
+locked_for_ever : SleepForEver locking (0 ∷ []) empty_hub locked_stand
+locked_for_ever = record {
+  leads = locked_leads;
+  asleep = locked_asleep;
+  stuck = sleepers_are_stuck locking (0 ∷ []) empty_hub locked_goes
+      (subst (AllSleep empty_hub) (sym locked_leads) locked_asleep)
+      (λ done. both_ways _ ((subst IsDone locked_leads done).callers 0 _ refl) refl);
+}
+
+pub some_sleep_for_ever : SomeSleepForEver
+some_sleep_for_ever = record { in_hub = frozen_for_ever; at_lock = locked_for_ever }
+
+-- ---- where a premise is left out, one moves
 
 queued_legal : IsLegal small (past_of queued)
 unfolding definitions
@@ -296,16 +358,6 @@ waiting_legal = legal_by waiting (refl, (refl, (refl, (refl, tt)))) refl
 queued_behind_legal : IsLegal small (past_of queued_behind)
 unfolding definitions
 queued_behind_legal = legal_by queued_behind (refl, (refl, (refl, tt))) refl
-
--- a hub in which nobody sleeps but these workers
-resting_hub : (entries : List Entry) (a b : Bool)
-    → ((high : Bool) → rests_where a b high ≡ true → allows_start small (past_of entries) (pool high) ≡ false)
-    → ((high : Bool) → rests_where a b high ≡ true
-    → worker_is_idle (past_of entries) (worker_at (pool high) 0) ≡ true) → Stands (hub_where entries false [] a b)
-resting_hub entries a b none rests_idle =
-    stands_open entries [] a b
-    (looked_after (past_of entries) [] a b
-    (record { known = tt; callers = tt; workers = attended (past_of entries) a b none }) tt rests_idle)
 
 -- in a hub that has failed nobody sleeps
 nobody_rests : (w : WorkerId) → rests (pools_where false false) w ≡ false
@@ -350,7 +402,7 @@ flush_sleeps a b = record {
 
 queuer_is_done : (d : Dispatched) (entries : List Entry) (k : ℕ) (at : CallerAt)
     → slice_get (queuer entries).callers k ≡ Some at → CallerSleeps d (queuer entries) k at
-queuer_is_done d entries = only_caller d (queuer entries) _ refl (omega arith)
+queuer_is_done d entries = only_caller d (queuer entries) _ refl tt
 
 queuer_runs_none : (d : Dispatched) (entries : List Entry) (k : ℕ) (at : WorkerAt)
     → slice_get (queuer entries).workers k ≡ Some at → WorkerSleeps d (queuer entries) at
@@ -412,27 +464,15 @@ needs_idle = record { others = others; moves = refl }
     others needed.callers not = queuer_is_done _ queued
     others needed.workers not = queuer_runs_none _ queued
 
-empty_hub : Stands (hub_where [] false [] true true)
-unfolding definitions
-empty_hub = resting_hub [] true true none at_rest
-  where
-    none : (high : Bool) → rests_where true true high ≡ true → allows_start small [] (pool high) ≡ false
-    none true is = refl
-    none false is = refl
-
-    at_rest : (high : Bool) → rests_where true true high ≡ true → worker_is_idle [] (worker_at (pool high) 0) ≡ true
-    at_rest true is = refl
-    at_rest false is = refl
-
-needs_past : IsNeeded needed.past (hub_where [] false [] true true) (queuer queued) 1
+needs_past : IsNeeded needed.past empty_hub (queuer queued) 1
 unfolding definitions may starts replied
 needs_past = record { others = others; moves = refl }
   where
-    others : (r : Premise) → (r ≡ needed.past → ⊥) → Holds r (hub_where [] false [] true true) (queuer queued)
+    others : (r : Premise) → (r ≡ needed.past → ⊥) → Holds r empty_hub (queuer queued)
     others needed.legal not = empty_legal
-    others needed.stands not = empty_hub
+    others needed.stands not = empty_stands
     others needed.lives not = refl
-    others needed.idle not = λ lasts. idle_rest [] true true (λ high is. both_rest high)
+    others needed.idle not = λ lasts. empty_rest
     others needed.layout not = refl
     others needed.past not = absurd (not refl)
     others needed.callers not = queuer_is_done _ queued
@@ -461,19 +501,31 @@ needs_registered = record { others = others; moves = refl }
     others needed.callers not = absurd (not refl)
     others needed.workers not = flusher_runs_none _
 
-needs_called : IsNeeded needed.callers (hub_where [] false [] true true) unbegun 0
-unfolding may
-needs_called = record { others = others; moves = refl }
+-- a caller whose next action may be done
+needs_next : (next : Action) → may (about_to next) 0 ≡ true → IsNeeded needed.callers empty_hub (about_to next) 0
+needs_next next moves = record { others = others; moves = moves }
   where
-    others : (r : Premise) → (r ≡ needed.callers → ⊥) → Holds r (hub_where [] false [] true true) unbegun
+    others : (r : Premise) → (r ≡ needed.callers → ⊥) → Holds r empty_hub (about_to next)
     others needed.legal not = empty_legal
-    others needed.stands not = empty_hub
+    others needed.stands not = empty_stands
     others needed.lives not = refl
-    others needed.idle not = λ lasts. idle_rest [] true true (λ high is. both_rest high)
+    others needed.idle not = λ lasts. empty_rest
     others needed.layout not = refl
     others needed.past not = refl
     others needed.callers not = absurd (not refl)
-    others needed.workers not = both_workers _ unbegun _ _ refl tt tt
+    others needed.workers not = both_workers _ (about_to next) _ _ refl tt tt
+
+calls_next : may (about_to (action.Call (flush 0))) 0 ≡ true
+unfolding may
+calls_next = refl
+
+passes_next : may (about_to (action.SleepAt 0)) 0 ≡ true
+unfolding may
+passes_next = refl
+
+locks_next : may (about_to (action.Lock 0)) 0 ≡ true
+unfolding may
+locks_next = refl
 
 -- while the worker of the normal pool has a run
 running_hub : Stands (hub_where running false [] false true)
@@ -534,40 +586,36 @@ needs_acting = record { others = others; moves = refl }
     others needed.idle not = λ lasts. running_rest
     others needed.layout not = refl
     others needed.past not = refl
-    others needed.callers not = only_caller _ (runner running Acts) _ refl (omega arith)
+    others needed.callers not = only_caller _ (runner running Acts) _ refl tt
     others needed.workers not = absurd (not refl)
 
-needs_shut : IsNeeded needed.workers (hub_where waiting false [] false true) (runner waiting (AtGate 0 true)) 1
+-- a run that has slept
+needs_run : (doing : Doing) → may (runner waiting doing) 1 ≡ true
+    → IsNeeded needed.workers (hub_where waiting false [] false true) (runner waiting doing) 1
+needs_run doing moves = record { others = others; moves = moves }
+  where
+    others : (r : Premise) → (r ≡ needed.workers → ⊥)
+        → Holds r (hub_where waiting false [] false true) (runner waiting doing)
+    others needed.legal not = waiting_legal
+    others needed.stands not = waiting_hub
+    others needed.lives not = refl
+    others needed.idle not = λ lasts. waiting_rest
+    others needed.layout not = refl
+    others needed.past not = refl
+    others needed.callers not = only_caller _ (runner waiting doing) _ refl tt
+    others needed.workers not = absurd (not refl)
+
+passes_gate : may (runner waiting (AtGate 0 true)) 1 ≡ true
 unfolding may
-needs_shut = record { others = others; moves = refl }
-  where
-    others : (r : Premise) → (r ≡ needed.workers → ⊥)
-        → Holds r (hub_where waiting false [] false true) (runner waiting (AtGate 0 true))
-    others needed.legal not = waiting_legal
-    others needed.stands not = waiting_hub
-    others needed.lives not = refl
-    others needed.idle not = λ lasts. waiting_rest
-    others needed.layout not = refl
-    others needed.past not = refl
-    others needed.callers not = only_caller _ (runner waiting (AtGate 0 true)) _ refl (omega arith)
-    others needed.workers not = absurd (not refl)
+passes_gate = refl
 
-needs_lent : IsNeeded needed.workers (hub_where waiting false [] false true)
-    (runner waiting (Waits 1 (wait_where (flush 1) 3))) 1
+takes_lock : may (runner waiting (AtLock 0 true)) 1 ≡ true
+unfolding may
+takes_lock = refl
+
+wait_ends : may (runner waiting (Waits 1 (wait_where (flush 1) 3))) 1 ≡ true
 unfolding definitions may ends replied
-needs_lent = record { others = others; moves = refl }
-  where
-    others : (r : Premise) → (r ≡ needed.workers → ⊥)
-        → Holds r (hub_where waiting false [] false true) (runner waiting (Waits 1 (wait_where (flush 1) 3)))
-    others needed.legal not = waiting_legal
-    others needed.stands not = waiting_hub
-    others needed.lives not = refl
-    others needed.idle not = λ lasts. waiting_rest
-    others needed.layout not = refl
-    others needed.past not = refl
-    others needed.callers not =
-        only_caller _ (runner waiting (Waits 1 (wait_where (flush 1) 3))) _ refl (omega arith)
-    others needed.workers not = absurd (not refl)
+wait_ends = refl
 
 -- in a made-up history a worker outside the layout attends the pool
 needs_legal : IsNeeded needed.legal (hub_where made_up false [] true true) (queuer made_up) 1
@@ -628,7 +676,7 @@ needs_layout = record { others = others; moves = refl }
     others needed.idle not = λ lasts. idle_rest (past_of queued_behind) false true all
     others needed.layout not = absurd (not refl)
     others needed.past not = refl
-    others needed.callers not = only_caller _ elsewhere _ refl (omega arith)
+    others needed.callers not = only_caller _ elsewhere _ refl tt
     others needed.workers not = both_workers _ elsewhere _ _ refl is_shut tt
 
 pub premises_are_needed : PremisesAreNeeded
@@ -640,8 +688,11 @@ premises_are_needed = record {
   other_layout = needs_layout;
   unseen = needs_past;
   unregistered = needs_registered;
-  unfinished = needs_called;
+  unfinished = needs_next (action.Call (flush 0)) calls_next;
+  before_open_gate = needs_next (action.SleepAt 0) passes_next;
+  before_free_lock = needs_next (action.Lock 0) locks_next;
   acting = needs_acting;
-  at_open_gate = needs_shut;
-  lent = needs_lent;
+  at_open_gate = needs_run (AtGate 0 true) passes_gate;
+  at_free_lock = needs_run (AtLock 0 true) takes_lock;
+  lent = needs_run (Waits 1 (wait_where (flush 1) 3)) wait_ends;
 }

@@ -1,31 +1,36 @@
 -- Where all threads of a script sleep, nobody may move.
 use Rattle.std.proofs.Common.{⊎_elim}
-use Rattle.std.specs.Prelude.{◌-◌, IfSome, MatchOption}
+use Rattle.std.specs.Prelude.{◌-◌, IfSome, MatchOption, not}
 use Rattle.std.specs.Option.{option_map_or}
 use Rattle.std.proofs.lemmas.Bool.{both_ways}
 use Rattle.std.proofs.lemmas.Option.{get_or_from_slice_get, slice_get_within}
-use Rattle.cmwq_theory_steps.specs.Common.{◌≡◌, ◌≤◌, ◌||◌, ℕ, zero, suc, Bool, true, false, List, [], ◌∷◌, Option, Some}
-use Rattle.cmwq_theory_steps.specs.Common.{None, refl, sym, ap, ap₂, ◌∙◌, subst, arith, if◌then◌else◌, is_some, nat_lt}
+use Rattle.cmwq_theory_steps.specs.Common.{◌≡◌, ◌||◌, ℕ, zero, suc, Bool, true, false, List, [], ◌∷◌, Option, Some}
+use Rattle.cmwq_theory_steps.specs.Common.{None, refl, sym, ap, ap₂, ◌∙◌, subst, if◌then◌else◌, is_some, nat_lt}
 use Rattle.cmwq_theory_steps.specs.Common.{length, slice_get, Ticket, Caller, Worker, WorkerId, fits, answer}
-use Rattle.cmwq_theory_steps.specs.Common.{is_done, number_started, nat_tests}
+use Rattle.cmwq_theory_steps.specs.Common.{is_done, number_started}
 use Rattle.cmwq_lemmas.proofs.Members.{In, any_in, in_at, in_contained, none_in}
 use Rattle.cmwq_model.specs.declared.call.Call.TheVariants as call
+use Rattle.cmwq_json_script.specs.declared.action.Action.{Action}
+use Rattle.cmwq_json_script.specs.declared.action.Action.TheVariants as action
+use Rattle.cmwq_json_script.specs.declared.action.Holder.{Holder}
 use Rattle.cmwq_core.specs.History.{IsThere}
 use Rattle.cmwq_state.proofs.Steps.{fits_there}
 use Rattle.cmwq_theory_wakes.proofs.Starting.{idle_start_alike}
 use Rattle.cmwq_dispatch.specs.Dispatched.{Dispatched, past_now}
 use Rattle.cmwq_explore.specs.Machines.{ends, starts}
 use Rattle.cmwq_explore.specs.Searches.{AllEnd, IsFine, IsSchedule, after}
-use Rattle.cmwq_explore.specs.Stands.{Stand, IsDone, has_run, may, may_call, may_do, may_work, moved, script_at}
+use Rattle.cmwq_explore.specs.Stands.{Stand, IsDone, has_run, is_free, is_open, may, may_act, may_call}
+use Rattle.cmwq_explore.specs.Stands.{may_do, may_work, moved, script_at}
 use Rattle.cmwq_explore.specs.declared.place.CallerAt.{CallerAt}
 use Rattle.cmwq_explore.specs.declared.place.Doing.{Doing}
-use Rattle.cmwq_explore.specs.declared.place.Doing.TheVariants.{Acts, AtGate, Waits}
+use Rattle.cmwq_explore.specs.declared.place.Doing.TheVariants.{Acts, AtGate, AtLock, Waits}
 use Rattle.cmwq_explore.specs.declared.place.RunAt.{RunAt}
 use Rattle.cmwq_explore.specs.declared.place.Ticketed.{Ticketed}
 use Rattle.cmwq_explore.specs.declared.place.WorkerAt.{WorkerAt}
 use Rattle.cmwq_explore.proofs.Ending.{never_ends}
 use Rattle.cmwq_explore.proofs.Starting.{starts_nothing as planned_starts_nothing, unfit_starts_nothing}
-use Rattle.cmwq_rest_laws.specs.Asleep.{AllSleep, CallerSleeps, RunSleeps, SleepsFor, WorkerSleeps}
+use Rattle.cmwq_rest_laws.specs.Asleep.{AllSleep, Blocks, CallerSleeps, IsHeld, IsShut, RunSleeps, SleepsFor}
+use Rattle.cmwq_rest_laws.specs.Asleep.{WorkerSleeps}
 use Rattle.cmwq_rest_laws.specs.Resting.{CallerWaits, NoCallerIsLeftAsleep, RunWaits, SleepersAreDone, SleepersAreStuck}
 use Rattle.cmwq_rest_laws.specs.Resting.{SleepersMayNotMove}
 use Rattle.cmwq_dispatch.proofs.Quiet.{starts_nothing}
@@ -63,27 +68,48 @@ module _ (d : Dispatched) (p : Stand) (asleep : AllSleep d p) where
 
   -- ---- so nobody may move
 
-  none_left : (next len : ℕ) → len ≤ next → nat_lt next len ≡ false
-  none_left next len all = grind (arith, nat_tests)
+  gate_may_not : (gate : ℕ) → IsShut p gate → is_open p gate ≡ false
+  gate_may_not gate = by (slice_get p.gates gate)
+    where
+      by : (o : Option Bool) → (o ≡ Some true → ⊥) → option_map_or (λ is. is) o false ≡ false
+      by None shut = refl
+      by (Some false) shut = refl
+      by (Some true) shut = absurd (shut refl)
+
+  lock_may_not : (lock : ℕ) → IsHeld p lock → is_free p lock ≡ false
+  lock_may_not lock = by (slice_get p.locks lock)
+    where
+      by : (o : Option (Option Holder)) → (o ≡ Some None → ⊥)
+          → option_map_or (λ (holder : Option Holder). not (is_some holder)) o false ≡ false
+      by None held = refl
+      by (Some (Some holder)) held = refl
+      by (Some None) held = absurd (held refl)
+
+  action_may_not : (a : Action) → Blocks p a → may_act p a ≡ false
+  action_may_not (action.Call c) blocks = absurd blocks
+  action_may_not (action.Open gate) blocks = absurd blocks
+  action_may_not (action.SleepAt gate) blocks = gate_may_not gate blocks
+  action_may_not (action.Lock lock) blocks = lock_may_not lock blocks
+  action_may_not (action.Unlock lock) blocks = absurd blocks
+
+  next_may_not : (next : Option Action) → IfSome next (Blocks p) → option_map_or (may_act p) next false ≡ false
+  next_may_not None blocks = refl
+  next_may_not (Some a) blocks = action_may_not a blocks
 
   caller_may_not : (k : ℕ) (at : CallerAt) → CallerSleeps d p k at → may_call p k at ≡ false
-  caller_may_not k at sleeps = by at.wait sleeps
+  caller_may_not k at sleeps = by at.wait (slice_get (script_at p k) at.next) sleeps
     where
-      by : (o : Option Ticketed)
-          → MatchOption o (length (script_at p k) ≤ at.next) (λ wait. SleepsFor d at.id.0 wait.ticket)
-          → option_map_or (λ w. ends p.history (Caller at.id) w.ticket) o (nat_lt at.next (length (script_at p k)))
+      by : (o : Option Ticketed) (next : Option Action)
+          → MatchOption o (IfSome next (Blocks p)) (λ wait. SleepsFor d at.id.0 wait.ticket)
+          → option_map_or (λ w. ends p.history (Caller at.id) w.ticket) o (option_map_or (may_act p) next false)
           ≡ false
-      by None all = none_left at.next (length (script_at p k)) all
-      by (Some wait) is = sleeper_waits at.id.0 wait.ticket is
-
-  gate_is_shut : (o : Option Bool) → (o ≡ Some true → ⊥) → option_map_or (λ is_open. is_open) o false ≡ false
-  gate_is_shut None shut = refl
-  gate_is_shut (Some false) shut = refl
-  gate_is_shut (Some true) shut = absurd (shut refl)
+      by None next blocks = next_may_not next blocks
+      by (Some wait) next is = sleeper_waits at.id.0 wait.ticket is
 
   run_may_not : (doing : Doing) → RunSleeps d p doing → may_do p doing ≡ false
   run_may_not Acts sleeps = absurd sleeps
-  run_may_not (AtGate gate slept) sleeps = gate_is_shut (slice_get p.gates gate) sleeps
+  run_may_not (AtGate gate slept) shut = gate_may_not gate shut
+  run_may_not (AtLock lock slept) held = lock_may_not lock held
   run_may_not (Waits caller wait) sleeps = sleeper_waits caller wait.ticket sleeps
 
   worker_may_not : (at : WorkerAt) → WorkerSleeps d p at → may_work p at ≡ false

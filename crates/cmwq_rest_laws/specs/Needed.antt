@@ -1,7 +1,7 @@
--- Examples of AllSleep. In a small stand all its premises hold, and one caller waits for ever. And each premise is
+-- Examples of AllSleep. In two small stands all its premises hold, and a caller waits for ever. And each premise is
 -- needed: where only that one does not hold, somebody may move.
 use Rattle.std.specs.Prelude.{◌≡◌, ◌∷◌, ℕ, Bool, true, false, if◌then◌else◌, List, [], Option, Some, None}
-use Rattle.std.specs.Prelude.{slice_get}
+use Rattle.std.specs.Prelude.{map, slice_get}
 use Rattle.cmwq_model.specs.Prelude.{IsLegal, Layout}
 use Rattle.cmwq_model.specs.declared.call.Call.{Call}
 use Rattle.cmwq_model.specs.declared.entry.Entry.{Entry}
@@ -9,6 +9,9 @@ use Rattle.cmwq_model.specs.declared.record.Ticket.{Ticket}
 use Rattle.cmwq_model.specs.declared.reply.Reply.TheVariants as reply
 use Rattle.cmwq_model_examples.specs.Words.{caller, entry, finish, flush, freeze, normal, queue, sleep, system, take}
 use Rattle.cmwq_model_examples.specs.Words.{wq, wqf}
+use Rattle.cmwq_json_script.specs.declared.action.Action.{Action}
+use Rattle.cmwq_json_script.specs.declared.action.Action.TheVariants as action
+use Rattle.cmwq_json_script.specs.declared.action.Holder.TheVariants as holders
 use Rattle.cmwq_core.specs.History.{History, past_in}
 use Rattle.cmwq_dispatch.specs.Dispatched.{Dispatched, Stands, dispatched_of, past_now}
 use Rattle.cmwq_dispatch.specs.declared.resting.RestingWorkers.{RestingWorkers}
@@ -16,7 +19,7 @@ use Rattle.cmwq_explore.specs.Searches.{GetsStuck, after}
 use Rattle.cmwq_explore.specs.Stands.{Stand, may}
 use Rattle.cmwq_explore.specs.declared.place.CallerAt.{CallerAt}
 use Rattle.cmwq_explore.specs.declared.place.Doing.{Doing}
-use Rattle.cmwq_explore.specs.declared.place.Doing.TheVariants.{Acts, AtGate, Waits}
+use Rattle.cmwq_explore.specs.declared.place.Doing.TheVariants.{Acts, AtGate, AtLock, Waits}
 use Rattle.cmwq_explore.specs.declared.place.RunAt.{RunAt}
 use Rattle.cmwq_explore.specs.declared.place.Ticketed.{Ticketed}
 use Rattle.cmwq_explore.specs.declared.place.WorkerAt.{WorkerAt}
@@ -52,16 +55,20 @@ abbrev pub worker_where : Bool → Option RunAt → WorkerAt
 worker_where high run =
     record { id = record { pool = record { cpu = record { 0 = 0 }; high = high }; index = 0 }; run = run }
 
--- What is told of a stand: its entries; the calls of its only caller, how many of them are made, and for what it waits;
--- the run of the worker of the normal pool; and whether the only gate is open.
-abbrev pub stand_where : List Entry → List Call → ℕ → Option Ticketed → Option RunAt → Bool → Stand
-stand_where entries calls made wait run is_open = record {
-  scripts = calls ∷ [];
+abbrev pub calls : List Call → List Action
+calls = map action.Call
+
+-- What is told of a stand: its entries; the actions of its only caller, how many of them are done, and for what it
+-- waits; the run of the worker of the normal pool; and whether the only gate is open. Nobody holds the only lock.
+abbrev pub stand_where : List Entry → List Action → ℕ → Option Ticketed → Option RunAt → Bool → Stand
+stand_where entries actions done wait run is_open = record {
+  scripts = actions ∷ [];
   does = [];
   history = history_of entries;
-  callers = record { id = record { 0 = 0 }; next = made; wait = wait } ∷ [];
+  callers = record { id = record { 0 = 0 }; next = done; wait = wait } ∷ [];
   workers = worker_where false run ∷ worker_where true None ∷ [];
   gates = is_open ∷ [];
+  locks = None ∷ [];
   free = [];
 }
 
@@ -71,7 +78,11 @@ ticket_where c call number = record { caller = record { 0 = c }; call = call; nu
 abbrev pub wait_where : Call → ℕ → Ticketed
 wait_where call number = record { ticket = number; call = call }
 
--- ---- all sleep, and one waits for what is frozen
+-- ---- all sleep, and one waits for ever
+
+-- a caller freezes a queue, queues an item there, and flushes the queue
+abbrev pub freezes_and_flushes : List Action
+freezes_and_flushes = calls (freeze ∷ queue 0 0 0 ∷ flush 0 ∷ [])
 
 abbrev pub frozen : List Entry
 frozen =
@@ -81,20 +92,38 @@ frozen =
 abbrev pub frozen_hub : Dispatched
 frozen_hub = hub_where frozen false (ticket_where 0 (flush 0) 2 ∷ []) true true
 
-abbrev pub frozen_stand : Stand
-frozen_stand =
-    stand_where frozen (freeze ∷ queue 0 0 0 ∷ flush 0 ∷ []) 3 (Some (wait_where (flush 0) 2)) None false
-
--- the script before its first move
+-- the stand before its first move, and where it waits
 abbrev pub freezing : Stand
-freezing = stand_where [] (freeze ∷ queue 0 0 0 ∷ flush 0 ∷ []) 0 None None false
+freezing = stand_where [] freezes_and_flushes 0 None None false
 
--- The caller of this script flushes a queue that it has frozen itself. Its three calls lead to where all sleep, and
--- where it waits for ever.
+abbrev pub frozen_stand : Stand
+frozen_stand = stand_where frozen freezes_and_flushes 3 (Some (wait_where (flush 0) 2)) None false
+
+-- a caller takes a lock, and takes it again
+abbrev pub locks_twice : List Action
+locks_twice = action.Lock 0 ∷ action.Lock 0 ∷ []
+
+abbrev pub empty_hub : Dispatched
+empty_hub = hub_where [] false [] true true
+
+abbrev pub locking : Stand
+locking = stand_where [] locks_twice 0 None None false
+
+abbrev pub locked_stand : Stand
+locked_stand =
+    record (stand_where [] locks_twice 1 None None false) { locks = Some (holders.Caller (record { 0 = 0 })) ∷ [] }
+
+-- Moves lead to where all sleep, and where something is left to do.
+pub record SleepForEver (start : Stand) (schedule : List ℕ) (d : Dispatched) (p : Stand) : Type 0 where
+  pub leads : after start schedule ≡ p
+  pub asleep : AllSleep d p
+  pub stuck : GetsStuck start schedule
+
+-- One caller flushes a queue that it has frozen itself, and another takes a lock that it holds itself. Each waits for
+-- ever.
 pub record SomeSleepForEver : Type 0 where
-  pub leads : after freezing (0 ∷ 0 ∷ 0 ∷ []) ≡ frozen_stand
-  pub asleep : AllSleep frozen_hub frozen_stand
-  pub stuck : GetsStuck freezing (0 ∷ 0 ∷ 0 ∷ [])
+  pub in_hub : SleepForEver freezing (0 ∷ 0 ∷ 0 ∷ []) frozen_hub frozen_stand
+  pub at_lock : SleepForEver locking (0 ∷ []) empty_hub locked_stand
 
 -- ---- without one of the premises
 
@@ -155,19 +184,19 @@ queued_behind =
 
 -- where the caller waits for its flush
 abbrev pub flusher : Stand
-flusher = stand_where flushed (flush 0 ∷ []) 1 (Some (wait_where (flush 0) 0)) None false
+flusher = stand_where flushed (calls (flush 0 ∷ [])) 1 (Some (wait_where (flush 0) 0)) None false
 
 -- where it has queued an item, and nothing runs
 abbrev pub queuer : List Entry → Stand
-queuer entries = stand_where entries (queue 0 0 0 ∷ []) 1 None None false
+queuer entries = stand_where entries (calls (queue 0 0 0 ∷ [])) 1 None None false
 
--- where it has a call left
-abbrev pub unbegun : Stand
-unbegun = stand_where [] (flush 0 ∷ []) 0 None None false
+-- where this is the next action of the caller, while the gate is open and the lock is free
+abbrev pub about_to : Action → Stand
+about_to next = stand_where [] (next ∷ []) 0 None None true
 
--- where it has queued an item whose run does this, while the gate is open
+-- where it has queued an item whose run does this, while the gate is open and the lock is free
 abbrev pub runner : List Entry → Doing → Stand
-runner entries doing = stand_where entries (queue 0 0 0 ∷ []) 1 None (Some (run_doing doing)) true
+runner entries doing = stand_where entries (calls (queue 0 0 0 ∷ [])) 1 None (Some (run_doing doing)) true
 
 -- where a run is at a gate that is shut, in another layout than the hub has: the first queue is wider, and of high
 -- priority
@@ -176,7 +205,7 @@ wider = system 1 1 2 2 100 (wq 2 true false ∷ wqf 1 ∷ [])
 
 abbrev pub shut_out : Stand
 shut_out =
-    stand_where queued_behind (queue 0 0 0 ∷ queue 1 0 0 ∷ []) 2 None (Some (run_doing (AtGate 0 false))) false
+    stand_where queued_behind (calls (queue 0 0 0 ∷ queue 1 0 0 ∷ [])) 2 None (Some (run_doing (AtGate 0 false))) false
 
 abbrev pub elsewhere : Stand
 elsewhere = record shut_out { history = record { layout = wider; room = 100; entries = queued_behind } }
@@ -192,12 +221,15 @@ pub record PremisesAreNeeded : Type 0 where
   pub awake : IsNeeded idle (hub_where queued false [] false true) (queuer queued) 1
   -- the hub has another layout than the script, or has not seen what is queued
   pub other_layout : IsNeeded layout (hub_where queued_behind false [] false true) elsewhere 2
-  pub unseen : IsNeeded past (hub_where [] false [] true true) (queuer queued) 1
-  -- a caller waits and is not registered, or it has a call left
+  pub unseen : IsNeeded past empty_hub (queuer queued) 1
+  -- a caller waits and is not registered; or it has a call left, or an open gate or a free lock is next
   pub unregistered : IsNeeded callers (hub_where flushed false [] true true) flusher 0
-  pub unfinished : IsNeeded callers (hub_where [] false [] true true) unbegun 0
-  -- a run acts, or its gate is open, or the caller that is lent to it is not registered
+  pub unfinished : IsNeeded callers empty_hub (about_to (action.Call (flush 0))) 0
+  pub before_open_gate : IsNeeded callers empty_hub (about_to (action.SleepAt 0)) 0
+  pub before_free_lock : IsNeeded callers empty_hub (about_to (action.Lock 0)) 0
+  -- a run acts; or its gate is open, or its lock is free; or the caller that is lent to it is not registered
   pub acting : IsNeeded workers (hub_where running false [] false true) (runner running Acts) 1
   pub at_open_gate : IsNeeded workers (hub_where waiting false [] false true) (runner waiting (AtGate 0 true)) 1
+  pub at_free_lock : IsNeeded workers (hub_where waiting false [] false true) (runner waiting (AtLock 0 true)) 1
   pub lent : IsNeeded workers (hub_where waiting false [] false true)
       (runner waiting (Waits 1 (wait_where (flush 1) 3))) 1

@@ -21,7 +21,7 @@ SleepersAreStuck = (start : Stand) (schedule : List ℕ) (d : Dispatched) → Is
     → AllSleep d (after start schedule) → (IsDone (after start schedule) → ⊥) → GetsStuck start schedule
 
 -- If every schedule of a script ends, and moves of it lead to where all sleep, nothing is left to do there: all callers
--- have made their calls, no run is under way, and no active queueing is open.
+-- have done their actions, no run is under way, and no active queueing is open.
 abbrev pub SleepersAreDone : Type 0
 SleepersAreDone = (n : ℕ) (start : Stand) (schedule : List ℕ) (d : Dispatched) → AllEnd n start
     → IsSchedule start schedule → AllSleep d (after start schedule) → IsDone (after start schedule)

@@ -24,7 +24,7 @@ pub fn no_caller_is_left_asleep()
     ensures { NoCallerIsLeftAsleep }
 {}
 
-/// In a small stand all sleep, and one of them does so for ever.
+/// In each of two small stands all sleep, and one of them does so for ever.
 pub fn some_sleep_for_ever()
     ensures { SomeSleepForEver }
 {}

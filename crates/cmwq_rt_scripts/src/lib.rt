@@ -7,6 +7,6 @@ mod run;
 mod tested;
 
 pub use cmwq_rt_journal::{Tally as Written, Unwritten};
-pub use crew::Scripts;
+pub use crew::{CallLists, Scripts, ScriptsCrew};
 pub use run::{Report, run_scripts, run_scripts_lending, run_scripts_with_journal};
 pub use tested::are_scripts;

@@ -11,7 +11,7 @@ ghost use Rattle.cmwq_rt_scripts.specs.Ended.{AllFollow, FailsAs, IsLeft};
 ghost use Rattle.cmwq_rt_scripts.specs.Followed.{AreFit};
 ghost use Rattle.cmwq_rt_scripts.specs.Journaled.{TellsOf, WritesAll};
 
-use crate::crew::Scripts;
+use crate::crew::{CallLists, Scripts, ScriptsCrew};
 use cmwq_engine::{Tally, run};
 use cmwq_io::Sink;
 use cmwq_model::{Call, Entry, Shape};
@@ -34,25 +34,25 @@ pub struct Report {
 }
 
 /// Runs scripts on a hub of these parts, whose shape is this one.
-fn run_parts<'x, W: Work + Sync, R: Threads + Wait + Sync>(
+fn run_parts<'x, S: Scripts + Sync, W: Work + Sync, R: Threads + Wait + Sync>(
     rt: &'x R,
     alloc: Global,
     shape: &Shape,
     parts: HubParts,
-    scripts: &'x [Vec<Call>],
+    scripts: &'x S,
     lent: u8,
     work: &'x W,
 ) -> Result<Report, RunFault>
     requires shape { parts.shape ≡ shape.now }
-    requires fits { AreFit parts.shape scripts.now }
+    requires fits { AreFit parts.shape (S.scripts scripts.now) }
     ensures left { IfOk result
-        (λ r. IsLeft shape.now (W.does work.now shape.now) (map (λ s. s.items) scripts.now) lent r.full
+        (λ r. IsLeft shape.now (W.does work.now shape.now) (S.scripts scripts.now) lent r.full
         r.left_out r.history.items) }
     ensures counted { IfOk result (λ r. r.answered ≡ length r.history.items) }
-    ensures fails { IfErr result (FailsAs shape.now (map (λ s. s.items) scripts.now) lent) }
+    ensures fails { IfErr result (FailsAs shape.now (S.scripts scripts.now) lent) }
 {
     let _shape = shape;
-    let crew = Scripts { scripts, lent };
+    let crew = ScriptsCrew { scripts, lent };
     let (rest, outcome) = run(rt, alloc, parts, &crew, work);
     let Rest { first, entries } = rest;
     let tally = match outcome {
@@ -98,7 +98,8 @@ pub fn run_scripts<'x, W: Work + Sync, R: Threads + Wait + Sync>(
     ensures finished { IfOk result (λ r. active_in shape.now r.history.items ≡ 0) }
     ensures fails { IfErr result (λ f. FailsAs shape.now (map (λ s. s.items) scripts.now) 0 f) }
 {
-    run_scripts_lending(rt, alloc, shape, scripts, 0, work)
+    let lists = CallLists { lists: scripts };
+    run_scripts_lending(rt, alloc, shape, &lists, 0, work)
 }
 
 /// Runs scripts on a new hub, as `run_scripts` does. The callers after those of the scripts, so many, are lent to runs
@@ -106,21 +107,20 @@ pub fn run_scripts<'x, W: Work + Sync, R: Threads + Wait + Sync>(
 ///
 /// # Errors
 /// Those of `run_scripts`; `NoPlace` also if there are too few callers to lend.
-pub fn run_scripts_lending<'x, W: Work + Sync, R: Threads + Wait + Sync>(
+pub fn run_scripts_lending<'x, S: Scripts + Sync, W: Work + Sync, R: Threads + Wait + Sync>(
     rt: &'x R,
     alloc: Global,
     shape: &Shape,
-    scripts: &'x [Vec<Call>],
+    scripts: &'x S,
     lent: u8,
     work: &'x W,
 ) -> Result<Report, RunFault>
-    requires few { length scripts.now ≤ most_callers }
-    requires calls { All (λ s. All (IsScripted shape.now) s.items × (length s.items < 2 ^ 32)) scripts.now }
+    requires fit { AreFit shape.now (S.scripts scripts.now) }
     ensures left { IfOk result
-        (λ r. IsLeft shape.now (W.does work.now shape.now) (map (λ s. s.items) scripts.now) lent r.full
+        (λ r. IsLeft shape.now (W.does work.now shape.now) (S.scripts scripts.now) lent r.full
         r.left_out r.history.items) }
     ensures counted { IfOk result (λ r. r.answered ≡ length r.history.items) }
-    ensures fails { IfErr result (FailsAs shape.now (map (λ s. s.items) scripts.now) lent) }
+    ensures fails { IfErr result (FailsAs shape.now (S.scripts scripts.now) lent) }
 {
     // scripts never look, so it has no readers
     match HubParts::keeping_all(rt, alloc, shape, 0) {
@@ -138,27 +138,32 @@ pub fn run_scripts_lending<'x, W: Work + Sync, R: Threads + Wait + Sync>(
 /// `Sink` if the sink failed. `Run` with a fault of `run_scripts_lending`, after all threads have ended, or with
 /// `NoMemory` or `NoThread` for the journal. A prefix of the text of a legal history is written then, with no last line
 /// unless the sink failed after it.
-pub fn run_scripts_with_journal<'x, W: Work + Sync, R: Threads + Wait + Clock + Sync, O: Sink>(
+pub fn run_scripts_with_journal<
+    'x,
+    S: Scripts + Sync,
+    W: Work + Sync,
+    R: Threads + Wait + Clock + Sync,
+    O: Sink,
+>(
     rt: &'x R,
     alloc: Global,
     shape: &Shape,
-    scripts: &'x [Vec<Call>],
+    scripts: &'x S,
     lent: u8,
     work: &'x W,
     kept: u32,
     output: &mut O,
 ) -> Result<Tally, Unwritten>
-    requires few { length scripts.now ≤ most_callers }
-    requires calls { All (λ s. All (IsScripted shape.now) s.items × (length s.items < 2 ^ 32)) scripts.now }
+    requires fit { AreFit shape.now (S.scripts scripts.now) }
     ensures whole { IfOk result
-        (λ w. WritesAll shape.now (W.does work.now shape.now) (map (λ s. s.items) scripts.now) lent w.answered w.full
+        (λ w. WritesAll shape.now (W.does work.now shape.now) (S.scripts scripts.now) lent w.answered w.full
         w.left_out (O.written output.old) (O.written output.new)) }
     ensures flushed { OnOk result (O.held output.new ≡ 0) }
     ensures front { OnErr result (WritesFront shape.now (O.written output.old) (O.written output.new)) }
-    ensures tells { IfErr result (TellsOf shape.now (map (λ s. s.items) scripts.now) lent) }
+    ensures tells { IfErr result (TellsOf shape.now (S.scripts scripts.now) lent) }
     ensures sink { IsErrOf result unwritten.Sink → Rises (O.troubles output.old) (O.troubles output.new) }
 {
-    let crew = Scripts { scripts, lent };
+    let crew = ScriptsCrew { scripts, lent };
     // scripts never look
     run_with_journal(rt, alloc, shape, 0, kept, &crew, work, output)
 }

@@ -14,6 +14,13 @@ use Rattle.cmwq_model.specs.declared.call.Call.TheVariants as call
 use Rattle.cmwq_state.specs.Flights.{run_open}
 use Rattle.cmwq_refinement.proofs.ItemNumberReads.{items_wait_for_least}
 use Rattle.cmwq_flush.specs.ItemNumbers.{item_waits_for}
+use Rattle.cmwq_state.specs.Common.{AllByRecursion, In, eqb-true, is_some, of_in, ⊎_elim}
+use Rattle.cmwq_flush.specs.FlushBook.{served_of}
+use Rattle.cmwq_flush.specs.Served.{has_ticket, tickets_of_served}
+use Rattle.cmwq_flush.specs.declared.served.Served.{Served}
+use Rattle.cmwq_lemmas.proofs.Members.{contained_in, in_append}
+use Rattle.cmwq_lemmas.proofs.Lists.{find_none}
+use Rattle.cmwq_refinement.specs.FlushBooks.{IsServedFrom}
 
 -- a flush that is ready waits for nothing, and another for the least that is open
 pub ready_for_none : (s : Layout) (past : List Entry) (q : QueueId) (b : FlushBook) (t : ℕ) (r : Bool)
@@ -101,3 +108,29 @@ pub found_unended : (past : List Entry) (who : Who) (n : ℕ) (t : Ticket) → t
     → Contains (unended_tickets past) t
 found_unended past who n t h =
     in_contained (unended_tickets past) t (found (is_ticket who n) (unended_tickets past) t h).0
+
+-- ---- a flush is served where its book serves it
+
+in_overflow : (b : FlushBook) (t : ℕ) → served_of b t ≡ None → In t (flush_tickets b) → In t b.overflow
+in_overflow b t none here =
+    ⊎_elim (λ i. absurd (not_served b.served (find_none (has_ticket t) b.served none) i)) (λ o. o)
+    (in_append (tickets_of_served b.served) b.overflow t here)
+  where
+    not_served : (fs : List Served) → AllByRecursion (λ f. has_ticket t f ≡ false) fs → In t (tickets_of_served fs) → ⊥
+    not_served [] h i = i
+    not_served (f ∷ fs) h i = grind (arith, nat_tests, not_served fs)
+
+pub served_alike : (s : Layout) (past : List Entry) (q : ℕ) (b : FlushBook) (t : ℕ) → AreFlushes s past q b
+    → Contains (flush_tickets b) t → is_some (served_of b t) ≡ is_some (serving_from past q t)
+served_alike s past q b t is here = by (served_of b t) refl
+  where
+    by : (o : Option Served) → served_of b t ≡ o → is_some (served_of b t) ≡ is_some (serving_from past q t)
+    by None none =
+        let over =
+        of_in (λ u. serving_from past q u ≡ None) b.overflow t is.overflowed
+        (in_overflow b t none (contained_in (flush_tickets b) t here)) in
+        ap is_some none ∙ sym (ap is_some over)
+    by (Some f) some =
+        let k = found (has_ticket t) b.served f some in
+        let served = of_in (IsServedFrom past q b.opened) b.served f is.served_from k.0 in
+        ap is_some some ∙ sym (ap is_some (ap (serving_from past q) (sym (eqb-true f.ticket t k.1)) ∙ served.is_served))

@@ -2,6 +2,8 @@ pub mod Refine
 pub mod Steps
 pub mod First
 pub mod Listing
+pub mod Sizes
+pub mod Listed
 pub mod PwqsItems
 pub mod PwqsSteps
 pub mod PwqsBehind

@@ -24,11 +24,11 @@ may_first queues p x xs l here may =
 
 -- ---- each place is that of a pool
 
-record IsPlace (k : ℕ) : Type 0 where
-  pool : PoolId
-  place : pool_place pool ≡ k
+pub record IsPlace (k : ℕ) : Type 0 where
+  pub pool : PoolId
+  pub place : pool_place pool ≡ k
 
-pool_of_place : (k : ℕ) → IsPlace k
+pub pool_of_place : (k : ℕ) → IsPlace k
 pool_of_place zero = record { pool = record { cpu = record { 0 = 0 }; high = false }; place = refl }
 pool_of_place (suc k) = let last = pool_of_place k in by last.pool.cpu.0 last.pool.high last.place
   where

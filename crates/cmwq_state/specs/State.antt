@@ -47,3 +47,11 @@ pub record IsState (s : Layout) (room : ℕ) (entries : List Entry) (parts : Par
   pub parts_are : AreParts s (past_of entries) parts
   pub within : length entries + parts.owing ≤ room
   pub soon : parts.time ≤ most_time
+
+-- there are as many CPUs, workers, callers, items and queues of both, so that their tables are as long
+pub record AreOfOneSize (s t : Layout) : Type 0 where
+  pub cpus : s.cpus ≡ t.cpus
+  pub workers : s.workers ≡ t.workers
+  pub callers : s.callers ≡ t.callers
+  pub items : s.items ≡ t.items
+  pub queues : length s.queues ≡ length t.queues

@@ -8,6 +8,7 @@ ghost use Rattle.cmwq_state.specs.Tables as tables;
 ghost use Rattle.cmwq_state.specs.Effects.{IsEffect};
 ghost use Rattle.cmwq_state.specs.History.{past_in, with_entry};
 
+mod copies;
 mod reads;
 mod waits;
 mod workers;
@@ -83,7 +84,7 @@ impl Model for State {
 }
 
 impl State {
-    /// A state with no entries, and room for so many. No later call takes memory.
+    /// A state with no entries, and room for so many. No later call takes memory, except `copy_from`.
     ///
     /// # Errors
     /// `NoMemory` where it ran out.

@@ -7,17 +7,22 @@ use std::marker::Model;
 #[derive(Drop)]
 pub struct Trail<T> {
     len: u64,
-    all: Log<T, ()>,
+    /// What it was a copy of, part by part.
+    copied: Log<(), Log<T, ()>>,
+    /// What was pushed since.
+    pushed: Log<T, ()>,
 }
 
 impl<T> Model for Trail<T> {
-    ghost use Rattle.std.specs.Prelude.{◌≡◌, ◌≤◌, List, length, map};
+    ghost use Rattle.std.specs.Prelude.{◌≡◌, ◌≤◌, ◌++◌, List, flat_map, length, map};
 
     ghost Value = { List T };
 
-    ghost view = { λ t. map (λ item. item.0) t.all.items };
+    ghost view = { λ t. flat_map (λ part. map (λ item. item.0) part.1.items) t.copied.items
+        ++ map (λ item. item.0) t.pushed.items };
 
-    ghost invariant = { λ t. (t.len ≡ length t.all.items) × (t.len ≤ 4611686018427387904) };
+    ghost invariant = { λ t. (t.len ≡ length (flat_map (λ part. map (λ item. item.0) part.1.items) t.copied.items
+        ++ map (λ item. item.0) t.pushed.items)) × (t.len ≤ 4611686018427387904) };
 }
 
 impl<T> Trail<T> {
@@ -27,8 +32,18 @@ impl<T> Trail<T> {
     {
         Trail {
             len: 0,
-            all: Log::new(),
+            copied: Log::new(),
+            pushed: Log::new(),
         }
+    }
+
+    /// Makes this a copy of another trail.
+    pub fn copy_from(&mut self, other: &Trail<T>)
+        ensures { self.new ≡ other.now }
+    {
+        self.len = other.len;
+        self.copied = other.copied.and(&(), &other.pushed);
+        self.pushed = Log::new();
     }
 
     /// How many items it has.
@@ -44,7 +59,7 @@ impl<T> Trail<T> {
         requires { length self.old < 4611686018427387904 }
         ensures { self.new ≡ self.old ++ item.now ∷ [] }
     {
-        self.all = self.all.and(item, &());
+        self.pushed = self.pushed.and(item, &());
         self.len += 1;
     }
 }

@@ -30,7 +30,7 @@ pub(crate) struct Machines {
     ghost fitting: { (book.layout ≡ shape) × (tail.history.layout ≡ shape) × (tail.keep ≡ 7) × (judge.layout ≡ shape) },
 }
 
-fn is_same(one: &Entry, other: &Entry) -> bool {
+pub(crate) fn is_same(one: &Entry, other: &Entry) -> bool {
     entry_line(one).as_bytes() == entry_line(other).as_bytes()
 }
 

@@ -6,7 +6,7 @@ use cmwq_cli::{Schedules, Word, word_of};
 use std::process::Abort;
 
 /// Each subcommand without its flags.
-const WORDS: [(&str, Word); 9] = [
+const WORDS: [(&str, Word); 10] = [
     ("step", Word::Step { live: false }),
     ("check", Word::Check { front: false }),
     ("upgrade", Word::Upgrade),
@@ -20,6 +20,13 @@ const WORDS: [(&str, Word); 9] = [
         },
     ),
     ("trace", Word::Trace),
+    (
+        "page",
+        Word::Page {
+            from: None,
+            to: None,
+        },
+    ),
     ("replay", Word::Replay),
     ("run", Word::Run),
 ];
@@ -45,27 +52,47 @@ fn subcommands_and_flags_are_read(rt: HostRuntime) {
         from: Some(10),
         to: Some(40),
     };
+    let opened_at = Word::Page {
+        from: Some(10),
+        to: None,
+    };
     let of_seed = Schedules::OfSeed {
         seed: 7,
         pct: Some(3),
+        moves: None,
     };
     let of_seeds = Schedules::OfSeeds {
+        from: 2,
         times: 9,
         pct: None,
+        moves: Some(4),
     };
     let all = Schedules::All {
-        moves: Some(5),
-        histories: true,
+        moves: None,
+        plain: false,
+        first: true,
     };
+    let histories = Schedules::Histories { moves: Some(5) };
     for (words, schedules) in [
         (
             ["cmwq", "explore", "--seed", "7", "--pct=3"].as_slice(),
             of_seed,
         ),
-        (&["cmwq", "explore", "--times", "9"], of_seeds),
+        (
+            &[
+                "cmwq", "explore", "--times", "9", "--from", "2", "--moves", "4",
+            ],
+            of_seeds,
+        ),
+        (&["cmwq", "explore", "--all", "--first"], all),
         (
             &["cmwq", "explore", "--all", "--moves", "5", "--histories"],
-            all,
+            histories,
+        ),
+        (&["cmwq", "explore", "--path", "moves"], Schedules::Path),
+        (
+            &["cmwq", "explore", "--follow", "history"],
+            Schedules::Follow { moves: None },
         ),
     ] {
         let asked = word_of(rt.alloc(), words).expect(&rt, "a subcommand");
@@ -79,6 +106,7 @@ fn subcommands_and_flags_are_read(rt: HostRuntime) {
         (&["cmwq", "open", "--front"], Word::Open { front: true }),
         (&["cmwq", "step", "--live"], Word::Step { live: true }),
         (&["cmwq", "chart", "--from", "10", "--to=40"], window),
+        (&["cmwq", "page", "--from=10"], opened_at),
     ] {
         let asked = word_of(rt.alloc(), words).expect(&rt, "a subcommand");
         same(&rt, asked.word, word);
@@ -92,12 +120,18 @@ fn said(rt: &(impl Abort + AllocGlobal), words: &[&str]) -> (String, bool) {
     (text, error.use_stderr())
 }
 
+/// What is told of uses of `explore` that say of no kind, or of several, which schedules are meant.
+const EXPLORES: &str =
+    "error: cmwq explore takes one of --seed N, --times N, --all, --path FILE and --follow FILE: --times also with \
+    --from N, --seed and --times with --pct D and --moves N, --all with --moves N and either --histories or --plain \
+    and --first, --follow with --moves N\n\nUsage: cmwq <COMMAND>\n";
+
 /// Wrong uses, and what is told of each before the line that names `--help`.
 const WRONG_USES: [(&[&str], &str); 10] = [
     (
         &["cmwq"],
         "error: 'cmwq' requires a subcommand but one was not provided\n  \
-        [subcommands: step, check, upgrade, summary, open, chart, trace, replay, run, explore, help]\n\n\
+        [subcommands: step, check, upgrade, summary, open, chart, trace, page, replay, run, explore, help]\n\n\
         Usage: cmwq <COMMAND>\n",
     ),
     (
@@ -127,16 +161,8 @@ const WRONG_USES: [(&[&str], &str); 10] = [
         &["cmwq", "chart", "--from", "x"],
         "error: invalid value 'x' for '--from <NUMBER>': invalid digit found in string\n",
     ),
-    (
-        &["cmwq", "explore"],
-        "error: explore takes one of --seed N, --times N and --all: the first two with --pct D, the last with \
-        --moves N and --histories\n\nUsage: cmwq <COMMAND>\n",
-    ),
-    (
-        &["cmwq", "explore", "--seed", "1", "--all"],
-        "error: explore takes one of --seed N, --times N and --all: the first two with --pct D, the last with \
-        --moves N and --histories\n\nUsage: cmwq <COMMAND>\n",
-    ),
+    (&["cmwq", "explore"], EXPLORES),
+    (&["cmwq", "explore", "--seed", "1", "--all"], EXPLORES),
     (
         &["cmwq", "chart", "--to"],
         "error: a value is required for '--to <NUMBER>' but none was supplied\n",
@@ -155,7 +181,7 @@ fn wrong_uses_are_told(rt: HostRuntime) {
 }
 
 /// Subcommands, what each does, and a line of its input that its help shows.
-const HELP: [(&str, &str, &str); 10] = [
+const HELP: [(&str, &str, &str); 11] = [
     (
         "step",
         "Reads call lines and writes the history of their answers",
@@ -180,7 +206,7 @@ const HELP: [(&str, &str, &str); 10] = [
     (
         "open",
         "Reads a history and writes what is still going on at its end, if it is legal",
-        "\n  booked item 1, due 9, queue 0 on CPU 0\n",
+        "\n  booked item 1, due 9, queue 0 on CPU 0, since entry 6 at tick 4\n",
     ),
     (
         "chart",
@@ -191,6 +217,11 @@ const HELP: [(&str, &str, &str); 10] = [
         "trace",
         "Reads a history and writes its trace in JSON, if it is legal",
         "\n  w0n0 1 finish = finished 0\n",
+    ),
+    (
+        "page",
+        "Reads a history and writes it as an HTML page to zoom and search, if it is legal",
+        "\n      --from <NUMBER>  Opens at this entry\n",
     ),
     (
         "replay",

@@ -82,6 +82,7 @@ fn lines_may_be_cut_anywhere(rt: HostRuntime) {
         (Subcommand::Open, HISTORY, 3),
         (Subcommand::Chart, HISTORY, 3),
         (Subcommand::Trace, HISTORY, 3),
+        (Subcommand::Page, HISTORY, 3),
     ] {
         cut_anywhere(&rt, subcommand, text, head);
     }

@@ -125,11 +125,14 @@ fn a_scenario_is_read_and_replayed(rt: HostRuntime) {
     same(&rt, table.as_str(), TABLE);
 }
 
-const SCRIPT: [&str; 4] = [
-    "Counts { cpus: 1, workers: 2, callers: 1, items: 2, room: 100 }",
-    r#"["g"]"#,
-    "[[SleepAt { gate: 0 }], [Open { gate: 0 }, Call(Cancel { item: ItemId(0) })]]",
-    "[[Queue { item: ItemId(0), queue: QueueId(0), cpu: CpuId(0) }, Tick { ticks: 3 }, Flush { queue: QueueId(0) }]]",
+const SCRIPT: [&str; 5] = [
+    "Counts { cpus: 1, workers: 2, callers: 2, items: 2, room: 100 }",
+    r#"["g", "h"]"#,
+    r#"["m", "g"]"#,
+    "[[SleepAt { gate: 0 }, Lock { lock: 0 }], \
+    [Open { gate: 0 }, Call(Cancel { item: ItemId(0) }), Unlock { lock: 0 }]]",
+    "[[Call(Queue { item: ItemId(0), queue: QueueId(0), cpu: CpuId(0) }), Call(Tick { ticks: 3 }), Lock { lock: 1 }], \
+    [SleepAt { gate: 1 }, Call(Flush { queue: QueueId(0) }), Unlock { lock: 0 }, Open { gate: 0 }]]",
 ];
 
 #[test]
@@ -137,15 +140,18 @@ fn a_script_is_read(rt: HostRuntime) {
     let value = value_of(
         &rt,
         r#"{"cpus":1,"workers":2,"room":100,"queues":[{"name":"q0","max_active":2,"high":false,"intensive":false}],
-        "items":[{"name":"A","does":[["sleep_at","g"]]},{"name":"B","does":[["open","g"],["cancel","A"]]}],
-        "callers":[[["queue","A","q0",0],["tick",3],["flush","q0"]]]}"#,
+        "items":[{"name":"A","does":[["sleep_at","g"],["lock","m"]]},
+        {"name":"B","does":[["open","g"],["cancel","A"],["unlock","m"]]}],
+        "callers":[[["queue","A","q0",0],["tick",3],["lock","g"]],
+        [["wait","h"],["flush","q0"],["unlock","m"],["open","g"]]]}"#,
     );
     let read = read_script(rt.alloc(), &value).expect(&rt, "memory");
     let script = read.expect(&rt, "a script");
     is_spelled(&rt, &script.shape.counts(), SCRIPT[0]);
     is_spelled(&rt, &script.gates, SCRIPT[1]);
-    is_spelled(&rt, &script.does, SCRIPT[2]);
-    is_spelled(&rt, &script.callers, SCRIPT[3]);
+    is_spelled(&rt, &script.locks, SCRIPT[2]);
+    is_spelled(&rt, &script.does, SCRIPT[3]);
+    is_spelled(&rt, &script.callers, SCRIPT[4]);
     same(&rt, (script.version, script.journal), (2, None));
 }
 

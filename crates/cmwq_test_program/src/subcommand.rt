@@ -1,12 +1,12 @@
 //! The subcommands that need no threads, over any source and sinks.
 
 use crate::same::same;
-use cmwq_cmd_explore::{Task, run_explore};
+use cmwq_cmd_explore::{Seeding, Task, run_explore};
 use cmwq_cmd_history::{run_step, run_step_live};
 use cmwq_history::{run_check, run_front_check, run_upgrade};
 use cmwq_io::{Memory, Sink, Source};
 use cmwq_replay::run_replay;
-use cmwq_views::{Window, run_chart, run_open, run_summary, run_trace};
+use cmwq_views::{Window, run_chart, run_open, run_page, run_summary, run_trace};
 use std::alloc::Global;
 use std::process::Abort;
 
@@ -22,6 +22,7 @@ pub(crate) enum Subcommand {
     Open,
     Chart,
     Trace,
+    Page,
     Replay,
     ExploreSeed,
     ExploreSeeds,
@@ -32,16 +33,26 @@ pub(crate) enum Subcommand {
 const WHOLE: Window = Window { from: 0, to: 100 };
 
 /// The schedule of a seed, those of four seeds, and all.
-const SEED: Task = Task::OfSeed { seed: 3, pct: None };
+const SEED: Task = Task::OfSeed {
+    seed: 3,
+    seeding: UNIFORM,
+};
 
 const SEEDS: Task = Task::OfSeeds {
+    first: 0,
     times: 4,
-    pct: None,
+    seeding: UNIFORM,
 };
 
 const ALL: Task = Task::All {
     moves: None,
-    histories: false,
+    is_plain: false,
+    is_first: false,
+};
+
+const UNIFORM: Seeding = Seeding {
+    pct: None,
+    moves: None,
 };
 
 impl Subcommand {
@@ -63,6 +74,7 @@ impl Subcommand {
             Subcommand::Open => run_open(alloc, input, output, errors, false),
             Subcommand::Chart => run_chart(alloc, input, output, errors, WHOLE),
             Subcommand::Trace => run_trace(alloc, input, output, errors),
+            Subcommand::Page => run_page(alloc, input, output, errors, WHOLE),
             Subcommand::Replay => run_replay(alloc, input, output, errors),
             Subcommand::ExploreSeed => run_explore(alloc, input, output, errors, SEED, false),
             Subcommand::ExploreSeeds => run_explore(alloc, input, output, errors, SEEDS, false),
@@ -81,7 +93,7 @@ pub(crate) struct Ended {
 
 /// Memory to write, which has room for what a subcommand writes.
 pub(crate) fn room(rt: &(impl Abort + AllocGlobal)) -> Memory<Vec<u8>> {
-    Memory::writer(rt.alloc(), 10_000).expect(rt, "memory")
+    Memory::writer(rt.alloc(), 100_000).expect(rt, "memory")
 }
 
 /// Runs a subcommand over an input in memory.
@@ -124,7 +136,7 @@ w0n0 1 sleep = slept
 
 /// Inputs that have no room, or are illegal or refused: the status, what is written, and what is told. `step --live`
 /// ends at the first call without room, and reads no line after it.
-const ENDINGS: [(Subcommand, &str, u8, &str, &str); 11] = [
+const ENDINGS: [(Subcommand, &str, u8, &str, &str); 12] = [
     (
         Subcommand::Live,
         "shape 1 1 1 1 0\nwq 1 -\nc0 fire\n",
@@ -151,6 +163,7 @@ const ENDINGS: [(Subcommand, &str, u8, &str, &str); 11] = [
     (Subcommand::Open, ILLEGAL, 3, "", VERDICT),
     (Subcommand::Chart, ILLEGAL, 3, "", VERDICT),
     (Subcommand::Trace, ILLEGAL, 3, "", VERDICT),
+    (Subcommand::Page, ILLEGAL, 3, "", VERDICT),
     (Subcommand::Replay, "{", 1, "", "cmwq: not JSON\n"),
     (Subcommand::ExploreAll, "{", 1, "", "cmwq: not JSON\n"),
     (

@@ -80,6 +80,83 @@ cmwq: gate h: 1 call of a caller was left out for want of room; what it queues m
     ends_so(&rt, SECOND_GATE_SHUT, 1, told, Some(6));
 }
 
+/// Item A finds a lock held and sleeps. So item B starts, and opens the gate at which the caller waits before it lets
+/// the lock go.
+const LOCK: &[u8] = br#"{"cpus":1,"workers":2,"room":100,
+"queues":[{"name":"q0","max_active":2,"high":false,"intensive":false}],
+"items":[{"name":"A","does":[["lock","m"],["unlock","m"]]},{"name":"B","does":[["open","g"]]}],
+"callers":[[["lock","m"],["queue","A","q0",0],["queue","B","q0",0],["wait","g"],["unlock","m"],["flush","q0"]]]}"#;
+
+/// A script on one CPU whose item does this, and whose callers do that.
+fn locking(rt: &impl AllocGlobal, keys: &str, does: &str, callers: &str) -> Result<String, Fail> {
+    Ok(format!(in rt.alloc();
+        r#"{{"cpus":1,"workers":1,"room":100,{keys}
+        "queues":[{{"name":"q","max_active":1,"high":false,"intensive":false}}],
+        "items":[{{"name":"A","does":[{does}]}}],"callers":[{callers}]}}"#
+    )?)
+}
+
+/// What the item and the callers of a script do, and what is told of its locks.
+const LOCK_FAULTS: [(&str, &str, &str); 4] = [
+    (
+        r#"["lock","m"]"#,
+        r#"[["lock","m"],["queue","A","q",0],["flush","q"],["unlock","m"]]"#,
+        "cmwq: lock m was not unlocked\n",
+    ),
+    (
+        r#"["unlock","m"]"#,
+        r#"[["lock","l"],["lock","m"],["queue","A","q",0],["flush","q"],["unlock","m"]]"#,
+        "cmwq: lock m was unlocked by item A, which did not hold it\n",
+    ),
+    (
+        "",
+        r#"[["lock","l"],["unlock","l"]],[["lock","m"],["unlock","l"]]"#,
+        "cmwq: lock l was unlocked by caller c1, which did not hold it\n",
+    ),
+    (
+        r#"["lock","l"],["unlock","l"]"#,
+        r#"[["queue","A","q",0]],[["lock","m"]]"#,
+        "cmwq: lock m is held by caller c1 at the end\n",
+    ),
+];
+
+#[test]
+fn locks_are_taken_in_turn_or_told_by_their_names(rt: HostRuntime) -> Result<(), Fail> {
+    ends_so(&rt, LOCK, 0, b"", Some(10));
+    for (does, callers, told) in LOCK_FAULTS {
+        let script = locking(&rt, "", does, callers)?;
+        ends_so(&rt, script.as_bytes(), 1, told.as_bytes(), None);
+    }
+    // a journal has written the history
+    let script = locking(
+        &rt,
+        r#""journal":2,"#,
+        r#"["lock","m"]"#,
+        r#"[["queue","A","q",0]]"#,
+    )?;
+    let told = b"cmwq: lock m is held by item A at the end\n";
+    ends_so(&rt, script.as_bytes(), 1, told, Some(3));
+    Ok(())
+}
+
+/// Callers and an item wait for one another at gates, and a caller makes more calls than stand in one hold of the lock.
+const CALLERS_AT_GATES: &[u8] = br#"{"cpus":1,"workers":1,"room":100,
+"queues":[{"name":"q","max_active":1,"high":false,"intensive":false}],
+"items":[{"name":"A","does":[["sleep_at","h"],["open","g"]]},{"name":"B","does":[]}],
+"callers":[[["queue","A","q",0],["open","h"]],
+[["wait","g"],["tick",1],["tick",1],["tick",1],["tick",1],["tick",1],["tick",1],["tick",1],["tick",1],["tick",1],
+["queue","B","q",0]]]}"#;
+
+#[test]
+fn callers_open_gates_and_wait_at_them(rt: HostRuntime) {
+    let output = ends_so(&rt, CALLERS_AT_GATES, 0, b"", Some(26));
+    let written = output.inner().as_slice();
+    let (first, last) = (b"\nc1 0 tick 1 = ".as_slice(), b"\nc1 18 queue 1 0 0 = ");
+    for part in [first, last] {
+        assert!(rt; written.windows(part.len()).any(|place| place == part));
+    }
+}
+
 /// A script on one CPU with these keys and items, of which the caller queues the first.
 fn waiting(rt: &impl AllocGlobal, keys: &str, items: &str) -> Result<String, Fail> {
     Ok(format!(in rt.alloc();

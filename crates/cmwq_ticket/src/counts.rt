@@ -35,6 +35,18 @@ impl Counts {
         })
     }
 
+    /// Makes these counts a copy of the others, which are of as many items and queues.
+    pub(crate) fn copy_from(&mut self, other: &Counts)
+        requires cancels { length self.old.cancels ≡ length other.now.cancels }
+        requires destroys { length self.old.destroys ≡ length other.now.destroys }
+        requires drains { length self.old.drains ≡ length other.now.drains }
+        ensures { self.new ≡ other.now }
+    {
+        self.cancels.copy_from_slice(&other.cancels);
+        self.destroys.copy_from_slice(&other.destroys);
+        self.drains.copy_from_slice(&other.drains);
+    }
+
     /// How many cancel each item.
     pub(crate) fn cancels(&self) -> &[u16]
         ensures { result.now ≡ self.now.cancels }

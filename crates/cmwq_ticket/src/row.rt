@@ -1,5 +1,5 @@
-ghost use Rattle.std.specs.Prelude.{◌≡◌, ◌++◌, ◌∷◌, [], ◌<◌, length, filter, find, nat_lt, slice_get, vec_capacity};
-ghost use Rattle.std.specs.Prelude.{IfOk};
+ghost use Rattle.std.specs.Prelude.{◌≡◌, ◌++◌, ◌∷◌, [], ◌<◌, ◌≤◌, length, filter, find, nat_lt, slice_get};
+ghost use Rattle.std.specs.Prelude.{vec_capacity, IfOk};
 ghost use Rattle.std.specs.List.{list_all};
 ghost use Rattle.cmwq_ticket.specs.Rows.{is_numbered, is_other_ticket, comes_before};
 ghost use Rattle.cmwq_ticket.specs.Waits.{AreOfCaller, is_other_wait, is_wait_numbered, ticket_by};
@@ -61,6 +61,16 @@ impl Row {
             caller: CallerId(0),
             waits: Vec::with_capacity(alloc, TICKETS_OF_CALLER)?,
         })
+    }
+
+    /// Makes this row a copy of another, for which it has room.
+    pub(crate) fn copy_from(&mut self, other: &Row)
+        requires { length other.now ≤ TICKETS_OF_CALLER }
+        ensures { self.new ≡ other.now }
+    {
+        self.caller = other.caller;
+        self.waits.clear();
+        self.waits.extend_from_slice(&other.waits).unwrap();
     }
 
     pub(crate) fn len(&self) -> usize

@@ -1,8 +1,9 @@
-ghost use Rattle.std.specs.Prelude.{◌≡◌, ℕ, ◌<◌, ◌↔◌, [], IfOk, IsSome, IsTrue, length, nat_lt, replicate, slice_get};
-ghost use Rattle.std.specs.Prelude.{slice_index};
+ghost use Rattle.std.specs.Prelude.{◌≡◌, ℕ, ◌<◌, ◌≤◌, ◌↔◌, [], IfOk, IsSome, IsTrue, length, nat_lt, replicate};
+ghost use Rattle.std.specs.Prelude.{slice_get, slice_index};
 ghost use Rattle.cmwq_ticket.specs.Rows.{any_ticket, count, new_tickets, tickets_without, tickets_with, any_destroys};
 ghost use Rattle.cmwq_ticket.specs.Rows.{any_cancels, is_row_crowded, any_drains, may_give, ticket_of_caller};
 ghost use Rattle.cmwq_ticket.specs.Rows.{tickets_of_caller};
+ghost use Rattle.cmwq_ticket.specs.declared.row.TheConstants.{TICKETS_OF_CALLER};
 
 use crate::counts::{Counts, has_some};
 use crate::row::{Row, TICKETS_OF_CALLER};
@@ -45,6 +46,19 @@ impl Tickets {
             counts,
             len: 0,
         })
+    }
+
+    /// Makes these a copy of the others. There are as many callers, items and queues of both, so that no memory is
+    /// taken.
+    pub fn copy_from(&mut self, other: &Tickets)
+        requires callers { length self.old.rows ≡ length other.now.rows }
+        requires items { self.old.items ≡ other.now.items }
+        requires queues { self.old.queues ≡ other.now.queues }
+        ensures { self.new ≡ other.now }
+    {
+        copy_rows(&mut self.rows, &other.rows);
+        self.counts.copy_from(&other.counts);
+        self.len = other.len;
     }
 
     /// How many callers there are. Their numbers are below it.
@@ -170,4 +184,15 @@ fn new_rows(alloc: Global, callers: u8) -> Result<Vec<Row>, NoMemory>
         rows.push_reserved(Row::new(alloc)?);
     }
     Ok(rows)
+}
+
+/// Makes each row a copy of another.
+fn copy_rows(rows: &mut [Row], others: &[Row])
+    requires many { length rows.old ≡ length others.now }
+    requires few { (c : ℕ) → length (tickets_of_caller others.now c) ≤ TICKETS_OF_CALLER }
+    ensures { rows.new ≡ others.now }
+{
+    for caller in 0..rows.len() {
+        rows[caller].copy_from(&others[caller]);
+    }
 }

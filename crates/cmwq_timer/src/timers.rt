@@ -40,6 +40,17 @@ impl Timers {
         })
     }
 
+    /// Makes these a copy of the others, which are of as many items. No memory is taken.
+    pub fn copy_from(&mut self, other: &Timers)
+        requires { length self.old ≡ length other.now }
+        ensures { self.new ≡ other.now }
+    {
+        for number in 0..other.items() {
+            let item = ItemId(number);
+            self.set(item, other.timer(item));
+        }
+    }
+
     /// How many items there are. Their numbers are below it.
     pub fn items(&self) -> u16
         ensures { result ≡ length self.now }
@@ -65,6 +76,17 @@ impl Timers {
         // most items that this is asked of aren't booked, and to write one costs more than to look
         if self.timers.timer(item).is_some() {
             self.write(item, None);
+        }
+    }
+
+    /// Sets this timer for an item, or none.
+    fn set(&mut self, item: ItemId, timer: Option<Timer>)
+        requires { item.0 < length self.old }
+        ensures { self.new ≡ slice_set self.old item.0 timer }
+    {
+        match timer {
+            Some(_) => self.write(item, timer),
+            None => self.unbook(item),
         }
     }
 

@@ -5,10 +5,11 @@ ghost use Rattle.cmwq_io.specs.Counts.{Rises};
 ghost use Rattle.cmwq_io.specs.Moves.{AppendsFront};
 ghost use Rattle.cmwq_trace.specs.Events as spec;
 
+use crate::calls::call_template;
 use cmwq_base::{Sink, WriteFault};
-use cmwq_chart::{Bar, CallerWait, Level, Sleep};
+use cmwq_chart::{Bar, CallerWait, Level, Sign, Sleep};
 use cmwq_chart_text::write_filled;
-use cmwq_model::{CallerId, CpuId, PoolId, WorkerId};
+use cmwq_model::{CallerId, CpuId, PoolId, Who, WorkerId};
 
 /// A part of a trace: one event, but for the head, which names the queues and the callers, and a CPU, which names both
 /// of its pools.
@@ -16,13 +17,21 @@ use cmwq_model::{CallerId, CpuId, PoolId, WorkerId};
 pub enum Event {
     Head,
     Cpu(CpuId),
+    /// The name of a caller.
+    Caller(CallerId),
     /// The name of a row of a caller's waits.
     Row(CallerId, u8),
     /// The name of a worker.
     Lane(WorkerId),
+    /// What a caller did.
+    Call(CallerId, Sign),
     Wait(CallerWait),
     Run(Bar),
     Sleep(Sleep),
+    /// Where an arrow begins: who made the queueing with this number.
+    Queued(Who, u64),
+    /// Where it ends: the start of the queueing.
+    Started(Bar),
     Level(Level),
     End,
 }
@@ -34,6 +43,9 @@ const HEAD: &str = "{\"traceEvents\":[\n\
 const CPU: &str =
     ",\n{\"args\":{\"name\":\"CPU $\"},\"name\":\"process_name\",\"ph\":\"M\",\"pid\":$},\n\
     {\"args\":{\"name\":\"CPU $, high priority\"},\"name\":\"process_name\",\"ph\":\"M\",\"pid\":$}";
+
+const CALLER: &str =
+    ",\n{\"args\":{\"name\":\"c$\"},\"name\":\"thread_name\",\"ph\":\"M\",\"pid\":2,\"tid\":$}";
 
 const ROW: &str =
     ",\n{\"args\":{\"name\":\"c$, row $\"},\"name\":\"thread_name\",\"ph\":\"M\",\"pid\":2,\"tid\":$}";
@@ -58,6 +70,12 @@ const RUN_ON: &str =
 
 const SLEEP: &str = ",\n{\"args\":{\"worker\":\"w$~$\"},\"cat\":\"sleep\",\"dur\":$,\
     \"name\":\"asleep\",\"ph\":\"X\",\"pid\":$,\"tid\":$,\"ts\":$}";
+
+const QUEUED: &str = ",\n{\"cat\":\"queueing\",\"id\":$,\"name\":\"queueing\",\
+    \"ph\":\"s\",\"pid\":$,\"tid\":$,\"ts\":$}";
+
+const STARTED: &str = ",\n{\"bp\":\"e\",\"cat\":\"queueing\",\"id\":$,\"name\":\"queueing\",\
+    \"ph\":\"f\",\"pid\":$,\"tid\":$,\"ts\":$}";
 
 const LEVEL: &str =
     ",\n{\"args\":{\"active\":$,\"open\":$,\"width\":$},\"name\":\"queue $ on CPU $\",\
@@ -87,6 +105,33 @@ fn row_thread(caller: CallerId, row: u32) -> u64
     10_000 + 64 * u64::from(caller.0) + u64::from(row)
 }
 
+/// The thread of a caller's calls, beyond those of all rows.
+fn caller_thread(caller: CallerId) -> u64
+    ensures { result ≡ spec.caller_thread caller }
+{
+    30_000 + u64::from(caller.0)
+}
+
+/// The process in which a caller or a worker stands.
+fn who_process(who: Who) -> u64
+    ensures { result ≡ spec.who_process who }
+{
+    match who {
+        Who::Caller(_) => 2,
+        Who::Worker(worker) => pool_process(worker.pool),
+    }
+}
+
+/// The thread in which it stands.
+fn who_thread(who: Who) -> u64
+    ensures { result ≡ spec.who_thread who }
+{
+    match who {
+        Who::Caller(caller) => caller_thread(caller),
+        Who::Worker(worker) => worker_thread(worker),
+    }
+}
+
 /// The letter of a pool in the names of its workers.
 fn letter(pool: PoolId) -> u64
     ensures { result ≡ spec.letter pool }
@@ -112,11 +157,15 @@ fn template(event: &Event) -> &'static str
     match event {
         Event::Head => HEAD,
         Event::Cpu(_) => CPU,
+        Event::Caller(_) => CALLER,
         Event::Row(_, _) => ROW,
         Event::Lane(_) => LANE,
+        Event::Call(_, sign) => call_template(sign.kind, sign.item),
         Event::Wait(wait) => if wait.to.is_some() { WAIT } else { WAIT_ON },
         Event::Run(bar) => if bar.to.is_some() { RUN } else { RUN_ON },
         Event::Sleep(_) => SLEEP,
+        Event::Queued(_, _) => QUEUED,
+        Event::Started(_) => STARTED,
         Event::Level(_) => LEVEL,
         Event::End => END,
     }
@@ -129,11 +178,15 @@ fn numbers(event: &Event, end: u64) -> [u64; 10]
     match event {
         Event::Head | Event::End => [0; 10],
         Event::Cpu(cpu) => cpu_numbers(*cpu),
+        Event::Caller(caller) => caller_numbers(*caller),
         Event::Row(caller, row) => row_numbers(*caller, *row),
         Event::Lane(worker) => lane_numbers(*worker),
+        Event::Call(caller, sign) => call_numbers(*caller, sign),
         Event::Wait(wait) => wait_numbers(wait, end),
         Event::Run(bar) => run_numbers(bar, end),
         Event::Sleep(sleep) => sleep_numbers(sleep, end),
+        Event::Queued(who, number) => queued_numbers(*who, *number),
+        Event::Started(bar) => started_numbers(bar),
         Event::Level(level) => level_numbers(level),
     }
 }
@@ -145,6 +198,23 @@ fn cpu_numbers(cpu: CpuId) -> [u64; 10]
     let high = pool_process(PoolId { cpu, high: true });
     let cpu = u64::from(cpu.0);
     [cpu, normal, cpu, high, 0, 0, 0, 0, 0, 0]
+}
+
+fn caller_numbers(caller: CallerId) -> [u64; 10]
+    ensures { result ≡ spec.caller_numbers caller }
+{
+    [
+        caller.0.into(),
+        caller_thread(caller),
+        0,
+        0,
+        0,
+        0,
+        0,
+        0,
+        0,
+        0,
+    ]
 }
 
 fn row_numbers(caller: CallerId, row: u8) -> [u64; 10]
@@ -172,6 +242,19 @@ fn lane_numbers(worker: WorkerId) -> [u64; 10]
         0,
         0,
     ]
+}
+
+fn call_numbers(caller: CallerId, sign: &Sign) -> [u64; 10]
+    ensures { result ≡ spec.call_numbers caller sign.now }
+{
+    let (at, thread) = (u64::from(sign.at), caller_thread(caller));
+    match sign.item {
+        Some(item) => {
+            let item = u64::from(item);
+            [at, item, item, thread, at, 0, 0, 0, 0, 0]
+        }
+        None => [at, thread, at, 0, 0, 0, 0, 0, 0, 0],
+    }
 }
 
 fn wait_numbers(wait: &CallerWait, end: u64) -> [u64; 10]
@@ -225,6 +308,40 @@ fn sleep_numbers(sleep: &Sleep, end: u64) -> [u64; 10]
         pool_process(pool),
         worker_thread(sleep.worker),
         sleep.from.into(),
+        0,
+        0,
+        0,
+    ]
+}
+
+fn queued_numbers(who: Who, number: u64) -> [u64; 10]
+    ensures { result ≡ spec.queued_numbers who number }
+{
+    [
+        number,
+        who_process(who),
+        who_thread(who),
+        number,
+        0,
+        0,
+        0,
+        0,
+        0,
+        0,
+    ]
+}
+
+fn started_numbers(bar: &Bar) -> [u64; 10]
+    ensures { result ≡ spec.started_numbers bar.now }
+{
+    [
+        bar.number,
+        pool_process(bar.worker.pool),
+        worker_thread(bar.worker),
+        bar.from.into(),
+        0,
+        0,
+        0,
         0,
         0,
         0,

@@ -1,6 +1,7 @@
 //! The trace of a history: its shapes as trace events, which are texts in JSON.
 #![tactic(auto)]
 
+mod calls;
 mod event;
 mod events;
 mod trace;

@@ -1,6 +1,9 @@
 pub mod Chart
+pub mod HistoryPage
 pub mod Trace
 pub mod Names
 pub mod Page
+pub mod Since
+pub mod Lent
 pub mod Open
 pub mod Summary

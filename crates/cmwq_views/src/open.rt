@@ -11,11 +11,12 @@ ghost use Rattle.cmwq_history.specs.Views.{IsFlushed};
 ghost use Rattle.cmwq_views.specs.Open.{OpenEnds, open_text, section_text, standing_text};
 ghost use Rattle.cmwq_views.specs.declared.standing.TheConstants as constants;
 
+use crate::beginnings::Beginnings;
 use crate::standing::{SECTIONS, SectionLines, Standing};
 use crate::write::write_rows;
 use cmwq_base::{Refusal, Shape, Sink, Source, WriteFault, flush_all, write_all};
 use cmwq_core::Judge;
-use cmwq_history::{Nothing, View, run_front_view};
+use cmwq_history::{View, run_front_view};
 use std::alloc::Global;
 
 fn write_sections<W: Sink>(sink: &mut W, standing: &Standing<'_>) -> Result<(), WriteFault>
@@ -63,27 +64,28 @@ fn write_standing<W: Sink>(sink: &mut W, standing: &Standing<'_>) -> Result<(), 
 struct OpenView;
 
 impl<W: Sink> View<W> for OpenView {
-    type Made = Nothing;
+    type Made = Beginnings;
 
     ghost text_of = { λ view. open_text };
 
     fn write(
         &self,
         _: Global,
-        _: &Nothing,
+        beginnings: &Beginnings,
         shape: &Shape,
         judge: &Judge,
         _: u8,
         sink: &mut W,
     ) -> Result<(), Refusal> {
-        write_standing(sink, &Standing::new(shape, judge))
+        write_standing(sink, &Standing::new(shape, judge, beginnings))
     }
 }
 
 /// Reads all of a history of any format, or where `is_front` says so of a history of which a front was written, and
 /// writes what is still going on at its end, as `run_front_view` does a view: how many entries and ticks
 /// there are, each queue with its width, and whether it is frozen, drains or is gone, each run with its worker, each
-/// queueing that hasn't started, each booking, and each unended wait with the queueing that it waits for.
+/// queueing that hasn't started and why, each booking, and each unended wait with the queueing that it waits for. It
+/// says since which entry and tick each of these stands. Idle queues in a row have one line.
 pub fn run_open<S: Source, O: Sink, E: Sink>(
     alloc: Global,
     input: &mut S,

@@ -20,7 +20,7 @@ use cmwq_model::MOST_CPUS;
 use cmwq_summary::{Counter, Span, Total, Waited};
 
 /// How many CPUs a shape may have.
-const CPUS: usize = MOST_CPUS as usize;
+pub(crate) const CPUS: usize = MOST_CPUS as usize;
 
 /// How many rows a table has.
 fn rows_in(progress: &Progress<'_>, table: Table) -> usize

@@ -28,7 +28,7 @@ fn events_in(alloc: Global, shape: &Shape, seen: &Seen) -> Result<Vec<Event>, Re
     ensures err { OnErr result (result ≡ Err Refusal.NoMemory) }
 {
     let shapes = shapes_of(alloc, shape, seen)?;
-    Ok(events_of(alloc, shape, &shapes)?)
+    Ok(events_of(alloc, shape, &seen.entries, &shapes)?)
 }
 
 /// Writes the trace of a legal history. All memory is taken before the first byte is written.

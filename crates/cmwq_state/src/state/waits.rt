@@ -1,9 +1,9 @@
 //! What a ticket still waits for.
 
-ghost use Rattle.std.specs.Prelude.{◌≡◌, ◌<◌, Contains, length, true};
+ghost use Rattle.std.specs.Prelude.{◌≡◌, ◌<◌, Contains, is_some, length, true};
 ghost use Rattle.cmwq_model.specs.declared.call.Call.TheVariants as call;
 ghost use Rattle.cmwq_model.specs.Prelude.{has_numbers, holds_up, past_of, is_flush_of, unended_tickets};
-ghost use Rattle.cmwq_model.specs.Prelude.{waits_for};
+ghost use Rattle.cmwq_model.specs.Prelude.{serving_from, waits_for};
 ghost use Rattle.cmwq_state.specs.Waits.{IsOpenOrNext, IsUnendedOrNext};
 
 use crate::state::State;
@@ -54,6 +54,16 @@ impl State {
             }
             _ => false,
         }
+    }
+
+    /// Whether an unended flush of the queue is served. Else it is in overflow.
+    pub fn is_flush_served(&self, queue: QueueId, ticket: Ticket) -> bool
+        requires queue { queue.0 < length self.now.layout.queues }
+        requires flush { is_flush_of queue.0 ticket ≡ true }
+        requires unended { Contains (unended_tickets (past_of self.now.entries)) ticket }
+        ensures { result ≡ is_some (serving_from (past_of self.now.entries) queue.0 ticket.number) }
+    {
+        self.books.is_served(queue, ticket.number)
     }
 
     /// The number of what an item runs.

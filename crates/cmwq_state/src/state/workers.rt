@@ -1,6 +1,6 @@
 //! What pools and workers do, read off the pools.
 
-ghost use Rattle.std.specs.Prelude.{◌≡◌, ◌<◌, ◌&&◌, option_map};
+ghost use Rattle.std.specs.Prelude.{◌≡◌, ℕ, ◌+◌, ◌<◌, ◌&&◌, Some, option_map, slice_get};
 ghost use Rattle.cmwq_model.specs.declared.id.Who.TheVariants.{Worker};
 ghost use Rattle.cmwq_model.specs.Prelude.{past_of, IsLegal};
 ghost use Rattle.cmwq_model.specs.Runs as runs;
@@ -42,6 +42,14 @@ impl State {
         ensures { result ≡ runs.runs_asleep (past_of self.now.entries) worker }
     {
         self.slot(worker).runs_asleep()
+    }
+
+    /// Whether the worker sleeps: of its answers started, slept and woke, the last is slept.
+    pub fn is_asleep(&self, worker: WorkerId) -> bool
+        requires { tables.IsThere self.now.layout (Worker worker) }
+        ensures { result ≡ runs.is_asleep (past_of self.now.entries) worker }
+    {
+        self.slot(worker).asleep
     }
 
     /// Whether the worker has a run.
@@ -127,6 +135,31 @@ impl State {
         ensures { result ≡ active.next self.now.layout (past_of self.now.entries) pool }
     {
         match self.next_task(pool) {
+            Some(task) => self.unstarted(task.item),
+            None => None,
+        }
+    }
+
+    /// The first queueing of the pool's worklist.
+    pub fn first_listed(&self, pool: PoolId) -> Option<Queueing>
+        requires { pool.cpu.0 < self.now.layout.cpus }
+        ensures { result ≡ slice_get (active.worklist self.now.layout (past_of self.now.entries) pool) 0 }
+    {
+        match self.pools.first(pool_place(pool)) {
+            Some(task) => self.unstarted(task.item),
+            None => None,
+        }
+    }
+
+    /// What stands after a queueing in the pool's worklist. Where the queueing isn't listed there, any one or none.
+    pub fn listed_after(&self, pool: PoolId, queueing: Queueing) -> Option<Queueing>
+        requires pool { pool.cpu.0 < self.now.layout.cpus }
+        requires item { queueing.item.0 < self.now.layout.items }
+        ensures { (k : ℕ)
+            → slice_get (active.worklist self.now.layout (past_of self.now.entries) pool) k ≡ Some queueing
+            → result ≡ slice_get (active.worklist self.now.layout (past_of self.now.entries) pool) (k + 1) }
+    {
+        match self.pools.after(pool_place(pool), queueing.item) {
             Some(task) => self.unstarted(task.item),
             None => None,
         }

@@ -6,6 +6,8 @@ use Rattle.cmwq_cli.proofs.word.asked_found.Goals as goal
 
 pub returns-in-Some : goal.returns-in-Some
 returns-in-Some c =
-    asked c.args.name.now (rows_of (found_of c.args.matches.now)) c.in-Some.word c.has_flag.result _
+    let found = found_of c.args.matches.now in
+    asked c.args.name.now (rows_of found) c.in-Some.word c.has_flag.result _ _
     (sym c.word_found.ensures ∙ c.in-Some.is) c.has_flag.ensures
-    (c.get_str.ensures ∙ first_value-rows (found_of c.args.matches.now) (codes "FILE"))
+    (c.get_str.ensures ∙ first_value-rows found (codes "FILE"))
+    c.other_found.ensures

@@ -3,7 +3,7 @@ use Rattle.std.specs.Prelude.{option_and_then}
 use Rattle.std.specs.Str.Parse.{ParsesUnsigned, ExplainsUnsignedError, HasUnsignedDigitsIfOk}
 use Rattle.clap.specs.Words.{found_of}
 use Rattle.clap.proofs.WalkLemmas.{one_text-rows}
-use Rattle.cmwq_cli.specs.Word.{number_of_text}
+use Rattle.cmwq_cli.specs.Explore.{number_of_text}
 use Rattle.cmwq_cli.proofs.Numbers.{number_of_found}
 use Rattle.cmwq_cli.proofs.word.number_found.Goals as goal
 

@@ -7,7 +7,7 @@ use Rattle.cmwq_json_script.proofs.item.add_items.Goals as goal
 pub loop-index-init : goal.loop-index-init
 loop-index-init c =
     ap (λ m. in_turn (add_item c.args.most c.args.names.now) 0 m (items_view c.args.values.now))
-    (sym (ap₂ (λ m g. record { items = map_named (λ actions. actions.items) m; gates = g }) c.new.ensures
+    (sym (ap₂ (λ m g. record { items = map_named (λ actions. actions.items) m; used = g }) c.new.ensures
     c.new-2.ensures))
 
 pub returns-then-not-branch : goal.returns-then-not-branch

@@ -1,7 +1,7 @@
 use Rattle.cmwq_json_script.specs.Common.{◌≡◌, ◌∙◌, ◌+◌, sym, ap, arith, length, length-map, most_callers, most_items}
 use Rattle.cmwq_json_script.specs.Common.{Layout, layout_of, is_layout}
 use Rattle.cmwq_model.specs.declared.shape.Counts.{Counts}
-use Rattle.cmwq_json_script.specs.Views.{top_of, work_of, calls_of}
+use Rattle.cmwq_json_script.specs.Views.{top_of, named_actions_of, crew_of}
 use Rattle.cmwq_json_script.proofs.Readings.{when_read}
 use Rattle.cmwq_json_script.proofs.Within.{at_most_newest, layout_counted, made_may_run}
 use Rattle.cmwq_json_script.proofs.script.script_of.Goals as goal
@@ -13,8 +13,8 @@ overflow_cast-counts c =
       c.requires.within.few_callers,
       at_most_newest c.args.top.now.version 64 most_callers (omega arith),
       c.len.ensures,
-      c.args.callers.ok.0,
-      length-map c.args.callers.items (λ calls. calls.items),
+      c.args.callers.scripts.ok.0,
+      length-map c.args.callers.scripts.items (λ actions. actions.items),
     )
 
 pub overflow_add-counts : goal.overflow_add-counts
@@ -25,8 +25,8 @@ overflow_add-counts c =
       c.requires.waits,
       at_most_newest c.args.top.now.version 64 most_callers (omega arith),
       c.len.ensures,
-      c.args.callers.ok.0,
-      length-map c.args.callers.items (λ calls. calls.items),
+      c.args.callers.scripts.ok.0,
+      length-map c.args.callers.scripts.items (λ actions. actions.items),
     )
 
 pub overflow_cast-counts-2 : goal.overflow_cast-counts-2
@@ -36,21 +36,22 @@ overflow_cast-counts-2 c =
       c.requires.within.few_items,
       at_most_newest c.args.top.now.version 256 most_items (omega arith),
       c.len-2.ensures,
-      c.args.items.members.values.ok.0,
-      length-map c.args.items.members.values.items (λ actions. actions.items),
+      c.args.items.values.ok.0,
+      length-map c.args.items.values.items (λ actions. actions.items),
     )
 
 pub unwrap-shape-requires : goal.unwrap-shape-requires
 unwrap-shape-requires c =
     c.new.ensures.allowed
     ∙ ap is_layout
-    (layout_counted (top_of c.args.top.now) c.args.queues.items (work_of c.args.items) (calls_of c.args.callers)
+    (layout_counted (top_of c.args.top.now) c.args.queues.items (named_actions_of c.args.items) (crew_of c.args.callers)
     (c.len.result + c.args.waits) c.len-2.result
     (ap (λ n. n + c.args.waits)
-    (c.len.ensures ∙ c.args.callers.ok.0 ∙ sym (length-map c.args.callers.items (λ calls. calls.items)))
-    ∙ ap (λ n. length (calls_of c.args.callers) + n) c.requires.waits)
-    (c.len-2.ensures ∙ c.args.items.members.values.ok.0
-    ∙ sym (length-map c.args.items.members.values.items (λ actions. actions.items))))
+    (c.len.ensures ∙ c.args.callers.scripts.ok.0
+    ∙ sym (length-map c.args.callers.scripts.items (λ actions. actions.items)))
+    ∙ ap (λ n. length ((crew_of c.args.callers).scripts) + n) c.requires.waits)
+    (c.len-2.ensures ∙ c.args.items.values.ok.0
+    ∙ sym (length-map c.args.items.values.items (λ actions. actions.items))))
     ∙ c.requires.within.allowed
 
 pub returns-clause-within : goal.returns-clause-within
@@ -70,12 +71,13 @@ returns-clause-within c =
     when_read (λ (s : Layout). s ≡ layout_of n c.args.queues.items) c.new.result c.unwrap-shape.result
     c.new.ensures.made c.unwrap-shape.ensures in
     let counted =
-    layout_counted t c.args.queues.items (work_of c.args.items) (calls_of c.args.callers) callers c.len-2.result
+    layout_counted t c.args.queues.items (named_actions_of c.args.items) (crew_of c.args.callers) callers c.len-2.result
     (ap (λ n. n + c.args.waits)
-    (c.len.ensures ∙ c.args.callers.ok.0 ∙ sym (length-map c.args.callers.items (λ calls. calls.items)))
-    ∙ ap (λ n. length (calls_of c.args.callers) + n) c.requires.waits)
-    (c.len-2.ensures ∙ c.args.items.members.values.ok.0
-    ∙ sym (length-map c.args.items.members.values.items (λ actions. actions.items))) in
+    (c.len.ensures ∙ c.args.callers.scripts.ok.0
+    ∙ sym (length-map c.args.callers.scripts.items (λ actions. actions.items)))
+    ∙ ap (λ n. length ((crew_of c.args.callers).scripts) + n) c.requires.waits)
+    (c.len-2.ensures ∙ c.args.items.values.ok.0
+    ∙ sym (length-map c.args.items.values.items (λ actions. actions.items))) in
     made_may_run t c.args.queues.items c.args.items c.args.callers c.unwrap-shape.result c.in_ok-names.names
-    c.in_ok-gates.gates c.args.waits (made ∙ counted) c.in_ok-names.ensures c.in_ok-gates.ensures c.requires.waits
-    c.requires.within
+    c.in_ok-gates.gates c.in_ok-locks.locks c.args.waits (made ∙ counted) c.in_ok-names.ensures c.in_ok-gates.ensures
+    c.in_ok-locks.ensures c.requires.waits c.requires.within

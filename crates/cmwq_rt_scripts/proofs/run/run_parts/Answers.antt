@@ -1,4 +1,4 @@
-use Rattle.cmwq_rt_scripts.specs.Common.{ap, length, map, subst, sym, IfErr, IfOk, Layout, ◌∙◌}
+use Rattle.cmwq_rt_scripts.specs.Common.{ap, length, subst, IfErr, IfOk, Layout, ◌∙◌}
 use Rattle.cmwq_engine.specs.Ended.{IsRestOfLeft}
 use Rattle.cmwq_engine.specs.Ended.{FailsAs as CrewFails, IsLeft as CrewLeaves}
 use Rattle.cmwq_rt_scripts.specs.Ended.{FailsAs, IsLeft}
@@ -8,16 +8,16 @@ use Rattle.cmwq_rt_scripts.proofs.run.run_parts.Goals as goal
 
 pub returns-in-Err-clause-fails : goal.returns-in-Err-clause-fails
 returns-in-Err-clause-fails g c =
-    let all = c.args.scripts.now in
+    let all = g.S.Scripts.scripts c.args.scripts.now in
     let given =
     subst (λ o. IfErr o (CrewFails c.args.parts.shape (follows all) (roles all c.args.lent))) c.in-Err.is
     c.run-rest.ensures.fails in
-    subst (λ (s : Layout). FailsAs s (map (λ x. x.items) all) c.args.lent c.in-Err.fault) c.requires.shape
+    subst (λ (s : Layout). FailsAs s all c.args.lent c.in-Err.fault) c.requires.shape
     (fails c.args.parts.shape all c.args.lent c.in-Err.fault given)
 
 pub returns-clause-left : goal.returns-clause-left
 returns-clause-left g c =
-    let all = c.args.scripts.now in
+    let all = g.S.Scripts.scripts c.args.scripts.now in
     let s = c.args.parts.shape in
     let does = g.W.Work.does c.args.work.now in
     let tally = c.in-Ok.tally in
@@ -32,13 +32,13 @@ returns-clause-left g c =
     let left =
     subst (λ h. CrewLeaves s (does s) (follows all) (roles all c.args.lent) tally.full tally.left_out h) same
     rest.left in
-    subst (λ (s : Layout). IsLeft s (does s) (map (λ x. x.items) all) c.args.lent tally.full tally.left_out entries)
+    subst (λ (s : Layout). IsLeft s (does s) all c.args.lent tally.full tally.left_out entries)
     c.requires.shape
     (leaves s (does s) all c.args.lent tally.full tally.left_out entries left)
 
 pub returns-clause-counted : goal.returns-clause-counted
 returns-clause-counted g c =
-    let all = c.args.scripts.now in
+    let all = g.S.Scripts.scripts c.args.scripts.now in
     let s = c.args.parts.shape in
     let does = g.W.Work.does c.args.work.now s in
     let first = c.run-rest.result.0.first in

@@ -1,4 +1,4 @@
-use Rattle.cmwq_rt_scripts.proofs.Leaving.{if_ok, silent_of}
+use Rattle.cmwq_rt_scripts.proofs.Leaving.{if_ok, lists_fit, silent_of}
 use Rattle.cmwq_rt_scripts.proofs.run.run_scripts.Goals as goal
 
 pub returns-clause-legal : goal.returns-clause-legal
@@ -18,3 +18,6 @@ returns-clause-silent g c =
 pub returns-clause-finished : goal.returns-clause-finished
 returns-clause-finished g c =
     if_ok _ _ c.run_scripts_lending.result (λ r x. x.finished) c.run_scripts_lending.ensures.left
+
+pub run_scripts_lending-requires-clause-fit : goal.run_scripts_lending-requires-clause-fit
+run_scripts_lending-requires-clause-fit g c κs within = lists_fit c.args.shape.now c.args.scripts.now c.requires.few c.requires.calls

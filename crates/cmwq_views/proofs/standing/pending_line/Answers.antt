@@ -7,5 +7,5 @@ use Rattle.cmwq_views.proofs.standing.pending_line.Goals as goal
 pub is_active-requires : goal.is_active-requires
 is_active-requires c = let past = past_of c.state-state.result.now.entries in
     in_contained (still_open past) c.in-Some.queueing
-    (found (is_unstarted past c.item_at.result.0) (still_open past) c.in-Some.queueing
+    (found (is_unstarted past c.item_at-item.result.0) (still_open past) c.in-Some.queueing
     (sym c.unstarted.ensures ∙ c.in-Some.is)).0

@@ -1,5 +1,4 @@
-use Rattle.std.specs.Option.{option_map_or}
-use Rattle.cmwq_flush.specs.Common.{ap, get_or, ltb, refl, sym, true, ◌∙◌}
+use Rattle.cmwq_flush.specs.Common.{ap, refl, ◌∙◌}
 use Rattle.cmwq_flush.specs.FlushBook.{flush_from}
 use Rattle.cmwq_flush.specs.Served.{served_waits_for}
 use Rattle.cmwq_flush.specs.Queues.{book_by}

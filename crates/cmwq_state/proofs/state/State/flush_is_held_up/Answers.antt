@@ -1,6 +1,6 @@
 use Rattle.std.proofs.Common.{eq-eqb, ⊎_elim}
 use Rattle.std.specs.Prelude.{◌≡◌}
-use Rattle.cmwq_state.specs.Common.{◌∙◌, ◌&&◌, ap, arith, sym, layout_of, length, past_of, true, unended_flushes_stand}
+use Rattle.cmwq_state.specs.Common.{◌∙◌, ◌&&◌, ap, arith, sym, layout_of, length, past_of, unended_flushes_stand}
 use Rattle.cmwq_model.specs.Prelude.{is_within, serving_from}
 use Rattle.cmwq_flush.specs.FlushBook.{is_waited_for}
 use Rattle.cmwq_flush.specs.FlushBooks.{book_in}

@@ -1,0 +1,61 @@
+//! How far a search, or the schedules of seeds, came. No contract reads it: it is shown, and changes nothing.
+
+use crate::play::{Play, Standing};
+
+/// After how many moves somebody looks.
+const MOVES_A_LOOK: u64 = 1_000_000;
+
+/// How far a search, or the schedules of seeds, came.
+#[derive(Clone, Copy, Debug)]
+pub struct Progress {
+    /// How many states were searched.
+    pub states: u64,
+    /// How often a state came again that had been searched.
+    pub again: u64,
+    /// How many moves were made.
+    pub moves: u64,
+    /// How many times a schedule was played that ended, and how many times one that got stuck.
+    pub ended: u64,
+    pub stuck: u64,
+    next_look: u64,
+}
+
+/// Who looks on.
+pub trait Watch {
+    /// So far it is now.
+    fn looks(&mut self, progress: &Progress);
+
+    /// A play may not go on.
+    fn ends(&mut self, play: &Play<'_>, standing: Standing);
+}
+
+impl Progress {
+    pub(crate) fn nothing() -> Progress {
+        Progress {
+            states: 0,
+            again: 0,
+            moves: 0,
+            ended: 0,
+            stuck: 0,
+            next_look: MOVES_A_LOOK,
+        }
+    }
+
+    /// So many moves more were made.
+    pub(crate) fn count_moves<W: Watch>(&mut self, moves: u64, watch: &mut W) {
+        self.moves = self.moves.saturating_add(moves);
+        if self.moves >= self.next_look {
+            self.next_look = self.moves.saturating_add(MOVES_A_LOOK);
+            watch.looks(self);
+        }
+    }
+
+    /// A schedule was played that stands so at its end.
+    pub(crate) fn count_end(&mut self, standing: Standing) {
+        match standing {
+            Standing::Ended => self.ended = self.ended.saturating_add(1),
+            Standing::Stuck => self.stuck = self.stuck.saturating_add(1),
+            Standing::Goes => {}
+        }
+    }
+}

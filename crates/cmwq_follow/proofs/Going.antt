@@ -1,0 +1,300 @@
+-- How a search for a schedule goes on.
+use Rattle.std.proofs.Common.{ℕ, ◌≡◌, ◌+◌, ◌≤◌, ◌++◌, ◌∷◌, [], List, length, true, false, refl, sym, subst, ap}
+use Rattle.std.proofs.Common.{◌∙◌, arith, max, suc, zero, ⊎_elim, ◌⊎◌, inl, inr}
+use Rattle.std.proofs.Common.{Option, Some, None, is_some}
+use Rattle.std.specs.Prelude.{MatchOption, option_to_list}
+use Rattle.std.proofs.lemmas.List.{length-append}
+use Rattle.std.proofs.Math.Nat.{le-max_left, le-max_right}
+use mathlib.Core.List.{IsPrefix}
+use Rattle.cmwq_model.specs.declared.entry.Entry.{Entry}
+use Rattle.cmwq_explore.specs.Searches.{IsSchedule, after}
+use Rattle.cmwq_explore.specs.Stands.{Stand, may, moved}
+use Rattle.cmwq_explore.specs.declared.setup.Setup.{Setup}
+unfoldable use Rattle.cmwq_explore.specs.Starts.{start_of}
+use Rattle.cmwq_explore.proofs.Moving.{may_within}
+use Rattle.cmwq_explore.proofs.Searching.{after_more, false_or, path_push}
+use Rattle.cmwq_explore.proofs.Staying.{schedules_add}
+use Rattle.cmwq_follow.proofs.Prefixes.{all_of, prefixes}
+use Rattle.cmwq_follow.specs.Followed.{LeaveAtMost, Leaves}
+use Rattle.cmwq_follow.specs.Ways.{IsDeadEnd, IsTrying, IsUnderWay, Leads, NoneLeft}
+use Rattle.cmwq_follow.specs.declared.search.Way.{Way}
+unfoldable use Rattle.cmwq_follow.specs.Ways.{NoneLeftAlong}
+use Rattle.cmwq_follow.specs.declared.search.Tried.{Tried}
+use Rattle.cmwq_follow.specs.declared.search.Tried.TheVariants as tried
+
+-- one move only adds entries
+pub move_adds : (p : Stand) (k : ℕ) → IsPrefix p.history.entries (moved p k).history.entries
+move_adds p k = schedules_add p (k ∷ [])
+
+-- a stand in which nobody is left adds nothing to what was left there
+pub none_from : (history : List Entry) (q : Stand) (most : ℕ) → length q.history.entries ≤ most
+    → NoneLeft history most q tried.Nobody → LeaveAtMost q history most
+none_from history q most few none [] goes front = few
+none_from history q most few none (k ∷ more) goes front = none k (omega arith) goes.0 more goes.1 front
+
+-- nor does one whose history is another
+pub none_other : (history : List Entry) (q : Stand) (most : ℕ) → (IsPrefix q.history.entries history → ⊥)
+    → LeaveAtMost q history most
+none_other history q most other schedule goes front =
+    absurd (other (prefixes q.history.entries _ history (schedules_add q schedule) front))
+
+-- ---- the stands of a way
+
+-- those of all stands but the last, and those of the last
+along_last : (history : List Entry) (m : ℕ) (p : Stand) (path : List ℕ) (front : List Tried) (t : Tried)
+    → length front ≡ length path → NoneLeftAlong history m p path (front ++ t ∷ [])
+    → NoneLeftAlong history m p path front × NoneLeft history m (after p path) t
+unfolding NoneLeftAlong
+along_last history m p [] [] t same none = (tt, none)
+along_last history m p [] (s ∷ front) t same none = absurd (omega arith)
+along_last history m p (k ∷ path) [] t same none = absurd (omega arith)
+along_last history m p (k ∷ path) (s ∷ front) t same none =
+    let more = along_last history m (moved p k) path front t (omega arith) none.1 in ((none.0, more.0), more.1)
+
+along_join : (history : List Entry) (m : ℕ) (p : Stand) (path : List ℕ) (front : List Tried) (t : Tried)
+    → length front ≡ length path → NoneLeftAlong history m p path front → NoneLeft history m (after p path) t
+    → NoneLeftAlong history m p path (front ++ t ∷ [])
+unfolding NoneLeftAlong
+along_join history m p [] [] t same none last = last
+along_join history m p [] (s ∷ front) t same none last = absurd (omega arith)
+along_join history m p (k ∷ path) [] t same none last = absurd (omega arith)
+along_join history m p (k ∷ path) (s ∷ front) t same none last =
+    (none.0, along_join history m (moved p k) path front t (omega arith) none.1 last)
+
+-- The last move of a way leads to a stand for which nobody is told.
+along_move : (history : List Entry) (m : ℕ) (p : Stand) (path : List ℕ) (k : ℕ) (front : List Tried)
+    → length front ≡ length path + 1 → NoneLeftAlong history m p (path ++ k ∷ []) front
+    → NoneLeftAlong history m p path front
+unfolding NoneLeftAlong
+along_move history m p path k [] same none = absurd (omega arith)
+along_move history m p [] k (s ∷ []) same none = none.0
+along_move history m p [] k (s ∷ t ∷ front) same none = absurd (omega arith)
+along_move history m p (j ∷ path) k (s ∷ front) same none =
+    (none.0, along_move history m (moved p j) path k front (omega arith) none.1)
+
+move_along : (history : List Entry) (m : ℕ) (p : Stand) (path : List ℕ) (k : ℕ) (front : List Tried)
+    → length front ≡ length path + 1 → NoneLeftAlong history m p path front
+    → NoneLeftAlong history m p (path ++ k ∷ []) front
+unfolding NoneLeftAlong
+move_along history m p path k [] same none = absurd (omega arith)
+move_along history m p [] k (s ∷ []) same none = (none, tt)
+move_along history m p [] k (s ∷ t ∷ front) same none = absurd (omega arith)
+move_along history m p (j ∷ path) k (s ∷ front) same none =
+    (none.0, move_along history m (moved p j) path k front (omega arith) none.1)
+
+-- ---- who is left
+
+same_or_later : (k j : ℕ) → k ≤ j → (k ≡ j) ⊎ (k + 1 ≤ j)
+same_or_later zero zero from = inl refl
+same_or_later zero (suc j) from = inr (omega arith)
+same_or_later (suc k) zero from = absurd (omega arith)
+same_or_later (suc k) (suc j) from =
+    ⊎_elim (λ (same : k ≡ j). inl (ap suc same)) (λ (later : k + 1 ≤ j). inr (omega arith))
+    (same_or_later k j (omega arith))
+
+-- the others are left where this party was tried in its turn
+pub in_turn : (history : List Entry) (m : ℕ) (p : Stand) (k : ℕ) → LeaveAtMost (moved p k) history m
+    → NoneLeft history m p (tried.Before (k + 1)) → NoneLeft history m p (tried.Before k)
+in_turn history m p k this others j from is =
+    ⊎_elim (λ (same : k ≡ j). subst (λ i. LeaveAtMost (moved p i) history m) same this)
+    (λ (later : k + 1 ≤ j). others j later is) (same_or_later k j from)
+
+-- and where it may not move
+pub may_not : (history : List Entry) (m : ℕ) (p : Stand) (k : ℕ) → may p k ≡ false
+    → NoneLeft history m p (tried.Before (k + 1)) → NoneLeft history m p (tried.Before k)
+may_not history m p k stays others j from is =
+    ⊎_elim (λ (same : k ≡ j). absurd (false_or (may p j) is (subst (λ i. may p i ≡ false) same stays)))
+    (λ (later : k + 1 ≤ j). others j later is) (same_or_later k j from)
+
+-- there is no party of a greater number
+pub nobody_left : (history : List Entry) (m : ℕ) (p : Stand) (k : ℕ) → length p.callers + length p.workers ≤ k
+    → NoneLeft history m p (tried.Before k)
+nobody_left history m p k all j from is = absurd (let within = may_within p j is in omega arith)
+
+-- ---- the search
+
+-- the search begins
+pub begun : (start : Stand) (history : List Entry) → start.history.entries ≡ []
+    → Leads start history 0 [] (tried.Nobody ∷ []) start
+unfolding NoneLeftAlong
+begun start history fresh =
+    record {
+      goes = (tt, refl);
+      left = (history, ap (λ xs. xs ++ history) fresh);
+      long = refl;
+      rest = λ m less none. none_from history start m (subst (λ xs. length xs ≤ m) (sym fresh) (omega arith)) none;
+    }
+
+front_long : (path : List ℕ) (front : List Tried) (t : Tried) → length (front ++ t ∷ []) ≡ length path + 1
+    → length front ≡ length path
+front_long path front t long = let both = length-append front (t ∷ []) in omega arith
+
+schedule_front : (p : Stand) (path : List ℕ) (k : ℕ) → IsSchedule p (path ++ k ∷ []) → IsSchedule p path
+schedule_front p [] k goes = tt
+schedule_front p (j ∷ path) k goes = (goes.0, schedule_front (moved p j) path k goes.1)
+
+module _ {start : Stand} {history : List Entry} {most : ℕ} where
+  -- in the last stand others are left
+  pub left_others : (path : List ℕ) (front : List Tried) (t u : Tried) (p : Stand)
+      → Leads start history most path (front ++ t ∷ []) p
+      → ((m : ℕ) → NoneLeft history m p u → NoneLeft history m p t)
+      → Leads start history most path (front ++ u ∷ []) p
+  left_others path front t u p w others =
+      let here = front_long path front t w.long in
+      record {
+        goes = w.goes;
+        left = w.left;
+        long = length-append front (u ∷ []) ∙ ap (λ n. n + 1) here;
+        rest = λ m less none.
+            let parts = along_last history m start path front u here none in
+            w.rest m less (along_join history m start path front t here parts.0
+            (subst (λ s. NoneLeft history m s t) w.goes.1
+            (others m (subst (λ s. NoneLeft history m s u) (sym w.goes.1) parts.1))));
+      }
+
+  -- one of them moves
+  pub goes_on : (path longer : List ℕ) (front : List Tried) (tries : List Tried) (t u : Tried) (p q : Stand)
+      (k more : ℕ)
+      → Leads start history most path (front ++ t ∷ []) p → may p k ≡ true → q ≡ moved p k
+      → IsPrefix q.history.entries history
+      → ((m : ℕ) → LeaveAtMost (moved p k) history m → NoneLeft history m p u → NoneLeft history m p t)
+      → longer ≡ path ++ k ∷ [] → tries ≡ front ++ u ∷ [] ++ tried.Nobody ∷ [] → most ≤ more
+      → length q.history.entries ≤ more → Leads start history more longer tries q
+  goes_on path longer front tries t u p q k more w is to left others pushed tried_more higher few =
+      let here = front_long path front t w.long in
+      let goes = path_push start p q path longer k w.goes is to pushed in
+      let last : length (front ++ u ∷ []) ≡ length path + 1 = length-append front (u ∷ []) ∙ ap (λ n. n + 1) here in
+      let long : length longer ≡ length path + 1 = ap length pushed ∙ length-append path (k ∷ []) in
+      record {
+        goes = goes;
+        left = left;
+        long = ap length tried_more ∙ length-append (front ++ u ∷ []) (tried.Nobody ∷ [])
+            ∙ ap (λ n. n + 1) (last ∙ sym long);
+        rest = λ m less none.
+            let parts = along_last history m start longer (front ++ u ∷ []) tried.Nobody (last ∙ sym long)
+            (subst (λ ts. NoneLeftAlong history m start longer ts) tried_more none) in
+            let before = along_move history m start path k (front ++ u ∷ []) last
+            (subst (λ ks. NoneLeftAlong history m start ks (front ++ u ∷ [])) pushed parts.0) in
+            let these = along_last history m start path front u here before in
+            let child = none_from history q m (omega arith)
+            (subst (λ s. NoneLeft history m s tried.Nobody) (sym goes.1) parts.1) in
+            w.rest m (omega arith) (along_join history m start path front t here these.0
+            (subst (λ s. NoneLeft history m s t) w.goes.1
+            (others m (subst (λ s. LeaveAtMost s history m) to child)
+            (subst (λ s. NoneLeft history m s u) (sym w.goes.1) these.1))));
+      }
+
+  -- nobody is left in the last stand, and the search goes back
+  pub goes_back : (path longer : List ℕ) (front : List Tried) (t : Tried) (p q : Stand) (k : ℕ)
+      → Leads start history most longer (front ++ t ∷ []) p → ((m : ℕ) → NoneLeft history m p t)
+      → longer ≡ path ++ k ∷ [] → q ≡ after start path → Leads start history most path front q
+  goes_back path longer front t p q k w nobody pushed there =
+      let here = front_long longer front t w.long in
+      let long : length longer ≡ length path + 1 = ap length pushed ∙ length-append path (k ∷ []) in
+      let adds : IsPrefix q.history.entries p.history.entries =
+      subst (λ s. IsPrefix q.history.entries s.history.entries)
+      (ap (λ s. moved s k) there ∙ sym (after_more start path k) ∙ ap (after start) (sym pushed) ∙ sym w.goes.1)
+      (move_adds q k) in
+      record {
+        goes = (schedule_front start path k (subst (IsSchedule start) pushed w.goes.0), there);
+        left = prefixes q.history.entries p.history.entries history adds w.left;
+        long = here ∙ long;
+        rest = λ m less none.
+            w.rest m less (along_join history m start longer front t here
+            (subst (λ ks. NoneLeftAlong history m start ks front) (sym pushed)
+            (move_along history m start path k front (here ∙ long) none))
+            (subst (λ s. NoneLeft history m s t) w.goes.1 (nobody m)));
+      }
+
+  -- nobody is left in the first stand
+  pub ends : (path : List ℕ) (front : List Tried) (t : Tried) (p : Stand)
+      → Leads start history most path (front ++ t ∷ []) p → ((m : ℕ) → NoneLeft history m p t) → path ≡ []
+      → LeaveAtMost start history most
+  unfolding NoneLeftAlong
+  ends path front t p w nobody none =
+      let here = front_long path front t w.long in
+      let empty : front ≡ [] = empty_is front (here ∙ ap length none) in
+      w.rest most (omega arith) (along_join history most start path front t here
+      (subst (λ ts. NoneLeftAlong history most start path ts) (sym empty) tt)
+      (subst (λ s. NoneLeft history most s t) w.goes.1 (nobody most)))
+    where
+      empty_is : (xs : List Tried) → length xs ≡ 0 → xs ≡ []
+      empty_is [] same = refl
+      empty_is (x ∷ xs) same = absurd (omega arith)
+
+-- no setup has entries yet
+pub fresh : (s : Setup) → (start_of s).history.entries ≡ []
+unfolding start_of
+fresh s = refl
+
+-- the search begins with no move
+pub begun_as : (start : Stand) (history : List Entry) (path : List ℕ) (tries : List Tried)
+    → start.history.entries ≡ [] → path ≡ [] → tries ≡ tried.Nobody ∷ [] → Leads start history 0 path tries start
+begun_as start history path tries fresh none one =
+    subst (λ ks. Leads start history 0 ks tries start) (sym none)
+    (subst (λ ts. Leads start history 0 [] ts start) (sym one) (begun start history fresh))
+
+-- ---- what a try comes to
+
+-- the move was tried in vain
+pub tried_in_vain : (start : Stand) (history : List Entry) (way : Way) (p : Stand) (party : ℕ)
+    → IsTrying start history way p party → (may p party ≡ true → IsPrefix (moved p party).history.entries history → ⊥)
+    → IsUnderWay start history way p
+tried_in_vain start history way p party t other =
+    subst (λ ts. Leads start history way.most way.path.items ts p) (sym t.tries)
+    (left_others way.path.items t.front t.before t.noted p t.leads
+    (λ m none. t.others m (λ is. none_other history (moved p party) m (other is)) none))
+
+-- it was taken
+pub tried_on : (start : Stand) (history : List Entry) (way new : Way) (p q : Stand) (party left : ℕ)
+    → IsTrying start history way p party → may p party ≡ true → q ≡ moved p party
+    → IsPrefix q.history.entries history → new.path.items ≡ way.path.items ++ party ∷ []
+    → new.tries.items ≡ way.tries.items ++ tried.Nobody ∷ [] → new.most ≡ max way.most left
+    → left ≡ length q.history.entries → IsUnderWay start history new q
+tried_on start history way new p q party left t is to front pushed tries most long =
+    goes_on way.path.items new.path.items t.front new.tries.items t.before t.noted p q party new.most t.leads is to front
+    (λ m child none. t.others m (λ _. child) none) pushed (tries ∙ ap (λ ts. ts ++ tried.Nobody ∷ []) t.tries)
+    (subst (λ n. way.most ≤ n) (sym most) (le-max_left way.most left))
+    (subst (λ n. length q.history.entries ≤ n) (sym most)
+    (subst (λ n. n ≤ max way.most left) long (le-max_right way.most left)))
+
+-- and left the whole history
+pub left_all : (start : Stand) (history : List Entry) (way : Way) (q : Stand) → IsUnderWay start history way q
+    → length q.history.entries ≡ length history → Leaves start history way.path.items
+left_all start history way q w long =
+    record {
+      goes = w.goes.0;
+      left = ap (λ (s : Stand). s.history.entries) (sym w.goes.1) ∙ all_of q.history.entries history w.left long;
+    }
+
+-- ---- what is taken from the end of a list
+
+pub emptied : (old : List ℕ) (n m : ℕ) (r : Option ℕ) → n ≡ length old → is_some r ≡ false
+    → MatchOption r ((n ≡ 0) × (m ≡ 0)) (λ _. m + 1 ≡ n) → old ≡ []
+emptied [] n m r long none cases = refl
+emptied (x ∷ old) n m None long none cases = absurd (let no = cases.0 in omega arith)
+emptied (x ∷ old) n m (Some k) long none cases = cc
+
+pub popped : (old new : List ℕ) (r : Option ℕ) → is_some r ≡ true → old ≡ new ++ option_to_list r
+    → (k : ℕ) × (old ≡ new ++ k ∷ [])
+popped old new None some is = cc
+popped old new (Some k) some is = (k, is)
+
+-- the schedule without moves leaves nothing
+pub leaves_nothing : (start : Stand) (history : List Entry) (path : List ℕ) → start.history.entries ≡ []
+    → length history ≡ 0 → path ≡ [] → Leaves start history path
+leaves_nothing start [] path fresh long none =
+    subst (λ ks. Leaves start [] ks) (sym none) (record { goes = tt; left = fresh })
+leaves_nothing start (e ∷ history) path fresh long none = absurd (omega arith)
+
+-- all were tried where the last one was the last party
+pub dead_end : (start : Stand) (history : List Entry) (way back : Way) (p : Stand) (party : ℕ)
+    → Leads start history back.most back.path.items way.tries.items p
+    → way.tries.items ≡ back.tries.items ++ tried.Before party ∷ []
+    → length p.callers + length p.workers ≤ party → IsDeadEnd start history back p
+dead_end start history way back p party w last all =
+    record {
+      last = tried.Before party;
+      leads = subst (λ ts. Leads start history back.most back.path.items ts p) last w;
+      nobody = λ m. nobody_left history m p party all;
+    }

@@ -1,0 +1,262 @@
+-- A run waits by a caller: what is looked at before, how the wait begins, and how it ends.
+use Rattle.std.specs.Option.{option_map_or}
+use Rattle.std.specs.Prelude.{◌&&◌, if◌then◌else◌, is_some, option_and_then, option_map}
+use Rattle.std.specs.List.{fold}
+use Rattle.std.proofs.Common.{◌≡◌, ◌∙◌, ◌+◌, ◌≤◌, ◌++◌, ◌∷◌, ℕ, Bool, true, false, List, [], Option, Some, None}
+use Rattle.std.proofs.Common.{nat_le, refl, sym, ap, subst, arith, inl, inr}
+use Rattle.std.specs.Cmp.Derive.{both_true}
+use Rattle.std.proofs.lemmas.Bool.{and_parts, le-leb, leb-true}
+use Rattle.cmwq_model.specs.Prelude.{Layout, entry_for, fits, has_time, is_workers, past_of, room_needed}
+use Rattle.cmwq_model.specs.Prelude.{runs_awake, ticket_of}
+unfoldable use Rattle.cmwq_model.specs.Prelude.{IsLegal}
+use Rattle.cmwq_model.specs.declared.call.Call.{Call}
+use Rattle.cmwq_model.specs.declared.call.Call.TheVariants as call
+use Rattle.cmwq_model.specs.declared.entry.Entry.{Entry}
+use Rattle.cmwq_model.specs.declared.id.CallerId.{CallerId}
+use Rattle.cmwq_model.specs.declared.id.ItemId.{ItemId}
+use Rattle.cmwq_model.specs.declared.id.Who.{Who}
+use Rattle.cmwq_model.specs.declared.id.Who.TheVariants.{Caller, Worker}
+use Rattle.cmwq_model.specs.declared.id.WorkerId.{WorkerId}
+use Rattle.cmwq_model.specs.declared.record.Queueing.{Queueing}
+use Rattle.cmwq_model.specs.declared.record.Ticket.{Ticket}
+use Rattle.cmwq_theory_steps.specs.ItemQueueings.{queueing_run}
+use Rattle.cmwq_core.specs.History.{History, past_in, takes_with}
+use Rattle.cmwq_waits.specs.HeldUp.{AreWaiting}
+use Rattle.cmwq_waits.specs.Registered.{refusal_of, registered}
+use Rattle.cmwq_waits.specs.Registered as register
+use Rattle.cmwq_waits.specs.declared.run_wait.RunWait.{RunWait}
+use Rattle.cmwq_waits.specs.declared.waits.Stuck.{Stuck}
+use Rattle.cmwq_waits.specs.declared.waits.Stuck.TheVariants as stuck
+use Rattle.cmwq_waits.proofs.GoOn.{is_waiting, registered_wait}
+use Rattle.cmwq_dispatch.proofs.Steady.{none_wait}
+use Rattle.cmwq_monitor.specs.Calls.{own_entry}
+use Rattle.cmwq_monitor.specs.Held.{Held, held_at_first, refusal_at}
+use Rattle.cmwq_monitor.specs.Participants.{View}
+use Rattle.cmwq_rt.specs.Waiting.{WasAllowed, WasLookedAt, is_wait}
+use Rattle.cmwq_rt.specs.declared.wait_fault.WaitFault.TheVariants as fault
+use Rattle.cmwq_board.specs.Asked as board
+use Rattle.cmwq_board.proofs.Slept.{needs_more}
+use Rattle.cmwq_cmd_run.specs.Interpreted.{IsRefused}
+use Rattle.cmwq_explore.specs.Machines.{is_made}
+use Rattle.cmwq_explore.specs.Waiting.{are_there, noted_doing}
+unfoldable use Rattle.cmwq_explore.specs.Machines.{has_wait_room}
+unfoldable use Rattle.cmwq_explore.specs.Waiting.{is_refused, noted, noted_at, waits_in}
+use Rattle.cmwq_explore.specs.declared.place.Doing.{Doing}
+use Rattle.cmwq_explore.specs.declared.place.Doing.TheVariants.{Acts, AtGate, AtLock, Waits}
+use Rattle.cmwq_explore.specs.declared.place.RunAt.{RunAt}
+use Rattle.cmwq_explore.specs.declared.place.WorkerAt.{WorkerAt}
+use Rattle.cmwq_schedule_laws.proofs.Accounts.{IsItems}
+use Rattle.cmwq_schedule_laws.proofs.Awake.{slept_reply}
+use Rattle.cmwq_schedule_laws.proofs.Keeping.{IsKept, IsUpToDate, in_step}
+
+-- ---- the runs that wait
+
+module _ (h : History) (legal : IsLegal h.layout (past_in h)) where
+  one_waits : (waits : List RunWait) (w : WorkerId) (c : CallerId) (n : ℕ) → AreWaiting (past_in h) waits
+      → AreWaiting (past_in h) (registered waits (register.wait_of (past_in h) w c n))
+  one_waits waits w c n waiting = of_run (queueing_run (past_in h) (Worker w)) refl
+    where
+      of_ticket : (x : Queueing) → queueing_run (past_in h) (Worker w) ≡ Some x → (o : Option Ticket)
+          → ticket_of (past_in h) (Caller c) n ≡ o
+          → AreWaiting (past_in h)
+          (registered waits (option_map {U = RunWait} (λ (t : Ticket). record { run = x; ticket = t }) o))
+      of_ticket x runs None none = waiting
+      of_ticket x runs (Some t) known =
+          registered_wait (past_in h) waits (record { run = x; ticket = t })
+          (is_waiting h.layout (past_in h) w c n x t legal runs known) waiting
+
+      of_run : (o : Option Queueing) → queueing_run (past_in h) (Worker w) ≡ o
+          → AreWaiting (past_in h) (registered waits
+          (option_and_then {U = RunWait} (λ (x : Queueing). option_map (λ (t : Ticket). record { run = x; ticket = t })
+          (ticket_of (past_in h) (Caller c) n)) o))
+      of_run None none = waiting
+      of_run (Some x) runs = of_ticket x runs (ticket_of (past_in h) (Caller c) n) refl
+
+  noted_waits : (waits : List RunWait) (w : WorkerId) (c : CallerId) (n : ℕ) → AreWaiting (past_in h) waits
+      → AreWaiting (past_in h) (noted h waits w c n)
+  unfolding noted
+  noted_waits waits w c n waiting = at (are_there h.layout w c n)
+    where
+      at : (b : Bool) → AreWaiting (past_in h)
+          (if b then registered waits (register.wait_of (past_in h) w c n) else waits)
+      at true = one_waits waits w c n waiting
+      at false = waiting
+
+  doing_waits : (waits : List RunWait) (w : WorkerId) (d : Doing) → AreWaiting (past_in h) waits
+      → AreWaiting (past_in h) (noted_doing h waits w d)
+  doing_waits waits w (Waits c t) waiting = noted_waits waits w (record { 0 = c }) t.ticket waiting
+  doing_waits waits w Acts waiting = waiting
+  doing_waits waits w (AtGate gate slept) waiting = waiting
+  doing_waits waits w (AtLock lock slept) waiting = waiting
+
+  worker_waits : (waits : List RunWait) (at : WorkerAt) → AreWaiting (past_in h) waits
+      → AreWaiting (past_in h) (noted_at h waits at)
+  unfolding noted_at
+  worker_waits waits at waiting = of at.run
+    where
+      of : (o : Option RunAt)
+          → AreWaiting (past_in h) (option_map_or (λ (run : RunAt). noted_doing h waits at.id run.doing) o waits)
+      of None = waiting
+      of (Some run) = doing_waits waits at.id run.doing waiting
+
+  all_wait : (waits : List RunWait) (workers : List WorkerAt) → AreWaiting (past_in h) waits
+      → AreWaiting (past_in h) (fold (noted_at h) waits workers)
+  all_wait waits [] waiting = waiting
+  all_wait waits (at ∷ rest) waiting = all_wait (noted_at h waits at) rest (worker_waits waits at waiting)
+
+  pub they_wait : (workers : List WorkerAt) → AreWaiting (past_in h) (waits_in h workers)
+  unfolding waits_in
+  they_wait workers = all_wait [] workers (none_wait (past_in h))
+
+-- ---- what was found of a wait
+
+abbrev held_with : List Entry → List RunWait → Held
+held_with log waits =
+    record (held_at_first 0 (record { tickets = []; pools = [] })) { history = log; waits = waits }
+
+waiting_then : (s : Layout) (h : History) (workers : List WorkerAt) → IsKept s h
+    → AreWaiting (past_of h.entries) (waits_in h workers)
+waiting_then s h workers kept =
+    they_wait h (subst (λ (l : Layout). IsLegal l (past_in h)) (sym kept.layout) kept.legal) workers
+
+module _ (s : Layout) (h : History) (workers : List WorkerAt) (w : WorkerId) (v : View) (kept : IsKept s h)
+    (who : v.who ≡ Worker w) (up : IsUpToDate h.entries v) (c : Call) where
+  found : (why : Option Stuck) → refusal_of s (past_in h) (waits_in h workers) w c ≡ why
+      → refusal_at s (held_with h.entries (waits_in h workers)) v.who c ≡ why
+  found why is =
+      subst (λ (x : Who). refusal_at s (held_with h.entries (waits_in h workers)) x c ≡ why) (sym who) is
+
+  looked_at : (why : Option Stuck) → refusal_of s (past_in h) (waits_in h workers) w c ≡ why → WasLookedAt s v c why
+  looked_at why is = record {
+    held = held_with h.entries (waits_in h workers);
+    step = in_step h.entries v up;
+    waiting = waiting_then s h workers kept;
+    found = found why is;
+  }
+
+  pub was_allowed : (u : View) → refusal_of s (past_in h) (waits_in h workers) w c ≡ None
+      → u.seen ≡ h.entries ++ own_entry s h.entries v call.Sleep ∷ [] → WasAllowed s v c u
+  was_allowed u is seen = record {
+    held = held_with h.entries (waits_in h workers);
+    waiting = waiting_then s h workers kept;
+    allowed = found None is;
+    slept = seen;
+  }
+
+  -- it was refused for a reason, or since nobody was left
+  pub refused_for : (item : ItemId) (why : Stuck) → refusal_of s (past_in h) (waits_in h workers) w c ≡ Some why
+      → IsRefused s item v c v
+  refused_for item stuck.Itself is =
+      (inl refl, (fault.Itself, refl, inr (v, inl refl, looked_at (Some stuck.Itself) is)))
+  refused_for item stuck.Circle is =
+      (inl refl, (fault.Deadlock, refl, inr (v, inl refl, looked_at (Some stuck.Circle) is)))
+
+  pub nobody_left : (item : ItemId) → refusal_of s (past_in h) (waits_in h workers) w c ≡ None → IsRefused s item v c v
+  nobody_left item is = (inl refl, (fault.NoCaller, refl, inr (v, inl refl, looked_at None is)))
+
+-- whether it is refused
+fit_sleep : (s : Layout) (h : History) (w : WorkerId) → IsKept s h → fits s (Worker w) call.Sleep ≡ true
+    → fits h.layout (Worker w) call.Sleep ≡ true
+fit_sleep s h w kept fit = subst (λ (l : Layout). fits l (Worker w) call.Sleep ≡ true) (sym kept.layout) fit
+
+pub refusal_is : (s : Layout) (h : History) (workers : List WorkerAt) (w : WorkerId) (c : Call) → IsKept s h
+    → fits s (Worker w) call.Sleep ≡ true
+    → is_refused h workers w c ≡ is_some (refusal_of s (past_in h) (waits_in h workers) w c)
+unfolding is_refused
+refusal_is s h workers w c kept fit =
+    ap (λ b. b && is_some (refusal_of h.layout (past_in h) (waits_in h workers) w c)) (fit_sleep s h w kept fit)
+    ∙ ap (λ (l : Layout). is_some (refusal_of l (past_in h) (waits_in h workers) w c)) kept.layout
+
+pub none_found : (o : Option Stuck) → is_some o ≡ false → o ≡ None
+none_found None is = refl
+none_found (Some x) is = absurd (cc is)
+
+pub some_found : (o : Option Stuck) → is_some o ≡ true → (x : Stuck) × (o ≡ Some x)
+some_found None is = absurd (cc is)
+some_found (Some x) is = (x, refl)
+
+-- ---- room for the call once the run sleeps
+
+asked_of_board : (c : Call) → is_wait c ≡ true → board.is_wait c ≡ true
+asked_of_board (call.FlushItem i) is = refl
+asked_of_board (call.FlushDelayed i) is = refl
+asked_of_board (call.CancelSync i) is = refl
+asked_of_board (call.Flush q) is = refl
+asked_of_board (call.Drain q) is = refl
+asked_of_board c is = absurd (cc is)
+
+no_time : (past : List Entry) (c : Call) → is_wait c ≡ true → has_time past c ≡ true
+no_time past (call.FlushItem i) is = refl
+no_time past (call.FlushDelayed i) is = refl
+no_time past (call.CancelSync i) is = refl
+no_time past (call.Flush q) is = refl
+no_time past (call.Drain q) is = refl
+no_time past c is = absurd (cc is)
+
+room_own : (h g : History) (w : WorkerId) (c : CallerId) (cl : Call) → IsKept h.layout h → IsKept h.layout g
+    → runs_awake (past_in h) w ≡ true → past_in g ≡ entry_for h.layout (past_in h) (Worker w) call.Sleep ∷ past_in h
+    → fits h.layout (Caller c) cl ≡ true → is_wait cl ≡ true → takes_with h (Caller c) cl 2 ≡ true
+    → is_made g (Caller c) cl ≡ true
+unfolding IsLegal
+room_own h g w c cl kept after awake past fit wait room =
+    let s = h.layout in
+    let e = entry_for s (past_in h) (Worker w) call.Sleep in
+    let legal_e : IsLegal s (e ∷ past_in h) = subst (IsLegal s) past after.legal in
+    let same_room = kept.room in
+    let parts = and_parts (has_time (past_in h) cl) _ room in
+    let within : room_needed s (entry_for s (past_in h) (Caller c) cl ∷ past_in h) + 2 ≤ h.room =
+    leb-true _ h.room parts.1 in
+    let more =
+    needs_more s (past_in h) e legal_e (slept_reply s (past_in h) w awake) (Caller c) cl (asked_of_board cl wait)
+    (fit, refl, legal_e.2) (fit, refl, legal_e) in
+    let fits_in : room_needed s (entry_for s (e ∷ past_in h) (Caller c) cl ∷ e ∷ past_in h) ≤ h.room =
+    omega (arith, more, within) in
+    let here : room_needed s (entry_for s (e ∷ past_in h) (Caller c) cl ∷ e ∷ past_in h) ≤ g.room =
+    subst (λ n. room_needed s (entry_for s (e ∷ past_in h) (Caller c) cl ∷ e ∷ past_in h) ≤ n)
+    (same_room ∙ sym after.room) fits_in in
+    let taken : takes_of s g.room (e ∷ past_in h) ≡ true = both_true (no_time (e ∷ past_in h) cl wait)
+    (le-leb _ g.room here) in
+    both_true (subst (λ (l : Layout). fits l (Caller c) cl ≡ true) (sym after.layout) fit)
+    (subst (λ (l : Layout). takes_of l g.room (past_in g) ≡ true) (sym after.layout)
+    (subst (λ (p : List Entry). takes_of s g.room p ≡ true) (sym past) taken))
+  where
+    takes_of : Layout → ℕ → List Entry → Bool
+    takes_of l room past = has_time past cl && nat_le (room_needed l (entry_for l past (Caller c) cl ∷ past)) room
+
+pub record HasRoom (s : Layout) (h : History) (w : WorkerId) (c : CallerId) (cl : Call) : Type 0 where
+  pub sleeps : is_made h (Worker w) call.Sleep ≡ true
+  pub fit : fits s (Caller c) cl ≡ true
+  pub calls : (g : History) → IsKept s g → runs_awake (past_in h) w ≡ true
+      → past_in g ≡ entry_for s (past_in h) (Worker w) call.Sleep ∷ past_in h → is_made g (Caller c) cl ≡ true
+
+has_own : (h : History) (w : WorkerId) (c : CallerId) (cl : Call) → IsKept h.layout h → is_wait cl ≡ true
+    → has_wait_room h w c cl ≡ true → HasRoom h.layout h w c cl
+unfolding has_wait_room
+has_own h w c cl kept wait room =
+    let parts = and_parts (is_made h (Worker w) call.Sleep) _ room in
+    let call_parts = and_parts (fits h.layout (Caller c) cl) (takes_with h (Caller c) cl 2) parts.1 in
+    record {
+      sleeps = parts.0;
+      fit = call_parts.0;
+      calls = λ g after awake past. room_own h g w c cl kept after awake past call_parts.0 wait call_parts.1;
+    }
+
+-- there is room for the sleep, and for the call after it
+pub has_room : (s : Layout) (h : History) (w : WorkerId) (c : CallerId) (cl : Call) → IsKept s h → is_wait cl ≡ true
+    → has_wait_room h w c cl ≡ true → HasRoom s h w c cl
+has_room s h w c cl kept wait room =
+    subst (λ (l : Layout). IsKept l h → HasRoom l h w c cl) kept.layout (λ k. has_own h w c cl k wait room) kept
+
+-- ---- a call of an item that its worker does not make
+
+pub waits_of_items : (s : Layout) (c : Call) → IsItems s c → is_workers c ≡ false → is_wait c ≡ true
+waits_of_items s (call.FlushItem i) own other = refl
+waits_of_items s (call.FlushDelayed i) own other = refl
+waits_of_items s (call.CancelSync i) own other = refl
+waits_of_items s (call.Flush q) own other = refl
+waits_of_items s (call.Drain q) own other = refl
+waits_of_items s (call.Queue i q p) own other = absurd (cc other)
+waits_of_items s (call.Delay i q p t) own other = absurd (cc other)
+waits_of_items s (call.Modify i q p t) own other = absurd (cc other)
+waits_of_items s (call.Cancel i) own other = absurd (cc other)
+waits_of_items s c own other = absurd (cc own.0)

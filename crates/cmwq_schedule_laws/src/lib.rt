@@ -1,0 +1,7 @@
+//! A schedule of a script that ends leaves a history which the threads of a run of this script may leave. This is a
+//! theorem over the definitions alone, which no running code needs.
+#![tactic(auto)]
+
+mod laws;
+
+pub use laws::{histories_tell_calls_left_out, schedules_leave_histories, scripts_leave_histories};
