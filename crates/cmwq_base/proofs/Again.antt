@@ -28,6 +28,7 @@ use Rattle.cmwq_base.specs.Kinds.{calls_kind, call_file_of, history_kind, histor
 use Rattle.cmwq_base.specs.FileLaws.{HistoriesReadAgain, OldHistoriesReadAgain, CallFilesReadAgain}
 use Rattle.cmwq_base.specs.declared.refusal.Refusal.TheVariants as refusal
 use Rattle.cmwq_base.proofs.Limits.{none_passes}
+use Rattle.cmwq_base.proofs.Progress.{line_body, body_goes}
 use Rattle.cmwq_base.proofs.Texts.{after_first_piece, pieces_some}
 
 -- a line of the kind is read again, is none of a queue and not the last line, and fits the shape
@@ -77,21 +78,6 @@ begun_goes n v c inside room = ap (after_shape_line n v) (counts_again v c insid
 module _ {X : Type 0} (k : Kind X) (v : ℕ) (text : X → List ℕ) (last : ℕ → List ℕ) (ends : Ends k v last) where
   -- ---- lines of the kind
 
-  item_goes : (n : ℕ) (s : Layout) (xs : List X) (x : X) (a : IsAgain k v text s x) → length xs + 1 ≤ line_limit v
-      → item_line k n v s xs a.line ≡ Ok (body v s (xs ++ x ∷ []))
-  unfolding item_line
-  item_goes n s xs x a room = rw (lt-leb (line_limit v) (length xs) (omega arith), a.read, a.inside) refl
-
-  line_body : (n : ℕ) (s : Layout) (xs : List X) (x : X) (a : IsAgain k v text s x) → length xs + 1 ≤ line_limit v
-      → body_line k n v s xs a.line ≡ Ok (body v s (xs ++ x ∷ []))
-  unfolding body_line
-  line_body n s xs x a room = ap (or_ended k n v s xs a.line) a.no_end ∙ item_goes n s xs x a room
-
-  body_goes : (n : ℕ) (s : Layout) (xs : List X) (x : X) (a : IsAgain k v text s x) → length xs + 1 ≤ line_limit v
-      → after_whole_line k n (body v s xs) a.line ≡ Ok (body v s (xs ++ x ∷ []))
-  unfolding after_whole_line
-  body_goes n s xs x a room = line_body n s xs x a room
-
   items_end : (n : ℕ) (s : Layout) (xs ys : List X) → length xs + length ys ≤ line_limit v → All (IsAgain k v text s) ys
       → after_text k n (body v s xs) (flat_map text ys ++ last (length xs + length ys))
       ≡ Ok (record { version = v; layout = s; items = xs ++ ys })
@@ -107,7 +93,8 @@ module _ {X : Type 0} (k : Kind X) (v : ℕ) (text : X → List ℕ) (last : ℕ
       ∙ ap (after_text k n (body v s xs))
       (append_assoc (text y) (flat_map text ys) (last (length (xs ++ y ∷ []) + length ys)))
       ∙ line_goes k n (body v s xs) (body v s (xs ++ y ∷ [])) (text y) a.line
-      (flat_map text ys ++ last (length (xs ++ y ∷ []) + length ys)) a.whole (body_goes n s xs y a (omega arith))
+      (flat_map text ys ++ last (length (xs ++ y ∷ []) + length ys)) a.whole
+      (body_goes k n v s xs y a.line a.read a.no_end a.inside (omega arith))
       ∙ items_end (n + 1) s (xs ++ y ∷ []) ys (omega arith) (All-tail (IsAgain k v text s) y ys each)
       ∙ ap (λ items. Ok (record { version = v; layout = s; items = items })) (append_assoc xs (y ∷ []) ys)
 
@@ -149,7 +136,7 @@ module _ {X : Type 0} (k : Kind X) (v : ℕ) (text : X → List ℕ) (last : ℕ
   first_goes n c qs x a room inside =
       ap (λ b. if b then queue_line k n v c qs a.line else first_body_line k n v (shape_made c qs) a.line) a.other
       ∙ ap (λ b. first_body_line k n v (if b then Some (layout_of c qs) else None) a.line) inside
-      ∙ line_body n (layout_of c qs) [] x a (omega arith)
+      ∙ line_body k n v (layout_of c qs) [] x a.line a.read a.no_end a.inside (omega arith)
 
   head_ends : (n : ℕ) (c : Counts) (qs : List QueueShape) (ys : List X) → is_layout (layout_of c qs) ≡ true
       → length ys ≤ line_limit v → All (IsAgain k v text (layout_of c qs)) ys

@@ -7,3 +7,5 @@ pub mod CallsSpelled
 pub mod Again
 pub mod Sound
 pub mod Whole
+pub mod UsualLines
+pub mod UsualSteps

@@ -5,7 +5,7 @@ use Rattle.cmwq_base.specs.Common.{subst, length-append, if◌then◌else◌, If
 use Rattle.cmwq_base.specs.Common.{nat_tests, leb-true, prepend_known, Whole, Cut, Long, End, TakesKnownLine, Counts}
 use Rattle.cmwq_base.specs.Common.{QueueShape, Layout, layout_of, is_layout, counts_read, begins_queue, end_of}
 use Rattle.cmwq_base.specs.Common.{line_limit, room_limit, queue_limit, allows_counts, allows_numbers, and_parts}
-use Rattle.cmwq_base.specs.Common.{counts_of_format, chosen, TakesLine, ◌⊎◌}
+use Rattle.cmwq_base.specs.Common.{counts_of_format, chosen, TakesLine, ◌⊎◌, lt-leb}
 use Rattle.cmwq_io.specs.declared.lines.Found.{Found}
 use Rattle.cmwq_base.specs.declared.refusal.Refusal.{Refusal}
 use Rattle.cmwq_base.specs.declared.refusal.Refusal.TheVariants as refusal
@@ -201,6 +201,24 @@ module _ {X : Type 0} (k : Kind X) (n : ℕ) where
   line_grows (head v c qs) next line h = head_grows v c qs line next (begins_queue line) h
   line_grows (body v s xs) next line h = body_line_grows v s xs line next h
   line_grows (ended v s xs) next line h = cc
+
+-- ---- one line of the kind more
+
+module _ {X : Type 0} (k : Kind X) (n v : ℕ) (s : Layout) (xs : List X) (x : X) (line : List ℕ) where
+  item_goes : k.item_of v line ≡ Some x → k.fits_in s x ≡ true → length xs + 1 ≤ line_limit v
+      → item_line k n v s xs line ≡ Ok (body v s (xs ++ x ∷ []))
+  unfolding item_line
+  item_goes read inside room = rw (lt-leb (line_limit v) (length xs) (omega arith), read, inside) refl
+
+  pub line_body : k.item_of v line ≡ Some x → end_of_format k v line ≡ None → k.fits_in s x ≡ true
+      → length xs + 1 ≤ line_limit v → body_line k n v s xs line ≡ Ok (body v s (xs ++ x ∷ []))
+  unfolding body_line
+  line_body read no_end inside room = ap (or_ended k n v s xs line) no_end ∙ item_goes read inside room
+
+  pub body_goes : k.item_of v line ≡ Some x → end_of_format k v line ≡ None → k.fits_in s x ≡ true
+      → length xs + 1 ≤ line_limit v → after_whole_line k n (body v s xs) line ≡ Ok (body v s (xs ++ x ∷ []))
+  unfolding after_whole_line
+  body_goes read no_end inside room = line_body read no_end inside room
 
 -- no stage has so many lines
 pub too_many : {X : Type 0} (k : Kind X) (n : ℕ) (stage : Stage X) → 4611686018426388164 ≤ n → n ≤ lines_taken stage + 1

@@ -43,3 +43,4 @@ pub mod Stages
 pub mod Kinds
 pub mod Views
 pub mod FileLaws
+pub mod Usual

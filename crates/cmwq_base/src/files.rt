@@ -12,6 +12,7 @@ use crate::gather::Listed;
 use crate::reading::read_file;
 use crate::refusal::Refusal;
 use crate::stage::FileLine;
+use crate::usual::{read_usual_call, read_usual_entry};
 use cmwq_io::Source;
 use cmwq_model::{Call, Entry, QueueShape, Shape, Who};
 use std::alloc::Global;
@@ -32,6 +33,11 @@ impl FileLine for (Who, Call) {
     #[inline(always)]
     fn read(version: u8, line: &[u8]) -> Option<Self> {
         cmwq_text::read_call_of_format(version, line)
+    }
+
+    #[inline(always)]
+    fn read_usual(_version: u8, bytes: &[u8]) -> Option<(Self, &[u8])> {
+        read_usual_call(bytes)
     }
 
     fn needs_end(_version: u8) -> bool {
@@ -61,6 +67,11 @@ impl FileLine for Entry {
     #[inline(always)]
     fn read(version: u8, line: &[u8]) -> Option<Self> {
         cmwq_text::read_entry_of_format(version, line)
+    }
+
+    #[inline(always)]
+    fn read_usual(version: u8, bytes: &[u8]) -> Option<(Self, &[u8])> {
+        read_usual_entry(version, bytes)
     }
 
     fn needs_end(version: u8) -> bool {

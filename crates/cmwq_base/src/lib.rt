@@ -7,6 +7,8 @@ mod laws;
 mod reading;
 mod refusal;
 mod stage;
+#[tactic(auto, using(crate::proofs::UsualLines::spelled), unfolding(cmwq_text::specs::Words::space_words, cmwq_text::specs::CallText::call_words, cmwq_text::specs::ReplyText::reply_words, cmwq_text::specs::Keywords::keyword_text))]
+mod usual;
 mod writing;
 
 pub use cmwq_io::{

@@ -39,6 +39,10 @@ pub fn read_file<G: Gather + Drop, S: Source>(
     let mut line = Line::new();
     let mut stage = Stage::Begin;
     for number in 1..=TOO_MANY_LINES {
+        if let Some(count) = stage.advance_usual(lines.ahead())? {
+            lines.consume(count);
+            continue;
+        }
         match lines.next_line(source, &mut line)? {
             Found::Whole => stage.advance(alloc, number, line.as_slice())?,
             Found::Long => return Err(Refusal::TooLong),

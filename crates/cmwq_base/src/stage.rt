@@ -1,20 +1,23 @@
 //! How far a file has been read, and what each of its lines adds.
 
-ghost use Rattle.std.specs.Prelude.{◌≡◌, ◌&&◌, not};
-ghost use Rattle.cmwq_text.specs.Formats.{counts_of_format};
+ghost use Rattle.std.specs.Prelude.{◌≡◌, ◌<◌, ◌&&◌, not, length, IfOk};
+ghost use Rattle.cmwq_text.specs.Formats.{counts_of_format, line_limit as limit_of_lines, most_lines};
 ghost use Rattle.cmwq_base.specs.Files.{body, shape_made, after_shape_line, after_first_line, queue_line, item_line};
 ghost use Rattle.cmwq_base.specs.Files.{end_of_format, body_line, first_body_line, after_head as after_head_by};
+ghost use Rattle.cmwq_base.specs.Usual.{MayGoOn};
 
 use crate::gather::Gather;
 use crate::refusal::Refusal;
-use cmwq_model::{Counts, QueueShape, Shape};
+use cmwq_model::{Counts, NoMemory, QueueShape, Shape};
 use cmwq_text::{begins_queue, line_limit, queue_limit, read_counts_of_format, read_end};
 use std::alloc::Global;
 use std::mem;
 
 /// What the lines of a kind of file say, by its format, which is 1, 2 or 3.
 pub trait FileLine: Sized {
+    ghost use Rattle.std.specs.Prelude.{IfSome};
     ghost use Rattle.cmwq_base.specs.Files.{Kind};
+    ghost use Rattle.cmwq_base.specs.Usual.{BeginsLine};
 
     /// How the lines are read.
     ghost kind: { Kind Self };
@@ -30,6 +33,11 @@ pub trait FileLine: Sized {
     /// What any other line says.
     fn read(version: u8, line: &[u8]) -> Option<Self>
         ensures { result ≡ kind.item_of version line.now };
+
+    /// What the line says that the bytes begin with, and the bytes after its line feed. `None` says nothing of the
+    /// line: `read` decides. It is for lines that come often, which it reads faster.
+    fn read_usual(version: u8, bytes: &[u8]) -> Option<(Self, &[u8])>
+        ensures { IfSome result (λ x. BeginsLine kind version bytes.now x.0 x.1.now) };
 
     /// Whether the format has a last line, which says how many of these lines stand before it.
     fn needs_end(version: u8) -> bool
@@ -72,6 +80,7 @@ impl<G: Gather + Drop> Stage<G> {
     ghost use Rattle.cmwq_base.specs.Files.{as_front, after_whole_line, after_cut, is_file_ended, at_end};
     ghost use Rattle.cmwq_base.specs.Gives.{GivesAs};
     ghost use Rattle.cmwq_base.specs.Stages.{stage_of, contents_of};
+    ghost use Rattle.cmwq_base.specs.Usual.{MayGoOn};
 
     /// Takes one whole line, without its line feed, the `number`-th of the file.
     #[tactic(auto, unfolding(crate::specs::Files::after_whole_line))]
@@ -108,6 +117,22 @@ impl<G: Gather + Drop> Stage<G> {
                 *self = mem::replace(self, Stage::Begin).take(alloc, number, line)?;
                 Ok(())
             }
+        }
+    }
+
+    /// Takes the line that the bytes begin with, if it is a usual one that the format and the shape allow, and returns
+    /// how many bytes it has with its line feed. After `None` nothing has changed, and the line is left to `advance`.
+    /// What is read after an error is not said.
+    #[inline(always)]
+    pub(crate) fn advance_usual(&mut self, bytes: &[u8]) -> Result<Option<usize>, NoMemory>
+        ensures { IfOk result (MayGoOn G.Item.kind (stage_of G.layout G.items self.old)
+            (stage_of G.layout G.items self.new) bytes.now) }
+    {
+        match self {
+            Stage::Body { version, all } if all.len() < line_limit(*version) => {
+                add_usual(*version, all, bytes)
+            }
+            _ => Ok(None),
         }
     }
 
@@ -260,6 +285,23 @@ fn add_item<G: Gather>(number: u64, version: u8, all: &mut G, line: &[u8]) -> Re
         }
         Some(_) => Err(Refusal::NoSuchId(number)),
         None => Err(Refusal::BadLine(number)),
+    }
+}
+
+/// Takes the usual line of the kind that the bytes begin with, if it fits the shape.
+#[inline(always)]
+fn add_usual<G: Gather>(version: u8, all: &mut G, bytes: &[u8]) -> Result<Option<usize>, NoMemory>
+    requires room { length (G.items all.old) < limit_of_lines version }
+    requires few { length (G.items all.old) < most_lines }
+    ensures { IfOk result (MayGoOn G.Item.kind (body version (G.layout all.old) (G.items all.old))
+        (body version (G.layout all.new) (G.items all.new)) bytes.now) }
+{
+    match G::Item::read_usual(version, bytes) {
+        Some((item, left)) if item.fits(all.shape()) => {
+            all.take(item)?;
+            Ok(Some(bytes.len() - left.len()))
+        }
+        _ => Ok(None),
     }
 }
 

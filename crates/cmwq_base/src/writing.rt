@@ -15,6 +15,22 @@ use cmwq_text::{
     LineText, counts_line, end_line, needs_end, queue_line, spell_entry, version_line,
 };
 
+/// Spells the line of an entry in this text, and writes it.
+#[inline]
+fn write_spelled<W: Sink>(
+    sink: &mut W,
+    line: &mut LineText,
+    entry: &Entry,
+) -> Result<(), WriteFault>
+    ensures ok { OnOk result (Appends (W.written sink.old) (W.written sink.new) (entry_text entry.now)) }
+    ensures err { OnErr result (AppendsFront (W.written sink.old) (W.written sink.new) (entry_text entry.now)) }
+    ensures grown { W.troubles sink.old ≤ W.troubles sink.new }
+    ensures fault { OnErr result (Rises (W.troubles sink.old) (W.troubles sink.new)) }
+{
+    spell_entry(line, entry);
+    write_all(sink, line.as_bytes())
+}
+
 /// Writes the line of an entry. Takes no memory.
 ///
 /// # Errors
@@ -28,8 +44,7 @@ pub fn write_entry<W: Sink>(sink: &mut W, entry: &Entry) -> Result<(), Refusal>
     ensures fault { OnErr result (Rises (W.troubles sink.old) (W.troubles sink.new)) }
 {
     let mut line = LineText::new();
-    spell_entry(&mut line, entry);
-    write_all(sink, line.as_bytes())?;
+    write_spelled(sink, &mut line, entry)?;
     Ok(())
 }
 
@@ -44,8 +59,9 @@ pub fn write_entries<W: Sink>(sink: &mut W, entries: &[Entry]) -> Result<(), Ref
     ensures grown { W.troubles sink.old ≤ W.troubles sink.new }
     ensures fault { OnErr result (Rises (W.troubles sink.old) (W.troubles sink.new)) }
 {
+    let mut line = LineText::new();
     for entry in entries {
-        write_entry(sink, entry)?;
+        write_spelled(sink, &mut line, entry)?;
     }
     Ok(())
 }

@@ -14,7 +14,7 @@ ghost use Rattle.std.specs.Prelude.{◌≡◌, ◌<◌};
 
 use anyhow::{Context, Result, ensure};
 use cmwq_model::{Counts, ItemId, QueueShape, Shape};
-use cmwq_rt::{Caller, Hub, HubName, HubParts, Participants, RunFault};
+use cmwq_rt::{Caller, CallerCalls, Hub, HubCaller, HubName, HubParts, Participants, RunFault};
 use std::alloc::Global;
 use std::marker::Brand;
 use std::sync::Wait;
@@ -74,10 +74,12 @@ impl<N: HubName> Bench<N> {
     }
 
     /// How many ticks were made.
-    fn tick<R: Wait>(&self, rt: &R, mut caller: Caller<N>, times: u32) -> u64 {
+    fn tick<R: Wait>(&self, rt: &R, caller: Caller<N>, times: u32) -> u64 {
+        let hub = &self.hub;
+        let mut clock = HubCaller { rt, hub, caller };
         let mut made = 0u64;
         for _ in 0..times {
-            if caller.tick(rt, &self.hub, 1).is_ok() {
+            if clock.tick(1).is_ok() {
                 made = made.wrapping_add(1);
             }
         }

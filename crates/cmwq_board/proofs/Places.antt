@@ -12,7 +12,7 @@ use Rattle.std.specs.Prelude.{find}
 use Rattle.cmwq_core.specs.History.{is_done_waiting}
 use Rattle.cmwq_core.specs.Plans.{IsPlan}
 use Rattle.cmwq_core.specs.declared.plan.Plan.{Plan}
-use Rattle.cmwq_model.specs.Prelude.{end_of_ticket, is_done, ticket_of, waiting_for, waits_for}
+use Rattle.cmwq_model.specs.Prelude.{end_of_ticket, is_done, ticket_of, waiting_for, waits_for, is_drain}
 unfoldable use Rattle.cmwq_model.specs.Prelude.{answer}
 use Rattle.cmwq_model.specs.declared.call.Call.TheVariants as call
 use Rattle.cmwq_model.specs.declared.id.Who.TheVariants.{Caller}
@@ -31,7 +31,7 @@ use Rattle.cmwq_board.specs.Boarded.{IsBoard, first_place, most_made}
 use Rattle.cmwq_model.specs.declared.id.CallerId.{CallerId}
 use Rattle.std.specs.Prelude.{nat_le}
 use Rattle.std.proofs.lemmas.Bool.{and_parts, leb-true, ltb-true}
-use Rattle.cmwq_board.specs.Lent.{AreLent, drains, first_lent, is_drain, is_left, tickets_held, tickets_of}
+use Rattle.cmwq_board.specs.Lent.{AreLent, drains, first_lent, is_left, tickets_held, tickets_of}
 use Rattle.cmwq_board.specs.Steps.{may_fire}
 use Rattle.cmwq_board.specs.Waits.{firing_for, ticket_at}
 use Rattle.cmwq_board.specs.declared.lending.Lending.{Lending}

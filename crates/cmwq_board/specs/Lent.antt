@@ -1,7 +1,7 @@
 -- The callers that are lent to waits.
 use Rattle.std.specs.Prelude.{◌≡◌, ◌<◌, ◌≤◌, ◌+◌, ◌-◌, ◌∷◌, ◌==◌, ℕ, Bool, true, false, List, [], length, filter}
 use Rattle.std.specs.Prelude.{nat_lt, slice_index_or}
-use Rattle.cmwq_model.specs.Prelude.{Layout, is_held_by, unended_tickets}
+use Rattle.cmwq_model.specs.Prelude.{Layout, is_held_by, unended_tickets, is_drain}
 use Rattle.cmwq_model.specs.declared.call.Call.{Call}
 use Rattle.cmwq_model.specs.declared.call.Call.TheVariants as call
 use Rattle.cmwq_model.specs.declared.entry.Entry.{Entry}
@@ -10,11 +10,6 @@ use Rattle.cmwq_model.specs.declared.id.Who.TheVariants.{Caller, Worker}
 use Rattle.cmwq_model.specs.declared.record.Ticket.{Ticket}
 use Rattle.cmwq_board.specs.declared.lending.Lending.{Lending}
 use Rattle.cmwq_board.specs.declared.lending.Lending.TheVariants.{Free, Waits, Left}
-
--- a drain, after whose end timers fire that were held back
-abbrev pub is_drain : Call → Bool
-is_drain (call.Drain q) = true
-is_drain c = false
 
 -- the ticket that it has
 abbrev pub tickets_of : Lending → List Ticket

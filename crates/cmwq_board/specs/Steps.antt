@@ -5,7 +5,7 @@ use Rattle.cmwq_core.specs.History.{IsItemOf, next_entry, takes, with_entry}
 use Rattle.cmwq_dispatch.specs.Asleep.{Rests, SleepOn}
 use Rattle.cmwq_dispatch.specs.Dispatched.{Dispatched, is_over, past_now}
 use Rattle.cmwq_dispatch.specs.declared.wakes.Wakes.{Wakes}
-use Rattle.cmwq_model.specs.Prelude.{Layout, fits, has_run, number_started, runs_awake, number_finished}
+use Rattle.cmwq_model.specs.Prelude.{Layout, fits, has_run, number_started, runs_awake, number_finished, is_retired}
 use Rattle.cmwq_model.specs.declared.call.Call.{Call}
 use Rattle.cmwq_model.specs.declared.call.Call.TheVariants as call
 use Rattle.cmwq_model.specs.declared.reply.Reply.{Reply}
@@ -104,14 +104,10 @@ finish_fault b w = if not (has_worker (layout_of b) w) then Some fault.Refused
     else if not (takes b.dispatch.history (Worker w) call.Finish) then Some fault.Full
     else None
 
-abbrev pub is_retire_reply : Reply → Bool
-is_retire_reply reply.Retired = true
-is_retire_reply r = false
-
 -- it would be sent to the reserve now, and there is room for that
 abbrev pub retires_now : Dispatched → WorkerId → Bool
 retires_now d w =
-    is_retire_reply (next_entry d.history (Worker w) call.Retire).reply && takes d.history (Worker w) call.Retire
+    is_retired (next_entry d.history (Worker w) call.Retire).reply && takes d.history (Worker w) call.Retire
 
 -- it is sent to the reserve if it would be
 abbrev pub MayRetire : Dispatched → WorkerId → Bool → Dispatched → Wakes → Wakes → Type 0

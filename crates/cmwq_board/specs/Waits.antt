@@ -11,6 +11,7 @@ use Rattle.cmwq_dispatch.specs.Dispatched.{Dispatched, FallsAsleep, is_over, pas
 use Rattle.cmwq_dispatch.specs.declared.dispatch.Sleep.{Sleep}
 use Rattle.cmwq_dispatch.specs.declared.wakes.Wakes.{Wakes}
 use Rattle.cmwq_model.specs.Prelude.{Layout, gives_ticket, has_numbers, has_run, is_done, runs_asleep, runs_awake}
+use Rattle.cmwq_model.specs.Prelude.{is_drain}
 use Rattle.cmwq_model.specs.declared.call.Call.{Call}
 use Rattle.cmwq_model.specs.declared.call.Call.TheVariants as call
 use Rattle.cmwq_model.specs.declared.id.CallerId.{CallerId}
@@ -24,7 +25,7 @@ use Rattle.cmwq_waits.specs.declared.waits.Stuck.{Stuck}
 use Rattle.cmwq_board.specs.Asked.{is_wait}
 use Rattle.cmwq_board.specs.Boarded.{Boarded, first_place, has_space, layout_of, most_made, past_of_board, with_asleep}
 use Rattle.cmwq_board.specs.Faults.{fault_of_stuck}
-use Rattle.cmwq_board.specs.Lent.{drains, first_lent, is_drain}
+use Rattle.cmwq_board.specs.Lent.{drains, first_lent}
 use Rattle.cmwq_board.specs.Steps.{Enters, FiresDue, has_worker, with_dispatch}
 use Rattle.cmwq_board.specs.declared.board.Begun.{Begun}
 use Rattle.cmwq_board.specs.declared.board.Begun.TheVariants as begun

@@ -8,19 +8,18 @@ ghost use Rattle.cmwq_theory_wakes.specs.Starting.{would_start};
 ghost use Rattle.cmwq_core.specs.Plans.{IsPlan};
 ghost use Rattle.cmwq_dispatch.specs.Asleep.{SleepOn};
 ghost use Rattle.cmwq_dispatch.specs.Dispatched.{MayEnter, past_now};
-ghost use Rattle.cmwq_model.specs.Prelude.{IsLegal, fits, is_done, number_started, runs_awake};
+ghost use Rattle.cmwq_model.specs.Prelude.{IsLegal, fits, is_done, number_started, runs_awake, is_drain};
 ghost use Rattle.cmwq_model.specs.declared.call.Call.TheVariants as calls;
 ghost use Rattle.cmwq_model.specs.declared.id.Who.TheVariants as who;
 ghost use Rattle.cmwq_state.specs.Tails.{with_item};
-ghost use Rattle.cmwq_board.specs.Lent.{OthersTickets, SameTickets, is_drain, tickets_held};
+ghost use Rattle.cmwq_board.specs.Lent.{OthersTickets, SameTickets, tickets_held};
 ghost use Rattle.cmwq_board.specs.Steps.{FinishesRun, FiresDue, MayRetire, Stays, Ticks, after_call};
 ghost use Rattle.cmwq_board.specs.Steps.{after_entry};
-ghost use Rattle.cmwq_board.specs.Steps.{has_worker, is_retire_reply, may_fire};
+ghost use Rattle.cmwq_board.specs.Steps.{has_worker, may_fire};
 ghost use Rattle.cmwq_board.specs.Boarded.{most_made};
 ghost use Rattle.cmwq_board.specs.Waits.{EndsTicket, IsWoken, MayFire};
 
 use crate::board::Finish;
-use crate::lending::is_drain;
 use cmwq_core::{Full, Plan};
 use cmwq_dispatch::{Dispatch, Wakes};
 use cmwq_model::{Call, CallerId, Entry, ItemId, Number, Reply, Shape, Ticket, Who, WorkerId};
@@ -134,7 +133,7 @@ fn fire_after(dispatch: &mut Dispatch, tail: &mut Tail<Entry>, ticket: Ticket, w
     ensures many { length dispatch.new.history.entries
         ≤ length dispatch.old.history.entries + dispatch.old.history.layout.items }
 {
-    if is_drain(&ticket.call) {
+    if ticket.call.is_drain() {
         fire_due(dispatch, tail, ticket.caller, wakes);
     }
 }
@@ -208,13 +207,6 @@ pub(crate) fn end_ticket(
     wake(dispatch, tail, run, wakes);
 }
 
-/// Whether the worker is sent to the reserve.
-fn is_retired(reply: Reply) -> bool
-    ensures { result ≡ is_retire_reply reply }
-{
-    matches!(reply, Reply::Retired)
-}
-
 /// The worker is sent to the reserve, if it would be.
 fn retire(
     dispatch: &mut Dispatch,
@@ -232,7 +224,8 @@ fn retire(
     ensures stays { Stays dispatch.old dispatch.new }
 {
     let who = Who::Worker(worker);
-    if !is_retired(dispatch.execution().reply(who, Call::Retire)) {
+    let told = dispatch.execution().reply(who, Call::Retire);
+    if !told.is_retired() {
         return false;
     }
     let retired = enter(dispatch, tail, who, Call::Retire, wakes);

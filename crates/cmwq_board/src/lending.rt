@@ -2,10 +2,10 @@
 
 ghost use Rattle.std.specs.Prelude.{◌≡◌};
 ghost use Rattle.std.specs.List.{list_any};
-ghost use Rattle.cmwq_board.specs.Lent.{drains, is_drain, is_left};
+ghost use Rattle.cmwq_board.specs.Lent.{drains, is_left};
 ghost use Rattle.cmwq_board.specs.Waits.{is_free};
 
-use cmwq_model::{Call, Ticket, WorkerId};
+use cmwq_model::{Ticket, WorkerId};
 
 /// What a caller that is lent to waits does.
 #[derive(Clone, Copy, Debug)]
@@ -46,7 +46,7 @@ impl Lending {
     {
         match self {
             Lending::Free => false,
-            Lending::Waits { ticket, .. } | Lending::Left { ticket } => is_drain(&ticket.call),
+            Lending::Waits { ticket, .. } | Lending::Left { ticket } => ticket.call.is_drain(),
         }
     }
 }
@@ -56,13 +56,6 @@ pub(crate) fn any_left(lent: &[Lending]) -> bool
     ensures { result ≡ list_any is_left lent.now }
 {
     lent.iter().any(|lending| lending.is_left())
-}
-
-/// Whether this call waits until a queue is empty, after which timers fire that were held back.
-pub(crate) fn is_drain(call: &Call) -> bool
-    ensures { result ≡ is_drain call.now }
-{
-    matches!(call, Call::Drain { .. })
 }
 
 /// Whether any of them drains.

@@ -3,7 +3,7 @@ ghost use Rattle.std.specs.Prelude.{◌≡◌, ◌+◌, ◌<◌, ◌∷◌, leng
 ghost use Rattle.cmwq_model.specs.Prelude.{is_by, item_at, item_of, past_of, same_worker, start_in};
 ghost use Rattle.cmwq_chart.specs.CallerWaits.{caller_number, HasCallerNumber};
 
-use cmwq_model::{Call, CallerId, Entry, Number, Reply, Start, Who, WorkerId};
+use cmwq_model::{CallerId, Entry, Number, Reply, Start, Who, WorkerId};
 
 /// The entry with this number.
 #[tactic(auto, using(cmwq_model::proofs::Growing::past_more))]
@@ -17,18 +17,9 @@ pub(crate) fn entry_at(entries: &[Entry], number: usize) -> Entry
 pub(crate) fn item_of(entry: Entry) -> Option<u16>
     ensures { result ≡ item_of entry }
 {
-    match entry.call {
-        Call::Queue { item, .. }
-        | Call::Delay { item, .. }
-        | Call::Modify { item, .. }
-        | Call::Cancel { item }
-        | Call::FlushItem { item }
-        | Call::FlushDelayed { item }
-        | Call::CancelSync { item } => Some(item.0),
-        _ => match entry.reply {
-            Reply::Fired(item, _) => Some(item.0),
-            _ => None,
-        },
+    match entry.item() {
+        Some(item) => Some(item.0),
+        None => None,
     }
 }
 

@@ -1,6 +1,6 @@
 //! Waits of callers, in rows.
 ghost use Rattle.std.specs.Prelude.{◌≡◌, ◌+◌, ◌≤◌, List, [], ◌∷◌, ◌++◌, All, length, option_to_list, IfOk, OnOk};
-ghost use Rattle.cmwq_model.specs.Prelude.{past_of, is_at, is_done, most_tickets};
+ghost use Rattle.cmwq_model.specs.Prelude.{past_of, is_at, most_tickets};
 ghost use Rattle.cmwq_chart.specs.CallerWaits as spec;
 
 use crate::entries::{caller_number, entry_at, is_call_of};
@@ -198,12 +198,6 @@ fn is_end_answer(reply: Reply) -> bool
     matches!(reply, Reply::Done | Reply::Waiting(_))
 }
 
-fn is_done(reply: Reply) -> bool
-    ensures { result ≡ is_done reply }
-{
-    matches!(reply, Reply::Done)
-}
-
 /// The sign in a row of an entry of the caller at this place.
 fn sign_on(
     rows: &[Option<u32>],
@@ -221,7 +215,7 @@ fn sign_on(
         caller,
         row: row as u32,
         at: place,
-        is_done: is_done(entry.reply),
+        is_done: entry.reply.is_done(),
     })
 }
 

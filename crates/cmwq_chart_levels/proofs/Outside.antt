@@ -18,7 +18,7 @@ use Rattle.cmwq_model.specs.declared.reply.Reply.{Reply}
 use Rattle.cmwq_model.specs.declared.reply.Reply.TheVariants as reply
 use Rattle.cmwq_model.specs.Prelude.{Layout, most_cpus, same_place, width, max_active, is_frozen, frozen_after}
 use Rattle.cmwq_model.specs.Prelude.{is_freezable, sets_max, width_told}
-use Rattle.cmwq_theory_steps.specs.Looks.{keeps_widths}
+use Rattle.cmwq_model.specs.Widths.{keeps_widths}
 use Rattle.cmwq_chart.specs.declared.levels.Level.{Level}
 use Rattle.cmwq_chart.specs.Levels.{height_at, level_number}
 use Rattle.cmwq_chart_levels.specs.declared.affected.PlaceRange.{PlaceRange}

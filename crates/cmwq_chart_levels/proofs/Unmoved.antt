@@ -13,7 +13,7 @@ use Rattle.cmwq_model.specs.declared.entry.Entry.{Entry}
 use Rattle.cmwq_model.specs.declared.record.Place.{Place}
 use Rattle.cmwq_model.specs.declared.record.Queueing.{Queueing}
 use Rattle.cmwq_model.specs.Prelude.{Layout, IsLegal, opening, queueings, still_open, is_active, newly_active, width}
-use Rattle.cmwq_theory_steps.specs.Looks.{keeps_widths}
+use Rattle.cmwq_model.specs.Widths.{keeps_widths}
 use Rattle.cmwq_theory_steps.proofs.Widths.{width_same}
 use Rattle.cmwq_theory_steps.specs.Histories.{one}
 use Rattle.cmwq_theory_steps.specs.Endings.{ending}

@@ -6,7 +6,7 @@ use Rattle.cmwq_model.specs.declared.entry.Entry.{Entry}
 use Rattle.cmwq_model.specs.declared.record.Place.{Place}
 use Rattle.cmwq_model.specs.declared.record.Queueing.{Queueing}
 use Rattle.cmwq_model.specs.Prelude.{Layout}
-use Rattle.cmwq_theory_steps.specs.Looks.{keeps_widths}
+use Rattle.cmwq_model.specs.Widths.{keeps_widths}
 use Rattle.cmwq_state.specs.declared.effect.Effect.{Effect}
 use Rattle.cmwq_chart.specs.declared.levels.Height.{Height}
 use Rattle.cmwq_chart.specs.declared.levels.Level.{Level}

@@ -16,7 +16,7 @@ use cmwq_rt_scripts::Scripts;
 use std::sync::Wait;
 
 /// Where a caller stands in its script: the calls that it makes next, in one hold of the hub's lock, and how many it
-/// has left out for want of room.
+/// has left out for lack of room.
 #[derive(Drop)]
 struct Way {
     next: Batch,

@@ -24,7 +24,7 @@ pub enum Failure {
     /// 4 no place for a caller, 5 closed, 6 a stranger, 7 no thread.
     #[error("run fault {number}")]
     Run { number: u8 },
-    /// A run or a caller looked at this gate in vain, and so many calls were left out for want of room.
+    /// A run or a caller looked at this gate in vain, and so many calls were left out for lack of room.
     #[error("gate {name} was not opened")]
     Gate { name: GateName, left_out: u64 },
     /// This went wrong at a lock.

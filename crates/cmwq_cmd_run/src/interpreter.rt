@@ -16,7 +16,7 @@ use crate::refusals::{ActionId, Refusals, RefusedWaits};
 use crate::room::unless_full;
 use cmwq_json_script::{Action, Holder};
 use cmwq_model::{Call, ItemId, Reply};
-use cmwq_rt::{Gate, Gates, HubName, LeftOut, RunCtx, RunFault, WaitFault, Work};
+use cmwq_rt::{Calls, Gate, Gates, HubName, LeftOut, RunCalls, RunCtx, RunFault, WaitFault, Work};
 use std::sync::Wait;
 
 /// Interprets a script: runs an item by doing its actions, one after another, and does those of a caller. All share the

@@ -5,7 +5,7 @@ ghost use Rattle.cmwq_cmd_run.specs.Interpreted.{TakesLock};
 
 use crate::room::unless_full;
 use cmwq_json_script::Holder;
-use cmwq_rt::{HubName, RunCtx, RunFault};
+use cmwq_rt::{HubName, RunCalls, RunCtx, RunFault};
 use std::sync::{Mutex, MutexGuard, Wait};
 use std::thread;
 

@@ -29,7 +29,7 @@ use std::time::Clock;
 /// How a run ended whose history is written.
 #[derive(Clone, Copy, Debug)]
 pub struct Done {
-    /// How many calls were left out for want of room.
+    /// How many calls were left out for lack of room.
     pub full: u64,
     /// How many waits of runs were left out.
     pub left_out: LeftOut,
@@ -221,7 +221,7 @@ fn run<S: Source, O: Sink, R: Threads + Wait + Clock + Sync>(
 /// left out and at refused waits the history is written all the same; at a fault of writing a front of it is; at all
 /// else nothing is. With a journal the history is whole at a gate and at a lock too, and at want of memory and at a
 /// fault of the hub or of writing a front of a legal history is written. Where it is to explain, of a gate it is told
-/// too how many calls were left out for want of room, if any were.
+/// too how many calls were left out for lack of room, if any were.
 pub fn run_run<S: Source, O: Sink, E: Sink, R: Threads + Wait + Clock + Sync>(
     rt: &R,
     alloc: Global,

@@ -12,8 +12,8 @@ ghost use Rattle.cmwq_demo_hub.specs.Numbers.{HasNumbers};
 
 use anyhow::{Context, Result, ensure};
 use cmwq_rt::{
-    Call, Caller, Counts, CpuId, Entry, Hub, HubName, HubParts, ItemId, Participants, QueueId,
-    QueueShape, RunCtx, RunFault, Shape, Work, all_fit, check,
+    Call, Caller, CallerCalls, Calls, Counts, CpuId, Entry, Hub, HubCaller, HubName, HubParts,
+    ItemId, Participants, QueueId, QueueShape, RunCtx, RunFault, Shape, Work, all_fit, check,
 };
 use std::marker::Brand;
 use std::sync::Wait;
@@ -102,13 +102,15 @@ struct Service<N: HubName> {
 impl<N: HubName> Service<N> {
     /// A writer's thread: each line puts the writing off. After each tenth comes a pause, unless `busy` sees, without a
     /// lock, that the writing neither is pending nor runs.
-    fn gather<R: Wait>(&self, rt: &R, mut writer: Caller<N>) -> Result<(), RunFault> {
+    fn gather<R: Wait>(&self, rt: &R, caller: Caller<N>) -> Result<(), RunFault> {
+        let hub = &self.hub;
+        let mut writer = HubCaller { rt, hub, caller };
         for line in 1..=LINES {
             self.log.waiting.fetch_add(1, Ordering::SeqCst);
-            writer.modify(rt, &self.hub, WRITE, WRITING, CPU, QUIET)?;
-            writer.tick(rt, &self.hub, 1)?;
-            if line % 10 == 0 && writer.busy(WRITE) != Some(0) {
-                writer.tick(rt, &self.hub, QUIET)?;
+            writer.modify(WRITE, WRITING, CPU, QUIET)?;
+            writer.tick(1)?;
+            if line % 10 == 0 && writer.caller.busy(WRITE) != Some(0) {
+                writer.tick(QUIET)?;
             }
         }
         Ok(())
@@ -116,13 +118,15 @@ impl<N: HubName> Service<N> {
 
     /// Ends the service, after its writers: the delay of the last writing goes by, its end is waited for, and the file
     /// is closed.
-    fn shut_down<R: Wait>(&self, rt: &R, mut keeper: Caller<N>) -> Result<(), RunFault> {
-        keeper.tick(rt, &self.hub, QUIET)?;
-        keeper.flush(rt, &self.hub, WRITING)?;
-        keeper.queue(rt, &self.hub, ROTATE, ROTATING, CPU)?;
+    fn shut_down<R: Wait>(&self, rt: &R, caller: Caller<N>) -> Result<(), RunFault> {
+        let hub = &self.hub;
+        let mut keeper = HubCaller { rt, hub, caller };
+        keeper.tick(QUIET)?;
+        keeper.flush(WRITING)?;
+        keeper.queue(ROTATE, ROTATING, CPU)?;
         for queue in [WRITING, ROTATING] {
-            keeper.drain(rt, &self.hub, queue)?;
-            keeper.destroy(rt, &self.hub, queue)?;
+            keeper.drain(queue)?;
+            keeper.destroy(queue)?;
         }
         Ok(())
     }

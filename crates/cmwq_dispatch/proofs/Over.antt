@@ -22,7 +22,7 @@ use Rattle.cmwq_lemmas.proofs.Lists.{count_by-cons, count_by-none}
 use Rattle.cmwq_lemmas.proofs.Members.{In, all_in, found, in_append, in_filter, in_left, filter_in}
 use Rattle.cmwq_theory_steps.specs.Endings.{ending, survives}
 use Rattle.cmwq_theory_steps.specs.Activations.{behind_width, is_below_max_active_at_once, waits}
-use Rattle.cmwq_theory_steps.specs.Looks.{keeps_widths}
+use Rattle.cmwq_model.specs.Widths.{keeps_widths}
 use Rattle.cmwq_theory_steps.specs.Refusals.{is_refusal}
 use Rattle.cmwq_theory_steps.proofs.Activated.{next_holds}
 use Rattle.cmwq_theory_steps.proofs.Causes.{Cause, cause_of}

@@ -2,22 +2,22 @@
 
 ghost use Rattle.cmwq_explain.specs.Written.{WritesLittle};
 
-use crate::form::{Form, Reader};
-use crate::head::{Input, tell_first_queue, tell_shape};
 use crate::kept::MOST_KEPT;
 use crate::looks::tell_bytes;
+use crate::numbers::Sizes;
 use crate::place::{InputLine, line_of, stage_before};
 use crate::rooms::{tell_long, tell_no_room};
-use crate::shapes::{Sizes, tell_misfit};
 use crate::text::Text;
 use crate::told::tell_text;
 use crate::verdict::tell_verdict;
 use crate::words::word_at;
-use crate::wrong::tell_line;
+use crate::wrong::{RefusedLine, tell_line};
 use cmwq_base::{
     Call, Entry, FileLine, Gather, Listed, Memory, Refusal, Sink, Stage, Who, read_file,
 };
-use cmwq_text::{begins_queue, read_call_of_format, read_entry_of_format};
+use cmwq_text::{
+    Form, begins_queue, is_calls_line, is_version_line, read_call_of_format, read_entry_of_format,
+};
 use std::alloc::Global;
 
 /// The status of a refused input.
@@ -31,6 +31,32 @@ const FULL: u8 = 4;
 
 /// The status of a fault of reading, writing or running.
 const FAULT: u8 = 5;
+
+/// What kind of file a subcommand reads, and its name.
+#[derive(Clone, Copy)]
+struct Reading<'a> {
+    form: Form,
+    word: &'a str,
+}
+
+impl Reading<'_> {
+    /// Whether it reads calls.
+    fn is_calls(self) -> bool {
+        matches!(self.form, Form::Call)
+    }
+
+    /// Tells at the beginning of a line that a file is another, and what the subcommand reads.
+    fn tell(self, text: &mut Text, number: u64, what: &str) {
+        text.place(number, 0);
+        text.say(what);
+        text.say(self.word);
+        text.say(if self.is_calls() {
+            " reads calls"
+        } else {
+            " reads a history"
+        });
+    }
+}
 
 /// Tells why a file of calls was refused by a word that ended with this status, or which of its calls had no room
 /// first, as one line. Where there is nothing to tell, as of want of memory, nothing is written. A failing sink changes
@@ -49,7 +75,8 @@ pub fn explain_calls<E: Sink>(alloc: Global, word: &str, status: u8, bytes: &[u8
         }
         Err(refusal) if status == FULL => tell_front(alloc, &mut text, bytes, refusal),
         Err(refusal) if status == REFUSED => {
-            tell_refusal::<(Who, Call)>(alloc, &mut text, bytes, refusal, Input::Calls, word);
+            let form = Form::Call;
+            tell_refusal::<(Who, Call)>(alloc, &mut text, bytes, refusal, Reading { form, word });
         }
         Ok(_) | Err(_) => {}
     }
@@ -101,7 +128,8 @@ pub fn explain_history<E: Sink>(
             tell_verdict(alloc, &mut text, file.version, &file.all);
         }
         Err(refusal) if status == REFUSED => {
-            tell_refusal::<Entry>(alloc, &mut text, bytes, refusal, Input::History, word);
+            let form = Form::Entry;
+            tell_refusal::<Entry>(alloc, &mut text, bytes, refusal, Reading { form, word });
         }
         Ok(_) | Err(_) => {}
     }
@@ -114,15 +142,19 @@ fn tell_refusal<T: FileLine + Drop>(
     text: &mut Text,
     bytes: &[u8],
     refusal: Refusal,
-    input: Input,
-    word: &str,
+    reading: Reading<'_>,
 ) {
+    if begins_json(bytes) {
+        let what = "this is JSON; run and explore read scripts, replay reads scenarios, and ";
+        reading.tell(text, 1, what);
+        return;
+    }
     match refusal {
         Refusal::BadLine(number) | Refusal::BadShape(number) | Refusal::NoSuchId(number) => {
             if let Some(stage) = stage_before::<T>(alloc, bytes, number) {
                 match line_of(bytes, number) {
-                    Some(place) => tell_place(text, place, &stage, input, word),
-                    None => tell_end(text, number, &stage, input),
+                    Some(line) => tell_place(text, line, &stage, reading),
+                    None => tell_end(text, number, &stage, reading),
                 }
             }
         }
@@ -131,28 +163,39 @@ fn tell_refusal<T: FileLine + Drop>(
     }
 }
 
+/// Whether an input begins as a script or a scenario does.
+fn begins_json(bytes: &[u8]) -> bool {
+    let first = bytes.iter().find(|byte| !byte.is_ascii_whitespace());
+    first == Some(&b'{')
+}
+
 /// Tells what is missing where a file ends.
 fn tell_end<T: FileLine + Drop>(
     text: &mut Text,
     number: u64,
     stage: &Stage<Listed<T>>,
-    input: Input,
+    reading: Reading<'_>,
 ) {
+    let (before, missing) = match stage {
+        Stage::Begin | Stage::Opened { .. } => (0, "the shape, as \"shape 1 2 1 3 100\""),
+        Stage::Head { queues, .. } if queues.is_empty() => (0, "the first queue, as \"wq 1 -\""),
+        Stage::Body { all, .. } if !reading.is_calls() => (all.len(), ""),
+        Stage::Head { .. } if !reading.is_calls() => (0, ""),
+        Stage::Head { .. } | Stage::Body { .. } | Stage::Ended { .. } => (0, "another line"),
+    };
     text.place(number, 0);
-    text.say("here ends the input; expected is ");
-    match stage {
-        Stage::Begin | Stage::Opened { .. } => text.say("the shape, as \"shape 1 2 1 3 100\""),
-        Stage::Head { queues, .. } if queues.is_empty() => text.say(
-            "the first queue, as \"wq 1 -\"",
-        ),
-        Stage::Head { .. } if input == Input::History => text.say("\"end 0\""),
-        Stage::Body { all, .. } if input == Input::History => {
-            text.say("\"end ");
-            text.number(all.len());
-            text.say("\"");
-        }
-        Stage::Head { .. } | Stage::Body { .. } | Stage::Ended { .. } => text.say("another line"),
+    text.say("the input ends here; expected ");
+    text.say(missing);
+    if missing.is_empty() {
+        say_last(text, before);
     }
+}
+
+/// Says the last line of a history with so many entries.
+fn say_last(text: &mut Text, entries: u64) {
+    text.say("\"end ");
+    text.number(entries);
+    text.say("\"");
 }
 
 /// Tells what is wrong with a line, by what stands before it.
@@ -160,8 +203,7 @@ fn tell_place<T: FileLine + Drop>(
     text: &mut Text,
     place: InputLine<'_>,
     stage: &Stage<Listed<T>>,
-    input: Input,
-    word: &str,
+    reading: Reading<'_>,
 ) {
     let InputLine { number, bytes, .. } = place;
     if let Stage::Ended { .. } = stage {
@@ -177,113 +219,112 @@ fn tell_place<T: FileLine + Drop>(
         text.say("the last line has no line feed");
         return;
     }
-    match stage {
-        Stage::Begin => tell_shape(text, number, bytes, 1, input, word),
-        Stage::Opened { version } => tell_shape(text, number, bytes, *version, input, word),
+    let (version, sizes, before) = match stage {
         Stage::Head {
             version,
             counts,
             queues,
-        } => {
-            let queues = queues.len();
-            let sizes = Sizes {
-                counts: *counts,
-                queues,
-            };
-            if queues == 0 || begins_queue(bytes) {
-                tell_queue(text, number, bytes, *version, input, queues);
-            } else {
-                tell_item(text, number, bytes, *version, input, sizes, 0, word);
-            }
+        } => (*version, Some((*counts, queues.len())), 0),
+        Stage::Body { version, all } | Stage::Ended { version, all } => {
+            (
+                *version,
+                Some((all.shape.counts(), all.shape.queues().len())),
+                all.len(),
+            )
         }
-        Stage::Body { version, all } => {
-            let sizes = Sizes {
-                counts: all.shape.counts(),
-                queues: all.shape.queues().len(),
-            };
-            tell_item(text, number, bytes, *version, input, sizes, all.len(), word);
+        Stage::Opened { version } => (*version, None, 0),
+        Stage::Begin => (1, None, 0),
+    };
+    let line = RefusedLine {
+        number,
+        bytes,
+        form: Form::Shape,
+        version,
+        sizes: None,
+    };
+    match (sizes, stage) {
+        (None, _) => tell_shape(text, line, reading),
+        (Some((_, queues)), Stage::Head { .. }) if queues == 0 || begins_queue(bytes) => {
+            tell_queue(text, line, queues, reading);
         }
-        Stage::Ended { .. } => {}
+        (Some((counts, queues)), _) => {
+            let sizes = Some(Sizes { counts, queues });
+            let form = reading.form;
+            tell_item(
+                text,
+                RefusedLine {
+                    form,
+                    sizes,
+                    ..line
+                },
+                before,
+                reading,
+            );
+        }
+    }
+}
+
+/// Tells what is wrong with a line where that of the shape should stand.
+fn tell_shape(text: &mut Text, line: RefusedLine<'_>, reading: Reading<'_>) {
+    let RefusedLine { number, bytes, .. } = line;
+    let is_history = is_version_line(2, bytes) || is_version_line(3, bytes);
+    if reading.is_calls() && is_history {
+        reading.tell(text, number, "this is a history; ");
+    } else if !reading.is_calls() && is_calls_line(3, bytes) {
+        reading.tell(text, number, "these are calls; ");
+    } else if bytes.starts_with(b"history ") || bytes.starts_with(b"calls ") {
+        text.place(number, 0);
+        text.quoted(bytes);
+        text.say(if reading.is_calls() {
+            " is not a first line of calls; there is \"calls 3\", or none"
+        } else {
+            " is not a first line of a history; there are \"history 2\" and \"history 3\", or none"
+        });
+    } else {
+        let _ = tell_line(text, line);
     }
 }
 
 /// Tells what is wrong with the line of a queue, where so many stand before it.
-fn tell_queue(text: &mut Text, number: u64, line: &[u8], version: u8, input: Input, queues: usize) {
-    let reader = Reader {
-        form: input.queues(),
-        version,
+fn tell_queue(text: &mut Text, line: RefusedLine<'_>, queues: usize, reading: Reading<'_>) {
+    let form = if reading.is_calls() {
+        Form::CallsQueue
+    } else {
+        Form::Queue
     };
-    if reader.takes(line) {
-        text.place(number, 0);
+    if !begins_queue(line.bytes) {
+        text.place(line.number, 0);
+        text.quoted(line.bytes);
+        text.say(": expected the first queue, as \"wq 1 -\"");
+    } else if !tell_line(text, RefusedLine { form, ..line }) {
+        text.place(line.number, 0);
         text.say("one queue too many: at most ");
         text.number(queues as u64);
-    } else {
-        tell_first_queue(text, number, line, version, input);
     }
 }
 
 /// Tells what is wrong with a line after the queues, where so many stand before it.
-fn tell_item(
-    text: &mut Text,
-    number: u64,
-    line: &[u8],
-    version: u8,
-    input: Input,
-    sizes: Sizes,
-    before: u64,
-    word: &str,
-) {
-    let reader = Reader {
-        form: input.lines(),
-        version,
-    };
-    if reader.takes(line) {
-        tell_misfit(text, number, line, reader, sizes);
-    } else if begins_queue(line) {
+fn tell_item(text: &mut Text, line: RefusedLine<'_>, before: u64, reading: Reading<'_>) {
+    let RefusedLine { number, bytes, .. } = line;
+    if begins_queue(bytes) {
         text.place(number, 0);
         text.say("a queue may not stand after the first ");
-        text.say(if input == Input::Calls {
-            "call"
-        } else {
-            "entry"
-        });
-    } else if tell_other(text, number, line, input, word) {} else if word_at(line, 0)
-        == Some(b"end".as_slice())
-    {
+        text.say(if reading.is_calls() { "call" } else { "entry" });
+    } else if reading.is_calls() && read_entry_of_format(3, bytes).is_some() {
+        reading.tell(text, number, "this is an entry of a history; ");
+    } else if !reading.is_calls() && read_call_of_format(3, bytes).is_some() {
+        reading.tell(text, number, "this is a call; ");
+    } else if word_at(bytes, 0) == Some(b"end".as_slice()) {
         text.place(number, 0);
-        text.quoted(line);
-        tell_last(text, version, input, before);
+        text.quoted(bytes);
+        if reading.is_calls() || line.version < 3 {
+            text.say(": only a history of format 3 has a last line");
+        } else {
+            text.say("; expected ");
+            say_last(text, before);
+            text.say(", after so many entries");
+        }
     } else {
-        tell_line(text, number, line, reader);
+        let _ = tell_line(text, line);
     }
-}
-
-/// Tells what is wrong with a last line.
-fn tell_last(text: &mut Text, version: u8, input: Input, before: u64) {
-    if input == Input::Calls || version < 3 {
-        text.say(": only a history of format 3 has a last line");
-    } else {
-        text.say("; expected is \"end ");
-        text.number(before);
-        text.say("\", after so many entries");
-    }
-}
-
-/// Tells a line of the other kind of file. False: it is none.
-fn tell_other(text: &mut Text, number: u64, line: &[u8], input: Input, word: &str) -> bool {
-    let what = match input {
-        Input::Calls if read_entry_of_format(3, line).is_some() =>
-            "this is an entry of a history; ",
-        Input::History if read_call_of_format(3, line).is_some() => "this is a call; ",
-        Input::Calls | Input::History => return false,
-    };
-    text.place(number, 0);
-    text.say(what);
-    text.say(word);
-    text.say(if input == Input::Calls {
-        " reads calls"
-    } else {
-        " reads a history"
-    });
-    true
 }

@@ -3,21 +3,13 @@
 #![tactic(auto)]
 
 mod files;
-mod fit;
-mod flags;
-mod form;
 mod gates;
-mod head;
 mod kept;
-mod kind;
-mod limits;
 mod looks;
 mod nearest;
-mod number;
+mod numbers;
 mod place;
 mod rooms;
-mod samples;
-mod shapes;
 mod text;
 mod told;
 mod verdict;
@@ -27,6 +19,7 @@ mod wrong;
 pub use files::{explain_calls, explain_history, explain_unkept};
 pub use gates::explain_gate;
 pub use kept::{Kept, MOST_KEPT};
-pub use nearest::likely;
+pub use nearest::say_names;
+pub use numbers::{say_count, say_limit};
 pub use text::Text;
 pub use told::tell_text;

@@ -41,6 +41,6 @@ fn strange(line: &[u8], at: usize, byte: u8) -> Option<&'static str> {
             Some("two spaces; words stand apart by one")
         }
         b' '..=b'~' => None,
-        _ => Some("a byte that is no letter, digit or sign of ASCII"),
+        _ => Some("a byte that is not a letter, digit or sign of ASCII"),
     }
 }

@@ -65,33 +65,12 @@ impl Text {
             }
             _ => {
                 self.say("\\x");
-                self.digit(byte / 16);
-                self.digit(byte % 16);
+                for digit in [byte / 16, byte % 16] {
+                    let letter = b"0123456789abcdef".get(usize::from(digit));
+                    let _ = self.text.try_push(char::from(*letter.unwrap_or(&b'0')));
+                }
             }
         }
-    }
-
-    /// Says a hexadecimal digit.
-    fn digit(&mut self, digit: u8) {
-        let text = match digit {
-            0 => "0",
-            1 => "1",
-            2 => "2",
-            3 => "3",
-            4 => "4",
-            5 => "5",
-            6 => "6",
-            7 => "7",
-            8 => "8",
-            9 => "9",
-            10 => "a",
-            11 => "b",
-            12 => "c",
-            13 => "d",
-            14 => "e",
-            _ => "f",
-        };
-        self.say(text);
     }
 
     /// Says where in a file something is: the line, and the column of a byte of it, both from 1.

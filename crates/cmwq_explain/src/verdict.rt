@@ -4,7 +4,6 @@ ghost use Rattle.std.specs.Prelude.{◌≡◌, ◌<◌, IfSome, length, true};
 ghost use Rattle.cmwq_model.specs.Prelude.{AllFit, fits};
 
 use crate::rooms::head_lines;
-use crate::samples::reply_at;
 use crate::text::Text;
 use crate::words::start_of;
 use cmwq_base::{Entry, Listed, Wanted};
@@ -68,13 +67,14 @@ pub fn tell_verdict(alloc: Global, text: &mut Text, version: u8, file: &Listed<E
         .saturating_add(at as u64)
         .saturating_add(1);
     let line = entry_line(&entry);
-    let word = match wanted {
-        Wanted::Serial(_) => 1,
-        Wanted::Reply(_) => reply_at(line.as_bytes()).unwrap_or(0),
+    let reply = line.as_bytes().iter().position(|byte| *byte == b'=');
+    let start = match wanted {
+        Wanted::Serial(_) => start_of(line.as_bytes(), 1),
+        Wanted::Reply(_) => reply.unwrap_or(0).saturating_add(2),
     };
-    text.place(number, start_of(line.as_bytes(), word));
+    text.place(number, start);
     say_entry(text, entry);
-    text.say("; expected is ");
+    text.say("; expected ");
     say_entry(text, due);
 }
 

@@ -1,344 +1,307 @@
 //! The first word of a line that can't stand there, and what can.
 
-use crate::fit::{MOST_SAMPLES, common, reach};
-use crate::flags::flags_meant;
-use crate::form::{Form, Reader};
-use crate::kind::kind_of;
-use crate::limits::{greatest, least};
-use crate::nearest::likely;
-use crate::number::{are_digits, has_sign, has_zero, number_of};
-use crate::samples::{Family, reply_at, sample_of};
+use crate::nearest::say_names;
+use crate::numbers::{Sizes, names_of, say_count, say_limit};
 use crate::text::Text;
-use crate::words::{Built, count_words, start_of, word_at};
+use crate::words::{front_of, start_of, word_at};
+use arrayvec::ArrayVec;
+use cmwq_model::Who;
+use cmwq_text::{
+    Expected, Form, KEYWORDS, Keyword, NumberOf, expected_after, is_new_at, limits,
+    read_call_of_format, read_entry_of_format, read_number,
+};
 
-/// A line that a reader refuses, its number, and the samples that it is compared with.
+/// The format that allows the most.
+const NEWEST: u8 = 3;
+
+/// How many keywords there are.
+const KEYWORD_COUNT: usize = KEYWORDS.len();
+
+/// The keywords after `ticket <k>`, in the order in which they are told.
+const AFTER_TICKET: [Keyword; 4] = [
+    Keyword::Queued,
+    Keyword::Cancelled,
+    Keyword::Unbooked,
+    Keyword::No,
+];
+
+/// A line that was refused: its number, its bytes, what it should be in which format, and the sizes of what it names,
+/// where they are known.
 #[derive(Clone, Copy)]
-pub struct Wrong<'a> {
+pub struct RefusedLine<'a> {
     pub number: u64,
-    pub line: &'a [u8],
-    pub reader: Reader,
-    pub family: Family,
+    pub bytes: &'a [u8],
+    pub form: Form,
+    pub version: u8,
+    pub sizes: Option<Sizes>,
 }
 
-/// Tells why a line is refused: of an entry first by its call, and then by its reply.
-pub fn tell_line(text: &mut Text, number: u64, line: &[u8], reader: Reader) {
-    let wrong = Wrong {
-        number,
-        line,
-        reader,
-        family: match reader.form {
-            Form::Shape | Form::CallsQueue | Form::Queue => Family::Head,
-            Form::Call | Form::Entry => Family::Calls,
-        },
-    };
-    let at = reach(reader, wrong.family, line);
-    match call_end(wrong) {
-        Some(end) if at >= end && has_call(wrong, at, end) => tell_behind(text, wrong, at),
-        _ => tell_word(text, wrong, at),
+impl RefusedLine<'_> {
+    /// Says where a word of it is.
+    pub fn say_place(self, text: &mut Text, index: usize) {
+        text.place(self.number, start_of(self.bytes, index));
     }
-}
 
-/// How many words a line has with its call, and in an entry with the `=` after that. None: it is no line with a call,
-/// or lacks it.
-fn call_end(wrong: Wrong<'_>) -> Option<usize> {
-    match wrong.reader.form {
-        Form::Shape | Form::CallsQueue | Form::Queue => None,
-        Form::Call => Some(count_words(wrong.line)),
-        Form::Entry => reply_at(wrong.line),
-    }
-}
-
-/// Whether one of the best samples has its whole call within so many words.
-fn has_call(wrong: Wrong<'_>, at: usize, end: usize) -> bool {
-    for number in 0..MOST_SAMPLES {
-        if let Some(sample) = best(wrong, at, number) {
-            let sample = sample.as_slice();
-            if wrong.reader.form == Form::Entry || count_words(sample) == end {
-                return true;
-            }
+    /// Who is in it, if it is right but for what the shape has.
+    fn who(self) -> Option<Who> {
+        match self.form {
+            Form::Call => Some(read_call_of_format(self.version, self.bytes)?.0),
+            Form::Entry => Some(read_entry_of_format(self.version, self.bytes)?.who),
+            Form::Shape | Form::CallsQueue | Form::Queue => None,
         }
+    }
+}
+
+/// Tells what is wrong with a line: who is in it if there is no such, or the first word that can't stand there, and
+/// what can. False: nothing is.
+pub fn tell_line(text: &mut Text, line: RefusedLine<'_>) -> bool {
+    if tell_who(text, line) {
+        return true;
+    }
+    let mut before = expected_after(line.form, b"");
+    for index in 0..=line.bytes.len() {
+        let after = expected_after(line.form, front_of(line.bytes, index));
+        if tell_at(text, line, index, before, after) {
+            return true;
+        }
+        before = after;
     }
     false
 }
 
-/// Tells what is wrong with a line in which the words of who and call are right: who makes such calls, or the reply.
-fn tell_behind(text: &mut Text, wrong: Wrong<'_>, at: usize) {
-    if wrong.reader.form == Form::Entry && is_made(wrong) {
-        let wrong = Wrong {
-            family: Family::Replies,
-            ..wrong
-        };
-        tell_word(
-            text,
-            wrong,
-            reach(wrong.reader, Family::Replies, wrong.line),
-        );
-        return;
-    }
-    if let Some(who) = word_at(wrong.line, 0) {
-        let is_caller = who.first() == Some(&b'c');
-        text.place(wrong.number, start_of(wrong.line, call_index(wrong)));
-        text.raw(word_at(wrong.line, call_index(wrong)).unwrap_or(b""));
-        text.say(if is_caller {
-            " is a worker's call, and "
-        } else {
-            " is a caller's call, and "
-        });
-        text.raw(who);
-        text.say(if is_caller {
-            " is a caller"
-        } else {
-            " is a worker"
-        });
-    }
-}
-
-/// Whether who is there makes such calls: some reply may follow.
-fn is_made(wrong: Wrong<'_>) -> bool {
-    for number in 0..MOST_SAMPLES {
-        if let Some(sample) = sample_of(Form::Entry, Family::Replies, wrong.line, number) {
-            if wrong.reader.takes(sample.as_slice()) {
-                return true;
-            }
-        }
-    }
-    false
-}
-
-/// The place of the word that a call begins with.
-fn call_index(wrong: Wrong<'_>) -> usize {
-    if wrong.reader.form == Form::Entry {
-        2
-    } else {
-        1
-    }
-}
-
-/// Whether a sample goes along with a line as far as any does, and the format has it.
-fn is_best(wrong: Wrong<'_>, sample: &[u8], at: usize) -> bool {
-    wrong.reader.takes(sample) && common(wrong.reader, sample, wrong.line) == at
-}
-
-/// The sample with this number, if it is one of the best.
-fn best(wrong: Wrong<'_>, at: usize, number: usize) -> Option<Built> {
-    let sample = sample_of(wrong.reader.form, wrong.family, wrong.line, number)?;
-    if is_best(wrong, sample.as_slice(), at) {
-        Some(sample)
-    } else {
-        None
-    }
-}
-
-/// Tells the word with this place, the first that can't stand there.
-fn tell_word(text: &mut Text, wrong: Wrong<'_>, at: usize) {
-    text.place(wrong.number, start_of(wrong.line, at));
-    match word_at(wrong.line, at) {
-        None => {
-            text.say("here ends the line; expected is ");
-            say_wanted(text, wrong, at);
-        }
-        Some(word) => {
-            if !tell_number(text, wrong, at, word) {
-                tell_name(text, wrong, at, word);
-            }
-        }
-    }
-}
-
-/// Tells a word that stands where a number should. False: none should.
-fn tell_number(text: &mut Text, wrong: Wrong<'_>, at: usize, word: &[u8]) -> bool {
-    for number in 0..MOST_SAMPLES {
-        if let Some(sample) = best(wrong, at, number) {
-            let sample = sample.as_slice();
-            if let Some(wanted) = word_at(sample, at) {
-                if are_digits(wanted) {
-                    say_number(text, wrong, sample, at, word);
-                    return true;
-                }
-            }
-        }
-    }
-    false
-}
-
-/// Says what is wrong with a number.
-fn say_number(text: &mut Text, wrong: Wrong<'_>, sample: &[u8], at: usize, word: &[u8]) {
-    let wanted = word_at(sample, at).unwrap_or(b"");
-    let right = number_of(wanted).unwrap_or(0);
-    if !are_digits(word) && !has_sign(word) {
-        text.quoted(word);
-        text.say(" is no number; expected is ");
-        say_one(text, wrong, at, wanted);
-        return;
-    }
-    if let Some(kind) = kind_of(wrong.reader.form, at, wanted) {
-        text.say(kind.name());
-        text.say(" ");
-    }
-    text.raw(word);
-    if has_zero(word) {
-        text.say(": a number begins with no zero");
-    } else if has_sign(word) {
-        text.say(": a number has no sign");
-    } else {
-        say_limit(text, wrong, sample, at, number_of(word), right);
-    }
-}
-
-/// Says which limit a number passes.
-fn say_limit(
+/// Tells what is wrong at a word of a line or at its end, by what its reader expects before the word and after it.
+/// False: nothing is.
+fn tell_at(
     text: &mut Text,
-    wrong: Wrong<'_>,
-    sample: &[u8],
-    at: usize,
-    number: Option<u64>,
-    right: u64,
-) {
-    match number {
-        Some(number) if number < right => {
-            text.say(": at least ");
-            text.number(least(wrong.reader, sample, at, right));
-        }
-        _ => {
-            text.say(": at most ");
-            text.number(greatest(wrong.reader, sample, at, right));
-        }
-    }
-}
-
-/// What a name at this place is.
-fn role(wrong: Wrong<'_>, at: usize) -> &'static str {
-    match (wrong.family, wrong.reader.form) {
-        (Family::Head, Form::Shape) if at == 0 => "shape",
-        (Family::Head, _) if at == 0 => "queue",
-        (Family::Head, _) => "flags of a queue",
-        (_, _) if at == 0 => "caller and no worker",
-        (Family::Replies, _) => "reply",
-        (_, Form::Entry) if at == 2 => "call",
-        (_, Form::Call) if at == 1 => "call",
-        _ => "word of a call",
-    }
-}
-
-/// Tells a word that stands where another name should, or nothing.
-fn tell_name(text: &mut Text, wrong: Wrong<'_>, at: usize, word: &[u8]) {
-    text.quoted(word);
-    if !wants_any(wrong, at) {
-        text.say(": the line should end before it");
-        return;
-    }
-    if came_later(wrong, at) {
-        text.say(" came with format 2, and this is format 1");
-        return;
-    }
-    if let Some(flags) = flags_meant(word) {
-        text.say(": flags stand in the order of \"hif\"; did you mean \"");
-        text.raw(flags.as_slice());
-        text.say("\"?");
-        return;
-    }
-    text.say(" is no ");
-    text.say(role(wrong, at));
-    match nearest(wrong, at, word) {
-        Some(sample) => {
-            text.say("; did you mean \"");
-            text.raw(word_at(sample.as_slice(), at).unwrap_or(b""));
-            text.say("\"?");
-        }
-        None => {
-            text.say("; expected is ");
-            say_wanted(text, wrong, at);
+    line: RefusedLine<'_>,
+    index: usize,
+    before: Result<Expected, Expected>,
+    after: Result<Expected, Expected>,
+) -> bool {
+    let is_line = before.is_ok();
+    let (Ok(expected) | Err(expected)) = before;
+    match (expected, word_at(line.bytes, index)) {
+        (Expected::OtherWho, _) => tell_maker(text, line),
+        (_, None) if is_line => false,
+        (_, None) => tell_end(text, line, index, expected),
+        (Expected::Number(number), Some(word)) => tell_number(text, line, index, number, word),
+        (_, Some(word)) => {
+            let is_read = after != Err(expected);
+            tell_word(text, line, index, expected, word, is_read)
         }
     }
 }
 
-/// Whether a word may stand at this place in format 2, and not in the line's.
-fn came_later(wrong: Wrong<'_>, at: usize) -> bool {
-    let reader = Reader {
-        version: 2,
-        ..wrong.reader
+/// Tells a caller or a worker that there isn't.
+fn tell_who(text: &mut Text, line: RefusedLine<'_>) -> bool {
+    let (Some(who), Some(Sizes { counts, .. })) = (line.who(), line.sizes) else {
+        return false;
     };
-    wrong.reader.version < 2 && reach(reader, wrong.family, wrong.line) > at
+    let (name, value, count) = match who {
+        Who::Caller(caller) => ("caller ", caller.0, counts.callers),
+        Who::Worker(worker) if worker.pool.cpu.0 >= counts.cpus => {
+            ("CPU ", worker.pool.cpu.0, counts.cpus)
+        }
+        Who::Worker(worker) => ("worker ", worker.index, counts.workers),
+    };
+    if value < count {
+        return false;
+    }
+    line.say_place(text, 0);
+    text.say(name);
+    if value == u8::MAX {
+        text.say("255 or more");
+    } else {
+        text.number(u64::from(value));
+    }
+    say_count(text, u64::from(count));
+    true
 }
 
-/// Whether any word may stand at this place.
-fn wants_any(wrong: Wrong<'_>, at: usize) -> bool {
-    for number in 0..MOST_SAMPLES {
-        if let Some(sample) = best(wrong, at, number) {
-            if word_at(sample.as_slice(), at).is_some() {
+/// Tells that who is there doesn't make the call.
+fn tell_maker(text: &mut Text, line: RefusedLine<'_>) -> bool {
+    let index = if matches!(line.form, Form::Entry) { 2 } else { 1 };
+    let who = word_at(line.bytes, 0).unwrap_or(b"");
+    line.say_place(text, index);
+    text.raw(word_at(line.bytes, index).unwrap_or(b""));
+    let (makes, is) = match who.first() {
+        Some(b'c') => (" is a worker's call, and ", " is a caller"),
+        _ => (" is a caller's call, and ", " is a worker"),
+    };
+    text.say(makes);
+    text.raw(who);
+    text.say(is);
+    true
+}
+
+/// Tells that a line ends too early.
+fn tell_end(text: &mut Text, line: RefusedLine<'_>, index: usize, expected: Expected) -> bool {
+    line.say_place(text, index);
+    text.say("the line ends here");
+    say_expected(text, line, expected, b"");
+    true
+}
+
+/// Tells a word that stands where a number should, if it is none that may. False: it may stand there.
+fn tell_number(
+    text: &mut Text,
+    line: RefusedLine<'_>,
+    index: usize,
+    number: NumberOf,
+    word: &[u8],
+) -> bool {
+    let (least, most) = limits(line.form, line.version, number);
+    let count = line.sizes.and_then(|sizes| sizes.count_of(number));
+    let value = read_number(word);
+    let is_within = value.is_some_and(|value| least <= value && value <= most);
+    let is_there = match (value, count) {
+        (Some(value), Some(count)) => value < count,
+        _ => true,
+    };
+    if is_within && is_there {
+        return false;
+    }
+    line.say_place(text, index);
+    let (name, wanted) = names_of(number);
+    let digits = word
+        .strip_prefix(b"+")
+        .or(word.strip_prefix(b"-"))
+        .unwrap_or(word);
+    if digits.is_empty() || !digits.iter().all(|byte| byte.is_ascii_digit()) {
+        text.quoted(word);
+        text.say(" is not a number; expected ");
+        text.say(wanted);
+        return true;
+    }
+    text.say(name);
+    text.say(" ");
+    text.raw(word);
+    match (word, count) {
+        ([b'+' | b'-', ..], _) => text.say(": a number has no sign"),
+        ([b'0', _, ..], _) => text.say(": a number begins with no zero"),
+        (_, Some(count)) if is_within => say_count(text, count),
+        _ => {
+            say_limit(text, value, least, most);
+            say_newest(text, line, number, value);
+        }
+    }
+    true
+}
+
+/// Says the limit of a number in the newest format, if it is within that.
+fn say_newest(text: &mut Text, line: RefusedLine<'_>, number: NumberOf, value: Option<u64>) {
+    let (least, most) = limits(line.form, NEWEST, number);
+    if line.version < NEWEST && value.is_some_and(|value| least <= value && value <= most) {
+        text.say("; format 3 allows ");
+        text.number(most);
+    }
+}
+
+/// Tells a word that stands where a name should, or nothing, and whether the reader goes on after it. False: it may
+/// stand there.
+fn tell_word(
+    text: &mut Text,
+    line: RefusedLine<'_>,
+    index: usize,
+    expected: Expected,
+    word: &[u8],
+    is_read: bool,
+) -> bool {
+    let is_new = is_read && line.version == 1 && came_later(line.form, expected, word);
+    if is_read && !is_new {
+        return false;
+    }
+    line.say_place(text, index);
+    text.quoted(word);
+    if is_new {
+        text.say(" came with format 2, and this is format 1");
+        return true;
+    }
+    let role = match expected {
+        Expected::Shape => " is not a shape",
+        Expected::Queue => " is not a queue",
+        Expected::Flags => {
+            if let Some(flags) = flags_meant(word) {
+                text.say(": flags stand in the order of \"hif\"; did you mean \"");
+                text.say(flags);
+                text.say("\"?");
                 return true;
             }
+            " is not valid as flags of a queue"
         }
-    }
-    false
+        Expected::Who => " is not a caller or a worker",
+        Expected::Call => " is not a call",
+        Expected::Equals => " is not a word of a call",
+        Expected::Reply | Expected::AfterTicket | Expected::AfterStarted => " is not a reply",
+        Expected::End | Expected::OtherWho | Expected::Number(_) => {
+            text.say(": the line should end before it");
+            return true;
+        }
+    };
+    text.say(role);
+    say_expected(text, line, expected, word);
+    true
 }
 
-/// The sample whose word at this place is nearest to one, if one is near. A who has none.
-fn nearest(wrong: Wrong<'_>, at: usize, word: &[u8]) -> Option<Built> {
-    if at == 0 && wrong.family != Family::Head {
+/// Whether a word that may stand there came with format 2.
+fn came_later(form: Form, expected: Expected, word: &[u8]) -> bool {
+    match (form, expected) {
+        (Form::Queue, Expected::Flags) => word.contains(&b'f'),
+        (Form::Entry, _) => KEYWORDS.iter().copied().any(|keyword| {
+            keyword.text().as_bytes() == word && is_new_at(expected, keyword) == Some(true)
+        }),
+        _ => false,
+    }
+}
+
+/// The flags whose letters a word has in another order.
+fn flags_meant(word: &[u8]) -> Option<&'static str> {
+    ["hi", "hf", "if", "hif"].iter().copied().find(|flags| {
+        flags.len() == word.len() && flags.as_bytes().iter().all(|letter| word.contains(letter))
+    })
+}
+
+/// Says what may stand where this is expected, or which of that is likely meant by the word there.
+fn say_expected(text: &mut Text, line: RefusedLine<'_>, expected: Expected, word: &[u8]) {
+    let mut names: ArrayVec<&'static str, KEYWORD_COUNT> = ArrayVec::new();
+    if let Some(name) = name_expected(expected) {
+        let _ = names.try_push(name);
+    }
+    for number in 0..KEYWORD_COUNT {
+        if let Some(name) = keyword_expected(line, expected, number) {
+            let _ = names.try_push(name);
+        }
+    }
+    say_names(text, names.as_slice(), word);
+}
+
+/// What may stand where this is expected, if it is no keyword.
+fn name_expected(expected: Expected) -> Option<&'static str> {
+    match expected {
+        Expected::Shape => Some("shape"),
+        Expected::Queue => Some("wq"),
+        Expected::Flags => Some("-, or some of h, i and f in this order"),
+        Expected::Who => Some("a caller, as c0, or a worker, as w0n0 or w0h0"),
+        Expected::Equals => Some("="),
+        Expected::Number(number) => Some(names_of(number).1),
+        _ => None,
+    }
+}
+
+/// The text of the keyword with this number in the order in which keywords are told, if it may stand where this is
+/// expected.
+fn keyword_expected(
+    line: RefusedLine<'_>,
+    expected: Expected,
+    number: usize,
+) -> Option<&'static str> {
+    let keyword = match expected {
+        Expected::AfterTicket => AFTER_TICKET.get(number).copied()?,
+        _ => KEYWORDS.iter().copied().find(|keyword| *keyword as usize == number)?,
+    };
+    let is_new = is_new_at(expected, keyword)?;
+    if is_new && line.version == 1 && matches!(line.form, Form::Entry) {
         return None;
     }
-    let mut found = None;
-    let mut least = usize::MAX;
-    for number in 0..MOST_SAMPLES {
-        if let Some(sample) = best(wrong, at, number) {
-            if let Some(changes) = changes_to(sample.as_slice(), at, word) {
-                if changes < least {
-                    least = changes;
-                    found = Some(sample);
-                }
-            }
-        }
-    }
-    found
-}
-
-fn changes_to(sample: &[u8], at: usize, word: &[u8]) -> Option<usize> {
-    likely(word, word_at(sample, at)?)
-}
-
-/// Says all that may stand at this place, each once.
-fn say_wanted(text: &mut Text, wrong: Wrong<'_>, at: usize) {
-    if at == 0 && wrong.family != Family::Head {
-        text.say("a caller, as c0, or a worker, as w0n0 or w0h0");
-        return;
-    }
-    let mut is_first = true;
-    for number in 0..MOST_SAMPLES {
-        if let Some(sample) = best(wrong, at, number) {
-            if let Some(word) = word_at(sample.as_slice(), at) {
-                if !was_said(wrong, at, number, word) {
-                    text.say(if is_first { "" } else { ", " });
-                    say_one(text, wrong, at, word);
-                    is_first = false;
-                }
-            }
-        }
-    }
-}
-
-/// Whether a sample before this one has the same word at this place.
-fn was_said(wrong: Wrong<'_>, at: usize, before: usize, word: &[u8]) -> bool {
-    for number in 0..before {
-        if let Some(sample) = best(wrong, at, number) {
-            if word_at(sample.as_slice(), at) == Some(word) {
-                return true;
-            }
-        }
-    }
-    false
-}
-
-/// Says what a word of a sample stands for.
-fn say_one(text: &mut Text, wrong: Wrong<'_>, at: usize, word: &[u8]) {
-    if are_digits(word) {
-        text.say(match kind_of(wrong.reader.form, at, word) {
-            Some(kind) => kind.wanted(),
-            None => "a number",
-        });
-    } else if word == b"-".as_slice() {
-        text.say("-, or some of h, i and f in this order");
-    } else {
-        text.raw(word);
-    }
+    Some(keyword.text())
 }

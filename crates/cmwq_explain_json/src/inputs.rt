@@ -2,9 +2,8 @@
 
 ghost use Rattle.cmwq_explain.specs.Written.{WritesLittle};
 
-use crate::grammar::Grammar;
-use crate::objects::World;
 use crate::scripts::tell_refused;
+use crate::world::{Grammar, World};
 use arrayvec::ArrayString;
 use cmwq_explain::{Text, tell_text};
 use cmwq_io::Sink;
@@ -67,7 +66,7 @@ fn tell_input(
     let value = match Value::from_slice(alloc, bytes) {
         Ok(value) => value,
         Err(error) => {
-            tell_json(text, &error);
+            tell_json(text, bytes, &error);
             return Ok(());
         }
     };
@@ -94,9 +93,14 @@ fn refused_in(
     })
 }
 
-/// Tells where bytes are no JSON, and what the reader says of it.
-fn tell_json(text: &mut Text, error: &Error) {
+/// Tells where bytes are not JSON, and what the reader says of it; of calls and histories what reads them.
+fn tell_json(text: &mut Text, bytes: &[u8], error: &Error) {
     if error.is_memory() {
+        return;
+    }
+    let is_shape = bytes.starts_with(b"shape ");
+    if is_shape || bytes.starts_with(b"calls ") || bytes.starts_with(b"history ") {
+        text.say("this is not JSON; step reads calls, and check reads a history");
         return;
     }
     if let Ok(said) = spell(error) {

@@ -2,16 +2,12 @@
 //! expected.
 #![tactic(auto)]
 
-mod calls;
-mod grammar;
+mod actions;
 mod inputs;
-mod limits;
-mod lists;
 mod members;
-mod names;
 mod objects;
 mod scripts;
 mod used;
-mod values;
+mod world;
 
 pub use inputs::{explain_scenario, explain_script};

@@ -1,221 +1,98 @@
-//! The first member of an object that is wrong.
+//! The keys of objects, and what the value at each must be.
 
-use crate::grammar::{Member, ObjectKind};
-use crate::limits::Trial;
-use crate::lists::tell_list;
-use crate::names::say_names;
-use crate::objects::World;
-use cmwq_explain::Text;
-use serde_json::Value;
-use std::alloc::AllocError;
+use crate::world::{Grammar, World};
+use cmwq_json::Part;
+use cmwq_json_script::{MOST_KEPT, cpus_in, most_waits, room_in, workers_in};
 
-/// Which member of an input is told: a list and a place in it, or the top.
+/// A number of a script.
 #[derive(Clone, Copy)]
-pub struct Path<'a> {
-    pub list: &'a str,
-    pub index: usize,
+pub enum Quantity {
+    Cpus,
+    Workers,
+    Journal,
+    Format,
+    Room,
+    Waits,
+    MaxActive,
 }
 
-impl Path<'_> {
-    /// Says it.
-    pub fn say(self, text: &mut Text) {
-        text.say(self.list);
-        if self.list != "top" {
-            text.say(" ");
-            text.number(self.index as u64);
-        }
-    }
+/// What a value must be.
+#[derive(Clone, Copy)]
+pub enum Kind {
+    Name,
+    /// The name of a queue.
+    Queue,
+    Flag,
+    Number(Quantity),
+    List,
+    /// The burns and sleeps of an item of a scenario.
+    Parts,
+    /// The actions of an item of a script.
+    Actions,
 }
 
-/// Tells the first key or value of an object that is wrong. False: each is right by itself.
-pub fn tell_object(
-    text: &mut Text,
-    world: World<'_>,
-    place: ObjectKind,
-    path: Path<'_>,
-    value: &Value,
-) -> Result<bool, AllocError> {
-    if value.as_object().is_none() {
-        path.say(text);
-        text.say(": ");
-        say_value(text, world, value)?;
-        text.say(" is no object");
-        return Ok(true);
-    }
-    if tell_key(text, world, place, path, value)?
-        || tell_missing(text, world, place, path, value)?
-    {
-        return Ok(true);
-    }
-    for (key, sample) in world.grammar.members(place) {
-        if let Some(found) = value.get(*key) {
-            if tell_member(text, world, place, path, (key, sample), found)? {
-                return Ok(true);
-            }
-        }
-    }
-    Ok(false)
-}
+/// A key, what its value must be, and whether it may not be left out.
+pub type Member = (&'static str, Kind, bool);
 
-/// Says a value as it stands there, or its front.
-pub fn say_value(text: &mut Text, world: World<'_>, value: &Value) -> Result<(), AllocError> {
-    let spelled = value.to_string(world.alloc)?;
-    text.raw(spelled.as_str().as_bytes());
-    Ok(())
-}
+const SCRIPT: [Member; 9] = [
+    ("cpus", Kind::Number(Quantity::Cpus), true),
+    ("workers", Kind::Number(Quantity::Workers), true),
+    ("journal", Kind::Number(Quantity::Journal), false),
+    ("format", Kind::Number(Quantity::Format), false),
+    ("room", Kind::Number(Quantity::Room), true),
+    ("waits", Kind::Number(Quantity::Waits), false),
+    ("queues", Kind::List, true),
+    ("items", Kind::List, true),
+    ("callers", Kind::List, true),
+];
 
-/// The keys of an object.
-fn keys_of<'k>(
-    world: World<'_>,
-    members: &[(&'k str, &'k str)],
-) -> Result<Vec<&'k str>, AllocError> {
-    let mut keys = Vec::new(world.alloc);
-    for (key, _) in members {
-        keys.push(*key)?;
-    }
-    Ok(keys)
-}
+const SCRIPT_QUEUE: [Member; 5] = [
+    ("name", Kind::Name, true),
+    ("max_active", Kind::Number(Quantity::MaxActive), true),
+    ("intensive", Kind::Flag, true),
+    ("high", Kind::Flag, true),
+    ("freezable", Kind::Flag, false),
+];
 
-/// Tells a key that there isn't.
-fn tell_key(
-    text: &mut Text,
-    world: World<'_>,
-    place: ObjectKind,
-    path: Path<'_>,
-    value: &Value,
-) -> Result<bool, AllocError> {
-    let Some(object) = value.as_object() else {
-        return Ok(false);
-    };
-    let keys = keys_of(world, world.grammar.members(place))?;
-    for key in object.keys() {
-        if !keys.as_slice().contains(&key.as_str()) {
-            path.say(text);
-            text.say(": ");
-            text.quoted(key.as_str().as_bytes());
-            text.say(" is no key");
-            say_names(text, keys.as_slice(), key.as_str());
-            return Ok(true);
-        }
-    }
-    Ok(false)
-}
+const SCRIPT_ITEM: [Member; 2] = [("name", Kind::Name, true), ("does", Kind::Actions, true)];
 
-/// Tells a key that is missing.
-fn tell_missing(
-    text: &mut Text,
-    world: World<'_>,
-    place: ObjectKind,
-    path: Path<'_>,
-    value: &Value,
-) -> Result<bool, AllocError> {
-    for (key, _) in world.grammar.members(place) {
-        if value.get(*key).is_none() && world.needs(place, key)? {
-            path.say(text);
-            text.say(": the key \"");
-            text.say(key);
-            text.say("\" is missing");
-            return Ok(true);
-        }
-    }
-    Ok(false)
-}
+const SCENARIO: [Member; 2] = [("queues", Kind::List, true), ("items", Kind::List, true)];
 
-/// Tells the value at a key, if it is wrong.
-fn tell_member(
-    text: &mut Text,
-    world: World<'_>,
-    place: ObjectKind,
-    path: Path<'_>,
-    member: Member,
-    found: &Value,
-) -> Result<bool, AllocError> {
-    let (key, sample) = member;
-    if sample.starts_with('[') {
-        return tell_list(text, world, place, path, key, found);
-    }
-    let spelled = found.to_string(world.alloc)?;
-    if world.fits(place, key, spelled.as_str())? {
-        return Ok(false);
-    }
-    path.say(text);
-    text.say(", ");
-    text.say(key);
-    text.say(" ");
-    text.raw(spelled.as_str().as_bytes());
-    match found.as_u64() {
-        Some(number) if is_number(sample) => {
-            say_limit(text, world, place, key, Trial::Number, number)?;
-        }
-        _ => say_wanted(text, world, place, member, found)?,
-    }
-    Ok(true)
-}
+const SCENARIO_QUEUE: [Member; 3] = [
+    ("name", Kind::Name, true),
+    ("max_active", Kind::Number(Quantity::MaxActive), true),
+    ("intensive", Kind::Flag, true),
+];
 
-/// Whether a sample is a number.
-fn is_number(sample: &str) -> bool {
-    match sample.as_bytes() {
-        [first, ..] => first.is_ascii_digit(),
-        [] => false,
+const SCENARIO_ITEM: [Member; 3] = [
+    ("name", Kind::Name, true),
+    ("queue", Kind::Queue, true),
+    ("ms", Kind::Parts, true),
+];
+
+/// The members of an object, in the order in which they are told.
+pub fn members_of(grammar: Grammar, part: Part) -> &'static [Member] {
+    match (grammar, part) {
+        (Grammar::Script, Part::Top) => &SCRIPT,
+        (Grammar::Script, Part::Queues) => &SCRIPT_QUEUE,
+        (Grammar::Script, Part::Items) => &SCRIPT_ITEM,
+        (Grammar::Scenario, Part::Top) => &SCENARIO,
+        (Grammar::Scenario, Part::Queues) => &SCENARIO_QUEUE,
+        (Grammar::Scenario, Part::Items) => &SCENARIO_ITEM,
+        (_, Part::Callers) => &[],
     }
 }
 
-/// Says which limit a number passes.
-pub fn say_limit(
-    text: &mut Text,
-    world: World<'_>,
-    place: ObjectKind,
-    key: &str,
-    trial: Trial<'_>,
-    number: u64,
-) -> Result<(), AllocError> {
-    let least = world.least(place, key, trial)?;
-    if number < least {
-        text.say(": at least ");
-        text.number(least);
-    } else {
-        text.say(": at most ");
-        text.number(world.greatest(place, key, trial, number)?);
+/// The least and the greatest of a number in this format.
+pub fn limits(world: World<'_>, version: u8, quantity: Quantity) -> (u64, u64) {
+    match quantity {
+        Quantity::Cpus => (1, u64::from(cpus_in(version))),
+        Quantity::Workers => (1, u64::from(workers_in(version))),
+        Quantity::Journal => (1, MOST_KEPT),
+        Quantity::Format if world.whole.get("journal").is_some() => (3, 3),
+        Quantity::Format => (2, 3),
+        Quantity::Room => (0, room_in(version)),
+        Quantity::Waits => (0, u64::from(most_waits(version))),
+        Quantity::MaxActive => (0, u64::from(u32::MAX)),
     }
-    Ok(())
-}
-
-/// Says what is expected in the place of a value.
-fn say_wanted(
-    text: &mut Text,
-    world: World<'_>,
-    place: ObjectKind,
-    member: Member,
-    found: &Value,
-) -> Result<(), AllocError> {
-    let (key, sample) = member;
-    match sample {
-        "true" => text.say(": expected is true or false"),
-        "\"q\"" if place == ObjectKind::Item => {
-            text.say(": there is no such queue");
-            let names = names_in(world, "queues")?;
-            say_names(text, names.as_slice(), found.as_str().unwrap_or(""));
-        }
-        _ if is_number(sample) => {
-            text.say(": expected is a whole number, ");
-            text.number(world.least(place, key, Trial::Number)?);
-            text.say(" to ");
-            text.number(world.greatest(place, key, Trial::Number, u64::MAX)?);
-        }
-        _ => text.say(": expected is a name of 1 to 16 letters, digits and _"),
-    }
-    Ok(())
-}
-
-/// The names of the members of a list of the whole.
-pub fn names_in<'a>(world: World<'a>, list: &str) -> Result<Vec<&'a str>, AllocError> {
-    let mut names = Vec::new(world.alloc);
-    if let Some(Value::Array(members)) = world.whole.get(list) {
-        for member in members {
-            if let Some(Value::String(name)) = member.get("name") {
-                names.push(name.as_str())?;
-            }
-        }
-    }
-    Ok(names)
 }

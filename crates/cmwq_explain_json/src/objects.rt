@@ -1,150 +1,187 @@
-//! Whole inputs round one object of them, and whether they are taken.
+//! The first member of an object that is wrong.
 
-use crate::grammar::{Grammar, ObjectKind};
-use crate::values::Json;
+use crate::actions::tell_actions;
+use crate::members::{Kind, Member, Quantity, limits, members_of};
+use crate::world::{World, say_place};
+use cmwq_explain::{Text, say_limit, say_names};
+use cmwq_json::{Part, Refused, is_name};
+use cmwq_json_script::Actor;
+use cmwq_replay::{MOST_MS, MOST_PARTS};
 use serde_json::Value;
-use std::alloc::{AllocError, Global};
+use std::alloc::AllocError;
 
-/// What stands round the members that are tried: the whole input, of which lists that stand before them are taken.
-#[derive(Clone, Copy)]
-pub struct World<'a> {
-    pub alloc: Global,
-    pub grammar: Grammar,
-    pub whole: &'a Value,
+/// The format that allows the most.
+const NEWEST: u8 = 3;
+
+/// Tells the first key or value of an object that is wrong. False: each is right by itself.
+pub fn tell_object(
+    text: &mut Text,
+    world: World<'_>,
+    place: Refused,
+    value: &Value,
+) -> Result<bool, AllocError> {
+    let members = members_of(world.grammar, place.part);
+    let Some(object) = value.as_object() else {
+        say_place(text, place);
+        text.say(": ");
+        world.say_value(text, value)?;
+        text.say(" is not an object");
+        return Ok(true);
+    };
+    for key in object.keys() {
+        if !members.iter().any(|(other, _, _)| *other == key.as_str()) {
+            tell_key(text, world, place, members, key.as_str())?;
+            return Ok(true);
+        }
+    }
+    for (key, _, is_needed) in members {
+        if *is_needed && value.get(*key).is_none() {
+            say_place(text, place);
+            text.say(": the key \"");
+            text.say(key);
+            text.say("\" is missing");
+            return Ok(true);
+        }
+    }
+    for member in members {
+        if let Some(found) = value.get(member.0) {
+            if tell_member(text, world, place, *member, found)? {
+                return Ok(true);
+            }
+        }
+    }
+    Ok(false)
 }
 
-impl World<'_> {
-    /// Whether an object is taken at its place with this value at a key, and else with the values of a sample; of the
-    /// top with the numbers of the whole before the key.
-    pub fn fits(self, place: ObjectKind, key: &str, value: &str) -> Result<bool, AllocError> {
-        let mut json = Json::new(self.alloc);
-        if place == ObjectKind::Top {
-            self.put_top(&mut json, key, value);
-        } else {
-            self.put_with_object(&mut json, place, key, Some(value));
-        }
-        self.grammar.takes(self.alloc, json.as_str()?)
+/// Tells a key that there isn't.
+fn tell_key(
+    text: &mut Text,
+    world: World<'_>,
+    place: Refused,
+    members: &[Member],
+    key: &str,
+) -> Result<(), AllocError> {
+    let mut keys = Vec::new(world.alloc);
+    for (other, _, _) in members {
+        keys.push(*other)?;
     }
+    say_place(text, place);
+    text.say(": ");
+    text.quoted(key.as_bytes());
+    text.say(" is not a key");
+    say_names(text, &keys, key.as_bytes());
+    Ok(())
+}
 
-    /// Whether an object is refused without a key, with the values of a sample.
-    pub fn needs(self, place: ObjectKind, key: &str) -> Result<bool, AllocError> {
-        let mut json = Json::new(self.alloc);
-        if place == ObjectKind::Top {
-            self.put_with_lists(&mut json, key);
-        } else {
-            self.put_with_object(&mut json, place, key, None);
+/// Tells the value at a key, if it is wrong.
+fn tell_member(
+    text: &mut Text,
+    world: World<'_>,
+    place: Refused,
+    member: Member,
+    found: &Value,
+) -> Result<bool, AllocError> {
+    let (key, kind, _) = member;
+    match (kind, found.as_array()) {
+        (Kind::List, Some(_)) => return Ok(false),
+        (Kind::Parts, Some(parts)) => return tell_parts(text, world, place, key, parts),
+        (Kind::Actions, Some(actions)) => {
+            return tell_actions(text, world, Actor::Item, place, actions);
         }
-        Ok(!self.grammar.takes(self.alloc, json.as_str()?)?)
+        _ => {}
     }
-
-    /// Puts the top of a sample without a key.
-    fn put_with_lists(self, json: &mut Json, key: &str) {
-        json.put("{");
-        for (name, sample) in self.grammar.members(ObjectKind::Top) {
-            if *name != key {
-                self.put_sample(json, name, sample);
-            }
-        }
-        json.put("}");
+    if is_right(world, kind, found)? {
+        return Ok(false);
     }
-
-    /// Puts a member of a sample's top.
-    fn put_sample(self, json: &mut Json, name: &str, sample: &str) {
-        json.put_key(name);
-        if sample == "[]" {
-            self.put_sample_list(json, name);
-        } else {
-            json.put(sample);
-        }
-    }
-
-    /// Puts a top whose numbers before a key are those of the whole, with this value at the key.
-    fn put_top(self, json: &mut Json, key: &str, value: &str) {
-        let mut is_before = true;
-        json.put("{");
-        for (name, sample) in self.grammar.members(ObjectKind::Top) {
-            if *name == key {
-                is_before = false;
-                json.put_member(name, value);
-            } else if is_before || self.whole.get(*name).is_some() {
-                self.put_other(json, name, sample, is_before);
-            }
-        }
-        json.put("}");
-    }
-
-    /// Puts another member of the top: a number of the whole before the key that is tried, and else one of the sample.
-    fn put_other(self, json: &mut Json, name: &str, sample: &str, is_before: bool) {
-        match self.whole.get(name) {
-            // the limits of the numbers before it are those of the format that the whole says
-            Some(_) if name == "format" && !is_before && self.is_short() => {
-                json.put_member(name, "2");
-            }
-            Some(value) if is_before && sample != "[]" => {
-                json.put_key(name);
-                json.put_value(self.alloc, value);
-            }
-            None if sample != "[]" => {}
-            _ => self.put_sample(json, name, sample),
+    say_place(text, place);
+    text.say(", ");
+    text.say(key);
+    text.say(" ");
+    world.say_value(text, found)?;
+    match kind {
+        Kind::List | Kind::Parts | Kind::Actions => text.say(": expected a list"),
+        Kind::Name => text.say(": expected a name of 1 to 16 letters, digits and _"),
+        Kind::Flag => text.say(": expected true or false"),
+        Kind::Number(quantity) => say_number(text, world, quantity, found.as_u64()),
+        Kind::Queue => {
+            let names = world.names(Part::Queues)?;
+            text.say(": there is no such queue");
+            say_names(text, &names, found.as_str().unwrap_or("").as_bytes());
         }
     }
+    Ok(true)
+}
 
-    /// Whether the whole says format 2, and may.
-    fn is_short(self) -> bool {
-        match self.whole.get("format") {
-            Some(format) => format.as_u64() == Some(2) && self.whole.get("journal").is_none(),
-            None => false,
+/// Whether a value that is no list is what it must be.
+fn is_right(world: World<'_>, kind: Kind, found: &Value) -> Result<bool, AllocError> {
+    Ok(match kind {
+        Kind::List | Kind::Parts | Kind::Actions => false,
+        Kind::Name => found.as_str().is_some_and(|name| is_name(name)),
+        Kind::Flag => found.as_bool().is_some(),
+        Kind::Number(quantity) => {
+            let (least, most) = limits(world, world.version(), quantity);
+            found
+                .as_u64()
+                .is_some_and(|number| least <= number && number <= most)
         }
-    }
+        Kind::Queue => {
+            let names = world.names(Part::Queues)?;
+            names.as_slice().contains(&found.as_str().unwrap_or(""))
+        }
+    })
+}
 
-    /// Puts a sample with an object at its place, which has another value at one key, or lacks that where there is
-    /// none; where its queue is tried, with the queues of the whole.
-    fn put_with_object(self, json: &mut Json, place: ObjectKind, key: &str, value: Option<&str>) {
-        json.put("{");
-        for (name, sample) in self.grammar.members(ObjectKind::Top) {
-            if place_of(name) == Some(place) {
-                json.put_key(name);
-                json.put("[");
-                json.put_object(self.grammar.members(place), key, value);
-                json.put("]");
-            } else {
-                self.put_beside(json, key, name, sample);
-            }
-        }
-        json.put("}");
-    }
-
-    /// Puts a member of the top beside an object that is tried.
-    fn put_beside(self, json: &mut Json, key: &str, name: &str, sample: &str) {
-        if name == "queues" && key == "queue" {
-            json.put_key(name);
-            match self.whole.get(name) {
-                Some(list) => json.put_value(self.alloc, list),
-                None => json.put("[]"),
-            }
-        } else if name == "items" && self.grammar == Grammar::Scenario {
-            json.put_member(name, sample);
-        } else {
-            self.put_sample(json, name, sample);
-        }
-    }
-
-    /// Puts the list of the sample object at a key of the top.
-    fn put_sample_list(self, json: &mut Json, name: &str) {
-        json.put("[");
-        match place_of(name) {
-            Some(place) => json.put_object(self.grammar.members(place), "", None),
-            None => json.put("[]"),
-        }
-        json.put("]");
+/// Says which limit a number passes, or that there is none.
+fn say_number(text: &mut Text, world: World<'_>, quantity: Quantity, number: Option<u64>) {
+    let (least, most) = limits(world, world.version(), quantity);
+    let Some(number) = number else {
+        text.say(": expected a whole number, ");
+        text.number(least);
+        text.say(" to ");
+        text.number(most);
+        return;
+    };
+    say_limit(text, Some(number), least, most);
+    let (_, newest) = limits(world, NEWEST, quantity);
+    if most < number && number <= newest {
+        text.say("; \"format\":3 allows ");
+        text.number(newest);
     }
 }
 
-/// What the objects are of the list at a key of the top.
-fn place_of(name: &str) -> Option<ObjectKind> {
-    match name {
-        "queues" => Some(ObjectKind::Queue),
-        "items" => Some(ObjectKind::Item),
-        _ => None,
+/// Tells that an item of a scenario has too few or too many parts, or the first that is wrong.
+fn tell_parts(
+    text: &mut Text,
+    world: World<'_>,
+    place: Refused,
+    key: &str,
+    parts: &[Value],
+) -> Result<bool, AllocError> {
+    if parts.is_empty() || parts.len() > MOST_PARTS {
+        let count = parts.len() as u64;
+        say_place(text, place);
+        text.say(", ");
+        text.say(key);
+        text.say(": ");
+        text.number(count);
+        text.say(" of them");
+        say_limit(text, Some(count), 1, MOST_PARTS as u64);
+        return Ok(true);
     }
+    for (index, part) in parts.iter().enumerate() {
+        let number = part.as_u64();
+        if !number.is_some_and(|number| 1 <= number && number <= MOST_MS) {
+            say_place(text, place);
+            text.say(", part ");
+            text.number(index as u64);
+            text.say(": ");
+            world.say_value(text, part)?;
+            match number {
+                Some(_) => say_limit(text, number, 1, MOST_MS),
+                None => text.say(" is not a whole number"),
+            }
+            return Ok(true);
+        }
+    }
+    Ok(false)
 }

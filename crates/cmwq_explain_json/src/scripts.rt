@@ -1,103 +1,74 @@
 //! The first member of an input that is refused, of each part.
 
-use crate::calls::{CallSite, Maker, any_waits, tell_call, tell_count};
-use crate::grammar::ObjectKind;
-use crate::members::{Path, say_value, tell_object};
-use crate::objects::World;
+use crate::actions::tell_actions;
+use crate::objects::tell_object;
 use crate::used::tell_used;
+use crate::world::{World, key_of, name_of, say_place};
 use cmwq_explain::Text;
 use cmwq_json::{Part, Refused};
+use cmwq_json_script::{Actor, callers_in};
 use serde_json::Value;
 use std::alloc::AllocError;
 
-/// Tells what is wrong with a refused member.
-pub fn tell_refused(text: &mut Text, world: World<'_>, refused: Refused) -> Result<(), AllocError> {
-    let (list, place) = match refused.part {
-        Part::Top => {
-            let path = Path {
-                list: "top",
-                index: 0,
-            };
-            let _told = tell_object(text, world, ObjectKind::Top, path, world.whole)?;
+/// Tells what is wrong with a refused member: by itself, or because of those before it.
+pub fn tell_refused(text: &mut Text, world: World<'_>, place: Refused) -> Result<(), AllocError> {
+    let members = world.members(place.part);
+    let (is_told, is_caller) = match (place.part, members.get(place.index)) {
+        (Part::Top, _) => {
+            let _told = tell_object(text, world, place, world.whole)?;
             return Ok(());
         }
-        Part::Queues => ("queues", ObjectKind::Queue),
-        Part::Items => ("items", ObjectKind::Item),
-        Part::Callers => ("callers", ObjectKind::Top),
-    };
-    let path = Path {
-        list,
-        index: refused.index,
-    };
-    let members = match world.whole.get(list) {
-        Some(Value::Array(members)) => members.as_slice(),
-        _ => &[],
-    };
-    match members.get(refused.index) {
-        None => {
-            text.say(list);
-            text.say(": there is none; expected is one at least");
-            Ok(())
+        (_, None) => {
+            text.say(key_of(place.part));
+            text.say(": there is none; expected at least one");
+            return Ok(());
         }
-        Some(member) => tell_member(text, world, place, path, members, member),
-    }
-}
-
-/// Tells what is wrong with a member of a list: by itself, or because of those before it.
-fn tell_member(
-    text: &mut Text,
-    world: World<'_>,
-    place: ObjectKind,
-    path: Path<'_>,
-    members: &[Value],
-    member: &Value,
-) -> Result<(), AllocError> {
-    let is_told = if place == ObjectKind::Top {
-        tell_caller(text, world, path, member)?
-    } else {
-        tell_object(text, world, place, path, member)? || tell_twice(text, path, members, member)
+        (Part::Callers, Some(caller)) => (tell_caller(text, world, place, caller)?, true),
+        (_, Some(member)) => {
+            let is_told = tell_object(text, world, place, member)?
+                || tell_twice(text, place, members, member);
+            (is_told, false)
+        }
     };
-    if !is_told && !tell_used(text, world, path)? {
-        path.say(text);
+    if !is_told && !tell_used(text, world, place)? {
+        say_place(text, place);
         text.say(": one too many; at most ");
-        text.number(path.index as u64);
-        if place == ObjectKind::Top {
-            say_waits(text, world);
+        text.number(place.index as u64);
+        if is_caller {
+            say_waits(
+                text,
+                usize::from(callers_in(world.version())).saturating_sub(place.index),
+            );
         }
     }
     Ok(())
 }
 
 /// Says how many runs may wait at once, if any may: there are fewer callers then.
-fn say_waits(text: &mut Text, world: World<'_>) {
-    let waits = match world.whole.get("waits") {
-        Some(waits) => waits.as_u64().unwrap_or(0),
-        None if any_waits(world) => 1,
-        None => 0,
-    };
-    match waits {
-        0 => {}
-        1 => text.say(", as 1 run may wait"),
-        _ => {
-            text.say(", as ");
-            text.number(waits);
-            text.say(" runs may wait");
-        }
+fn say_waits(text: &mut Text, waits: usize) {
+    if waits > 0 {
+        text.say(", as ");
+        text.number(waits as u64);
+        text.say(if waits == 1 {
+            " run may wait"
+        } else {
+            " runs may wait"
+        });
     }
 }
 
 /// Tells a name that a member before has too.
-fn tell_twice(text: &mut Text, path: Path<'_>, members: &[Value], member: &Value) -> bool {
+fn tell_twice(text: &mut Text, place: Refused, members: &[Value], member: &Value) -> bool {
     let Some(name) = name_of(member) else {
         return false;
     };
-    for (index, other) in members.iter().enumerate() {
-        if index < path.index && name_of(other) == Some(name) {
-            path.say(text);
+    for (index, other) in members.iter().take(place.index).enumerate() {
+        if name_of(other) == Some(name) {
+            say_place(text, place);
             text.say(", name ");
             text.quoted(name.as_bytes());
             text.say(": it is the name of ");
-            text.say(path.list);
+            text.say(key_of(place.part));
             text.say(" ");
             text.number(index as u64);
             text.say(" too");
@@ -107,36 +78,21 @@ fn tell_twice(text: &mut Text, path: Path<'_>, members: &[Value], member: &Value
     false
 }
 
-fn name_of(member: &Value) -> Option<&str> {
-    member.get("name")?.as_str()
-}
-
-/// Tells that a caller has too many actions, or the first that is wrong. The count comes first, so that few are tried.
+/// Tells that a caller is no list, that it has too many actions, or the first that is wrong.
 fn tell_caller(
     text: &mut Text,
     world: World<'_>,
-    path: Path<'_>,
+    place: Refused,
     caller: &Value,
 ) -> Result<bool, AllocError> {
-    let Some(actions) = caller.as_array() else {
-        path.say(text);
-        text.say(": ");
-        say_value(text, world, caller)?;
-        text.say(": expected is a list of actions");
-        return Ok(true);
-    };
-    if tell_count(text, world, Maker::Caller, path, actions.len())? {
-        return Ok(true);
-    }
-    for (index, action) in actions.iter().enumerate() {
-        let site = CallSite {
-            maker: Maker::Caller,
-            path,
-            index,
-        };
-        if tell_call(text, world, site, action)? {
-            return Ok(true);
+    match caller.as_array() {
+        Some(actions) => tell_actions(text, world, Actor::Caller, place, actions),
+        None => {
+            say_place(text, place);
+            text.say(": ");
+            world.say_value(text, caller)?;
+            text.say(": expected a list of actions");
+            Ok(true)
         }
     }
-    Ok(false)
 }

@@ -8,6 +8,7 @@ use Rattle.std.proofs.lemmas.Option.{same_Some}
 use Rattle.cmwq_lemmas.proofs.Members.{In, in_mapped, in_right, option_in}
 use Rattle.cmwq_model.specs.Prelude.{IsLegal, Layout, answer, entry_for, fits, gives_ticket, has_time, is_done}
 use Rattle.cmwq_model.specs.Prelude.{number_started, queueing_at, room_needed, ticket_for, ticket_in, unended_tickets}
+use Rattle.cmwq_model.specs.Prelude.{is_drain, is_nothing, is_retired, is_tick, ticket_told}
 use Rattle.cmwq_model.specs.declared.call.Call.{Call}
 use Rattle.cmwq_model.specs.declared.call.Call.TheVariants as call
 use Rattle.cmwq_model.specs.declared.entry.Entry.{Entry}
@@ -36,8 +37,8 @@ use Rattle.cmwq_explore.specs.declared.machine.Called.{Called}
 use Rattle.cmwq_explore.specs.declared.machine.Called.TheVariants.{NoRoom, Whole, Waits}
 use Rattle.cmwq_explore.specs.declared.place.Ticketed.{Ticketed}
 use Rattle.cmwq_core.specs.History.{History, next_entry, past_in, takes_with, with_entry}
-use Rattle.cmwq_explore.specs.Machines.{AfterCall, after_reply, begun, is_drain, is_made, is_nothing, is_retired}
-use Rattle.cmwq_explore.specs.Machines.{is_tick, item_started, ticket_given}
+use Rattle.cmwq_explore.specs.Machines.{AfterCall, after_reply, begun, is_made}
+use Rattle.cmwq_explore.specs.Machines.{item_started}
 unfoldable use Rattle.cmwq_explore.specs.Machines.{called, ended, ends, fired, has_wait_room, replied, retires}
 unfoldable use Rattle.cmwq_explore.specs.Machines.{starts, stepped}
 unfoldable use Rattle.cmwq_explore.proofs.AlikeHistories.{appended}
@@ -270,17 +271,17 @@ ended_alike {f} {h} {g} a who w v wait is =
 -- ---- whole calls
 
 -- a reply gives the ticket of its entry, which is unended then
-given_both : (r : Reply) (n : ℕ) → ticket_given r ≡ Some n → (gives_ticket r ≡ true) × (number_given r ≡ Some n)
+given_both : (r : Reply) (n : ℕ) → ticket_told r ≡ Some n → (gives_ticket r ≡ true) × (number_given r ≡ Some n)
 given_both r n h = grind arith
 
-given_by : (k : ℕ → ℕ) (r : Reply) → ticket_given (reply_by k r) ≡ option_map k (ticket_given r)
+given_by : (k : ℕ → ℕ) (r : Reply) → ticket_told (reply_by k r) ≡ option_map k (ticket_told r)
 given_by k r = grind arith
 
 pub record IsNewTicket (past : List Entry) (e : Entry) (n : ℕ) : Type 0 where
   pub unended : IsTicketNumber (e ∷ past) n
   pub number : n ≡ length past
 
-new_ticket : (s : Layout) (past : List Entry) (e : Entry) (n : ℕ) → IsLegal s (e ∷ past) → ticket_given e.reply ≡ Some n
+new_ticket : (s : Layout) (past : List Entry) (e : Entry) (n : ℕ) → IsLegal s (e ∷ past) → ticket_told e.reply ≡ Some n
     → IsNewTicket past e n
 new_ticket s past e n legal given =
     let both = given_both e.reply n given in
@@ -315,7 +316,7 @@ module _ {f : ℕ → ℕ} {h g : History} (a : AreHistoriesAlike f h g) where
   abbrev BeginAlike : ℕ → ℕ → History → History → Type 0
   BeginAlike n m h₁ g₁ = (on : GoOnAlike f h g h₁ g₁) × AreTicketsAlike on.by h₁ g₁ n m
 
-  new_wait : (e d : Entry) (n : ℕ) → IsStep h.layout f (past_in h) (past_in g) e d → ticket_given e.reply ≡ Some n
+  new_wait : (e d : Entry) (n : ℕ) → IsStep h.layout f (past_in h) (past_in g) e d → ticket_told e.reply ≡ Some n
       → BeginAlike n (next_by f (past_in h) (past_in g) n) (with_entry h e) (with_entry g d)
   unfolding appended
   new_wait e d n k given =
@@ -333,7 +334,7 @@ module _ {f : ℕ → ℕ} {h g : History} (a : AreHistoriesAlike f h g) where
       )
 
   waits_new : (who : Who) (c : Call) → IsPlain c → (r : Reply) → replied h who c ≡ Some r → (n : ℕ)
-      → ticket_given r ≡ Some n
+      → ticket_told r ≡ Some n
       → BeginAlike n (next_by f (past_in h) (past_in g) n) (stepped h who c) (stepped g who c)
   unfolding replied stepped
   waits_new who c plain r is n given =
@@ -354,7 +355,7 @@ module _ {f : ℕ → ℕ} {h g : History} (a : AreHistoriesAlike f h g) where
           → BeginAlike n (next_by f (past_in h) (past_in g) n) (if b then with_entry h (next_entry h who c) else h)
           (if d then with_entry g (next_entry g who c) else g)
       at true true made same q =
-          new_wait (next_entry h who c) (next_entry g who c) n (step made) (ap ticket_given (told true _ q).1 ∙ given)
+          new_wait (next_entry h who c) (next_entry g who c) n (step made) (ap ticket_told (told true _ q).1 ∙ given)
       at true false made same q = absurd (cc (same ∙ made))
       at false d made same q = absurd (cc (sym (told false (answer h.layout (past_in h) who c) q).0))
 
@@ -377,7 +378,7 @@ module _ {f : ℕ → ℕ} {h g : History} (a : AreHistoriesAlike f h g) where
       → CallsAreAlike f h g (after_reply (stepped h who c) who c r)
       (after_reply (stepped g who c) who c (reply_by (next_by f (past_in h) (past_in g)) r))
   after_reply_alike who c plain r is =
-      at (is_tick c) (ticket_given r) (ticket_given (reply_by (next_by f (past_in h) (past_in g)) r)) refl
+      at (is_tick c) (ticket_told r) (ticket_told (reply_by (next_by f (past_in h) (past_in g)) r)) refl
       (given_by (next_by f (past_in h) (past_in g)) r)
     where
       on : GoOnAlike f h g (stepped h who c) (stepped g who c)
@@ -392,8 +393,8 @@ module _ {f : ℕ → ℕ} {h g : History} (a : AreHistoriesAlike f h g) where
           (sym (ap (λ (s : Layout). s.items) on.alike.layout))
           (fired_alike (stepped h who c).layout.items on.alike who))
 
-      at : (tick : Bool) (o p : Option ℕ) → ticket_given r ≡ o
-          → p ≡ option_map (next_by f (past_in h) (past_in g)) (ticket_given r)
+      at : (tick : Bool) (o p : Option ℕ) → ticket_told r ≡ o
+          → p ≡ option_map (next_by f (past_in h) (past_in g)) (ticket_told r)
           → CallsAreAlike f h g
           (if tick then record { history = fired (stepped h who c).layout.items (stepped h who c) who; outcome = Whole }
           else option_map_or (λ k. begun (stepped h who c) who (record { ticket = k; call = c })) o

@@ -1,11 +1,12 @@
 -- What one more fire makes of a history.
 use Rattle.std.proofs.Common.{ℕ, suc, zero, ◌≡◌, ◌<◌, ◌+◌, ◌-◌, Bool, true, false, Some, None, refl, sym, ◌∙◌, arith}
+use Rattle.cmwq_model.specs.Prelude.{is_nothing}
 use Rattle.cmwq_model.specs.declared.id.Who.{Who}
 use Rattle.cmwq_model.specs.declared.call.Call.{Call}
 use Rattle.cmwq_model.specs.declared.call.Call.TheVariants as call
 use Rattle.cmwq_model.specs.declared.reply.Reply.{Reply}
 use Rattle.cmwq_core.specs.History.{History}
-use Rattle.cmwq_explore.specs.Machines.{stepped, replied, fired, is_made, is_nothing}
+use Rattle.cmwq_explore.specs.Machines.{stepped, replied, fired, is_made}
 
 -- where there is no reply, nothing is changed
 pub stepped_none : (h : History) (who : Who) (c : Call) → replied h who c ≡ None → stepped h who c ≡ h

@@ -4,7 +4,7 @@ use Rattle.std.specs.Option.{option_map_or}
 use Rattle.std.proofs.Common.{◌≡◌, ◌∙◌, ◌++◌, ℕ, zero, suc, Bool, true, false, List, Option, Some, None, refl, sym, ap}
 use Rattle.std.proofs.lemmas.List.{append-nil, append_assoc}
 use mathlib.Core.List.{IsPrefix}
-use Rattle.cmwq_model.specs.Prelude.{is_workers}
+use Rattle.cmwq_model.specs.Prelude.{is_workers, is_drain, is_nothing, is_tick, ticket_told}
 use Rattle.cmwq_model.specs.declared.call.Call.{Call}
 use Rattle.cmwq_model.specs.declared.call.Call.TheVariants as call
 use Rattle.cmwq_model.specs.declared.entry.Entry.{Entry}
@@ -27,8 +27,8 @@ use Rattle.cmwq_explore.specs.declared.place.Ticketed.{Ticketed}
 use Rattle.cmwq_explore.specs.declared.place.WorkerAt.{WorkerAt}
 use Rattle.cmwq_explore.specs.Alike.{SchedulesAddEntries, SchedulesKeepScripts}
 use Rattle.cmwq_core.specs.History.{History, next_entry, with_entry}
-use Rattle.cmwq_explore.specs.Machines.{AfterCall, after_reply, begun, ends, is_drain, is_made, is_nothing, is_tick}
-use Rattle.cmwq_explore.specs.Machines.{replied, retires, starts, ticket_given}
+use Rattle.cmwq_explore.specs.Machines.{AfterCall, after_reply, begun, ends, is_made}
+use Rattle.cmwq_explore.specs.Machines.{replied, retires, starts}
 unfoldable use Rattle.cmwq_explore.specs.Machines.{called, ended, fired, stepped}
 use Rattle.cmwq_explore.specs.Searches.{after}
 use Rattle.cmwq_explore.specs.Stands.{Stand, action_of, after_begin, did, first_of, holds, is_free, lent_for, locked}
@@ -120,10 +120,10 @@ called_keeps h who c = at (replied h who c)
         → Keeps h (if b then record {
           history = fired (stepped h who c).layout.items (stepped h who c) who;
           outcome = Whole;
-        } else option_map_or (λ k. begun (stepped h who c) who (record { ticket = k; call = c })) (ticket_given r)
+        } else option_map_or (λ k. begun (stepped h who c) who (record { ticket = k; call = c })) (ticket_told r)
         (record { history = stepped h who c; outcome = Whole }))
     told true r = further h (stepped h who c) _ on (fired_keeps _ (stepped h who c) who)
-    told false r = given (ticket_given r)
+    told false r = given (ticket_told r)
 
     at : (o : Option Reply)
         → Keeps h (option_map_or (after_reply (stepped h who c) who c) o (record { history = h; outcome = NoRoom }))

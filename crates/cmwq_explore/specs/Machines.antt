@@ -1,12 +1,12 @@
 -- What calls make of a history: single ones, where they fit and there is room for them, and whole ones.
-use Rattle.std.specs.Prelude.{ℕ, zero, suc, Bool, true, false, ◌&&◌, if◌then◌else◌, List, Option, Some, None}
+use Rattle.std.specs.Prelude.{ℕ, zero, suc, Bool, false, ◌&&◌, if◌then◌else◌, List, Option, Some, None}
 use Rattle.std.specs.Prelude.{option_map, option_and_then}
 use Rattle.std.specs.Option.{option_map_or}
-use Rattle.cmwq_model.specs.Prelude.{fits, is_done, number_started, queueing_at}
+use Rattle.cmwq_model.specs.Prelude.{fits, is_done, is_drain, is_nothing, is_retired, is_tick, number_started}
+use Rattle.cmwq_model.specs.Prelude.{queueing_at, ticket_told}
 use Rattle.cmwq_model.specs.declared.call.Call.{Call}
 use Rattle.cmwq_model.specs.declared.call.Call.TheVariants as call
 use Rattle.cmwq_model.specs.declared.reply.Reply.{Reply}
-use Rattle.cmwq_model.specs.declared.reply.Reply.TheVariants as reply
 use Rattle.cmwq_model.specs.declared.entry.Entry.{Entry}
 use Rattle.cmwq_model.specs.declared.id.CallerId.{CallerId}
 use Rattle.cmwq_model.specs.declared.id.ItemId.{ItemId}
@@ -42,10 +42,6 @@ starts h w = option_and_then (item_started (past_in h)) (replied h (Worker w) ca
 unfoldable pub ends : History → Who → ℕ → Bool
 ends h who ticket = option_map_or is_done (replied h who (call.End ticket)) false
 
-abbrev pub is_retired : Reply → Bool
-is_retired reply.Retired = true
-is_retired r = false
-
 -- the worker would be sent to the reserve
 unfoldable pub retires : History → WorkerId → Bool
 retires h w = option_map_or is_retired (replied h (Worker w) call.Retire) false
@@ -58,10 +54,6 @@ has_wait_room h w c waits =
 
 -- ---- whole calls
 
-abbrev pub is_nothing : Reply → Bool
-is_nothing reply.Nothing = true
-is_nothing r = false
-
 -- What is due is fired, at most so many times, until there is nothing, or no room.
 unfoldable pub fired : ℕ → History → Who → History
 fired zero h who = h
@@ -69,26 +61,9 @@ fired (suc n) h who =
     option_map_or (λ r. if is_nothing r then stepped h who call.Fire else fired n (stepped h who call.Fire) who)
     (replied h who call.Fire) h
 
-abbrev pub is_drain : Call → Bool
-is_drain (call.Drain q) = true
-is_drain c = false
-
-abbrev pub is_tick : Call → Bool
-is_tick (call.Tick t) = true
-is_tick c = false
-
 -- a wait ends, and after that of a drain what is due is fired
 unfoldable pub ended : History → Who → Ticketed → History
 ended h who w = let g = stepped h who (call.End w.ticket) in if is_drain w.call then fired g.layout.items g who else g
-
--- the ticket that a reply gives
-abbrev pub ticket_given : Reply → Option ℕ
-ticket_given (reply.Ticket k) = Some k
-ticket_given (reply.TicketQueued k) = Some k
-ticket_given (reply.TicketCancelled k n) = Some k
-ticket_given (reply.TicketUnbooked k) = Some k
-ticket_given (reply.TicketNo k) = Some k
-ticket_given r = None
 
 -- a history, and what came of the call that made it
 pub record AfterCall : Type 0 where
@@ -103,7 +78,7 @@ begun h who w = if ends h who w.ticket then record { history = ended h who w; ou
 abbrev pub after_reply : History → Who → Call → Reply → AfterCall
 after_reply h who c r =
     if is_tick c then record { history = fired h.layout.items h who; outcome = Whole }
-    else option_map_or (λ k. begun h who (record { ticket = k; call = c })) (ticket_given r)
+    else option_map_or (λ k. begun h who (record { ticket = k; call = c })) (ticket_told r)
     (record { history = h; outcome = Whole })
 
 -- a whole call

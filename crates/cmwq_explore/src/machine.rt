@@ -1,7 +1,7 @@
 //! The runtime of a play, with its history: calls that make no sense there change nothing.
 
 ghost use Rattle.std.specs.Prelude.{◌≡◌, ◌≤◌, [], IfOk, IfSome, length, take};
-ghost use Rattle.cmwq_model.specs.Prelude.{IsLegal, is_done};
+ghost use Rattle.cmwq_model.specs.Prelude.{IsLegal};
 ghost use Rattle.cmwq_core.specs.History.{past_in};
 ghost use Rattle.cmwq_explore.specs.Machines as spec;
 
@@ -44,79 +44,6 @@ pub enum Called {
     Whole,
     /// It waits.
     Waits(Ticketed),
-}
-
-/// The ticket that a reply gives.
-fn ticket_in(reply: Reply) -> Option<Number>
-    ensures { result ≡ spec.ticket_given reply }
-{
-    match reply {
-        Reply::Ticket(ticket)
-        | Reply::TicketQueued(ticket)
-        | Reply::TicketCancelled(ticket, _)
-        | Reply::TicketUnbooked(ticket)
-        | Reply::TicketNo(ticket) => Some(ticket),
-        Reply::Yes(_)
-        | Reply::Booked(_)
-        | Reply::Again(_)
-        | Reply::Rebooked(_)
-        | Reply::No
-        | Reply::Foreign
-        | Reply::Draining
-        | Reply::Misuse
-        | Reply::Cancelled(_)
-        | Reply::Unbooked
-        | Reply::Now(_)
-        | Reply::Fired(_, _)
-        | Reply::Nothing
-        | Reply::Idle
-        | Reply::Crowded
-        | Reply::Done
-        | Reply::Waiting(_)
-        | Reply::Started(_)
-        | Reply::StartedEnlist(_, _)
-        | Reply::Held
-        | Reply::Finished(_)
-        | Reply::Slept
-        | Reply::Woke
-        | Reply::Retired
-        | Reply::Kept
-        | Reply::Width(_)
-        | Reply::Frozen
-        | Reply::Thawed
-        | Reply::Gone
-        | Reply::Timers => None,
-    }
-}
-
-fn is_nothing(reply: Reply) -> bool
-    ensures { result ≡ spec.is_nothing reply }
-{
-    matches!(reply, Reply::Nothing)
-}
-
-fn is_done(reply: Reply) -> bool
-    ensures { result ≡ is_done reply }
-{
-    matches!(reply, Reply::Done)
-}
-
-fn is_retired(reply: Reply) -> bool
-    ensures { result ≡ spec.is_retired reply }
-{
-    matches!(reply, Reply::Retired)
-}
-
-fn is_tick(call: Call) -> bool
-    ensures { result ≡ spec.is_tick call }
-{
-    matches!(call, Call::Tick { .. })
-}
-
-fn is_drain(call: Call) -> bool
-    ensures { result ≡ spec.is_drain call }
-{
-    matches!(call, Call::Drain { .. })
 }
 
 impl<'a> Machine<'a> {
@@ -261,11 +188,11 @@ impl<'a> Machine<'a> {
         if !self.shape.fits(who, call) {
             return false;
         }
-        if !is_done(self.execution.reply(who, call)) {
+        if !self.execution.reply(who, call).is_done() {
             return false;
         }
         match self.would(who, call) {
-            Some(reply) => is_done(reply),
+            Some(reply) => reply.is_done(),
             None => false,
         }
     }
@@ -289,7 +216,7 @@ impl<'a> Machine<'a> {
         ensures { result ≡ spec.retires self.now worker }
     {
         match self.would(Who::Worker(worker), Call::Retire) {
-            Some(reply) => is_retired(reply),
+            Some(reply) => reply.is_retired(),
             None => false,
         }
     }
@@ -303,7 +230,7 @@ impl<'a> Machine<'a> {
             let Some(reply) = self.step(who, Call::Fire)? else {
                 return Ok(());
             };
-            if is_nothing(reply) {
+            if reply.is_nothing() {
                 return Ok(());
             }
         }
@@ -317,7 +244,7 @@ impl<'a> Machine<'a> {
     {
         let ticket = wait.ticket;
         self.step(who, Call::End { ticket })?;
-        if is_drain(wait.call) {
+        if wait.call.is_drain() {
             self.fire_all(who)
         } else {
             Ok(())
@@ -333,11 +260,11 @@ impl<'a> Machine<'a> {
         let Some(reply) = self.step(who, call)? else {
             return Ok(Called::NoRoom);
         };
-        if is_tick(call) {
+        if call.is_tick() {
             self.fire_all(who)?;
             return Ok(Called::Whole);
         }
-        match ticket_in(reply) {
+        match reply.ticket() {
             Some(ticket) => self.begin(who, Ticketed { ticket, call }),
             None => Ok(Called::Whole),
         }

@@ -181,14 +181,18 @@ impl Lines {
         }
     }
 
-    fn ahead(&self) -> &[u8]
+    /// The bytes that it has read from the source and not yet given out, at most 65,536. They may end inside a line.
+    #[inline(always)]
+    pub fn ahead(&self) -> &[u8]
         ensures value { result.now ≡ self.now }
         ensures size { length result.now ≤ 65536 }
     {
         &self.bytes[self.start..self.end]
     }
 
-    fn consume(&mut self, count: usize)
+    /// Takes so many of the bytes read ahead off what is left, as when their line was read where it stands.
+    #[inline(always)]
+    pub fn consume(&mut self, count: usize)
         requires { count ≤ length self.old }
         ensures { self.new ≡ drop count self.old }
     {

@@ -73,7 +73,7 @@ pub enum Actor {
 
 impl Actor {
     /// The greatest number of its actions.
-    fn most_actions(self) -> usize
+    pub fn most_actions(self) -> usize
         ensures { result ≡ spec.most_actions self }
     {
         match self {

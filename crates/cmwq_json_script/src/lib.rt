@@ -16,5 +16,8 @@ mod top;
 mod used;
 mod word;
 
-pub use action::{Action, Holder};
+pub use action::{Action, Actor, Holder};
+pub use limits::{callers_in, cpus_in, most_waits, room_in, workers_in};
+pub use numbering::MOST_NAMES;
 pub use script::{Script, read_script};
+pub use top::MOST_KEPT;

@@ -11,8 +11,8 @@ use serde_json::Value;
 use std::alloc::{AllocError, Global};
 use std::marker::Model;
 
-/// The greatest number of names.
-const MOST_NAMES: usize = 16;
+/// The greatest number of gates that a script names, and that of locks.
+pub const MOST_NAMES: usize = 16;
 
 /// The names so far: of gates, or of locks.
 #[derive(Drop)]

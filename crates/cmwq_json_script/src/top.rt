@@ -33,7 +33,7 @@ pub struct Top<'v> {
 }
 
 /// The greatest number of entries that are kept at a time.
-const MOST_KEPT: u64 = 1_000_000;
+pub const MOST_KEPT: u64 = 1_000_000;
 
 /// Whether a value is an object with the keys of a script, of which `format`, `journal` and `waits` may be left out.
 fn has_top_keys(value: &Value) -> bool

@@ -21,6 +21,11 @@ settles (reply.TicketQueued k) = true
 settles (reply.TicketUnbooked k) = true
 settles r = false
 
+-- the answer to a fire where nothing is due
+abbrev pub is_nothing : Reply → Bool
+is_nothing reply.Nothing = true
+is_nothing r = false
+
 abbrev pub due_in : Reply → Option ℕ
 due_in (reply.Booked d) = Some d
 due_in (reply.Rebooked d) = Some d

@@ -1,6 +1,6 @@
 -- What single entries say: by whom they are, of which item, and which entry has a number. A history is a list of
 -- entries with the newest first, called past. So the number of the entry before which past lies is the length of past.
-use Rattle.std.specs.Prelude.{ℕ, suc, ◌+◌, ◌-◌, Bool, false, ◌&&◌, ◌==◌, if◌then◌else◌, List, [], ◌∷◌, length}
+use Rattle.std.specs.Prelude.{ℕ, suc, ◌+◌, ◌-◌, Bool, true, false, ◌&&◌, ◌==◌, if◌then◌else◌, List, [], ◌∷◌, length}
 use Rattle.std.specs.Prelude.{slice_get, count_by, Option, Some, None, option_and_then, nat_lt}
 use Rattle.std.specs.Option.{option_or}
 use mathlib.Core.Bool.{beq}
@@ -64,6 +64,15 @@ item_number (Some i) = Some i.0
 
 abbrev pub is_of_item : ℕ → Entry → Bool
 is_of_item i e = is_at (item_of e) i
+
+-- the calls that let time go by, and those that wait until a queue is empty and leave it to be used again
+abbrev pub is_tick : Call → Bool
+is_tick (call.Tick t) = true
+is_tick c = false
+
+abbrev pub is_drain : Call → Bool
+is_drain (call.Drain q) = true
+is_drain c = false
 
 -- the entry with this number, and its item
 abbrev pub entry_at : List Entry → ℕ → Option Entry

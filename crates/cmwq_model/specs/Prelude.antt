@@ -10,11 +10,11 @@ unfoldable pub use Rattle.cmwq_model.specs.Answer.{answer, cancel_answer, cancel
 unfoldable pub use Rattle.cmwq_model.specs.Answer.{finish_answer, first_due, flush_delayed_answer}
 unfoldable pub use Rattle.cmwq_model.specs.Answer.{flush_item_answer, modify_answer, queue_answer, retire_answer}
 unfoldable pub use Rattle.cmwq_model.specs.Answer.{set_max_answer, take_answer, wait_answer}
-pub use Rattle.cmwq_model.specs.Bookings.{booked_by, booking_of, due_in, is_booked, number_booked, settles}
-pub use Rattle.cmwq_model.specs.Bookings.{standing_bookings, stands}
+pub use Rattle.cmwq_model.specs.Bookings.{booked_by, booking_of, due_in, is_booked, is_nothing, number_booked}
+pub use Rattle.cmwq_model.specs.Bookings.{settles, standing_bookings, stands}
 unfoldable pub use Rattle.cmwq_model.specs.Bookings.{booking, bookings}
-pub use Rattle.cmwq_model.specs.Calls.{entry_at, is_at, is_by, is_of_item, item_at, item_called, item_fired}
-pub use Rattle.cmwq_model.specs.Calls.{item_number, item_of, same_pool, same_who, same_worker, serial_of}
+pub use Rattle.cmwq_model.specs.Calls.{entry_at, is_at, is_by, is_drain, is_of_item, is_tick, item_at, item_called}
+pub use Rattle.cmwq_model.specs.Calls.{item_fired, item_number, item_of, same_pool, same_who, same_worker, serial_of}
 pub use Rattle.cmwq_model.specs.Calls.{ticks_told, worker_of}
 unfoldable pub use Rattle.cmwq_model.specs.Calls.{now}
 pub use Rattle.cmwq_model.specs.Fate.{finishes, is_finished, is_open, is_started, number_cancelled, number_finished}
@@ -47,12 +47,13 @@ pub use Rattle.cmwq_model.specs.Tickets.{is_being_destroyed, is_cancel_sync_of}
 pub use Rattle.cmwq_model.specs.Tickets.{most_tickets}
 pub use Rattle.cmwq_model.specs.Tickets.{is_cancelling, is_crowded, is_destroy_of, is_done, is_drain_of, is_draining}
 pub use Rattle.cmwq_model.specs.Tickets.{is_end_of, is_flush_of, is_held_by}
-pub use Rattle.cmwq_model.specs.Tickets.{is_ticket, is_unended, ticket_for, ticket_in, ticket_of, unended_tickets}
+pub use Rattle.cmwq_model.specs.Tickets.{is_ticket, is_unended, ticket_for, ticket_in, ticket_of, ticket_told}
+pub use Rattle.cmwq_model.specs.Tickets.{unended_tickets}
 unfoldable pub use Rattle.cmwq_model.specs.Tickets.{is_gone, tickets}
 pub use Rattle.cmwq_model.specs.Verdict.{AllFit, IsFirstWrong, Wants}
 pub use Rattle.cmwq_model.specs.Waits.{holds_up, is_older_flush, is_served_after, is_within, least_waited, waits_for}
 unfoldable pub use Rattle.cmwq_model.specs.Waits.{serving_from}
-pub use Rattle.cmwq_model.specs.Widths.{frozen_after, sets_max, width_set, width_told}
+pub use Rattle.cmwq_model.specs.Widths.{frozen_after, keeps_widths, sets_max, width_set, width_told}
 unfoldable pub use Rattle.cmwq_model.specs.Widths.{is_frozen, max_active, width}
 pub use Rattle.cmwq_model.specs.Workers.{enlists, has_spare, index_enlisted, is_holding, is_idle, is_in_pool}
 pub use Rattle.cmwq_model.specs.Workers.{is_occupied, is_other_idle, is_reserve, is_retired}

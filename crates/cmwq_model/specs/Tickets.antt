@@ -22,6 +22,14 @@ gives_ticket (reply.TicketUnbooked k) = true
 gives_ticket (reply.TicketNo k) = true
 gives_ticket r = false
 
+abbrev pub ticket_told : Reply → Option ℕ
+ticket_told (reply.Ticket k) = Some k
+ticket_told (reply.TicketQueued k) = Some k
+ticket_told (reply.TicketCancelled k n) = Some k
+ticket_told (reply.TicketUnbooked k) = Some k
+ticket_told (reply.TicketNo k) = Some k
+ticket_told r = None
+
 abbrev pub ticket_for : Who → Call → ℕ → Option Ticket
 ticket_for (Caller c) call n = Some (record { caller = c; call = call; number = n })
 ticket_for (Worker w) call n = None

@@ -8,6 +8,13 @@ use Rattle.cmwq_model.specs.declared.reply.Reply.TheVariants as reply
 use Rattle.cmwq_model.specs.declared.entry.Entry.{Entry}
 use Rattle.cmwq_model.specs.Layout.{Layout, first_width, is_freezable}
 
+-- an answer of an entry that changes no width
+abbrev pub keeps_widths : Reply → Bool
+keeps_widths (reply.Width n) = false
+keeps_widths reply.Frozen = false
+keeps_widths reply.Thawed = false
+keeps_widths r = true
+
 -- of the answers frozen and thawed, the last is frozen
 abbrev pub frozen_after : Reply → Bool → Bool
 frozen_after reply.Frozen frozen = true

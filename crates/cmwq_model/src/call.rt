@@ -88,7 +88,7 @@ pub enum Call {
 impl Call {
     ghost use Rattle.cmwq_model.specs.Layout.{is_callers, is_workers};
     ghost use Rattle.cmwq_model.specs.Scripted.{is_whole};
-    ghost use Rattle.cmwq_model.specs.Calls.{item_called, item_number, ticks_told};
+    ghost use Rattle.cmwq_model.specs.Calls.{is_drain, is_tick, item_called, item_number, ticks_told};
     ghost use Rattle.cmwq_model.specs.Queueings.{place_called};
     ghost use Rattle.cmwq_model.specs.Bookings.{booked_by};
 
@@ -163,6 +163,20 @@ impl Call {
         ensures { result ≡ is_whole self.now }
     {
         !matches!(self, Call::End { .. } | Call::Fire) && self.is_callers()
+    }
+
+    /// Whether it lets time go by.
+    pub fn is_tick(self) -> bool
+        ensures { result ≡ is_tick self }
+    {
+        matches!(self, Call::Tick { .. })
+    }
+
+    /// Whether it waits until a queue is empty, which is then as before.
+    pub fn is_drain(self) -> bool
+        ensures { result ≡ is_drain self }
+    {
+        matches!(self, Call::Drain { .. })
     }
 
     /// Whether callers make such a call.

@@ -79,9 +79,11 @@ pub enum Reply {
 }
 
 impl Reply {
-    ghost use Rattle.cmwq_model.specs.Bookings.{settles};
+    ghost use Rattle.cmwq_model.specs.Bookings.{is_nothing, settles};
     ghost use Rattle.cmwq_model.specs.Queueings.{opens};
-    ghost use Rattle.cmwq_model.specs.Tickets.{gives_ticket};
+    ghost use Rattle.cmwq_model.specs.Tickets.{gives_ticket, is_done, ticket_told};
+    ghost use Rattle.cmwq_model.specs.Widths.{keeps_widths};
+    ghost use Rattle.cmwq_model.specs.Workers.{is_retired};
     ghost use Rattle.cmwq_model.specs.Fate.{number_started, number_finished};
     ghost use Rattle.cmwq_model.specs.Kernel.{queue_returns, modify_returns, cancel_returns, cancel_sync_returns};
     ghost use Rattle.cmwq_model.specs.Kernel.{flush_item_returns, kernel_returns};
@@ -125,6 +127,48 @@ impl Reply {
                 | Reply::TicketUnbooked(_)
                 | Reply::TicketNo(_)
         )
+    }
+
+    /// The ticket that it gives.
+    pub fn ticket(self) -> Option<Number>
+        ensures { result ≡ ticket_told self }
+    {
+        match self {
+            Reply::Ticket(ticket)
+            | Reply::TicketQueued(ticket)
+            | Reply::TicketCancelled(ticket, _)
+            | Reply::TicketUnbooked(ticket)
+            | Reply::TicketNo(ticket) => Some(ticket),
+            _ => None,
+        }
+    }
+
+    /// Whether a wait has ended.
+    pub fn is_done(self) -> bool
+        ensures { result ≡ is_done self }
+    {
+        matches!(self, Reply::Done)
+    }
+
+    /// Whether there was nothing to fire.
+    pub fn is_nothing(self) -> bool
+        ensures { result ≡ is_nothing self }
+    {
+        matches!(self, Reply::Nothing)
+    }
+
+    /// Whether the worker went back to the reserve.
+    pub fn is_retired(self) -> bool
+        ensures { result ≡ is_retired self }
+    {
+        matches!(self, Reply::Retired)
+    }
+
+    /// Whether the entry changes no queue's width.
+    pub fn keeps_widths(self) -> bool
+        ensures { result ≡ keeps_widths self }
+    {
+        !matches!(self, Reply::Width(_) | Reply::Frozen | Reply::Thawed)
     }
 
     /// The queueing that starts.

@@ -1,4 +1,5 @@
 -- Fires, one after another.
+use Rattle.cmwq_model.specs.Prelude.{is_nothing}
 use Rattle.cmwq_monitor.specs.Common.{◌≡◌, ◌≢◌, ℕ, zero, suc, ◌+◌, ◌<◌, ◌≤◌, [], ◌∷◌, ◌++◌, false, true, true≢false}
 use Rattle.cmwq_monitor.specs.Common.{refl, ap, sym, ◌∙◌, subst, arith, inl, inr, append-nil, append_assoc, All-nil}
 use Rattle.cmwq_monitor.specs.Common.{All-cons, All-append, Reply, Layout, serial_of, IsLegal, past_of, has_room}
@@ -7,7 +8,7 @@ use Rattle.cmwq_model.specs.declared.reply.Reply.TheVariants as reply
 use Rattle.cmwq_monitor.specs.Participants.{View, Gains, made_by}
 use Rattle.cmwq_monitor.specs.Calls.{Extends, own_entry}
 use Rattle.cmwq_monitor.specs.Whole.{Fires, HadNoRoom, EndsOwn, IsFire}
-use Rattle.cmwq_monitor.specs.Steps.{HasFired, HasFiredSome, IsFiring, is_nothing}
+use Rattle.cmwq_monitor.specs.Steps.{HasFired, HasFiredSome, IsFiring}
 use Rattle.cmwq_monitor.proofs.Beginnings.{prefix_self}
 use Rattle.cmwq_monitor.proofs.Entries.{gains_none, gains_more, counts_kept, is_by_own}
 

@@ -2,13 +2,14 @@
 use Rattle.cmwq_monitor.specs.Common.{◌≡◌, ℕ, List, [], ◌∷◌, ◌++◌, Bool, true, false, true≢false, refl, ap, sym, ◌∙◌}
 use Rattle.cmwq_monitor.specs.Common.{subst, inl, inr, None, Some, MatchBool, Who, Call, Reply, Entry, Layout, answer}
 use Rattle.cmwq_monitor.specs.Common.{past_of}
+use Rattle.cmwq_model.specs.Prelude.{is_drain, is_tick, ticket_told}
 use Rattle.cmwq_model.specs.declared.call.Call.TheVariants as call
 use Rattle.cmwq_model.specs.declared.reply.Reply.TheVariants as reply
 use Rattle.cmwq_monitor.specs.Participants.{View, made_by}
 use Rattle.cmwq_monitor.specs.Calls.{Extends, own_entry}
 use Rattle.cmwq_monitor.specs.declared.fault.RunFault.{RunFault}
 use Rattle.cmwq_monitor.specs.Whole.{Completes, BrokeOff, Behind, Fires, EndsOwn, EndsFiring, EndsTicket, Stops}
-use Rattle.cmwq_monitor.specs.Whole.{is_tick, is_drain, ticket_in_reply, ticket_left}
+use Rattle.cmwq_monitor.specs.Whole.{ticket_left}
 use Rattle.cmwq_monitor.specs.Steps.{HasFired, HasFiredSome, HasEnded, HasEndedSome, still_unended}
 use Rattle.cmwq_monitor.proofs.Entries.{gains_none, gains_more}
 use Rattle.cmwq_monitor.proofs.Fired.{ends_extended}
@@ -44,15 +45,15 @@ tick_completes s v m w c r is x fired =
       legal = fired.legal;
     }
 
-left_more : (e : Entry) (es : List Entry) → ticket_in_reply e.reply ≡ None → ticket_left (e ∷ es) ≡ None
+left_more : (e : Entry) (es : List Entry) → ticket_told e.reply ≡ None → ticket_left (e ∷ es) ≡ None
 left_more e [] none = none
 left_more e (f ∷ es) none = refl
 
 pub tick_broke : (s : Layout) (v m w : View) (c : Call) (r : Reply) (f : RunFault) → is_tick c ≡ true
-    → ticket_in_reply r ≡ None → Stops w None f → Extends s v c r m → HasFiredSome m w → BrokeOff s v c f w
+    → ticket_told r ≡ None → Stops w None f → Extends s v c r m → HasFiredSome m w → BrokeOff s v c f w
 tick_broke s v m w c r f is none stops x some =
     let e = own_entry s x.before v c in
-    let left : ticket_left (e ∷ some.0) ≡ None = left_more e some.0 (ap ticket_in_reply (sym x.reply) ∙ none) in
+    let left : ticket_left (e ∷ some.0) ≡ None = left_more e some.0 (ap ticket_told (sym x.reply) ∙ none) in
     inr (
       e,
       some.0,
@@ -62,7 +63,7 @@ tick_broke s v m w c r f is none stops x some =
     )
 
 pub ended_completes : (s : Layout) (v m w : View) (c : Call) (r : Reply) (k : ℕ) → is_tick c ≡ false
-    → ticket_in_reply r ≡ Some k → Extends s v c r m → HasEnded s m c k w → Completes s v c r w
+    → ticket_told r ≡ Some k → Extends s v c r m → HasEnded s m c k w → Completes s v c r w
 ended_completes s v m w c r k is given x ended =
     let e = own_entry s x.before v c in
     let same = x.gains.same in
@@ -89,16 +90,16 @@ ended_completes s v m w c r k is given x ended =
       legal = ended.legal;
     }
 
-left_ended : (e : Entry) (es : List Entry) (k : ℕ) → ticket_in_reply e.reply ≡ Some k
+left_ended : (e : Entry) (es : List Entry) (k : ℕ) → ticket_told e.reply ≡ Some k
     → still_unended k es ≡ ticket_left (e ∷ es)
 left_ended e [] k given = sym given
 left_ended e (f ∷ es) k given = refl
 
 pub ended_broke : (s : Layout) (v m w : View) (c : Call) (r : Reply) (k : ℕ) (f : RunFault) → is_tick c ≡ false
-    → ticket_in_reply r ≡ Some k → Extends s v c r m → HasEndedSome s m c k f w → BrokeOff s v c f w
+    → ticket_told r ≡ Some k → Extends s v c r m → HasEndedSome s m c k f w → BrokeOff s v c f w
 ended_broke s v m w c r k f is given x some =
     let e = own_entry s x.before v c in
-    let from : ticket_in_reply e.reply ≡ Some k = ap ticket_in_reply (sym x.reply) ∙ given in
+    let from : ticket_told e.reply ≡ Some k = ap ticket_told (sym x.reply) ∙ given in
     inr (
       e,
       some.0,
@@ -156,10 +157,10 @@ when_true B true e m = m
 when_true B false e m = absurd (true≢false (sym e))
 
 tick_gives_none : (s : Layout) (past : List Entry) (who : Who) (t : ℕ)
-    → ticket_in_reply (answer s past who (call.Tick t)) ≡ None
+    → ticket_told (answer s past who (call.Tick t)) ≡ None
 unfolding answer
 tick_gives_none s past who t = refl
 
 pub ticks_give_none : (s : Layout) (v w : View) (t : ℕ) (r : Reply) → Extends s v (call.Tick t) r w
-    → ticket_in_reply r ≡ None
-ticks_give_none s v w t r x = ap ticket_in_reply x.reply ∙ tick_gives_none s (past_of x.before) v.who t
+    → ticket_told r ≡ None
+ticks_give_none s v w t r x = ap ticket_told x.reply ∙ tick_gives_none s (past_of x.before) v.who t

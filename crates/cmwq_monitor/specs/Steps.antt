@@ -1,5 +1,6 @@
 -- What one step under the lock leaves.
 use Rattle.std.specs.Prelude.{◌≡◌, ◌⊎◌, ◌&&◌, ◌≤◌, ◌∷◌, ◌++◌}
+use Rattle.cmwq_model.specs.Prelude.{is_drain, is_retired}
 use Rattle.cmwq_monitor.specs.Common.{ℕ, Bool, true, false, List, [], length, All, Option, Some, None, MatchBool, Call}
 use Rattle.cmwq_monitor.specs.Common.{Reply, Entry, Layout, serial_of, IsLegal, past_of, has_room}
 use Rattle.cmwq_model.specs.declared.call.Call.TheVariants as call
@@ -7,7 +8,7 @@ use Rattle.cmwq_model.specs.declared.reply.Reply.TheVariants as reply
 use Rattle.cmwq_monitor.specs.Participants.{View, Gains, is_caller, made_by}
 use Rattle.cmwq_monitor.specs.Held.{Held, IsOpenTo, failed_from}
 use Rattle.cmwq_monitor.specs.Calls.{own_entry}
-use Rattle.cmwq_monitor.specs.Whole.{Fires, EndsOwn, EndsFiring, IsFire, EndsTicket, PartEnd, Stops, is_drain}
+use Rattle.cmwq_monitor.specs.Whole.{Fires, EndsOwn, EndsFiring, IsFire, EndsTicket, PartEnd, Stops}
 use Rattle.cmwq_monitor.specs.declared.fault.RunFault.{RunFault}
 use Rattle.cmwq_monitor.specs.declared.fault.RunFault.TheVariants.{Closed, NoMemory, Stranger, Full}
 use Rattle.cmwq_monitor.specs.declared.fault.Shortage.{Shortage}
@@ -41,10 +42,6 @@ pub record HasFired (s : Layout) (v w : View) : Type 0 where
   pub ends : EndsFiring s v.who w.seen
   pub legal : IsLegal s (past_of w.seen)
 
-abbrev pub is_nothing : Reply → Bool
-is_nothing reply.Nothing = true
-is_nothing r = false
-
 -- some fires were made
 abbrev pub HasFiredSome : View → View → Type 0
 HasFiredSome v w = (es : List Entry) × Gains v es w × All IsFire es
@@ -72,13 +69,9 @@ abbrev pub WouldNot : (Reply → Bool) → Layout → List Entry → View → Ca
 WouldNot is s history v call = is (own_entry s history v call).reply ≡ false
 
 -- a worker that is sent to the reserve
-abbrev pub is_retire_reply : Reply → Bool
-is_retire_reply reply.Retired = true
-is_retire_reply r = false
-
 -- it isn't, or there is no room for that
 abbrev pub IsViewKept : Layout → List Entry → View → Type 0
-IsViewKept s history v = WouldNot is_retire_reply s history v call.Retire
+IsViewKept s history v = WouldNot is_retired s history v call.Retire
     ⊎ (has_room s s.room (past_of history) v.who call.Retire ≡ false)
 
 -- A wait ended: its ticket's end was done, and what a drain fires was fired.

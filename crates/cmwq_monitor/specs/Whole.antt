@@ -1,21 +1,17 @@
 -- What a whole call does, which may make several entries: a tick fires what is due, and a call that waits ends its
 -- ticket.
-use Rattle.std.specs.Prelude.{◌≡◌, ◌≢◌, ◌⊎◌, ◌||◌, if◌then◌else◌, ◌∷◌, ◌++◌}
-use Rattle.cmwq_monitor.specs.Common.{ℕ, zero, suc, Bool, true, false, List, [], All, Option, None, MatchOption}
+use Rattle.std.specs.Prelude.{◌≡◌, ◌≢◌, ◌⊎◌, ◌||◌, ◌∷◌, ◌++◌}
+use Rattle.cmwq_monitor.specs.Common.{ℕ, zero, suc, true, false, List, [], All, Option, None, MatchOption}
 use Rattle.cmwq_monitor.specs.Common.{MatchBool, IsPrefix, Who, Call, Reply, Entry, Layout, is_by, serial_of, IsLegal}
-use Rattle.cmwq_monitor.specs.Common.{past_of, has_room, gives_ticket}
+use Rattle.cmwq_monitor.specs.Common.{past_of, has_room}
+use Rattle.cmwq_model.specs.Prelude.{is_drain, is_tick, ticket_told}
 use Rattle.cmwq_model.specs.declared.call.Call.TheVariants as call
 use Rattle.cmwq_model.specs.declared.reply.Reply.TheVariants as reply
-use Rattle.cmwq_theory_steps.specs.Reasons.{number_given}
 use Rattle.cmwq_monitor.specs.Participants.{View, Gains, made_by}
 use Rattle.cmwq_monitor.specs.Calls.{StandFrom}
 use Rattle.cmwq_monitor.specs.Faults.{Refused, IsStranger}
 use Rattle.cmwq_monitor.specs.declared.fault.RunFault.{RunFault}
 use Rattle.cmwq_monitor.specs.declared.fault.RunFault.TheVariants.{NoMemory}
-
--- the ticket that a reply gives
-abbrev pub ticket_in_reply : Reply → Option ℕ
-ticket_in_reply r = if gives_ticket r then number_given r else None
 
 abbrev pub Is : Call → Reply → Entry → Type 0
 Is c r e = (e.call ≡ c) × (e.reply ≡ r)
@@ -34,14 +30,6 @@ Fires s who history (suc n) made es =
     ⊎ ((e : Entry) × (rest : List Entry) × (es ≡ e ∷ rest) × (e.call ≡ call.Fire) × (e.reply ≢ reply.Nothing)
     × Fires s who history n (made ++ e ∷ []) rest))
 
-abbrev pub is_tick : Call → Bool
-is_tick (call.Tick t) = true
-is_tick c = false
-
-abbrev pub is_drain : Call → Bool
-is_drain (call.Drain q) = true
-is_drain c = false
-
 -- A ticket's end was done, and after that of a drain timers are fired.
 abbrev pub EndsTicket : Layout → Who → List Entry → List Entry → Call → ℕ → List Entry → Type 0
 EndsTicket s who history made c k es =
@@ -53,7 +41,7 @@ EndsTicket s who history made c k es =
 abbrev pub Behind : Layout → Who → List Entry → List Entry → Call → Reply → List Entry → Type 0
 Behind s who history made c r es =
     MatchBool (is_tick c) (Fires s who history s.items made es)
-    (MatchOption (ticket_in_reply r) (es ≡ []) (λ k. EndsTicket s who history made c k es))
+    (MatchOption (ticket_told r) (es ≡ []) (λ k. EndsTicket s who history made c k es))
 
 -- The entries that a call with this reply leaves in a history, in which its caller had made those before it.
 pub record MakesEntries (s : Layout) (who : Who) (history made : List Entry) (c : Call) (r : Reply)
@@ -99,7 +87,7 @@ PartEnd c k es =
 
 abbrev pub PartBehind : Call → Reply → List Entry → Type 0
 PartBehind c r es =
-    MatchBool (is_tick c) (All IsFire es) (MatchOption (ticket_in_reply r) (es ≡ []) (λ k. PartEnd c k es))
+    MatchBool (is_tick c) (All IsFire es) (MatchOption (ticket_told r) (es ≡ []) (λ k. PartEnd c k es))
 
 abbrev pub IsPart : Call → List Entry → Type 0
 IsPart c [] = Unit {0}
@@ -107,7 +95,7 @@ IsPart c (e ∷ es) = (e.call ≡ c) × PartBehind c e.reply es
 
 -- the ticket that such entries leave unended
 abbrev pub ticket_left : List Entry → Option ℕ
-ticket_left (e ∷ []) = ticket_in_reply e.reply
+ticket_left (e ∷ []) = ticket_told e.reply
 ticket_left es = None
 
 -- What may stop a call in the middle: want of memory, with the ticket that is unended then, or a hub that turns out to

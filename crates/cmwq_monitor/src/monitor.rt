@@ -20,7 +20,7 @@ ghost use Rattle.cmwq_monitor.specs.Calls.{Extends, own_entry};
 ghost use Rattle.cmwq_monitor.specs.Faults.{SaysFault, Refused, IsStranger, is_full};
 ghost use Rattle.cmwq_monitor.specs.Whole.{Stops};
 ghost use Rattle.cmwq_monitor.specs.Steps.{InStep, IsFiring, TellsFirst, Lacks, HasFired, HasFiredSome};
-ghost use Rattle.cmwq_monitor.specs.Steps.{IsViewKept, is_retire_reply, is_nothing};
+ghost use Rattle.cmwq_monitor.specs.Steps.{IsViewKept};
 ghost use Rattle.cmwq_monitor.specs.Sleeping.{EndsOrWaits, Starts, StartsOrRests, WhetherDone, makes_no_end};
 ghost use Rattle.cmwq_monitor.specs.Sleeping.{makes_no_start};
 ghost use Rattle.cmwq_monitor.specs.Settled.{Settles};
@@ -415,7 +415,7 @@ impl<N: HubName> Monitor<N> {
             }
             match self.enter(rt, participant, Call::Fire, wakes) {
                 Ok(reply) => {
-                    if is_nothing(reply) {
+                    if reply.is_nothing() {
                         return Ok(None);
                     }
                 }
@@ -565,7 +565,8 @@ impl<N: HubName> Monitor<N> {
             return Err(RunFault::NoMemory { ticket: None });
         }
         self.compare(participant)?;
-        if !is_retired(self.dispatch.execution().reply(who, Call::Retire)) {
+        let told = self.dispatch.execution().reply(who, Call::Retire);
+        if !told.is_retired() {
             return Ok(false);
         }
         let planned = self.dispatch.plan(who, Call::Retire);
@@ -786,16 +787,4 @@ fn sleeps_on(sleeps: bool, dispatch: &Dispatch, tail: &Tail<Entry>, wakes: &mut 
         return false;
     }
     true
-}
-
-fn is_retired(reply: Reply) -> bool
-    ensures { result ≡ is_retire_reply reply }
-{
-    matches!(reply, Reply::Retired)
-}
-
-fn is_nothing(reply: Reply) -> bool
-    ensures { result ≡ is_nothing reply }
-{
-    matches!(reply, Reply::Nothing)
 }

@@ -35,5 +35,5 @@ pub use Rattle.cmwq_model.specs.declared.id.PoolId.{PoolId}
 pub use Rattle.cmwq_model.specs.declared.id.Who.TheVariants.{Worker}
 pub use Rattle.cmwq_model.specs.declared.id.WorkerId.{WorkerId}
 pub use Rattle.cmwq_model.specs.declared.record.Queueing.{Queueing}
-pub use Rattle.cmwq_theory_steps.specs.Looks.{keeps_widths}
+pub use Rattle.cmwq_model.specs.Widths.{keeps_widths}
 unfoldable pub use Rattle.cmwq_theory_steps.specs.Looks.{was_below_max_active}

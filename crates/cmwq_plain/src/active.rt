@@ -1,7 +1,7 @@
 ghost use Rattle.cmwq_model.specs.Prelude.{is_live, same_place, is_ahead, is_active, is_listed, next};
 ghost use Rattle.cmwq_model.specs.Prelude.{is_below_max_active};
 ghost use Rattle.std.specs.Prelude.{◌≡◌, ◌&&◌, ◌<◌, ◌+◌, length, if◌then◌else◌, option_map};
-ghost use Rattle.cmwq_theory_steps.specs.Looks.{keeps_widths, was_below_max_active};
+ghost use Rattle.cmwq_theory_steps.specs.Looks.{was_below_max_active};
 ghost use Rattle.cmwq_plain.specs.Partial.{ahead_upto};
 ghost use Rattle.cmwq_plain.specs.Earliest.{may_start, earliest_since, earlier, better, best_upto, queueing_of};
 
@@ -12,7 +12,7 @@ use crate::past::Past;
 use crate::queueings::{is_live, opening_at};
 use crate::runs::item_runs;
 use crate::width::width;
-use cmwq_model::{Number, Place, PoolId, Queueing, Reply, Shape};
+use cmwq_model::{Number, Place, PoolId, Queueing, Shape};
 
 /// A queueing that a pool may start, and the entry that made it active.
 #[derive(Clone, Copy)]
@@ -62,13 +62,6 @@ fn is_below_max_active(shape: &Shape, past: &Past<'_>, queueing: &Queueing) -> b
     ahead < width
 }
 
-/// Whether such a reply leaves all widths as they are.
-fn keeps_widths(reply: Reply) -> bool
-    ensures { result ≡ keeps_widths reply }
-{
-    !matches!(reply, Reply::Width(_) | Reply::Frozen | Reply::Thawed)
-}
-
 fn is_open_below_max_active(shape: &Shape, past: &Past<'_>, queueing: &Queueing) -> bool
     ensures { result ≡ (is_live past.now queueing.now && is_below_max_active shape.now past.now queueing.now) }
 {
@@ -84,7 +77,7 @@ fn was_below_max_active(shape: &Shape, past: &Past<'_>, queueing: &Queueing) -> 
     for k in 0..past.len() {
         let entry = past.at(k);
         had = had
-            || (!keeps_widths(entry.reply)
+            || (!entry.reply.keeps_widths()
                 && is_open_below_max_active(shape, &past.before(k), queueing));
     }
     had

@@ -6,4 +6,4 @@ mod replay;
 mod scenario;
 
 pub use replay::run_replay;
-pub use scenario::{ScenarioWithNames, read_scenario};
+pub use scenario::{MOST_MS, MOST_PARTS, ScenarioWithNames, read_scenario};

@@ -21,6 +21,12 @@ use indexmap::IndexSet;
 use serde_json::Value;
 use std::alloc::{AllocError, Global};
 
+/// The most burns and sleeps of an item.
+pub const MOST_PARTS: usize = 8;
+
+/// The longest burn or sleep, in milliseconds.
+pub const MOST_MS: u64 = 1_000;
+
 /// A scenario, and the names of its items.
 #[derive(Drop)]
 pub struct ScenarioWithNames {
@@ -48,7 +54,7 @@ fn read_queue(value: &Value) -> Option<(&str, SimQueue)>
 fn if_few(ms: Vec<u16>) -> Option<Vec<u16>>
     ensures { option_map (λ ms. ms.items) result ≡ spec.if_few (Ok ms.items) }
 {
-    if (1..=8).contains(&ms.len()) {
+    if (1..=MOST_PARTS).contains(&ms.len()) {
         Some(ms)
     } else {
         None
@@ -64,7 +70,7 @@ fn read_ms(alloc: Global, value: &Value) -> Result<Option<Vec<u16>>, AllocError>
     };
     let mut ms = Vec::new(alloc);
     for part in parts {
-        let Some(number) = read_number(part, 1, 1000) else {
+        let Some(number) = read_number(part, 1, MOST_MS) else {
             return Ok(None);
         };
         ms.push(number as u16)?;

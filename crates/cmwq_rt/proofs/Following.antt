@@ -4,7 +4,7 @@ use Rattle.cmwq_rt.specs.Common.{ap, ◌∙◌, subst, inl, inr, append-nil, app
 use Rattle.cmwq_rt.specs.Common.{take_more, MatchBool, MatchOption, Option, IsPrefix, Who, Call, Reply, Entry, Layout}
 use Rattle.cmwq_rt.specs.Common.{past_of, has_room, View, Gains, made_by, Refused, is_full, RunFault, NoMemory, Full}
 use Rattle.cmwq_rt.specs.Common.{Unfinished, NoPlace, Closed, Stranger, NoThread, Completes, BrokeOff, MakesEntries}
-use Rattle.cmwq_rt.specs.Common.{Behind, EndsTicket, Fires, HadNoRoom, is_tick, is_drain, ticket_in_reply, prefix_self}
+use Rattle.cmwq_rt.specs.Common.{Behind, EndsTicket, Fires, HadNoRoom, is_tick, is_drain, ticket_told, prefix_self}
 use Rattle.cmwq_rt.specs.Common.{prefix_trans}
 use Rattle.std.proofs.Math.Seq.{split_at}
 use Rattle.cmwq_model.specs.declared.call.Call.TheVariants as call
@@ -43,11 +43,11 @@ module _ (s : Layout) (who : Who) (old new : List Entry) (more : IsPrefix old ne
 
       ticked : (b : Bool)
           → MatchBool b (Fires s who old s.items made es)
-          (MatchOption (ticket_in_reply r) (es ≡ []) (λ k. EndsTicket s who old made c k es))
+          (MatchOption (ticket_told r) (es ≡ []) (λ k. EndsTicket s who old made c k es))
           → MatchBool b (Fires s who new s.items made es)
-          (MatchOption (ticket_in_reply r) (es ≡ []) (λ k. EndsTicket s who new made c k es))
+          (MatchOption (ticket_told r) (es ≡ []) (λ k. EndsTicket s who new made c k es))
       ticked true f = fires_later s.items made es f
-      ticked false e = ended (ticket_in_reply r) e
+      ticked false e = ended (ticket_told r) e
 
   makes_later : (made : List Entry) (c : Call) (r : Reply) (es : List Entry) → MakesEntries s who old made c r es
       → MakesEntries s who new made c r es

@@ -3,7 +3,7 @@ use Rattle.cmwq_rt.specs.Common.{◌≡◌, true, false, refl, Result, Ok, Err, 
 use Rattle.std.proofs.Common.{◌++◌, ◌∷◌, ◌∙◌, ap, sym}
 use Rattle.std.proofs.lemmas.List.{append_cancel_right}
 use Rattle.std.proofs.lemmas.List.Elements.{filter-append}
-use Rattle.cmwq_model.specs.Prelude.{is_by}
+use Rattle.cmwq_model.specs.Prelude.{is_by, is_tick}
 use Rattle.cmwq_model.proofs.Growing.{one_more_is_newest}
 use Rattle.cmwq_monitor.specs.Calls.{own_entry}
 use Rattle.cmwq_monitor.proofs.Entries.{made_own}
@@ -12,7 +12,6 @@ use Rattle.cmwq_rt.specs.Common.{is_caller, made_by, Completes}
 use Rattle.cmwq_rt.specs.declared.wait_fault.WaitFault.{WaitFault}
 use Rattle.cmwq_model.specs.declared.call.Call.TheVariants as call
 use Rattle.cmwq_model.specs.Prelude.{is_callers}
-use Rattle.cmwq_monitor.specs.Whole.{is_tick}
 use Rattle.cmwq_rt.specs.Later.{Later}
 use Rattle.cmwq_rt.specs.Running.{MakesOne}
 use Rattle.cmwq_rt.specs.Waiting.{SleepsThrough, TellsWhy, WasAllowed, is_refusal, is_wait}

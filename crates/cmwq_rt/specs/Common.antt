@@ -8,6 +8,7 @@ pub use Rattle.std.specs.Prelude.{IfErr, IfOk, MatchBool, MatchOption, Option, i
 pub use Rattle.std.specs.Prelude.{slice_set}
 pub use mathlib.Core.List.{IsPrefix}
 pub use Rattle.cmwq_model.specs.Prelude.{IsLegal, Layout, has_room, is_layout, layout_of, past_of, serial_of}
+pub use Rattle.cmwq_model.specs.Prelude.{is_drain, is_tick, ticket_told}
 pub use Rattle.cmwq_model.specs.declared.call.Call.{Call}
 pub use Rattle.cmwq_model.specs.declared.entry.Entry.{Entry}
 pub use Rattle.cmwq_model.specs.declared.id.ItemId.{ItemId}
@@ -23,7 +24,6 @@ pub use Rattle.cmwq_monitor.specs.Participants.{Gains, View, is_caller, made_by}
 pub use Rattle.cmwq_monitor.specs.Settled.{AllSettle, Settles}
 pub use Rattle.cmwq_monitor.specs.Starts.{StartsItem, StartsOne}
 pub use Rattle.cmwq_monitor.specs.Whole.{Behind, BrokeOff, Completes, EndsTicket, Fires, HadNoRoom, MakesEntries}
-pub use Rattle.cmwq_monitor.specs.Whole.{is_drain, is_tick, ticket_in_reply}
 pub use Rattle.cmwq_monitor.specs.declared.fault.RunFault.{RunFault}
 pub use Rattle.cmwq_monitor.specs.declared.fault.RunFault.TheVariants.{Closed, Full, NoMemory, NoPlace, NoThread}
 pub use Rattle.cmwq_monitor.specs.declared.fault.RunFault.TheVariants.{Stranger, Unfinished}

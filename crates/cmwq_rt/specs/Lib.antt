@@ -8,5 +8,6 @@ pub mod Sums
 pub mod Running
 pub mod Batches
 pub mod Waiting
+pub mod Promises
 pub mod Lent
 pub mod Prelude

@@ -2,21 +2,22 @@
 ghost use Rattle.std.specs.Prelude.{◌≡◌, ◌<◌, ◌≤◌, ◌&&◌, [], true, false, length, IfOk, IfErr, MatchOption, Some, None};
 ghost use Rattle.std.specs.List.{list_all};
 ghost use mathlib.Core.List.{IsPrefix};
-ghost use Rattle.cmwq_model.specs.Prelude.{has_numbers, is_callers, past_of, IsLegal, bits};
+ghost use Rattle.cmwq_model.specs.Prelude.{has_numbers, is_callers, past_of, IsLegal, bits, is_tick};
 ghost use Rattle.cmwq_model.specs.declared.call.Call.TheVariants as calls;
 ghost use Rattle.cmwq_model.specs.declared.id.Who.TheVariants as whos;
 ghost use Rattle.cmwq_monitor.specs.Participants.{Agree, Gains, is_caller, made_by, newcomer};
-ghost use Rattle.cmwq_monitor.specs.Calls.{Extends};
-ghost use Rattle.cmwq_monitor.specs.Faults.{Refused, IsStranger};
-ghost use Rattle.cmwq_monitor.specs.Whole.{Completes, BrokeOff, is_tick, ticket_in_reply};
+ghost use Rattle.cmwq_monitor.specs.Faults.{IsStranger};
+ghost use Rattle.cmwq_monitor.specs.Whole.{Completes, BrokeOff};
 ghost use Rattle.cmwq_monitor.specs.Settled.{Settles};
+ghost use Rattle.cmwq_rt.specs.Promises.{DoneOrBrokeOff, MadeOrRefused};
 ghost use Rattle.cmwq_rt.specs.Batches.{MakesBatch, StopsBatch};
 
 use crate::batch::BatchFault;
+use crate::calls::{CallerCalls, Calls};
 use crate::hold::Hold;
 use crate::hub::Hub;
 use crate::worker::Worker;
-use cmwq_model::{Call, CpuId, ItemId, Number, QueueId, Reply, Who};
+use cmwq_model::{Call, ItemId, Reply, Who};
 use cmwq_monitor::{Monitor, Participant, RunFault};
 use cmwq_publish::{HubName, Reader};
 use std::marker::Model;
@@ -39,19 +40,6 @@ impl<N: HubName> Model for Caller<N> {
     ghost view = { λ c. c.participant };
 
     ghost invariant = { λ c. is_caller c.participant.who ≡ true };
-}
-
-fn ticket_in(reply: Reply) -> Option<Number>
-    ensures { result ≡ ticket_in_reply reply }
-{
-    match reply {
-        Reply::Ticket(ticket)
-        | Reply::TicketQueued(ticket)
-        | Reply::TicketCancelled(ticket, _)
-        | Reply::TicketUnbooked(ticket)
-        | Reply::TicketNo(ticket) => Some(ticket),
-        _ => None,
-    }
 }
 
 impl<N: HubName> Caller<N> {
@@ -152,15 +140,14 @@ impl<N: HubName> Caller<N> {
         Some(found.bits)
     }
 
-    /// Makes a call of one entry, as the method of its name does. It waits for nothing.
+    /// Makes a call of one entry. It waits for nothing.
     ///
     /// # Errors
     /// `Closed`, `NoMemory` if the hub has failed, `Stranger`, `Full`. It has made no entry then.
     pub fn make<R: Wait>(&mut self, rt: &R, hub: &Hub<N>, call: Call) -> Result<Reply, RunFault>
         requires callers { is_callers call ≡ true }
         requires numbers { has_numbers N.layout call ≡ true }
-        ensures made { IfOk result (λ reply. Extends N.layout self.old call reply self.new) }
-        ensures refused { IfErr result (λ f. Refused N.layout self.old call f self.new) }
+        ensures { MadeOrRefused N.layout self.old call result self.new }
     {
         let _who = self.participant.who();
         hub.call(rt, &mut self.participant, call)
@@ -232,7 +219,7 @@ impl<N: HubName> Caller<N> {
             Ok(reply) => reply,
             Err(fault) => return (hold, Err(fault)),
         };
-        let Some(ticket) = ticket_in(reply) else {
+        let Some(ticket) = reply.ticket() else {
             return (hold, Ok(reply));
         };
         let (hold, ended) = hub.until_ended(rt, hold, &mut self.participant, call, ticket);
@@ -271,7 +258,7 @@ impl<N: HubName> Caller<N> {
             Ok(reply) => reply,
             Err(fault) => return (hold, Err(fault)),
         };
-        let Some(ticket) = ticket_in(reply) else {
+        let Some(ticket) = reply.ticket() else {
             return (hold, Ok(reply));
         };
         hold.monitor.run_waits(worker, &self.participant, ticket);
@@ -312,10 +299,11 @@ impl<N: HubName> Caller<N> {
         (hold, Ok(reply))
     }
 
-    /// A whole call: it makes its entry and those that belong to it, as the method of its name does.
+    /// A whole call: it makes its entry and those that belong to it, and waits where it gives a ticket.
     ///
     /// # Errors
-    /// Those of that method.
+    /// Those of `make`, with no entry made. `NoMemory` and `Stranger` also after some of its entries, and then
+    /// `NoMemory` tells the ticket that stands unended, if there is one.
     pub fn make_whole<R: Wait>(
         &mut self,
         rt: &R,
@@ -324,308 +312,52 @@ impl<N: HubName> Caller<N> {
     ) -> Result<Reply, RunFault>
         requires callers { is_callers call ≡ true }
         requires numbers { has_numbers N.layout call ≡ true }
-        ensures done { IfOk result (λ reply. Completes N.layout self.old call reply self.new) }
-        ensures broke { IfErr result (λ f. BrokeOff N.layout self.old call f self.new) }
+        ensures { DoneOrBrokeOff N.layout self.old call result self.new }
     {
         let (hold, answer) = self.make_locked(rt, hub, hub.lock(rt), call);
         hub.leave(rt, hold);
         answer
     }
+}
 
-    /// Queues an item (`queue_work_on`): one entry.
+/// A caller with its hub. Its calls are the methods of `Calls` and `CallerCalls`, which promise what `Caller::make` and
+/// `Caller::make_whole` do.
+#[derive(Drop)]
+pub struct HubCaller<'a, N: HubName, R> {
+    /// The leave to wait.
+    pub rt: &'a R,
+    pub hub: &'a Hub<N>,
+    pub caller: Caller<N>,
+}
+
+impl<'a, N: HubName, R: Wait> Calls for HubCaller<'a, N, R> {
+    type Fault = RunFault;
+
+    type WaitFault = RunFault;
+
+    ghost may_make = { λ c. (is_callers c ≡ true) × (has_numbers N.layout c ≡ true) };
+
+    ghost may_wait = { λ c. (is_callers c ≡ true) × (has_numbers N.layout c ≡ true) };
+
+    ghost made = { λ v c answer w. MadeOrRefused N.layout v.caller c answer w.caller };
+
+    ghost waited = { λ v c answer w. DoneOrBrokeOff N.layout v.caller c answer w.caller };
+
+    /// Makes a call of one entry, as `Caller::make` does.
     ///
     /// # Errors
-    /// As of all calls of one entry: `Closed`, `NoMemory` where the hub has failed, `Stranger`, `Full`; it has made no
-    /// entry then.
-    pub fn queue<R: Wait>(
-        &mut self,
-        rt: &R,
-        hub: &Hub<N>,
-        item: ItemId,
-        queue: QueueId,
-        cpu: CpuId,
-    ) -> Result<Reply, RunFault>
-        requires { has_numbers N.layout (calls.Queue item queue cpu) ≡ true }
-        ensures made { IfOk result (λ reply. Extends N.layout self.old (calls.Queue item queue cpu) reply self.new) }
-        ensures refused { IfErr result (λ f. Refused N.layout self.old (calls.Queue item queue cpu) f self.new) }
-    {
-        self.make(rt, hub, Call::Queue { item, queue, cpu })
+    /// Those of `Caller::make`.
+    fn make(&mut self, call: Call) -> Result<Reply, RunFault> {
+        self.caller.make(self.rt, self.hub, call)
     }
 
-    /// Queues an item after so many ticks (`queue_delayed_work_on`): one entry.
+    /// Makes a whole call, as `Caller::make_whole` does.
     ///
     /// # Errors
-    /// As of all calls of one entry: `Closed`, `NoMemory` where the hub has failed, `Stranger`, `Full`; it has made no
-    /// entry then.
-    pub fn delay<R: Wait>(
-        &mut self,
-        rt: &R,
-        hub: &Hub<N>,
-        item: ItemId,
-        queue: QueueId,
-        cpu: CpuId,
-        ticks: u32,
-    ) -> Result<Reply, RunFault>
-        requires { has_numbers N.layout (calls.Delay item queue cpu ticks) ≡ true }
-        ensures made { IfOk result
-            (λ reply. Extends N.layout self.old (calls.Delay item queue cpu ticks) reply self.new) }
-        ensures refused { IfErr result (λ f. Refused N.layout self.old (calls.Delay item queue cpu ticks) f self.new) }
-    {
-        self.make(
-            rt,
-            hub,
-            Call::Delay {
-                item,
-                queue,
-                cpu,
-                ticks,
-            },
-        )
-    }
-
-    /// Queues or delays an item anew (`mod_delayed_work_on`): one entry.
-    ///
-    /// # Errors
-    /// As of all calls of one entry: `Closed`, `NoMemory` where the hub has failed, `Stranger`, `Full`; it has made no
-    /// entry then.
-    pub fn modify<R: Wait>(
-        &mut self,
-        rt: &R,
-        hub: &Hub<N>,
-        item: ItemId,
-        queue: QueueId,
-        cpu: CpuId,
-        ticks: u32,
-    ) -> Result<Reply, RunFault>
-        requires { has_numbers N.layout (calls.Modify item queue cpu ticks) ≡ true }
-        ensures made { IfOk result
-            (λ reply. Extends N.layout self.old (calls.Modify item queue cpu ticks) reply self.new) }
-        ensures refused { IfErr result (λ f. Refused N.layout self.old (calls.Modify item queue cpu ticks) f self.new) }
-    {
-        self.make(
-            rt,
-            hub,
-            Call::Modify {
-                item,
-                queue,
-                cpu,
-                ticks,
-            },
-        )
-    }
-
-    /// Takes a pending item back (`cancel_work`, `cancel_delayed_work`): one entry.
-    ///
-    /// # Errors
-    /// As of all calls of one entry: `Closed`, `NoMemory` where the hub has failed, `Stranger`, `Full`; it has made no
-    /// entry then.
-    pub fn cancel<R: Wait>(&mut self, rt: &R, hub: &Hub<N>, item: ItemId) -> Result<Reply, RunFault>
-        requires { has_numbers N.layout (calls.Cancel item) ≡ true }
-        ensures made { IfOk result (λ reply. Extends N.layout self.old (calls.Cancel item) reply self.new) }
-        ensures refused { IfErr result (λ f. Refused N.layout self.old (calls.Cancel item) f self.new) }
-    {
-        self.make(rt, hub, Call::Cancel { item })
-    }
-
-    /// Begins to wait for all that is queued on a queue, and doesn't wait: one entry, whose reply gives the ticket.
-    ///
-    /// # Errors
-    /// As of all calls of one entry: `Closed`, `NoMemory` where the hub has failed, `Stranger`, `Full`; it has made no
-    /// entry then.
-    pub fn flush_begin<R: Wait>(
-        &mut self,
-        rt: &R,
-        hub: &Hub<N>,
-        queue: QueueId,
-    ) -> Result<Reply, RunFault>
-        requires { has_numbers N.layout (calls.Flush queue) ≡ true }
-        ensures made { IfOk result (λ reply. Extends N.layout self.old (calls.Flush queue) reply self.new) }
-        ensures refused { IfErr result (λ f. Refused N.layout self.old (calls.Flush queue) f self.new) }
-    {
-        self.make(rt, hub, Call::Flush { queue })
-    }
-
-    /// Ends a ticket if it may end (`done`), and else says what it waits for: one entry.
-    ///
-    /// # Errors
-    /// As of all calls of one entry: `Closed`, `NoMemory` where the hub has failed, `Stranger`, `Full`; it has made no
-    /// entry then.
-    pub fn flush_try<R: Wait>(
-        &mut self,
-        rt: &R,
-        hub: &Hub<N>,
-        ticket: Number,
-    ) -> Result<Reply, RunFault>
-        ensures made { IfOk result (λ reply. Extends N.layout self.old (calls.End ticket) reply self.new) }
-        ensures refused { IfErr result (λ f. Refused N.layout self.old (calls.End ticket) f self.new) }
-    {
-        self.make(rt, hub, Call::End { ticket })
-    }
-
-    /// Sets how many queueings of a queue may be active on one CPU (`workqueue_set_max_active`): one entry.
-    ///
-    /// # Errors
-    /// As of all calls of one entry: `Closed`, `NoMemory` where the hub has failed, `Stranger`, `Full`; it has made no
-    /// entry then.
-    pub fn set_max<R: Wait>(
-        &mut self,
-        rt: &R,
-        hub: &Hub<N>,
-        queue: QueueId,
-        max_active: u32,
-    ) -> Result<Reply, RunFault>
-        requires { has_numbers N.layout (calls.SetMax queue max_active) ≡ true }
-        ensures made { IfOk result (λ reply. Extends N.layout self.old (calls.SetMax queue max_active) reply self.new) }
-        ensures refused { IfErr result (λ f. Refused N.layout self.old (calls.SetMax queue max_active) f self.new) }
-    {
-        self.make(rt, hub, Call::SetMax { queue, max_active })
-    }
-
-    /// Lets nothing more become active on freezable queues (`freeze_workqueues_begin`): one entry.
-    ///
-    /// # Errors
-    /// As of all calls of one entry: `Closed`, `NoMemory` where the hub has failed, `Stranger`, `Full`; it has made no
-    /// entry then.
-    pub fn freeze<R: Wait>(&mut self, rt: &R, hub: &Hub<N>) -> Result<Reply, RunFault>
-        ensures made { IfOk result (λ reply. Extends N.layout self.old calls.Freeze reply self.new) }
-        ensures refused { IfErr result (λ f. Refused N.layout self.old calls.Freeze f self.new) }
-    {
-        self.make(rt, hub, Call::Freeze)
-    }
-
-    /// Ends that (`thaw_workqueues`): one entry.
-    ///
-    /// # Errors
-    /// As of all calls of one entry: `Closed`, `NoMemory` where the hub has failed, `Stranger`, `Full`; it has made no
-    /// entry then.
-    pub fn thaw<R: Wait>(&mut self, rt: &R, hub: &Hub<N>) -> Result<Reply, RunFault>
-        ensures made { IfOk result (λ reply. Extends N.layout self.old calls.Thaw reply self.new) }
-        ensures refused { IfErr result (λ f. Refused N.layout self.old calls.Thaw f self.new) }
-    {
-        self.make(rt, hub, Call::Thaw)
-    }
-
-    /// Lets so many ticks go by, and then fires what is due: the tick's entry and those of the fires, until there is
-    /// nothing to fire or no room, but at most as many as there are items. Others may make entries between the fires
-    /// where there are many. The answer is the tick's.
-    ///
-    /// # Errors
-    /// Those of a call of one entry, with no entry made; `NoMemory` and `Stranger` also after some of them.
-    pub fn tick<R: Wait>(&mut self, rt: &R, hub: &Hub<N>, ticks: u32) -> Result<Reply, RunFault>
-        ensures done { IfOk result (λ reply. Completes N.layout self.old (calls.Tick ticks) reply self.new) }
-        ensures broke { IfErr result (λ f. BrokeOff N.layout self.old (calls.Tick ticks) f self.new) }
-    {
-        self.make_whole(rt, hub, Call::Tick { ticks })
-    }
-
-    /// Waits until all that was queued on a queue before has ended (`flush_workqueue`): the entry that begins the wait,
-    /// and the one that ends it.
-    ///
-    /// # Errors
-    /// Those of a call of one entry, with no entry made; `NoMemory` also after the first, and then it tells the ticket,
-    /// which stands unended.
-    pub fn flush<R: Wait>(
-        &mut self,
-        rt: &R,
-        hub: &Hub<N>,
-        queue: QueueId,
-    ) -> Result<Reply, RunFault>
-        requires { has_numbers N.layout (calls.Flush queue) ≡ true }
-        ensures done { IfOk result (λ reply. Completes N.layout self.old (calls.Flush queue) reply self.new) }
-        ensures broke { IfErr result (λ f. BrokeOff N.layout self.old (calls.Flush queue) f self.new) }
-    {
-        self.make_whole(rt, hub, Call::Flush { queue })
-    }
-
-    /// Waits until the queueings of an item that are open have ended (`flush_work`): one entry where there are none,
-    /// else two.
-    ///
-    /// # Errors
-    /// Those of a call of one entry, with no entry made; `NoMemory` also after the first, and then it tells the ticket,
-    /// which stands unended.
-    pub fn flush_item<R: Wait>(
-        &mut self,
-        rt: &R,
-        hub: &Hub<N>,
-        item: ItemId,
-    ) -> Result<Reply, RunFault>
-        requires { has_numbers N.layout (calls.FlushItem item) ≡ true }
-        ensures done { IfOk result (λ reply. Completes N.layout self.old (calls.FlushItem item) reply self.new) }
-        ensures broke { IfErr result (λ f. BrokeOff N.layout self.old (calls.FlushItem item) f self.new) }
-    {
-        self.make_whole(rt, hub, Call::FlushItem { item })
-    }
-
-    /// The same, after queueing the item at once if it is delayed (`flush_delayed_work`).
-    ///
-    /// # Errors
-    /// Those of a call of one entry, with no entry made; `NoMemory` also after the first, and then it tells the ticket,
-    /// which stands unended.
-    pub fn flush_delayed<R: Wait>(
-        &mut self,
-        rt: &R,
-        hub: &Hub<N>,
-        item: ItemId,
-    ) -> Result<Reply, RunFault>
-        requires { has_numbers N.layout (calls.FlushDelayed item) ≡ true }
-        ensures done { IfOk result (λ reply. Completes N.layout self.old (calls.FlushDelayed item) reply self.new) }
-        ensures broke { IfErr result (λ f. BrokeOff N.layout self.old (calls.FlushDelayed item) f self.new) }
-    {
-        self.make_whole(rt, hub, Call::FlushDelayed { item })
-    }
-
-    /// Takes an item back and waits until it doesn't run (`cancel_work_sync`, `cancel_delayed_work_sync`): two entries.
-    ///
-    /// # Errors
-    /// Those of a call of one entry, with no entry made; `NoMemory` also after the first, and then it tells the ticket,
-    /// which stands unended.
-    pub fn cancel_sync<R: Wait>(
-        &mut self,
-        rt: &R,
-        hub: &Hub<N>,
-        item: ItemId,
-    ) -> Result<Reply, RunFault>
-        requires { has_numbers N.layout (calls.CancelSync item) ≡ true }
-        ensures done { IfOk result (λ reply. Completes N.layout self.old (calls.CancelSync item) reply self.new) }
-        ensures broke { IfErr result (λ f. BrokeOff N.layout self.old (calls.CancelSync item) f self.new) }
-    {
-        self.make_whole(rt, hub, Call::CancelSync { item })
-    }
-
-    /// Waits until a queue is empty (`drain_workqueue`), and then fires what is due: two entries and those of the
-    /// fires.
-    ///
-    /// # Errors
-    /// Those of a call of one entry, with no entry made; `NoMemory` also after the first, and then it tells the ticket,
-    /// which stands unended.
-    pub fn drain<R: Wait>(
-        &mut self,
-        rt: &R,
-        hub: &Hub<N>,
-        queue: QueueId,
-    ) -> Result<Reply, RunFault>
-        requires { has_numbers N.layout (calls.Drain queue) ≡ true }
-        ensures done { IfOk result (λ reply. Completes N.layout self.old (calls.Drain queue) reply self.new) }
-        ensures broke { IfErr result (λ f. BrokeOff N.layout self.old (calls.Drain queue) f self.new) }
-    {
-        self.make_whole(rt, hub, Call::Drain { queue })
-    }
-
-    /// Waits until a queue is empty, which is then gone (`destroy_workqueue`): two entries.
-    ///
-    /// # Errors
-    /// Those of a call of one entry, with no entry made; `NoMemory` also after the first, and then it tells the ticket,
-    /// which stands unended.
-    pub fn destroy<R: Wait>(
-        &mut self,
-        rt: &R,
-        hub: &Hub<N>,
-        queue: QueueId,
-    ) -> Result<Reply, RunFault>
-        requires { has_numbers N.layout (calls.Destroy queue) ≡ true }
-        ensures done { IfOk result (λ reply. Completes N.layout self.old (calls.Destroy queue) reply self.new) }
-        ensures broke { IfErr result (λ f. BrokeOff N.layout self.old (calls.Destroy queue) f self.new) }
-    {
-        self.make_whole(rt, hub, Call::Destroy { queue })
+    /// Those of `Caller::make_whole`.
+    fn wait(&mut self, call: Call) -> Result<Reply, RunFault> {
+        self.caller.make_whole(self.rt, self.hub, call)
     }
 }
+
+impl<'a, N: HubName, R: Wait> CallerCalls for HubCaller<'a, N, R> {}

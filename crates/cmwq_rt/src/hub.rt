@@ -6,7 +6,7 @@ ghost use Rattle.cmwq_model.specs.Prelude.{fits, past_of, IsLegal};
 ghost use Rattle.cmwq_monitor.specs.Participants.{is_caller};
 ghost use Rattle.cmwq_monitor.specs.Calls.{Extends};
 ghost use Rattle.cmwq_monitor.specs.Faults.{Refused};
-ghost use Rattle.cmwq_monitor.specs.Whole.{Stops, is_drain};
+ghost use Rattle.cmwq_monitor.specs.Whole.{Stops};
 ghost use Rattle.cmwq_monitor.specs.Steps.{HasEnded, HasEndedSome, HasFired, HasFiredSome, IsFiring};
 ghost use Rattle.cmwq_rt.specs.Later.{Later};
 ghost use Rattle.cmwq_rt.specs.Running.{IsNext, IsNextStart, breaks_off};
@@ -269,7 +269,7 @@ impl<N: HubName> Hub<N> {
         ensures stopped { IfErr result.1 (λ f. HasEndedSome N.layout participant.old call ticket f participant.new) }
     {
         let mut hold = hold;
-        let firing = if is_drain(call) {
+        let firing = if call.is_drain() {
             hold.monitor.begins_firing()
         } else {
             None
@@ -302,7 +302,7 @@ impl<N: HubName> Hub<N> {
             Ok(()) => {}
             Err(fault) => return (hold, Err(fault)),
         }
-        if !is_drain(call) {
+        if !call.is_drain() {
             return (hold, Ok(()));
         }
         let Some(firing) = firing else {
@@ -453,12 +453,6 @@ fn next_start<N: HubName, R: Wait>(
         Ok(()) => Ok(Next::Nothing(Sleep::Over)),
         Err(fault) => Err(fault),
     }
-}
-
-fn is_drain(call: Call) -> bool
-    ensures { result ≡ is_drain call }
-{
-    matches!(call, Call::Drain { .. })
 }
 
 fn settle_all<N: HubName>(

@@ -1,9 +1,9 @@
 //! Callers that are lent to runs that wait, each for one wait at a time.
 ghost use Rattle.std.specs.Prelude.{◌≡◌, ◌&&◌, true, false, is_ok, IfOk, IfErr};
-ghost use Rattle.cmwq_model.specs.Prelude.{has_numbers, is_callers};
+ghost use Rattle.cmwq_model.specs.Prelude.{has_numbers, is_callers, is_tick};
 ghost use Rattle.cmwq_model.specs.declared.id.Who.TheVariants as whos;
 ghost use Rattle.cmwq_monitor.specs.Participants.{is_caller, made_by};
-ghost use Rattle.cmwq_monitor.specs.Whole.{BrokeOff, Completes, is_tick};
+ghost use Rattle.cmwq_monitor.specs.Whole.{BrokeOff, Completes};
 ghost use Rattle.cmwq_rt.specs.Lent.{HasOnlyWaited};
 ghost use Rattle.cmwq_rt.specs.Waiting.{is_wait};
 

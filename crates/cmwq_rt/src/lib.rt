@@ -7,6 +7,7 @@
 
 mod batch;
 mod caller;
+mod calls;
 mod completion;
 mod condvars;
 pub mod ending;
@@ -26,7 +27,8 @@ mod work;
 mod worker;
 
 pub use batch::BatchFault;
-pub use caller::Caller;
+pub use caller::{Caller, HubCaller};
+pub use calls::{CallerCalls, Calls, RunCalls};
 pub use cmwq_core::check;
 pub use cmwq_model::{
     Call, CallerId, Counts, CpuId, Entry, Illegal, ItemId, NoMemory, Number, PoolId, QueueId,

@@ -2,12 +2,12 @@
 
 ghost use Rattle.std.specs.Prelude.{◌≡◌, true, false, IfOk, IfErr, None};
 ghost use mathlib.Core.List.{IsPrefix};
-ghost use Rattle.cmwq_model.specs.Prelude.{has_numbers, is_callers, past_of};
+ghost use Rattle.cmwq_model.specs.Prelude.{has_numbers, is_callers, past_of, is_tick};
 ghost use Rattle.cmwq_model.specs.declared.call.Call.TheVariants as calls;
 ghost use Rattle.cmwq_monitor.specs.Faults.{is_full};
 ghost use Rattle.cmwq_monitor.specs.declared.fault.RunFault.TheVariants.{Full};
 ghost use Rattle.cmwq_monitor.specs.Participants.{is_caller, made_by};
-ghost use Rattle.cmwq_monitor.specs.Whole.{Completes, is_tick};
+ghost use Rattle.cmwq_monitor.specs.Whole.{Completes};
 ghost use Rattle.cmwq_rt.specs.Later.{Later};
 ghost use Rattle.cmwq_rt.specs.Running.{MakesOne, breaks_off};
 ghost use Rattle.cmwq_monitor.specs.Held.{refusal_at};

@@ -1,31 +1,31 @@
 //! What workers run.
 ghost use Rattle.std.specs.Prelude.{◌≡◌, ◌⊎◌, ◌<◌, ◌≤◌, ◌&&◌, true, false, length, IfOk, IfErr, None, Some, Err};
 ghost use Rattle.std.specs.List.{list_all};
-ghost use Rattle.cmwq_model.specs.Prelude.{has_numbers, is_callers, is_workers, item_called};
+ghost use Rattle.cmwq_model.specs.Prelude.{has_numbers, is_callers, is_workers, is_tick};
 ghost use Rattle.cmwq_model.specs.declared.call.Call.TheVariants as calls;
 ghost use Rattle.cmwq_monitor.specs.Participants.{is_caller};
-ghost use Rattle.cmwq_monitor.specs.Calls.{Extends};
 ghost use Rattle.cmwq_monitor.specs.Faults.{Refused, is_full};
 ghost use Rattle.cmwq_monitor.specs.declared.fault.RunFault.TheVariants.{Full};
 ghost use Rattle.cmwq_monitor.specs.declared.fault.RunFault.TheVariants as faults;
 ghost use Rattle.cmwq_rt.specs.Batches.{MakesBatch, StopsBatch, fault_after_batch};
 ghost use Rattle.cmwq_rt.specs.Later.{Later};
 ghost use Rattle.cmwq_rt.specs.Starting.{HasStarted};
-ghost use Rattle.cmwq_rt.specs.Running.{RunsItem, MakesOne, fault_after, breaks_off};
+ghost use Rattle.cmwq_rt.specs.Promises.{MadeInRun, WaitedInRun};
+ghost use Rattle.cmwq_rt.specs.Running.{RunsItem, MakesOne, breaks_off};
 ghost use Rattle.cmwq_rt.specs.Sums.{no_waits};
 ghost use Rattle.cmwq_rt.specs.Waiting.{HadNoRoom, HasWaited, MakesNothing, MayNotWait, SleepsThrough, TellsWhy};
 ghost use Rattle.cmwq_rt.specs.Waiting.{fault_after_wait, is_for_itself, is_refusal, is_wait, left_out_after};
 ghost use Rattle.cmwq_rt.specs.declared.wait_fault.WaitFault.TheVariants as waits;
-ghost use Rattle.cmwq_monitor.specs.Whole.{is_tick};
 
 use crate::batch::BatchFault;
 use crate::caller::Caller;
+use crate::calls::{Calls, RunCalls};
 use crate::completion::Completion;
 use crate::hub::Hub;
 use crate::left_out::LeftOut;
 use crate::lent::Lent;
 use crate::wait_fault::WaitFault;
-use cmwq_model::{Call, CpuId, ItemId, QueueId, Reply, Shape};
+use cmwq_model::{Call, ItemId, Reply, Shape};
 use cmwq_monitor::{Participant, RunFault};
 use cmwq_publish::HubName;
 use core::mem::replace_with;
@@ -171,20 +171,12 @@ impl<'a, N: HubName, R: Wait> RunCtx<'a, N, R> {
         self.hub.wait_for(self.rt, completion)
     }
 
-    /// Makes a call of the worker, as the method of its name does: one entry.
-    ///
-    /// # Errors
-    /// Those of `queue`.
+    /// Makes a call of the worker: one entry.
     #[tactic(auto, using(crate::proofs::Running::refused_breaks_off))]
-    pub fn make(&mut self, call: Call) -> Result<Reply, RunFault>
+    fn make_one(&mut self, call: Call) -> Result<Reply, RunFault>
         requires workers { is_workers call ≡ true }
         requires numbers { has_numbers N.layout call ≡ true }
-        ensures later { Later self.old.participant self.new.participant }
-        ensures made { IfOk result (λ reply. Extends N.layout self.old.participant call reply self.new.participant) }
-        ensures refused { IfErr result (λ f. Refused N.layout self.old.participant call f self.new.participant) }
-        ensures fault { self.new.fault ≡ fault_after result self.old.fault }
-        ensures item { self.new.item ≡ self.old.item }
-        ensures left_out { self.new.left_out ≡ self.old.left_out }
+        ensures { MadeInRun N.layout self.old call result self.new }
     {
         let _who = self.participant.who();
         let answer = self.hub.call(self.rt, &mut self.participant, call);
@@ -201,7 +193,7 @@ impl<'a, N: HubName, R: Wait> RunCtx<'a, N, R> {
     /// each is written to the place of the same number.
     ///
     /// # Errors
-    /// Those of `queue`, with how many calls were made before. No later call is made.
+    /// Those of `make`, with how many calls were made before. No later call is made.
     pub fn make_all(
         &mut self,
         calls: &[Call],
@@ -228,271 +220,45 @@ impl<'a, N: HubName, R: Wait> RunCtx<'a, N, R> {
         self.fault = fault_of_batch(&answer, self.fault);
         answer
     }
+}
 
-    /// Queues an item (`queue_work_on`): one entry of the worker.
+impl<'a, N: HubName, R: Wait> Calls for RunCtx<'a, N, R> {
+    type Fault = RunFault;
+
+    type WaitFault = WaitFault;
+
+    ghost may_make = { λ c. (is_workers c ≡ true) × (has_numbers N.layout c ≡ true) };
+
+    ghost may_wait = { λ c. (is_wait c ≡ true) × (has_numbers N.layout c ≡ true) };
+
+    ghost made = { λ v c answer w. MadeInRun N.layout v c answer w };
+
+    ghost waited = { λ v c answer w. WaitedInRun N.layout v c answer w };
+
+    /// Makes a call of the worker.
     ///
     /// # Errors
     /// `Full` where there is no room for it, `NoMemory` where the hub has failed; it has made no entry then.
-    pub fn queue(&mut self, item: ItemId, queue: QueueId, cpu: CpuId) -> Result<Reply, RunFault>
-        requires { has_numbers N.layout (calls.Queue item queue cpu) ≡ true }
-        ensures later { Later self.old.participant self.new.participant }
-        ensures made { IfOk result
-            (λ reply. Extends N.layout self.old.participant (calls.Queue item queue cpu) reply self.new.participant) }
-        ensures refused { IfErr result
-            (λ f. Refused N.layout self.old.participant (calls.Queue item queue cpu) f self.new.participant) }
-        ensures fault { self.new.fault ≡ fault_after result self.old.fault }
-        ensures item { self.new.item ≡ self.old.item }
-        ensures left_out { self.new.left_out ≡ self.old.left_out }
-    {
-        self.make(Call::Queue { item, queue, cpu })
+    fn make(&mut self, call: Call) -> Result<Reply, RunFault> {
+        self.make_one(call)
     }
 
-    /// Queues an item after so many ticks (`queue_delayed_work_on`): one entry of the worker.
-    ///
-    /// # Errors
-    /// As of `queue`.
-    pub fn delay(
-        &mut self,
-        item: ItemId,
-        queue: QueueId,
-        cpu: CpuId,
-        ticks: u32,
-    ) -> Result<Reply, RunFault>
-        requires { has_numbers N.layout (calls.Delay item queue cpu ticks) ≡ true }
-        ensures later { Later self.old.participant self.new.participant }
-        ensures made { IfOk result
-            (λ reply. Extends N.layout self.old.participant (calls.Delay item queue cpu ticks) reply
-            self.new.participant) }
-        ensures refused { IfErr result
-            (λ f. Refused N.layout self.old.participant (calls.Delay item queue cpu ticks) f self.new.participant) }
-        ensures fault { self.new.fault ≡ fault_after result self.old.fault }
-        ensures item { self.new.item ≡ self.old.item }
-        ensures left_out { self.new.left_out ≡ self.old.left_out }
-    {
-        self.make(Call::Delay {
-            item,
-            queue,
-            cpu,
-            ticks,
-        })
-    }
-
-    /// Queues or delays an item anew (`mod_delayed_work_on`): one entry of the worker.
-    ///
-    /// # Errors
-    /// As of `queue`.
-    pub fn modify(
-        &mut self,
-        item: ItemId,
-        queue: QueueId,
-        cpu: CpuId,
-        ticks: u32,
-    ) -> Result<Reply, RunFault>
-        requires { has_numbers N.layout (calls.Modify item queue cpu ticks) ≡ true }
-        ensures later { Later self.old.participant self.new.participant }
-        ensures made { IfOk result
-            (λ reply. Extends N.layout self.old.participant (calls.Modify item queue cpu ticks) reply
-            self.new.participant) }
-        ensures refused { IfErr result
-            (λ f. Refused N.layout self.old.participant (calls.Modify item queue cpu ticks) f self.new.participant) }
-        ensures fault { self.new.fault ≡ fault_after result self.old.fault }
-        ensures item { self.new.item ≡ self.old.item }
-        ensures left_out { self.new.left_out ≡ self.old.left_out }
-    {
-        self.make(Call::Modify {
-            item,
-            queue,
-            cpu,
-            ticks,
-        })
-    }
-
-    /// Takes a pending item back (`cancel_work`, `cancel_delayed_work`): one entry of the worker.
-    ///
-    /// # Errors
-    /// As of `queue`.
-    pub fn cancel(&mut self, item: ItemId) -> Result<Reply, RunFault>
-        requires { has_numbers N.layout (calls.Cancel item) ≡ true }
-        ensures later { Later self.old.participant self.new.participant }
-        ensures made { IfOk result
-            (λ reply. Extends N.layout self.old.participant (calls.Cancel item) reply self.new.participant) }
-        ensures refused { IfErr result
-            (λ f. Refused N.layout self.old.participant (calls.Cancel item) f self.new.participant) }
-        ensures fault { self.new.fault ≡ fault_after result self.old.fault }
-        ensures item { self.new.item ≡ self.old.item }
-        ensures left_out { self.new.left_out ≡ self.old.left_out }
-    {
-        self.make(Call::Cancel { item })
-    }
-
-    /// The run sleeps from now on, so that others of its pool may start (`wq_worker_sleeping`): one entry of the
-    /// worker.
-    ///
-    /// # Errors
-    /// As of `queue`.
-    pub fn sleep(&mut self) -> Result<Reply, RunFault>
-        ensures later { Later self.old.participant self.new.participant }
-        ensures made { IfOk result
-            (λ reply. Extends N.layout self.old.participant calls.Sleep reply self.new.participant) }
-        ensures refused { IfErr result (λ f. Refused N.layout self.old.participant calls.Sleep f self.new.participant) }
-        ensures fault { self.new.fault ≡ fault_after result self.old.fault }
-        ensures item { self.new.item ≡ self.old.item }
-        ensures left_out { self.new.left_out ≡ self.old.left_out }
-    {
-        self.make(Call::Sleep)
-    }
-
-    /// The run goes on (`wq_worker_running`): one entry of the worker.
-    ///
-    /// # Errors
-    /// As of `queue`.
-    pub fn wake(&mut self) -> Result<Reply, RunFault>
-        ensures later { Later self.old.participant self.new.participant }
-        ensures made { IfOk result
-            (λ reply. Extends N.layout self.old.participant calls.Wake reply self.new.participant) }
-        ensures refused { IfErr result (λ f. Refused N.layout self.old.participant calls.Wake f self.new.participant) }
-        ensures fault { self.new.fault ≡ fault_after result self.old.fault }
-        ensures item { self.new.item ≡ self.old.item }
-        ensures left_out { self.new.left_out ≡ self.old.left_out }
-    {
-        self.make(Call::Wake)
-    }
-}
-
-impl<'a, N: HubName, R: Wait> RunCtx<'a, N, R> {
-    /// Waits until the open queueings of another item have ended (`flush_work`). The run sleeps meanwhile, and wakes
-    /// after that.
-    ///
-    /// # Errors
-    /// As of `wait`.
-    pub fn flush_item(&mut self, item: ItemId) -> Result<Reply, WaitFault>
-        requires { has_numbers N.layout (calls.FlushItem item) ≡ true }
-        ensures later { Later self.old.participant self.new.participant }
-        ensures waited { IfOk result
-            (λ reply. HasWaited N.layout self.old.participant (calls.FlushItem item) reply self.new.participant) }
-        ensures itself { item.0 ≡ self.old.item.0 → (result ≡ Err waits.Itself)
-            × (self.new.participant ≡ self.old.participant) }
-        ensures refused { IfErr result (λ f. is_refusal f ≡ true → (self.new.participant ≡ self.old.participant)
-            ⊎ MakesOne N.layout self.old.participant calls.Wake self.new.participant) }
-        ensures stuck { IfErr result (MayNotWait N.layout self.old (calls.FlushItem item)) }
-        ensures fault { self.new.fault ≡ fault_after_wait result self.old.fault }
-        ensures item { self.new.item ≡ self.old.item }
-        ensures left_out { self.new.left_out ≡ left_out_after result self.old.left_out }
-    {
-        self.wait(Call::FlushItem { item })
-    }
-
-    /// Takes another item back and waits until it doesn't run (`cancel_work_sync`, `cancel_delayed_work_sync`). The run
-    /// sleeps meanwhile, and wakes after that.
-    ///
-    /// # Errors
-    /// As of `wait`.
-    pub fn cancel_sync(&mut self, item: ItemId) -> Result<Reply, WaitFault>
-        requires { has_numbers N.layout (calls.CancelSync item) ≡ true }
-        ensures later { Later self.old.participant self.new.participant }
-        ensures waited { IfOk result
-            (λ reply. HasWaited N.layout self.old.participant (calls.CancelSync item) reply self.new.participant) }
-        ensures itself { item.0 ≡ self.old.item.0 → (result ≡ Err waits.Itself)
-            × (self.new.participant ≡ self.old.participant) }
-        ensures refused { IfErr result (λ f. is_refusal f ≡ true → (self.new.participant ≡ self.old.participant)
-            ⊎ MakesOne N.layout self.old.participant calls.Wake self.new.participant) }
-        ensures stuck { IfErr result (MayNotWait N.layout self.old (calls.CancelSync item)) }
-        ensures fault { self.new.fault ≡ fault_after_wait result self.old.fault }
-        ensures item { self.new.item ≡ self.old.item }
-        ensures left_out { self.new.left_out ≡ left_out_after result self.old.left_out }
-    {
-        self.wait(Call::CancelSync { item })
-    }
-
-    /// Queues another item at once if it is delayed, and waits as `flush_item` does (`flush_delayed_work`).
-    ///
-    /// # Errors
-    /// As of `wait`.
-    pub fn flush_delayed(&mut self, item: ItemId) -> Result<Reply, WaitFault>
-        requires { has_numbers N.layout (calls.FlushDelayed item) ≡ true }
-        ensures later { Later self.old.participant self.new.participant }
-        ensures waited { IfOk result
-            (λ reply. HasWaited N.layout self.old.participant (calls.FlushDelayed item) reply self.new.participant) }
-        ensures refused { IfErr result (λ f. is_refusal f ≡ true → (self.new.participant ≡ self.old.participant)
-            ⊎ MakesOne N.layout self.old.participant calls.Wake self.new.participant) }
-        ensures stuck { IfErr result (MayNotWait N.layout self.old (calls.FlushDelayed item)) }
-        ensures fault { self.new.fault ≡ fault_after_wait result self.old.fault }
-        ensures item { self.new.item ≡ self.old.item }
-        ensures left_out { self.new.left_out ≡ left_out_after result self.old.left_out }
-    {
-        self.wait(Call::FlushDelayed { item })
-    }
-
-    /// Waits until everything that was queued on another queue before has ended (`flush_workqueue`). The run sleeps
-    /// meanwhile, and wakes after that.
-    ///
-    /// # Errors
-    /// As of `wait`.
-    pub fn flush(&mut self, queue: QueueId) -> Result<Reply, WaitFault>
-        requires { has_numbers N.layout (calls.Flush queue) ≡ true }
-        ensures later { Later self.old.participant self.new.participant }
-        ensures waited { IfOk result
-            (λ reply. HasWaited N.layout self.old.participant (calls.Flush queue) reply self.new.participant) }
-        ensures refused { IfErr result (λ f. is_refusal f ≡ true → (self.new.participant ≡ self.old.participant)
-            ⊎ MakesOne N.layout self.old.participant calls.Wake self.new.participant) }
-        ensures stuck { IfErr result (MayNotWait N.layout self.old (calls.Flush queue)) }
-        ensures fault { self.new.fault ≡ fault_after_wait result self.old.fault }
-        ensures item { self.new.item ≡ self.old.item }
-        ensures left_out { self.new.left_out ≡ left_out_after result self.old.left_out }
-    {
-        self.wait(Call::Flush { queue })
-    }
-
-    /// Waits until another queue is empty (`drain_workqueue`), and fires what is due. The run sleeps meanwhile, and
-    /// wakes after that.
-    ///
-    /// # Errors
-    /// As of `wait`.
-    pub fn drain(&mut self, queue: QueueId) -> Result<Reply, WaitFault>
-        requires { has_numbers N.layout (calls.Drain queue) ≡ true }
-        ensures later { Later self.old.participant self.new.participant }
-        ensures waited { IfOk result
-            (λ reply. HasWaited N.layout self.old.participant (calls.Drain queue) reply self.new.participant) }
-        ensures refused { IfErr result (λ f. is_refusal f ≡ true → (self.new.participant ≡ self.old.participant)
-            ⊎ MakesOne N.layout self.old.participant calls.Wake self.new.participant) }
-        ensures stuck { IfErr result (MayNotWait N.layout self.old (calls.Drain queue)) }
-        ensures fault { self.new.fault ≡ fault_after_wait result self.old.fault }
-        ensures item { self.new.item ≡ self.old.item }
-        ensures left_out { self.new.left_out ≡ left_out_after result self.old.left_out }
-    {
-        self.wait(Call::Drain { queue })
-    }
-
-    /// Waits by a caller that is lent to the run meanwhile, as the method of the call's name does. The run sleeps from
-    /// before the call's first entry until after its last. A run that is asleep wakes first.
+    /// Waits by a caller that is lent to the run meanwhile. The run sleeps from before the call's first entry until
+    /// after its last. A run that is asleep wakes first.
     ///
     /// # Errors
     /// They are looked for in this order. `Itself` if it would wait for its own run. `Deadlock` if it could never end,
     /// unless another thread takes something back, moves it or widens a queue. `NoCaller` if no caller is left to be
     /// lent. `Run` with `Full` if there is no room for the whole wait. Then nothing was made, but that a run that was
     /// asleep may have woken. `Run` with another fault of the hub.
-    pub fn wait(&mut self, call: Call) -> Result<Reply, WaitFault>
-        requires waits { is_wait call ≡ true }
-        requires numbers { has_numbers N.layout call ≡ true }
-        ensures later { Later self.old.participant self.new.participant }
-        ensures waited { IfOk result
-            (λ reply. HasWaited N.layout self.old.participant call reply self.new.participant) }
-        ensures itself { is_for_itself self.old.item call ≡ true → (result ≡ Err waits.Itself)
-            × (self.new.participant ≡ self.old.participant) }
-        ensures refused { IfErr result (λ f. is_refusal f ≡ true → (self.new.participant ≡ self.old.participant)
-            ⊎ MakesOne N.layout self.old.participant calls.Wake self.new.participant) }
-        ensures stuck { IfErr result (MayNotWait N.layout self.old call) }
-        ensures full { IfErr result
-            (λ f. f ≡ waits.Run Full → HadNoRoom N.layout self.old.participant self.new.participant) }
-        ensures fault { self.new.fault ≡ fault_after_wait result self.old.fault }
-        ensures item { self.new.item ≡ self.old.item }
-        ensures left_out { self.new.left_out ≡ left_out_after result self.old.left_out }
-    {
+    fn wait(&mut self, call: Call) -> Result<Reply, WaitFault> {
         let answer = self.wait_uncounted(call);
         self.count(&answer);
         answer
     }
 }
+
+impl<'a, N: HubName, R: Wait> RunCalls for RunCtx<'a, N, R> {}
 
 /// Whether the call waits for this item's run.
 fn is_for_itself(own: ItemId, call: Call) -> bool
@@ -574,7 +340,7 @@ impl<'a, N: HubName, R: Wait> RunCtx<'a, N, R> {
         if !self.is_asleep {
             return Ok(());
         }
-        match self.wake() {
+        match self.make_one(Call::Wake) {
             Ok(_) => Ok(()),
             Err(fault) => Err(fault),
         }
@@ -633,7 +399,7 @@ impl<'a, N: HubName, R: Wait> RunCtx<'a, N, R> {
         if !self.is_asleep {
             return Ok(left_out);
         }
-        match self.wake() {
+        match self.make_one(Call::Wake) {
             Ok(_) => Ok(left_out),
             Err(fault) => Err(with_room(fault)),
         }

@@ -4,6 +4,7 @@ use Rattle.std.specs.Option.{option_map_or}
 use Rattle.std.proofs.Common.{◌≡◌, ◌∙◌, ◌≢◌, ◌∷◌, ℕ, zero, suc, Bool, true, false, List, [], Option, Some, None}
 use Rattle.std.proofs.Common.{refl, sym, ap, subst, inl}
 use mathlib.Core.List.{IsPrefix}
+use Rattle.cmwq_model.specs.Prelude.{is_drain, is_nothing, is_tick, ticket_told}
 use Rattle.cmwq_model.specs.Prelude.{Layout, fits, is_done}
 use Rattle.cmwq_model.specs.declared.call.Call.{Call}
 use Rattle.cmwq_model.specs.declared.call.Call.TheVariants as call
@@ -14,14 +15,14 @@ use Rattle.cmwq_core.specs.History.{History}
 use Rattle.cmwq_monitor.specs.Calls.{Extends, own_entry}
 use Rattle.cmwq_monitor.specs.Participants.{View}
 use Rattle.cmwq_monitor.specs.Steps.{HasEnded, HasFired, IsFiring}
-use Rattle.cmwq_monitor.specs.Whole.{Completes, EndsFiring, EndsOwn, ticket_in_reply}
+use Rattle.cmwq_monitor.specs.Whole.{Completes, EndsFiring, EndsOwn}
 use Rattle.cmwq_monitor.proofs.Beginnings.{prefix_of_prefix, prefix_trans}
 use Rattle.cmwq_monitor.proofs.Entering.{view_after}
 use Rattle.cmwq_monitor.proofs.Fired.{ends_extended, fired_all, fired_full, fired_last, fired_more, firing_begins}
 use Rattle.cmwq_monitor.proofs.Serials.{stand_next}
 use Rattle.cmwq_monitor.proofs.Whole.{ended_alone, ended_completes, ended_fired, tick_completes}
-use Rattle.cmwq_explore.specs.Machines.{AfterCall, after_reply, begun, is_drain, is_made, is_nothing, is_tick, replied}
-use Rattle.cmwq_explore.specs.Machines.{stepped, ticket_given}
+use Rattle.cmwq_explore.specs.Machines.{AfterCall, after_reply, begun, is_made, replied}
+use Rattle.cmwq_explore.specs.Machines.{stepped}
 unfoldable use Rattle.cmwq_explore.specs.Machines.{called, ended, ends, fired}
 use Rattle.cmwq_explore.specs.declared.machine.Called.{Called}
 use Rattle.cmwq_explore.specs.declared.machine.Called.TheVariants.{NoRoom, Whole, Waits as Began}
@@ -42,14 +43,6 @@ nothing_is_not r is same = let nothing = ap is_nothing same in cc
 done_is : (r : Reply) → is_done r ≡ true → r ≡ reply.Done
 done_is reply.Done is = refl
 done_is r is = absurd (cc is)
-
-given_same : (r : Reply) → ticket_in_reply r ≡ ticket_given r
-given_same (reply.Ticket k) = refl
-given_same (reply.TicketQueued k) = refl
-given_same (reply.TicketCancelled k n) = refl
-given_same (reply.TicketUnbooked k) = refl
-given_same (reply.TicketNo k) = refl
-given_same r = refl
 
 -- ---- fires
 
@@ -165,7 +158,7 @@ end_leaves s h m t kept up fit may = at (is_drain t.call) refl
 pub record IsBegun (s : Layout) (v : View) (t : Ticketed) (r : Reply) (m : View) : Type 0 where
   pub extends : Extends s v t.call r m
   pub no_tick : is_tick t.call ≡ false
-  pub gives : ticket_in_reply r ≡ Some t.ticket
+  pub gives : ticket_told r ≡ Some t.ticket
 
 -- What came of a call: whoever made it has seen the history before it.
 abbrev pub CameOf : Layout → History → View → Call → History → Called → Type 0
@@ -175,7 +168,7 @@ CameOf s h v c g Whole = (r : Reply) × (w : View) × Completes s v c r w × IsU
 CameOf s h v c g (Began t) = (r : Reply) × (m : View) × (t.call ≡ c) × IsBegun s v t r m × IsUpToDate g.entries m
     × IsPrefix h.entries m.seen
 
-plain_completes : (s : Layout) (v w : View) (c : Call) (r : Reply) → is_tick c ≡ false → ticket_in_reply r ≡ None
+plain_completes : (s : Layout) (v w : View) (c : Call) (r : Reply) → is_tick c ≡ false → ticket_told r ≡ None
     → Extends s v c r w → Completes s v c r w
 plain_completes s v w c r no_tick none x =
     let e = own_entry s x.before v c in
@@ -225,14 +218,14 @@ module _ (s : Layout) (h : History) (v : View) (c : Call) (kept : IsKept s h) (f
   saw : IsPrefix h.entries (view_after s h.entries v c).seen
   saw = prefix_of_prefix h.entries (own_entry s h.entries v c ∷ [])
 
-  waits : (k : ℕ) → ticket_given r ≡ Some k → is_tick c ≡ false → (b : Bool) → ends g v.who k ≡ b
+  waits : (k : ℕ) → ticket_told r ≡ Some k → is_tick c ≡ false → (b : Bool) → ends g v.who k ≡ b
       → Came s h v c (if b then record { history = ended g v.who (record { ticket = k; call = c }); outcome = Whole }
       else record { history = g; outcome = Began (record { ticket = k; call = c }) })
   waits k gives no_tick true may =
       let t : Ticketed = record { ticket = k; call = c } in
       let e = end_leaves s g w t after_g made.up fit may in
       let begun : IsBegun s v t r w =
-      record { extends = made.extends; no_tick = no_tick; gives = given_same r ∙ gives } in (
+      record { extends = made.extends; no_tick = no_tick; gives = gives } in (
         r,
         e.last,
         wait_completes s v w t r _ begun e,
@@ -244,21 +237,21 @@ module _ (s : Layout) (h : History) (v : View) (c : Call) (kept : IsKept s h) (f
     r,
     w,
     refl,
-    record { extends = made.extends; no_tick = no_tick; gives = given_same r ∙ gives },
+    record { extends = made.extends; no_tick = no_tick; gives = gives },
     made.up,
     saw,
   )
 
-  given : (o : Option ℕ) → ticket_given r ≡ o → is_tick c ≡ false
+  given : (o : Option ℕ) → ticket_told r ≡ o → is_tick c ≡ false
       → Came s h v c (option_map_or (λ k. begun g v.who (record { ticket = k; call = c })) o
       (record { history = g; outcome = Whole }))
   given None gives no_tick =
-      (r, w, plain_completes s v w c r no_tick (given_same r ∙ gives) made.extends, made.up, saw)
+      (r, w, plain_completes s v w c r no_tick gives made.extends, made.up, saw)
   given (Some k) gives no_tick = waits k gives no_tick (ends g v.who k) refl
 
   told : (b : Bool) → is_tick c ≡ b
       → Came s h v c (if b then record { history = fired g.layout.items g v.who; outcome = Whole }
-      else option_map_or (λ k. begun g v.who (record { ticket = k; call = c })) (ticket_given r)
+      else option_map_or (λ k. begun g v.who (record { ticket = k; call = c })) (ticket_told r)
       (record { history = g; outcome = Whole }))
   told true tick =
       let fires = fires_leave s s.items g w w after_g made.up fit (firing_begins s v w c r made.extends) in
@@ -270,7 +263,7 @@ module _ (s : Layout) (h : History) (v : View) (c : Call) (kept : IsKept s h) (f
         fires.up,
         prefix_trans h.entries w.seen fires.last.seen saw fires.fired.gains.older,
       )
-  told false no_tick = given (ticket_given r) refl no_tick
+  told false no_tick = given (ticket_told r) refl no_tick
 
 pub came_of : (s : Layout) (h : History) (v : View) (c : Call) → IsKept s h → IsUpToDate h.entries v
     → fits s v.who call.Fire ≡ true → CameOf s h v c (called h v.who c).history (called h v.who c).outcome

@@ -4,6 +4,7 @@ use Rattle.std.specs.List.{AllByRecursion}
 use Rattle.std.proofs.Common.{◌≡◌, ◌∙◌, ◌+◌, ◌++◌, ◌∷◌, ℕ, zero, suc, Bool, true, false, List, [], Option, Some, None}
 use Rattle.std.proofs.Common.{length, map, ap, arith, inl, inr, count_by}
 use Rattle.cmwq_lemmas.proofs.Lists.{count_append, count_by-cons}
+use Rattle.cmwq_model.specs.Prelude.{is_drain, is_tick, ticket_told}
 use Rattle.cmwq_model.specs.Prelude.{Layout, is_whole}
 use Rattle.cmwq_model.specs.declared.call.Call.{Call}
 use Rattle.cmwq_model.specs.declared.entry.Entry.{Entry}
@@ -14,7 +15,7 @@ use Rattle.cmwq_json_script.specs.Views.{calls_in}
 use Rattle.cmwq_json_script.specs.declared.action.Action.{Action}
 use Rattle.cmwq_json_script.specs.declared.action.Action.TheVariants as action
 use Rattle.cmwq_monitor.specs.Participants.{made_by}
-use Rattle.cmwq_monitor.specs.Whole.{Behind, EndsTicket, Fires, MakesEntries, is_drain, is_tick, ticket_in_reply}
+use Rattle.cmwq_monitor.specs.Whole.{Behind, EndsTicket, Fires, MakesEntries}
 use Rattle.cmwq_rt.specs.Scripts.{Follows}
 use Rattle.cmwq_engine.specs.Conduct.{caller_numbered}
 use Rattle.cmwq_rt_scripts.specs.Ended.{AllFollow}
@@ -63,9 +64,9 @@ module _ (s : Layout) (who : Who) (history : List Entry) where
       ended (Some k) end = end_counts made c k es end
 
       ticked : (b : Bool) → MatchBool b (Fires s who history s.items made es)
-          (MatchOption (ticket_in_reply r) (es ≡ []) (λ k. EndsTicket s who history made c k es)) → firsts es ≡ 0
+          (MatchOption (ticket_told r) (es ≡ []) (λ k. EndsTicket s who history made c k es)) → firsts es ≡ 0
       ticked true fires = fires_count s.items made es fires
-      ticked false end = ended (ticket_in_reply r) end
+      ticked false end = ended (ticket_told r) end
 
   call_counts : (made : List Entry) (c : Call) (r : Reply) (es : List Entry) → is_whole c ≡ true
       → MakesEntries s who history made c r es → firsts es ≡ 1

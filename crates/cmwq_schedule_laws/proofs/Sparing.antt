@@ -5,6 +5,7 @@ use Rattle.std.proofs.Common.{◌≡◌, ◌∙◌, ◌++◌, ◌∷◌, ℕ, ze
 use Rattle.std.proofs.Common.{refl, sym, ap, subst, arith}
 use mathlib.Core.List.{IsPrefix}
 use Rattle.cmwq_lemmas.proofs.Lists.{count_by-cons}
+use Rattle.cmwq_model.specs.Prelude.{is_drain, is_nothing, is_tick, ticket_told}
 use Rattle.cmwq_model.specs.Prelude.{Layout, is_by, past_of, same_who, serial_of}
 unfoldable use Rattle.cmwq_model.specs.Prelude.{IsLegal}
 use Rattle.cmwq_model.specs.declared.call.Call.{Call}
@@ -16,8 +17,8 @@ use Rattle.cmwq_model.specs.declared.reply.Reply.{Reply}
 use Rattle.cmwq_model.proofs.Growing.{one_more_is_newest}
 use Rattle.cmwq_core.specs.History.{History, next_entry, past_in, with_entry}
 use Rattle.cmwq_monitor.proofs.Beginnings.{prefix_of_prefix, prefix_self, prefix_trans}
-use Rattle.cmwq_explore.specs.Machines.{AfterCall, after_reply, begun, ends, is_drain, is_made, is_nothing, is_tick}
-use Rattle.cmwq_explore.specs.Machines.{replied, ticket_given}
+use Rattle.cmwq_explore.specs.Machines.{AfterCall, after_reply, begun, ends, is_made}
+use Rattle.cmwq_explore.specs.Machines.{replied}
 unfoldable use Rattle.cmwq_explore.specs.Machines.{called, ended, fired, stepped}
 use Rattle.cmwq_explore.specs.declared.machine.Called.TheVariants.{NoRoom, Whole, Waits as Began}
 use Rattle.cmwq_explore.specs.declared.place.Ticketed.{Ticketed}
@@ -189,12 +190,12 @@ module _ (s : Layout) (maker : Who) where
           → Goes (if b then record {
             history = fired (stepped h maker c).layout.items (stepped h maker c) maker;
             outcome = Whole;
-          } else option_map_or (λ k. begun (stepped h maker c) maker (record { ticket = k; call = c })) (ticket_given r)
+          } else option_map_or (λ k. begun (stepped h maker c) maker (record { ticket = k; call = c })) (ticket_told r)
           (record { history = stepped h maker c; outcome = Whole }))
       told true r =
           goes_further h (stepped h maker c) _ one
           (fired_goes (stepped h maker c).layout.items (stepped h maker c) one.kept)
-      told false r = given (ticket_given r)
+      told false r = given (ticket_told r)
 
       at : (o : Option Reply)
           → Goes (option_map_or (after_reply (stepped h maker c) maker c) o (record { history = h; outcome = NoRoom }))

@@ -5,6 +5,7 @@ use Rattle.std.proofs.Common.{◌≡◌, ◌∙◌, ◌<◌, ◌++◌, ◌∷◌
 use Rattle.std.proofs.Common.{None}
 use Rattle.std.proofs.Common.{length, take, slice_get, nat_lt, refl, sym, ap, subst, arith, inl, inr}
 use Rattle.std.proofs.lemmas.Option.{get_or_from_slice_get, slice_get_within}
+use Rattle.cmwq_model.specs.Prelude.{is_retired}
 use Rattle.cmwq_model.specs.Prelude.{Layout, answer, entry_for, fits, has_numbers, is_workers, number_started, past_of}
 use Rattle.cmwq_model.specs.Prelude.{queueing_at, runs_asleep, runs_awake}
 use Rattle.cmwq_model.specs.declared.call.Call.{Call}
@@ -32,7 +33,7 @@ use Rattle.cmwq_cmd_run.specs.Interpreted as interpreted
 use Rattle.cmwq_cmd_run.specs.Interpreted.{ActInTurn, MakesIfRoom, SleepsOnce, plays}
 use Rattle.cmwq_cmd_run.proofs.Interpreting.{act_next}
 use Rattle.cmwq_theory_steps.specs.RoomSteps.{is_promised}
-use Rattle.cmwq_explore.specs.Machines.{is_made, is_retired, item_started, replied, stepped}
+use Rattle.cmwq_explore.specs.Machines.{is_made, item_started, replied, stepped}
 unfoldable use Rattle.cmwq_explore.specs.Machines.{retires, starts}
 use Rattle.cmwq_explore.proofs.Gathering.{all_taken}
 use Rattle.cmwq_explore.specs.Stands.{after_action, first_of, rested}

@@ -1,19 +1,24 @@
 -- What a call of a service answers, and what it leaves.
-use Rattle.std.specs.Prelude.{◌≡◌, ◌⊎◌, ◌≤◌, ℕ, Bool, ◌&&◌, false, List, length, take, Result, Ok, Err}
+use Rattle.std.specs.Prelude.{◌≡◌, ◌⊎◌, ◌≤◌, ℕ, Bool, ◌&&◌, true, false, List, length, take, Result, Ok, Err}
+use Rattle.std.specs.Prelude.{IfOk, IfErr}
 use Rattle.std.specs.List.{list_all}
 use Rattle.cmwq_model.specs.Prelude.{Layout, has_numbers, is_callers, is_workers}
 use Rattle.cmwq_model.specs.declared.call.Call.{Call}
 use Rattle.cmwq_model.specs.declared.call.Call.TheVariants as call
 use Rattle.cmwq_model.specs.declared.entry.Entry.{Entry}
+use Rattle.cmwq_model.specs.declared.id.ItemId.{ItemId}
 use Rattle.cmwq_model.specs.declared.reply.Reply.{Reply}
+use Rattle.cmwq_monitor.specs.Calls.{Extends}
 use Rattle.cmwq_monitor.specs.Participants.{View, Gains}
 use Rattle.cmwq_monitor.specs.Faults.{Refused}
-use Rattle.cmwq_monitor.specs.Whole.{BrokeOff}
+use Rattle.cmwq_monitor.specs.Whole.{BrokeOff, Completes}
 use Rattle.cmwq_monitor.specs.declared.fault.RunFault.{RunFault}
+use Rattle.cmwq_monitor.specs.declared.fault.RunFault.TheVariants.{Full}
 use Rattle.cmwq_rt.specs.Batches.{StopsBatch}
 use Rattle.cmwq_rt.specs.Later.{Later}
 use Rattle.cmwq_rt.specs.declared.batch.BatchFault.{BatchFault}
 use Rattle.cmwq_rt.specs.Running.{MakesOne}
+use Rattle.cmwq_rt.specs.Waiting.{HadNoRoom, HasWaited, is_for_itself}
 use Rattle.cmwq_rt.specs.declared.wait_fault.WaitFault.{WaitFault}
 use Rattle.cmwq_rt.specs.declared.wait_fault.WaitFault.TheVariants as wait
 use Rattle.cmwq_service.specs.declared.fault.Fault.{Fault}
@@ -57,6 +62,28 @@ Unwaited s v c f w = (w ≡ v) ⊎ MakesOne s v call.Wake w
 abbrev pub TellsItself : Result Reply Fault → Type 0
 TellsItself (Err (Itself _ _)) = Unit {0}
 TellsItself _ = ⊥
+
+-- ---- what a call leaves, by its answer
+
+-- a call of one entry
+pub record MadeOrDenied (s : Layout) (v : View) (c : Call) (answer : Result Reply Fault) (w : View) : Type 0 where
+  pub made : IfOk answer (λ r. Extends s v c r w)
+  pub denied : IfErr answer (λ f. Denied s v c f w)
+
+-- a call of several entries
+pub record DoneOrInterrupted (s : Layout) (v : View) (c : Call) (answer : Result Reply Fault) (w : View) : Type 0 where
+  pub done : IfOk answer (λ r. Completes s v c r w)
+  pub broke : IfErr answer (λ f. Interrupted s v c f w)
+
+-- a wait of this item's run
+pub record WaitedOrNot (s : Layout) (own : ItemId) (v : View) (c : Call) (answer : Result Reply Fault) (w : View)
+    : Type 0 where
+  pub waited : IfOk answer (λ r. HasWaited s v c r w)
+  pub unwaited : IfErr answer (λ f. Unwaited s v c f w)
+  pub itself : is_for_itself own c ≡ true → has_numbers s c ≡ true → TellsItself answer × (w ≡ v)
+  pub full : IfErr answer (λ f. f ≡ Run Full → HadNoRoom s v w)
+
+-- ---- what a service sees of a hub
 
 -- the fault of a wait, as a service sees it
 abbrev pub IsFaultOfWait : WaitFault → Fault → Type 0

@@ -4,8 +4,8 @@ ghost use Rattle.cmwq_service.specs.Calls.{GoesOn};
 
 use crate::fault::{Fault, are_of_callers, in_batch};
 use crate::start::Start;
-use cmwq_model::{Call, CpuId, ItemId, Number, QueueId, Reply, Shape};
-use cmwq_rt::{BatchFault, Caller, Completion, Hub, HubName, turns};
+use cmwq_model::{Call, ItemId, Reply, Shape};
+use cmwq_rt::{BatchFault, Caller, CallerCalls, Calls, Completion, Hub, HubCaller, HubName, turns};
 use std::marker::PhantomData;
 use std::sync::Wait;
 
@@ -17,16 +17,18 @@ use std::sync::Wait;
 /// made no entry then; a `set_max` to 0 too. Otherwise a call answers what the hub does, as `Fault::Run`: `Closed`,
 /// `NoMemory` where the hub has failed, `Full`. It has made no entry then; but a call of several entries may break off
 /// after some of them, with `NoMemory`, which tells a ticket that stands unended.
-pub trait Client {
-    ghost use Rattle.std.specs.Prelude.{◌≡◌, ◌≤◌, [], false, true, length, IfOk, IfErr, OnOk, MatchOption, None};
+pub trait Client: CallerCalls<Fault = Fault, WaitFault = Fault> {
+    ghost use Rattle.std.specs.Prelude.{◌≡◌, ◌≤◌, [], false, true, length, Result};
+    ghost use Rattle.std.specs.Prelude.{IfOk, IfErr, OnOk, MatchOption, None};
+    ghost use Rattle.cmwq_model.specs.declared.call.Call.{Call};
     ghost use Rattle.cmwq_model.specs.declared.call.Call.TheVariants as calls;
+    ghost use Rattle.cmwq_model.specs.declared.reply.Reply.{Reply};
     ghost use Rattle.cmwq_model.specs.Prelude.{IsLegal, Layout, past_of, bits, has_numbers, is_callers};
-    ghost use Rattle.cmwq_monitor.specs.Calls.{Extends};
     ghost use Rattle.cmwq_monitor.specs.Participants.{View, Gains};
-    ghost use Rattle.cmwq_monitor.specs.Whole.{Completes};
     ghost use Rattle.cmwq_rt.specs.Batches.{MakesBatch};
-    ghost use Rattle.cmwq_service.specs.Calls.{Denied, DeniedBatch, is_of_caller, Interrupted};
+    ghost use Rattle.cmwq_service.specs.Calls.{DeniedBatch, DoneOrInterrupted, MadeOrDenied, is_of_caller};
     ghost use Rattle.cmwq_monitor.specs.declared.fault.RunFault.TheVariants.{NoMemory};
+    ghost use Rattle.cmwq_service.specs.declared.fault.Fault.{Fault};
     ghost use Rattle.cmwq_service.specs.declared.fault.Fault.TheVariants.{Outside, Run};
 
     /// The shape of its hub.
@@ -54,12 +56,6 @@ pub trait Client {
             × (view self.new ≡ view self.old)) }
         ensures own { Gains (view self.old) [] (view self.new) };
 
-    /// A call of one entry: it waits for nothing. Each method below of a call of one entry makes its call by this one.
-    fn make(&mut self, call: Call) -> Result<Reply, Fault>
-        requires { is_callers call ≡ true }
-        ensures made { IfOk result (λ reply. Extends layout (view self.old) call reply (view self.new)) }
-        ensures denied { IfErr result (λ f. Denied layout (view self.old) call f (view self.new)) };
-
     /// Makes calls of one entry each, one after another: 64 at most in one hold of the hub's lock, which is faster than
     /// one hold for each. The reply of each is written to the place of the same number.
     ///
@@ -74,13 +70,6 @@ pub trait Client {
             (λ e. DeniedBatch (is_of_caller layout) layout (view self.old) calls.now e.made e.fault replies.old
             replies.new (view self.new)) };
 
-    /// A whole call: it makes its entry and those that belong to it, and waits where it gives a ticket. Each method
-    /// below of a call of several entries makes its call by this one.
-    fn whole(&mut self, call: Call) -> Result<Reply, Fault>
-        requires { is_callers call ≡ true }
-        ensures done { IfOk result (λ reply. Completes layout (view self.old) call reply (view self.new)) }
-        ensures broke { IfErr result (λ f. Interrupted layout (view self.old) call f (view self.new)) };
-
     /// Waits until another thread of the service completes it (`wait_for_completion`). This makes no entry.
     ///
     /// # Errors
@@ -94,283 +83,157 @@ pub trait Client {
     /// Completes it for good: all who wait for it go on, now and later (`complete_all`).
     fn complete_all(&self, completion: &Completion);
 
-    // Calls of one entry. Their promises are `Extends` and `Denied`.
+    /// It may make each call of callers as a call of one entry.
+    ghost makes: { (c : Call) → is_callers c ≡ true → Self.may_make c };
 
-    /// Queues an item (`queue_work_on`).
-    final fn queue(&mut self, item: ItemId, queue: QueueId, cpu: CpuId) -> Result<Reply, Fault>
-        ensures made { IfOk result
-            (λ reply. Extends layout (view self.old) (calls.Queue item queue cpu) reply (view self.new)) }
-        ensures denied { IfErr result
-            (λ f. Denied layout (view self.old) (calls.Queue item queue cpu) f (view self.new)) }
+    /// It may make each call of callers whole.
+    ghost waits: { (c : Call) → is_callers c ≡ true → Self.may_wait c };
+
+    /// What each call of one entry promises.
+    ghost when_made: { (v w : Self) (c : Call) (answer : Result Reply Fault) → Self.made v c answer w
+        → MadeOrDenied layout (view v) c answer (view w) };
+
+    /// What each call of several entries promises.
+    ghost when_waited: { (v w : Self) (c : Call) (answer : Result Reply Fault) → Self.waited v c answer w
+        → DoneOrInterrupted layout (view v) c answer (view w) };
+
+    /// A whole call: it makes its entry and those that belong to it, and waits where it gives a ticket, as `wait` does.
+    final fn whole(&mut self, call: Call) -> Result<Reply, Fault>
+        requires { is_callers call ≡ true }
+        ensures { DoneOrInterrupted layout (view self.old) call result (view self.new) }
     {
-        self.make(Call::Queue { item, queue, cpu })
-    }
-
-    /// Queues an item after so many ticks (`queue_delayed_work_on`).
-    final fn delay(
-        &mut self,
-        item: ItemId,
-        queue: QueueId,
-        cpu: CpuId,
-        ticks: u32,
-    ) -> Result<Reply, Fault>
-        ensures made { IfOk result
-            (λ reply. Extends layout (view self.old) (calls.Delay item queue cpu ticks) reply (view self.new)) }
-        ensures denied { IfErr result
-            (λ f. Denied layout (view self.old) (calls.Delay item queue cpu ticks) f (view self.new)) }
-    {
-        self.make(Call::Delay {
-            item,
-            queue,
-            cpu,
-            ticks,
-        })
-    }
-
-    /// Queues or delays an item anew (`mod_delayed_work_on`).
-    final fn modify(
-        &mut self,
-        item: ItemId,
-        queue: QueueId,
-        cpu: CpuId,
-        ticks: u32,
-    ) -> Result<Reply, Fault>
-        ensures made { IfOk result
-            (λ reply. Extends layout (view self.old) (calls.Modify item queue cpu ticks) reply (view self.new)) }
-        ensures denied { IfErr result
-            (λ f. Denied layout (view self.old) (calls.Modify item queue cpu ticks) f (view self.new)) }
-    {
-        self.make(Call::Modify {
-            item,
-            queue,
-            cpu,
-            ticks,
-        })
-    }
-
-    /// Takes a pending item back (`cancel_work`, `cancel_delayed_work`).
-    final fn cancel(&mut self, item: ItemId) -> Result<Reply, Fault>
-        ensures made { IfOk result (λ reply. Extends layout (view self.old) (calls.Cancel item) reply (view self.new)) }
-        ensures denied { IfErr result (λ f. Denied layout (view self.old) (calls.Cancel item) f (view self.new)) }
-    {
-        self.make(Call::Cancel { item })
-    }
-
-    /// Begins to wait for all that is queued on a queue, and doesn't wait: the reply gives the ticket.
-    final fn flush_begin(&mut self, queue: QueueId) -> Result<Reply, Fault>
-        ensures made { IfOk result (λ reply. Extends layout (view self.old) (calls.Flush queue) reply (view self.new)) }
-        ensures denied { IfErr result (λ f. Denied layout (view self.old) (calls.Flush queue) f (view self.new)) }
-    {
-        self.make(Call::Flush { queue })
-    }
-
-    /// Ends a ticket if it may end (`done`), and else says what it waits for.
-    final fn flush_try(&mut self, ticket: Number) -> Result<Reply, Fault>
-        ensures made { IfOk result (λ reply. Extends layout (view self.old) (calls.End ticket) reply (view self.new)) }
-        ensures denied { IfErr result (λ f. Denied layout (view self.old) (calls.End ticket) f (view self.new)) }
-    {
-        self.make(Call::End { ticket })
-    }
-
-    /// Sets how many queueings of a queue may be active on one CPU (`workqueue_set_max_active`).
-    final fn set_max(&mut self, queue: QueueId, max_active: u32) -> Result<Reply, Fault>
-        ensures made { IfOk result
-            (λ reply. Extends layout (view self.old) (calls.SetMax queue max_active) reply (view self.new)) }
-        ensures denied { IfErr result
-            (λ f. Denied layout (view self.old) (calls.SetMax queue max_active) f (view self.new)) }
-    {
-        self.make(Call::SetMax { queue, max_active })
-    }
-
-    /// Lets nothing more become active on freezable queues (`freeze_workqueues_begin`).
-    final fn freeze(&mut self) -> Result<Reply, Fault>
-        ensures made { IfOk result (λ reply. Extends layout (view self.old) calls.Freeze reply (view self.new)) }
-        ensures denied { IfErr result (λ f. Denied layout (view self.old) calls.Freeze f (view self.new)) }
-    {
-        self.make(Call::Freeze)
-    }
-
-    /// Ends that (`thaw_workqueues`).
-    final fn thaw(&mut self) -> Result<Reply, Fault>
-        ensures made { IfOk result (λ reply. Extends layout (view self.old) calls.Thaw reply (view self.new)) }
-        ensures denied { IfErr result (λ f. Denied layout (view self.old) calls.Thaw f (view self.new)) }
-    {
-        self.make(Call::Thaw)
-    }
-
-    // Calls of several entries. Their promises are `Completes` and `Interrupted`.
-
-    /// Lets so many ticks go by, and then fires what is due. Time is the sum of the ticks that all callers and the
-    /// clock hand in.
-    final fn tick(&mut self, ticks: u32) -> Result<Reply, Fault>
-        ensures done { IfOk result
-            (λ reply. Completes layout (view self.old) (calls.Tick ticks) reply (view self.new)) }
-        ensures broke { IfErr result (λ f. Interrupted layout (view self.old) (calls.Tick ticks) f (view self.new)) }
-    {
-        self.whole(Call::Tick { ticks })
-    }
-
-    /// Waits until all that was queued on a queue before has ended (`flush_workqueue`).
-    final fn flush(&mut self, queue: QueueId) -> Result<Reply, Fault>
-        ensures done { IfOk result
-            (λ reply. Completes layout (view self.old) (calls.Flush queue) reply (view self.new)) }
-        ensures broke { IfErr result (λ f. Interrupted layout (view self.old) (calls.Flush queue) f (view self.new)) }
-    {
-        self.whole(Call::Flush { queue })
-    }
-
-    /// Waits until the queueings of an item that are open have ended (`flush_work`).
-    final fn flush_item(&mut self, item: ItemId) -> Result<Reply, Fault>
-        ensures done { IfOk result
-            (λ reply. Completes layout (view self.old) (calls.FlushItem item) reply (view self.new)) }
-        ensures broke { IfErr result
-            (λ f. Interrupted layout (view self.old) (calls.FlushItem item) f (view self.new)) }
-    {
-        self.whole(Call::FlushItem { item })
-    }
-
-    /// The same, after queueing the item at once if it is delayed (`flush_delayed_work`).
-    final fn flush_delayed(&mut self, item: ItemId) -> Result<Reply, Fault>
-        ensures done { IfOk result
-            (λ reply. Completes layout (view self.old) (calls.FlushDelayed item) reply (view self.new)) }
-        ensures broke { IfErr result
-            (λ f. Interrupted layout (view self.old) (calls.FlushDelayed item) f (view self.new)) }
-    {
-        self.whole(Call::FlushDelayed { item })
-    }
-
-    /// Takes an item back and waits until it doesn't run (`cancel_work_sync`, `cancel_delayed_work_sync`).
-    final fn cancel_sync(&mut self, item: ItemId) -> Result<Reply, Fault>
-        ensures done { IfOk result
-            (λ reply. Completes layout (view self.old) (calls.CancelSync item) reply (view self.new)) }
-        ensures broke { IfErr result
-            (λ f. Interrupted layout (view self.old) (calls.CancelSync item) f (view self.new)) }
-    {
-        self.whole(Call::CancelSync { item })
-    }
-
-    /// Waits until a queue is empty (`drain_workqueue`), and then fires what is due.
-    final fn drain(&mut self, queue: QueueId) -> Result<Reply, Fault>
-        ensures done { IfOk result
-            (λ reply. Completes layout (view self.old) (calls.Drain queue) reply (view self.new)) }
-        ensures broke { IfErr result (λ f. Interrupted layout (view self.old) (calls.Drain queue) f (view self.new)) }
-    {
-        self.whole(Call::Drain { queue })
-    }
-
-    /// Waits until a queue is empty, which is then gone (`destroy_workqueue`).
-    final fn destroy(&mut self, queue: QueueId) -> Result<Reply, Fault>
-        ensures done { IfOk result
-            (λ reply. Completes layout (view self.old) (calls.Destroy queue) reply (view self.new)) }
-        ensures broke { IfErr result (λ f. Interrupted layout (view self.old) (calls.Destroy queue) f (view self.new)) }
-    {
-        self.whole(Call::Destroy { queue })
+        self.wait(call)
     }
 }
 
 /// The caller that `run` gives to a service: it is the one of its start, and all that it has made since are its calls.
 #[derive(Drop)]
 pub(crate) struct HubClient<'a, N: HubName, B: Start, R> {
-    rt: &'a R,
-    hub: &'a Hub<N>,
-    caller: Caller<N>,
+    calls: HubCaller<'a, N, R>,
     of: PhantomData<B>,
-    ghost goes: { GoesOn B.start caller },
+    ghost goes: { GoesOn B.start calls.caller },
 }
 
 impl<'a, N: HubName, B: Start, R: Wait> HubClient<'a, N, B, R> {
     #[tactic(auto, using(crate::proofs::Continuing::goes_self))]
     pub(crate) fn new(rt: &'a R, hub: &'a Hub<N>, caller: Caller<N>) -> HubClient<'a, N, B, R>
         requires { caller ≡ B.start }
-        ensures { result.caller ≡ caller }
+        ensures { result.calls.caller ≡ caller }
     {
         HubClient {
-            rt,
-            hub,
-            caller,
+            calls: HubCaller { rt, hub, caller },
             of: PhantomData,
         }
     }
 
     pub(crate) fn into_caller(self) -> Caller<N>
-        ensures same { result ≡ self.entry.caller }
+        ensures same { result ≡ self.entry.calls.caller }
         ensures goes { GoesOn B.start result }
     {
-        let HubClient {
+        let HubClient { calls, of: _ } = self;
+        let HubCaller {
             rt: _,
             hub: _,
             caller,
-            of: _,
-        } = self;
+        } = calls;
         caller
     }
 }
 
-impl<'a, N: HubName, B: Start, R: Wait> Client for HubClient<'a, N, B, R> {
-    ghost layout = { N.layout };
+impl<'a, N: HubName, B: Start, R: Wait> Calls for HubClient<'a, N, B, R> {
+    ghost use Rattle.std.specs.Prelude.{◌≡◌, true};
+    ghost use Rattle.cmwq_model.specs.Prelude.{is_callers};
+    ghost use Rattle.cmwq_service.specs.Calls.{DoneOrInterrupted, MadeOrDenied};
 
-    ghost view = { λ c. c.caller };
+    type Fault = Fault;
 
-    fn shape(&self) -> &Shape {
-        self.hub.shape()
-    }
+    type WaitFault = Fault;
 
-    fn serial(&self) -> u64 {
-        self.caller.serial()
-    }
+    ghost may_make = { λ c. is_callers c ≡ true };
 
-    fn busy(&mut self, item: ItemId) -> Result<Option<u8>, Fault> {
-        // a cancel names the item, and nothing else
-        if !self.hub.shape().has_numbers(Call::Cancel { item }) {
-            return Err(Fault::Outside);
-        }
-        turns::turn(self.rt, self.hub);
-        Ok(self.caller.busy(item))
-    }
+    ghost may_wait = { λ c. is_callers c ≡ true };
+
+    ghost made = { λ v c answer w. MadeOrDenied N.layout v.calls.caller c answer w.calls.caller };
+
+    ghost waited = { λ v c answer w. DoneOrInterrupted N.layout v.calls.caller c answer w.calls.caller };
 
     #[tactic(auto, using(crate::proofs::Continuing::goes_extends, crate::proofs::Continuing::goes_refused))]
     fn make(&mut self, call: Call) -> Result<Reply, Fault> {
-        if !self.hub.shape().has_numbers(call) {
+        if !self.calls.hub.shape().has_numbers(call) {
             return Err(Fault::Outside);
         }
-        match self.caller.make(self.rt, self.hub, call) {
+        match self.calls.make(call) {
             Ok(reply) => Ok(reply),
             Err(fault) => Err(Fault::Run { fault }),
         }
     }
 
+    fn wait(&mut self, call: Call) -> Result<Reply, Fault> {
+        if !self.calls.hub.shape().has_numbers(call) {
+            return Err(Fault::Outside);
+        }
+        match self.calls.wait(call) {
+            Ok(reply) => Ok(reply),
+            Err(fault) => Err(Fault::Run { fault }),
+        }
+    }
+}
+
+impl<'a, N: HubName, B: Start, R: Wait> CallerCalls for HubClient<'a, N, B, R> {}
+
+impl<'a, N: HubName, B: Start, R: Wait> Client for HubClient<'a, N, B, R> {
+    ghost layout = { N.layout };
+
+    ghost view = { λ c. c.calls.caller };
+
+    fn shape(&self) -> &Shape {
+        self.calls.hub.shape()
+    }
+
+    fn serial(&self) -> u64 {
+        self.calls.caller.serial()
+    }
+
+    fn busy(&mut self, item: ItemId) -> Result<Option<u8>, Fault> {
+        // a cancel names the item, and nothing else
+        if !self.calls.hub.shape().has_numbers(Call::Cancel { item }) {
+            return Err(Fault::Outside);
+        }
+        turns::turn(self.calls.rt, self.calls.hub);
+        Ok(self.calls.caller.busy(item))
+    }
+
     fn make_all(&mut self, calls: &[Call], replies: &mut [Reply]) -> Result<(), BatchFault<Fault>> {
-        if !are_of_callers(self.hub.shape(), calls) {
+        if !are_of_callers(self.calls.hub.shape(), calls) {
             return Err(BatchFault {
                 made: 0,
                 fault: Fault::Outside,
             });
         }
-        in_batch(self.caller.make_all(self.rt, self.hub, calls, replies))
-    }
-
-    fn whole(&mut self, call: Call) -> Result<Reply, Fault> {
-        if !self.hub.shape().has_numbers(call) {
-            return Err(Fault::Outside);
-        }
-        match self.caller.make_whole(self.rt, self.hub, call) {
-            Ok(reply) => Ok(reply),
-            Err(fault) => Err(Fault::Run { fault }),
-        }
+        let (rt, hub) = (self.calls.rt, self.calls.hub);
+        in_batch(self.calls.caller.make_all(rt, hub, calls, replies))
     }
 
     fn wait_for(&self, completion: &Completion) -> Result<(), Fault> {
-        match self.hub.wait_for(self.rt, completion) {
+        match self.calls.hub.wait_for(self.calls.rt, completion) {
             Ok(()) => Ok(()),
             Err(fault) => Err(Fault::Run { fault }),
         }
     }
 
     fn complete(&self, completion: &Completion) {
-        self.hub.complete(self.rt, completion);
+        self.calls.hub.complete(self.calls.rt, completion);
     }
 
     fn complete_all(&self, completion: &Completion) {
-        self.hub.complete_all(self.rt, completion);
+        self.calls.hub.complete_all(self.calls.rt, completion);
     }
+
+    ghost makes = { λ c is. is };
+
+    ghost waits = { λ c is. is };
+
+    ghost when_made = { λ v w c answer made. made };
+
+    ghost when_waited = { λ v w c answer waited. waited };
 }

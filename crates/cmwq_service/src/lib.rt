@@ -22,7 +22,7 @@ pub use cmwq_model::{
     Call, Counts, CpuId, Entry, ItemId, NoMemory, Number, QueueId, QueueShape, Reply, Shape,
     all_fit,
 };
-pub use cmwq_rt::{BatchFault, Completion, RunFault};
+pub use cmwq_rt::{BatchFault, CallerCalls, Calls, Completion, RunCalls, RunFault};
 pub use context::Context;
 pub use fault::{Awaited, Fault, Stopped};
 pub use running::{run, run_dropping, run_dropping_with_waits, run_with_waits};

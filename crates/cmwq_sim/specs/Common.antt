@@ -51,7 +51,7 @@ pub use Rattle.cmwq_model.specs.declared.shape.QueueShape.{QueueShape}
 pub use Rattle.cmwq_refinement.proofs.PoolNext.{runner_there}
 pub use Rattle.cmwq_theory_steps.proofs.Joined.{active_live, stays_active}
 pub use Rattle.cmwq_theory_steps.proofs.Widths.{width_same}
-pub use Rattle.cmwq_theory_steps.specs.Looks.{keeps_widths}
+pub use Rattle.cmwq_model.specs.Widths.{keeps_widths}
 pub use Rattle.cmwq_theory_laws.specs.FirstWidths.{HasFirstWidths}
 pub use Rattle.cmwq_theory_steps.proofs.Endings.{open_go_on}
 pub use Rattle.cmwq_theory_steps.proofs.ItemRuns.{same_worker-true, same_worker_itself}

@@ -8,7 +8,7 @@ use Rattle.cmwq_state.specs.Common.{ending, is_ended, is_on, open_on, active_cou
 use Rattle.cmwq_state.specs.Common.{run_is_active, In, all_in, found, in_filter, filter_in, open_there}
 use Rattle.cmwq_state.specs.Common.{opened_are_there, PwqState, is_waiting, AreBehind, IsBehind, IsPlacedIf, on_itself}
 use Rattle.cmwq_state.specs.Common.{place_inside, ended_by, ends_as_told, most_cpus}
-use Rattle.cmwq_theory_steps.specs.Looks.{keeps_widths}
+use Rattle.cmwq_model.specs.Widths.{keeps_widths}
 use Rattle.cmwq_theory_steps.proofs.Widths.{width_same}
 use Rattle.cmwq_theory_steps.proofs.Active.{active_counted}
 use Rattle.cmwq_theory_steps.proofs.Fresh.{finishes_run}

@@ -25,7 +25,7 @@ ghost use Rattle.cmwq_state.specs.Gone.{LosesQueue, MayLoseQueue};
 ghost use Rattle.cmwq_pwq.specs.Pwqs.{AreBehind, ArePlaced, IsPassed, IsPlacedIf, MayEndInPwqs, MayOpenInPwqs};
 ghost use Rattle.cmwq_pwq.specs.Pwqs.{is_waiting, pwqs_after_end, pwqs_after_opening, width_by};
 ghost use Rattle.cmwq_state.specs.Widths.{MaySetWidth, SetsWidth};
-ghost use Rattle.cmwq_theory_steps.specs.Looks.{keeps_widths};
+ghost use Rattle.cmwq_model.specs.Widths.{keeps_widths};
 
 use cmwq_flush::FlushBooks;
 use cmwq_inflight::Flights;
@@ -282,14 +282,6 @@ pub(crate) fn frozen_after(reply: Reply, frozen: bool) -> bool
     }
 }
 
-/// Whether the reply leaves the width of each queue as it is.
-#[inline(always)]
-fn keeps_widths(reply: Reply) -> bool
-    ensures { result ≡ keeps_widths reply }
-{
-    !matches!(reply, Reply::Width(_) | Reply::Frozen | Reply::Thawed)
-}
-
 /// Ends a queueing and opens one in what waits.
 #[cold]
 fn move_waiting(pwqs: &mut Pwqs, ended: Option<Queueing>, opened: Option<Queueing>)
@@ -331,7 +323,7 @@ pub(crate) fn move_pwqs(
     ensures { IsPassed (width_by queues.now most.now frozen) (pwqs_after_opening opened (pwqs_after_end ended pwqs.old))
         pwqs.new }
 {
-    if keeps_widths(reply) {
+    if reply.keeps_widths() {
         pwqs.go_on(queues, most, frozen, ended, reply.is_finish(), opened);
     } else {
         move_waiting(pwqs, ended, opened);

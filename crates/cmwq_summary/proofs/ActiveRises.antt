@@ -12,7 +12,8 @@ use Rattle.cmwq_model.specs.declared.entry.Entry.{Entry}
 use Rattle.cmwq_model.specs.declared.record.Queueing.{Queueing}
 use Rattle.cmwq_model.specs.Prelude.{Layout, is_active, is_below_max_active, is_live, newly_active, opening, queueings}
 use Rattle.cmwq_model.specs.Prelude.{still_open, width, IsLegal}
-use Rattle.cmwq_theory_steps.specs.Looks.{keeps_widths, was_below_max_active}
+use Rattle.cmwq_model.specs.Widths.{keeps_widths}
+use Rattle.cmwq_theory_steps.specs.Looks.{was_below_max_active}
 use Rattle.cmwq_theory_steps.proofs.Looks.{active_by_looks}
 use Rattle.cmwq_theory_steps.specs.Activations.{behind_width, open_of_same_pwq, is_below_max_active_at_once}
 use Rattle.cmwq_theory_steps.specs.Activations.{is_of_same_pwq, waits}

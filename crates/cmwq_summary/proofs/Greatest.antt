@@ -24,7 +24,7 @@ use Rattle.cmwq_refinement.proofs.PlacesFit.{opened_are_there, open_there}
 use Rattle.cmwq_model.proofs.Limits.{limits_of}
 use Rattle.cmwq_state.specs.Pwqs.{AreActiveCounts}
 use Rattle.cmwq_summary.specs.Figures.{place_number}
-use Rattle.cmwq_theory_steps.specs.Looks.{keeps_widths}
+use Rattle.cmwq_model.specs.Widths.{keeps_widths}
 use Rattle.cmwq_summary.specs.Tallies.{with_one}
 use Rattle.cmwq_summary.proofs.ActiveRises.{no_more_active}
 use Rattle.cmwq_summary.proofs.Tables.{updated}

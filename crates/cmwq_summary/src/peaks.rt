@@ -3,13 +3,12 @@ ghost use Rattle.std.specs.Prelude.{◌≡◌, ◌*◌, [], ◌∷◌, List, len
 ghost use Rattle.cmwq_model.specs.declared.entry.Entry as entries;
 ghost use Rattle.cmwq_model.specs.Prelude.{Layout, most_cpus};
 ghost use Rattle.cmwq_state.specs.Pwqs.{AreActiveCounts};
-ghost use Rattle.cmwq_theory_steps.specs.Looks.{keeps_widths};
 ghost use Rattle.cmwq_summary.specs.Parts.{ArePeaks};
 ghost use Rattle.cmwq_summary.specs.Summed.{IsNext};
 
 use crate::key::place_in;
 use crate::tally::Tally;
-use cmwq_model::{NoMemory, Reply};
+use cmwq_model::NoMemory;
 use cmwq_state::Effect;
 use std::alloc::Global;
 
@@ -49,18 +48,10 @@ impl Peaks {
         self.open.add(opened);
         self.open.remove(place_in(effect.ended));
         self.most_open.raise(opened, &self.open);
-        if keeps_widths(effect.entry.reply) {
+        if effect.entry.reply.keeps_widths() {
             self.most_active.raise_to(opened, active_counts);
         } else {
             self.most_active.raise_all(active_counts);
         }
     }
-}
-
-/// Whether the queues are as wide after an entry with this reply as before it, so that more are active only where it
-/// opens something.
-fn keeps_widths(reply: Reply) -> bool
-    ensures { result ≡ keeps_widths reply }
-{
-    !matches!(reply, Reply::Width(_) | Reply::Frozen | Reply::Thawed)
 }

@@ -71,13 +71,13 @@ const EXPLAINED: [(Input, u8, &str, &str); 12] = [
         Input::Front,
         3,
         "history 2\nshape 1 2 1 3 100\nwq 1 -\nc0 0 fire = done\nc0 1",
-        "cmwq: line 4, column 13: \"c0 0 fire = done\"; expected is \"c0 0 fire = nothing\"\n",
+        "cmwq: line 4, column 13: \"c0 0 fire = done\"; expected \"c0 0 fire = nothing\"\n",
     ),
     (
         Input::Front,
         1,
         "history 2\nshape 1 2 1 3 100\nwq 1 -\nc0 0 fire = nothin\nc0 1",
-        "cmwq: line 4, column 13: \"nothin\" is no reply; did you mean \"nothing\"?\n",
+        "cmwq: line 4, column 13: \"nothin\" is not a reply; did you mean \"nothing\"?\n",
     ),
     (
         Input::Front,
@@ -147,7 +147,7 @@ fn what_was_not_kept_and_gates_are_told(rt: HostRuntime) {
         (0, ""),
         (
             2,
-            "cmwq: gate g: 2 calls of callers were left out for want of room; what they queue may open the gate\n",
+            "cmwq: gate g: 2 calls of callers were left out for lack of room; what they queue may open the gate\n",
         ),
     ] {
         let mut errors = Memory::writer(rt.alloc(), 200).expect(&rt, "memory");

@@ -1,13 +1,14 @@
 //! Files of calls and histories, as they are read and written, and why some are refused.
 
 use crate::inputs::{CALLS, HISTORY};
-use crate::same::{is_displayed, same};
+use crate::same::{is_displayed, is_spelled, same};
 use cmwq_base::{
-    FailsAt, HistoryFile, Memory, Refusal, read_calls, read_history, write_end, write_entry,
-    write_shape,
+    FailsAt, FileLine, HistoryFile, Memory, Refusal, read_calls, read_history, write_end,
+    write_entry, write_shape,
 };
 use cmwq_history::{refusal_status, tell_full, tell_illegal, write_history};
-use cmwq_model::{Illegal, Reply, Wanted};
+use cmwq_model::{Call, Entry, Illegal, Reply, Wanted, Who};
+use std::fmt::Debug;
 use std::process::Abort;
 
 const LONG_HISTORY: &[u8] = b"history 3
@@ -53,6 +54,78 @@ fn histories_are_read_and_written_again(rt: HostRuntime) {
         assert!(rt; done.is_ok());
         same(&rt, output.as_slice(), text);
     }
+}
+
+/// A usual line of each call, some with the greatest ids and numbers that are read so.
+const USUAL_CALLS: [&str; 12] = [
+    "c255 queue 65535 255 255",
+    "w255h255 delay 1 2 3 999999999",
+    "c0 modify 0 0 0 0",
+    "w0n10 cancel 7",
+    "c2 tick 16",
+    "c3 fire",
+    "c4 flush 5",
+    "c63 end 999999999",
+    "w0n0 take",
+    "w0n1 finish",
+    "w1h2 sleep",
+    "w1h2 wake",
+];
+
+/// A usual line of each reply.
+const USUAL_ENTRIES: [&str; 15] = [
+    "c0 0 queue 0 0 0 = yes 0",
+    "c0 1 delay 1 2 3 4 = booked 999999999",
+    "c0 2 modify 1 2 3 4 = rebooked 5",
+    "c0 3 cancel 7 = cancelled 3",
+    "c0 4 cancel 7 = no",
+    "c0 5 tick 16 = now 16",
+    "c0 6 fire = nothing",
+    "c0 7 fire = fired 65535 999999999",
+    "c0 8 flush 5 = ticket 8",
+    "c0 9 end 8 = done",
+    "w0n0 999999999 take = started 4",
+    "w1n2 11 take = started 4 enlist 255",
+    "w1n2 12 finish = finished 4",
+    "w1h2 13 sleep = slept",
+    "w1h2 14 wake = woke",
+];
+
+/// A line is read where it stands before others, as it is read alone.
+fn is_read_where_it_stands<T: FileLine + Debug + Drop>(
+    rt: &(impl Abort + AllocGlobal),
+    line: &str,
+) {
+    let alone = T::read(3, line.as_bytes()).expect(rt, "a line");
+    let spelled = format!(in rt.alloc(); "{alone:?}").expect(rt, "memory");
+    let text = format!(in rt.alloc(); "{line}\nc0").expect(rt, "memory");
+    let (item, left) = T::read_usual(3, text.as_bytes()).expect(rt, "a usual line");
+    is_spelled(rt, &item, spelled.as_str());
+    same(rt, left, b"c0".as_slice());
+}
+
+#[test]
+fn usual_lines_are_read_where_they_stand(rt: HostRuntime) {
+    for line in USUAL_CALLS {
+        is_read_where_it_stands::<(Who, Call)>(&rt, line);
+    }
+    for line in USUAL_ENTRIES {
+        is_read_where_it_stands::<Entry>(&rt, line);
+    }
+    for line in [
+        "c0 drain 0\n",
+        "c0 tick 1000000000\n",
+        "c256 fire\n",
+        "c00 fire\n",
+        "c0  fire\n",
+        "c0 take\n",
+        "c0 fire",
+    ] {
+        let read = <(Who, Call)>::read_usual(3, line.as_bytes());
+        assert!(rt; read.is_none(), "{line}");
+    }
+    let old = Entry::read_usual(1, b"c0 0 fire = nothing\n");
+    assert!(rt; old.is_none(), "format 1 has no usual lines");
 }
 
 #[test]

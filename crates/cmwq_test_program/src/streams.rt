@@ -191,6 +191,22 @@ fn lines_come_one_after_the_other(rt: HostRuntime) {
     lines_are(&rt, &mut source, &wanted);
 }
 
+#[test]
+fn a_line_can_be_taken_where_it_stands(rt: HostRuntime) {
+    let mut source = Memory::reader(b"one\ntwo\nthr");
+    let mut lines = Lines::new(rt.alloc()).expect(&rt, "memory");
+    let mut line = Line::new();
+    assert!(rt; lines.ahead().is_empty());
+    let found = lines.next_line(&mut source, &mut line);
+    same(&rt, found, Ok(Found::Whole));
+    assert!(rt; lines.ahead() == b"two\nthr".as_slice());
+    lines.consume(4);
+    assert!(rt; lines.ahead() == b"thr".as_slice());
+    let found = lines.next_line(&mut source, &mut line);
+    same(&rt, found, Ok(Found::Cut));
+    same(&rt, line.as_slice(), b"thr".as_slice());
+}
+
 /// A line and its line feed.
 const TEXT: [(Put<'static>, Result<(), WriteFault>); 2] = [
     (Put::Bytes(b"twenty bytes of text"), Ok(())),

@@ -5,7 +5,7 @@ ghost use Rattle.cmwq_rt.specs.Later.{Later};
 
 use crate::step::Step;
 use cmwq_model::{Call, CpuId, ItemId, QueueId, QueueShape, Shape};
-use cmwq_rt::{Gate, Gates, HubName, Reply, RunCtx, WaitFault, Work};
+use cmwq_rt::{Calls, Gate, Gates, HubName, Reply, RunCalls, RunCtx, WaitFault, Work};
 use rand_core::utils::NextWord;
 use rand_pcg::Pcg32;
 use std::sync::Wait;

@@ -4,7 +4,7 @@ ghost use Rattle.std.specs.Prelude.{◌<◌};
 
 use crate::scene::{Scene, below};
 use cmwq_model::{Call, CallerId, CpuId, ItemId, QueueId, Reply, Who};
-use cmwq_rt::{Caller, Gate, Hub, HubName, RunFault};
+use cmwq_rt::{Caller, CallerCalls, Calls, Gate, Hub, HubCaller, HubName, RunFault};
 use rand_core::utils::NextWord;
 use rand_pcg::Pcg32;
 use std::process::Abort;
@@ -61,53 +61,51 @@ const REST: u64 = 20;
 
 /// Makes a caller's call.
 fn make<N: HubName, R: Wait + Abort>(
-    rt: &R,
-    hub: &Hub<N>,
-    caller: &mut Caller<N>,
+    caller: &mut HubCaller<N, R>,
     call: Call,
 ) -> Result<Reply, RunFault> {
+    let rt = caller.rt;
     assert!(rt;
-        hub.shape().fits(Who::Caller(CallerId(0)), call),
+        caller.hub.shape().fits(Who::Caller(CallerId(0)), call),
         "{call:?}"
     );
     match call {
-        Call::Queue { item, queue, cpu } => caller.queue(rt, hub, item, queue, cpu),
+        Call::Queue { item, queue, cpu } => caller.queue(item, queue, cpu),
         Call::Delay {
             item,
             queue,
             cpu,
             ticks,
-        } => caller.delay(rt, hub, item, queue, cpu, ticks),
+        } => caller.delay(item, queue, cpu, ticks),
         Call::Modify {
             item,
             queue,
             cpu,
             ticks,
-        } => caller.modify(rt, hub, item, queue, cpu, ticks),
-        Call::Cancel { item } => caller.cancel(rt, hub, item),
-        Call::Tick { ticks } => caller.tick(rt, hub, ticks),
-        Call::Flush { queue } => caller.flush(rt, hub, queue),
-        Call::Drain { queue } => caller.drain(rt, hub, queue),
-        Call::FlushItem { item } => caller.flush_item(rt, hub, item),
-        Call::FlushDelayed { item } => caller.flush_delayed(rt, hub, item),
-        Call::CancelSync { item } => caller.cancel_sync(rt, hub, item),
-        Call::End { ticket } => caller.flush_try(rt, hub, ticket),
-        Call::SetMax { queue, max_active } => caller.set_max(rt, hub, queue, max_active),
-        Call::Freeze => caller.freeze(rt, hub),
-        Call::Thaw => caller.thaw(rt, hub),
-        Call::Destroy { queue } => caller.destroy(rt, hub, queue),
+        } => caller.modify(item, queue, cpu, ticks),
+        Call::Cancel { item } => caller.cancel(item),
+        Call::Tick { ticks } => caller.tick(ticks),
+        Call::Flush { queue } => caller.flush(queue),
+        Call::Drain { queue } => caller.drain(queue),
+        Call::FlushItem { item } => caller.flush_item(item),
+        Call::FlushDelayed { item } => caller.flush_delayed(item),
+        Call::CancelSync { item } => caller.cancel_sync(item),
+        Call::End { ticket } => caller.flush_try(ticket),
+        Call::SetMax { queue, max_active } => caller.set_max(queue, max_active),
+        Call::Freeze => caller.freeze(),
+        Call::Thaw => caller.thaw(),
+        Call::Destroy { queue } => caller.destroy(queue),
         _ => panic!(rt; "{call:?} is no call that a program makes"),
     }
 }
 
 fn delay_all<N: HubName, R: Wait + Abort>(
-    rt: &R,
-    hub: &Hub<N>,
-    caller: &mut Caller<N>,
+    caller: &mut HubCaller<N, R>,
     ticks: u32,
 ) -> Result<(), RunFault> {
-    let counts = hub.shape().counts();
-    let queues = u16::try_from(hub.shape().queues().len()).unwrap_or(1);
+    let shape = caller.hub.shape();
+    let counts = shape.counts();
+    let queues = u16::try_from(shape.queues().len()).unwrap_or(1);
     for item in 0..counts.items {
         let queue = (item / 8).checked_rem(queues).unwrap_or(0);
         let cpu = (item / 16).checked_rem(u16::from(counts.cpus)).unwrap_or(0);
@@ -117,39 +115,37 @@ fn delay_all<N: HubName, R: Wait + Abort>(
             cpu: CpuId((cpu % 256) as u8),
             ticks,
         };
-        make(rt, hub, caller, call)?;
+        make(caller, call)?;
     }
     Ok(())
 }
 
 fn delay_on<N: HubName, R: Wait + Abort>(
-    rt: &R,
-    hub: &Hub<N>,
-    caller: &mut Caller<N>,
+    caller: &mut HubCaller<N, R>,
     queue: QueueId,
     ticks: u32,
 ) -> Result<(), RunFault> {
-    for item in 0..hub.shape().counts().items {
+    let counts = caller.hub.shape().counts();
+    for item in 0..counts.items {
         let call = Call::Delay {
             item: ItemId(item),
             queue,
             cpu: CpuId(0),
             ticks,
         };
-        make(rt, hub, caller, call)?;
+        make(caller, call)?;
     }
     Ok(())
 }
 
 /// Queues each item at a place at random, or delays it. Then a tick goes by.
 fn scatter<N: HubName, R: Wait + Abort>(
-    rt: &R,
-    hub: &Hub<N>,
-    caller: &mut Caller<N>,
+    caller: &mut HubCaller<N, R>,
     words: &mut Pcg32,
 ) -> Result<(), RunFault> {
-    let counts = hub.shape().counts();
-    let queues = u32::try_from(hub.shape().queues().len()).unwrap_or(1);
+    let shape = caller.hub.shape();
+    let counts = shape.counts();
+    let queues = u32::try_from(shape.queues().len()).unwrap_or(1);
     for item in 0..counts.items {
         let word = words.next_word();
         let call = Call::Delay {
@@ -158,9 +154,9 @@ fn scatter<N: HubName, R: Wait + Abort>(
             cpu: CpuId(below(word / 256 % 256, u32::from(counts.cpus))),
             ticks: (word / 65_536 % 4).saturating_sub(2),
         };
-        make(rt, hub, caller, call)?;
+        make(caller, call)?;
     }
-    make(rt, hub, caller, Call::Tick { ticks: 1 })?;
+    make(caller, Call::Tick { ticks: 1 })?;
     Ok(())
 }
 
@@ -201,9 +197,7 @@ fn call_of(word: u32) -> Call {
 
 /// What is frozen is thawed by the same caller, so that nobody waits for ever.
 fn throw<N: HubName, R: Wait + Abort>(
-    rt: &R,
-    hub: &Hub<N>,
-    caller: &mut Caller<N>,
+    caller: &mut HubCaller<N, R>,
     number: u8,
     calls: u32,
     scene: &Scene,
@@ -212,9 +206,9 @@ fn throw<N: HubName, R: Wait + Abort>(
     for _ in 0..calls {
         scene.steps.fetch_add(1, Ordering::SeqCst);
         let call = call_of(words.next_word());
-        make(rt, hub, caller, call)?;
+        make(caller, call)?;
         if matches!(call, Call::Freeze) {
-            caller.thaw(rt, hub)?;
+            caller.thaw()?;
         }
     }
     Ok(())
@@ -226,31 +220,29 @@ fn has_entries<N: HubName, R: Wait + AllocGlobal>(rt: &R, hub: &Hub<N>, entries:
 }
 
 fn has_come<N: HubName, R: Wait + Abort + AllocGlobal>(
-    rt: &R,
-    hub: &Hub<N>,
-    caller: &mut Caller<N>,
+    caller: &mut HubCaller<N, R>,
     event: Event,
     scene: &Scene,
 ) -> bool {
+    let (rt, hub) = (caller.rt, caller.hub);
     match event {
         Event::Entries(entries) => has_entries(rt, hub, entries),
         Event::Runs(item) => {
             assert!(rt; item.0 < hub.shape().counts().items);
-            matches!(caller.busy(item), Some(2..))
+            matches!(caller.caller.busy(item), Some(2..))
         }
         Event::Lines(lines) => scene.lines.load(Ordering::SeqCst) >= lines,
     }
 }
 
 fn until<N: HubName, R: Wait + Clock + Abort + AllocGlobal>(
-    rt: &R,
-    hub: &Hub<N>,
-    caller: &mut Caller<N>,
+    caller: &mut HubCaller<N, R>,
     event: Event,
     scene: &Scene,
 ) {
+    let rt = caller.rt;
     for _ in 0..LOOKS {
-        if has_come(rt, hub, caller, event, scene) {
+        if has_come(caller, event, scene) {
             return;
         }
         thread::sleep(rt, Duration::from_millis(1));
@@ -270,16 +262,15 @@ fn close_after<N: HubName, R: Wait + AllocGlobal>(rt: &R, hub: &Hub<N>, entries:
 }
 
 fn take<N: HubName, R: Wait + Clock + Abort + AllocGlobal>(
-    rt: &R,
-    hub: &Hub<N>,
-    caller: &mut Caller<N>,
+    caller: &mut HubCaller<N, R>,
     number: u8,
     step: Step,
     scene: &Scene,
 ) -> Result<(), RunFault> {
+    let (rt, hub) = (caller.rt, caller.hub);
     match step {
         Step::Make(call) => {
-            make(rt, hub, caller, call)?;
+            make(caller, call)?;
         }
         Step::Queue(item) => {
             let queueing = Call::Queue {
@@ -287,25 +278,25 @@ fn take<N: HubName, R: Wait + Clock + Abort + AllocGlobal>(
                 queue: QueueId(0),
                 cpu: CpuId(0),
             };
-            make(rt, hub, caller, queueing)?;
+            make(caller, queueing)?;
         }
         Step::Begin(queue) => {
             assert!(rt; usize::from(queue.0) < hub.shape().queues().len());
-            caller.flush_begin(rt, hub, queue)?;
+            caller.flush_begin(queue)?;
         }
-        Step::DelayAll(ticks) => return delay_all(rt, hub, caller, ticks),
-        Step::DelayOn { queue, ticks } => return delay_on(rt, hub, caller, queue, ticks),
+        Step::DelayAll(ticks) => return delay_all(caller, ticks),
+        Step::DelayOn { queue, ticks } => return delay_on(caller, queue, ticks),
         Step::Scatter { seed, turns } => {
             let mut words = Pcg32::new(seed, 2);
             for _ in 0..turns {
-                scatter(rt, hub, caller, &mut words)?;
+                scatter(caller, &mut words)?;
             }
         }
-        Step::Throw(calls) => return throw(rt, hub, caller, number, calls, scene),
-        Step::Until(event) => until(rt, hub, caller, event, scene),
+        Step::Throw(calls) => return throw(caller, number, calls, scene),
+        Step::Until(event) => until(caller, event, scene),
         Step::Look(item, bits) => {
             assert!(rt; item.0 < hub.shape().counts().items);
-            assert_eq!(rt; caller.busy(item), bits);
+            assert_eq!(rt; caller.caller.busy(item), bits);
         }
         Step::Rest => thread::sleep(rt, Duration::from_millis(REST)),
         Step::OpenGate => scene.gates.open(rt, 0),
@@ -318,9 +309,7 @@ fn take<N: HubName, R: Wait + Clock + Abort + AllocGlobal>(
 }
 
 fn take_all<N: HubName, R: Wait + Clock + Abort + AllocGlobal>(
-    rt: &R,
-    hub: &Hub<N>,
-    caller: &mut Caller<N>,
+    caller: &mut HubCaller<N, R>,
     number: u8,
     steps: &[Step],
     scene: &Scene,
@@ -328,8 +317,8 @@ fn take_all<N: HubName, R: Wait + Clock + Abort + AllocGlobal>(
 ) {
     for step in steps {
         scene.steps.fetch_add(1, Ordering::SeqCst);
-        if let Err(fault) = take(rt, hub, caller, number, *step, scene) {
-            faults.push(fault).expect(rt, "memory");
+        if let Err(fault) = take(caller, number, *step, scene) {
+            faults.push(fault).expect(caller.rt, "memory");
         }
     }
 }
@@ -349,14 +338,19 @@ pub(crate) fn act<N: HubName, R: Wait + Clock + Abort + AllocGlobal>(
     number: u8,
     scene: &Scene,
 ) -> Acted<N> {
-    let mut caller = caller;
+    let mut caller = HubCaller { rt, hub, caller };
     let mut faults = Vec::new(rt.alloc());
     let own = scene.roles.get(usize::from(number));
     if let Some(role) = own.or(scene.roles.last()) {
         for _ in 0..role.turns {
-            take_all(rt, hub, &mut caller, number, role.steps, scene, &mut faults);
+            take_all(&mut caller, number, role.steps, scene, &mut faults);
         }
-        take_all(rt, hub, &mut caller, number, role.last, scene, &mut faults);
+        take_all(&mut caller, number, role.last, scene, &mut faults);
     }
+    let HubCaller {
+        rt: _,
+        hub: _,
+        caller,
+    } = caller;
     Acted { caller, faults }
 }

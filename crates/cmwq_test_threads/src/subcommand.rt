@@ -75,7 +75,7 @@ const SECOND_GATE_SHUT: &[u8] = br#"{"cpus":1,"workers":1,"room":6,"journal":2,
 fn gates_are_opened_or_told_by_their_names(rt: HostRuntime) {
     ends_so(&rt, GATE, 0, b"", Some(10));
     let told = b"cmwq: gate h was not opened
-cmwq: gate h: 1 call of a caller was left out for want of room; what it queues may open the gate
+cmwq: gate h: 1 call of a caller was left out for lack of room; what it queues may open the gate
 ";
     ends_so(&rt, SECOND_GATE_SHUT, 1, told, Some(6));
 }

@@ -107,9 +107,12 @@ sets_some call = true
 abbrev pub may_say : Who → Call → Bool
 may_say who call = is_of_kind who call && sets_some call
 
--- the call of a line of calls
-unfoldable pub call_read : List ℕ → Option (Who × Call)
-call_read line = do
-  who ← who_in (words_of line)
+-- the call of a line of calls, by all its words
+abbrev pub call_of_words : List (List ℕ) → Option (Who × Call)
+call_of_words words = do
+  who ← who_in words
   call ← call_in who.1
   if has_no_word call.1 && may_say who.0 call.0 then Some (who.0, call.0) else None
+
+unfoldable pub call_read : List ℕ → Option (Who × Call)
+call_read line = call_of_words (words_of line)

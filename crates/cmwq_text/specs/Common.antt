@@ -26,6 +26,7 @@ pub use Rattle.cmwq_model.specs.Prelude.{fits, greatest, greatest_byte, greatest
 pub use Rattle.cmwq_model.specs.Prelude.{has_place, is_between, is_callers, is_layout, is_queue, is_workers, may_make}
 pub use Rattle.cmwq_model.specs.Prelude.{most_callers, most_cpus, most_items, most_queues, most_room, most_time}
 pub use Rattle.cmwq_model.specs.Prelude.{most_workers, reply_fits}
+pub use Rattle.cmwq_model.specs.Layout.{most_active}
 pub use Rattle.cmwq_model.specs.declared.call.Call.{Call}
 pub use Rattle.cmwq_model.specs.declared.entry.Entry.{Entry}
 pub use Rattle.cmwq_model.specs.declared.id.CpuId.{CpuId}

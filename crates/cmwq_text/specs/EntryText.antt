@@ -13,10 +13,10 @@ entry_words e = who_text e.who ∷ decimal e.serial ∷ call_words e.call ++ cod
 unfoldable pub entry_text : Entry → List ℕ
 entry_text e = line_text (entry_words e)
 
--- the entry of a line of a history, without its line feed
-unfoldable pub entry_of : List ℕ → Option Entry
-entry_of line = do
-  who ← who_in (words_of line)
+-- the entry of a line of a history, by all its words
+abbrev pub entry_of_words : List (List ℕ) → Option Entry
+entry_of_words words = do
+  who ← who_in words
   serial ← wide_in who.1
   call ← call_in serial.1
   answer ← after (codes "=") call.1
@@ -24,3 +24,7 @@ entry_of line = do
   if has_no_word reply.1 && may_say who.0 call.0
       then Some (record { who = who.0; serial = serial.0; call = call.0; reply = reply.0 })
       else None
+
+-- by the line, without its line feed
+unfoldable pub entry_of : List ℕ → Option Entry
+entry_of line = entry_of_words (words_of line)

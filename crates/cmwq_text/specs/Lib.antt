@@ -8,6 +8,7 @@ pub mod ReplyText
 pub mod EntryText
 pub mod ShapeText
 pub mod Formats
+pub mod Expected
 pub mod EndText
 pub mod HistoryText
 pub mod VerdictText

@@ -14,11 +14,11 @@ counts_words n = codes "shape" ∷ decimal n.cpus ∷ decimal n.workers ∷ deci
 unfoldable pub counts_text : Counts → List ℕ
 counts_text n = line_text (counts_words n)
 
--- the counts of a shape line, inside their limits
-unfoldable pub counts_read : List ℕ → Option Counts
-counts_read line = do
-  words ← after (codes "shape") (words_of line)
-  cpus ← byte_count_in words
+-- the counts of a shape line, inside their limits, by all its words
+abbrev pub counts_of_words : List (List ℕ) → Option Counts
+counts_of_words words = do
+  numbers ← after (codes "shape") words
+  cpus ← byte_count_in numbers
   workers ← byte_count_in cpus.1
   callers ← byte_count_in workers.1
   items ← short_count_in callers.1
@@ -26,6 +26,10 @@ counts_read line = do
   if has_no_word room.1 && are_counts cpus.0 workers.0 callers.0 items.0 room.0
       then Some (record { cpus = cpus.0; workers = workers.0; callers = callers.0; items = items.0; room = room.0 })
       else None
+
+-- by the line
+unfoldable pub counts_read : List ℕ → Option Counts
+counts_read line = counts_of_words (words_of line)
 
 -- whether a line is to be one of a queue
 abbrev pub begins_queue : List ℕ → Bool
@@ -62,13 +66,17 @@ queue_words q = codes "wq" ∷ decimal q.max_active ∷ flags_text (flags_in q) 
 unfoldable pub queue_text : QueueShape → List ℕ
 queue_text q = line_text (queue_words q)
 
--- what a queue's line says
-unfoldable pub queue_line_of : List ℕ → Option QueueLine
-queue_line_of line = do
-  words ← after (codes "wq") (words_of line)
-  width ← number_in words
+-- what a queue's line says, by all its words
+abbrev pub queue_line_of_words : List (List ℕ) → Option QueueLine
+queue_line_of_words words = do
+  numbers ← after (codes "wq") words
+  width ← number_in numbers
   f ← word_read flags_of width.1
   if has_no_word f.1 then Some (record { max_active = width.0; flags = f.0 }) else None
+
+-- by the line
+unfoldable pub queue_line_of : List ℕ → Option QueueLine
+queue_line_of line = queue_line_of_words (words_of line)
 
 abbrev pub queue_with : ℕ → Flags → QueueShape
 queue_with max_active f =

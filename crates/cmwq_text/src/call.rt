@@ -2,8 +2,9 @@
 ghost use Rattle.std.specs.Prelude.{◌≡◌, true};
 ghost use Rattle.cmwq_text.specs.Words.{with_left};
 ghost use Rattle.cmwq_text.specs.CallText.{is_queueing, has_item_alone, has_queue, call_read_after, call_in};
-ghost use Rattle.cmwq_text.specs.CallText.{is_of_kind, may_say, call_read};
+ghost use Rattle.cmwq_text.specs.CallText.{is_of_kind, may_say, call_of_words, call_read};
 
+use crate::expected::{Expected, NumberOf};
 use crate::id::{cpu_in, item_in, queue_in, who_in};
 use crate::keyword::{Keyword, keyword_in};
 use crate::word::{Words, number_in, wide_in};
@@ -22,6 +23,7 @@ fn queueing_after(keyword: Keyword, words: &mut Words<'_>) -> Option<Call>
     match keyword {
         Keyword::Queue => Some(Call::Queue { item, queue, cpu }),
         Keyword::Delay => {
+            words.note(Expected::Number(NumberOf::Ticks));
             let ticks = number_in(words)?;
             Some(Call::Delay {
                 item,
@@ -31,6 +33,7 @@ fn queueing_after(keyword: Keyword, words: &mut Words<'_>) -> Option<Call>
             })
         }
         Keyword::Modify => {
+            words.note(Expected::Number(NumberOf::Ticks));
             let ticks = number_in(words)?;
             Some(Call::Modify {
                 item,
@@ -72,6 +75,7 @@ fn queue_call_after(keyword: Keyword, words: &mut Words<'_>) -> Option<Call>
         Keyword::Flush => Some(Call::Flush { queue }),
         Keyword::Drain => Some(Call::Drain { queue }),
         Keyword::SetMax => {
+            words.note(Expected::Number(NumberOf::MaxActive));
             let max_active = number_in(words)?;
             Some(Call::SetMax { queue, max_active })
         }
@@ -83,7 +87,7 @@ fn queue_call_after(keyword: Keyword, words: &mut Words<'_>) -> Option<Call>
 /// The call after its keyword.
 #[tactic(auto, unfolding(crate::specs::CallText::call_read_after))]
 #[inline(always)]
-fn call_after(keyword: Keyword, words: &mut Words<'_>) -> Option<Call>
+pub fn call_after(keyword: Keyword, words: &mut Words<'_>) -> Option<Call>
     ensures { with_left result words.new ≡ call_read_after keyword words.old }
 {
     match keyword {
@@ -95,10 +99,12 @@ fn call_after(keyword: Keyword, words: &mut Words<'_>) -> Option<Call>
             queue_call_after(keyword, words)
         }
         Keyword::Tick => {
+            words.note(Expected::Number(NumberOf::Ticks));
             let ticks = number_in(words)?;
             Some(Call::Tick { ticks })
         }
         Keyword::End => {
+            words.note(Expected::Number(NumberOf::Ticket));
             let ticket = wide_in(words)?;
             Some(Call::End { ticket })
         }
@@ -119,6 +125,7 @@ fn call_after(keyword: Keyword, words: &mut Words<'_>) -> Option<Call>
 pub fn call_in(words: &mut Words<'_>) -> Option<Call>
     ensures { with_left result words.new ≡ call_in words.old }
 {
+    words.note(Expected::Call);
     let keyword = keyword_in(words)?;
     call_after(keyword, words)
 }
@@ -142,6 +149,33 @@ pub fn may_say(who: Who, call: Call) -> bool
     is_of_kind(who, call) && !matches!(call, Call::SetMax { max_active: 0, .. })
 }
 
+/// Notes what should follow a call, or that such a who doesn't make it.
+#[inline(always)]
+pub fn note_after_call(who: Who, call: Call, expected: Expected, words: &mut Words<'_>)
+    ensures { words.new ≡ words.old }
+{
+    words.note(if is_of_kind(who, call) {
+        expected
+    } else {
+        Expected::OtherWho
+    });
+}
+
+/// The who and the call of all words.
+#[inline(always)]
+pub fn call_of_words(words: &mut Words<'_>) -> Option<(Who, Call)>
+    ensures { result ≡ call_of_words words.old }
+{
+    let who = who_in(words)?;
+    let call = call_in(words)?;
+    note_after_call(who, call, Expected::End, words);
+    if words.is_end() && may_say(who, call) {
+        Some((who, call))
+    } else {
+        None
+    }
+}
+
 /// The who and the call of a line of calls, without its line feed. None: it is no such line, the who isn't of the
 /// kind that makes this call, or a max_active is set to 0. An id that its type can't hold is read as the greatest of
 /// the type, which no shape has.
@@ -149,12 +183,5 @@ pub fn may_say(who: Who, call: Call) -> bool
 pub fn read_call(line: &[u8]) -> Option<(Who, Call)>
     ensures { result ≡ call_read line.now }
 {
-    let mut words = Words::of(line);
-    let who = who_in(&mut words)?;
-    let call = call_in(&mut words)?;
-    if words.is_end() && may_say(who, call) {
-        Some((who, call))
-    } else {
-        None
-    }
+    call_of_words(&mut Words::of(line))
 }

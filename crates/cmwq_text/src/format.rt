@@ -15,10 +15,10 @@ use cmwq_model::{Call, Counts, Entry, MOST_QUEUES, MOST_ROOM, Number, QueueShape
 const WHOLE: u8 = 2;
 
 /// The format that has it with greater limits.
-const LONG: u8 = 3;
+pub const LONG: u8 = 3;
 
 /// The greatest number of an entry in the formats before that.
-const GREATEST_SHORT: Number = 4_294_967_295;
+pub const GREATEST_SHORT: Number = 4_294_967_295;
 
 /// The most CPUs in the formats before 3, which has the limits of every shape; so with the numbers below.
 pub const OLD_CPUS: u8 = 4;
@@ -44,7 +44,7 @@ const OLD_LINES: u64 = 1_000_000;
 const MOST_LINES: u64 = 4_611_686_018_426_387_904;
 
 /// The greatest time of an entry in the format with greater limits.
-const MOST_TIME: u64 = 4_611_686_018_427_387_904;
+pub const MOST_TIME: u64 = 4_611_686_018_427_387_904;
 
 /// Whether this is the first line of a history of this format, which is 2 or 3, without its line feed.
 pub fn is_version_line(version: u8, line: &[u8]) -> bool
@@ -79,7 +79,7 @@ pub fn line_limit(version: u8) -> u64
 
 /// The greatest room in this format.
 #[tactic(auto, unfolding(crate::specs::Formats::of_version))]
-fn room_limit(version: u8) -> u64
+pub fn room_limit(version: u8) -> u64
     ensures { result ≡ room_limit version }
 {
     if version >= LONG { MOST_ROOM } else { OLD_ROOM }
@@ -125,7 +125,7 @@ fn allows_counts(version: u8, counts: &Counts) -> bool
     counts.room <= room_limit(version) && allows_numbers(version, counts)
 }
 
-fn is_old_call(call: Call) -> bool
+pub fn is_old_call(call: Call) -> bool
     ensures { result ≡ is_old_call call }
 {
     !matches!(
@@ -134,7 +134,7 @@ fn is_old_call(call: Call) -> bool
     )
 }
 
-fn is_old_reply(reply: Reply) -> bool
+pub fn is_old_reply(reply: Reply) -> bool
     ensures { result ≡ is_old_reply reply }
 {
     !matches!(

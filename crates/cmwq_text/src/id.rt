@@ -4,6 +4,7 @@ ghost use Rattle.cmwq_text.specs.Words.{with_left, word_read};
 ghost use Rattle.cmwq_text.specs.IdText.{is_pool_letter, item_in, queue_in, cpu_in, caller_read, worker_read, who_read};
 ghost use Rattle.cmwq_text.specs.IdText.{who_in};
 
+use crate::expected::{Expected, NumberOf};
 use crate::number::byte_of;
 use crate::word::{Words, byte_in, short_in};
 use cmwq_model::{CallerId, CpuId, ItemId, PoolId, QueueId, Who, WorkerId};
@@ -13,6 +14,7 @@ use cmwq_model::{CallerId, CpuId, ItemId, PoolId, QueueId, Who, WorkerId};
 pub fn item_in(words: &mut Words<'_>) -> Option<ItemId>
     ensures { with_left result words.new ≡ item_in words.old }
 {
+    words.note(Expected::Number(NumberOf::Item));
     Some(ItemId(short_in(words)?))
 }
 
@@ -21,6 +23,7 @@ pub fn item_in(words: &mut Words<'_>) -> Option<ItemId>
 pub fn queue_in(words: &mut Words<'_>) -> Option<QueueId>
     ensures { with_left result words.new ≡ queue_in words.old }
 {
+    words.note(Expected::Number(NumberOf::Queue));
     Some(QueueId(byte_in(words)?))
 }
 
@@ -29,6 +32,7 @@ pub fn queue_in(words: &mut Words<'_>) -> Option<QueueId>
 pub fn cpu_in(words: &mut Words<'_>) -> Option<CpuId>
     ensures { with_left result words.new ≡ cpu_in words.old }
 {
+    words.note(Expected::Number(NumberOf::Cpu));
     Some(CpuId(byte_in(words)?))
 }
 
@@ -68,6 +72,7 @@ fn worker_of(name: &[u8]) -> Option<Who>
 pub fn who_in(words: &mut Words<'_>) -> Option<Who>
     ensures { with_left result words.new ≡ who_in words.old }
 {
+    words.note(Expected::Who);
     match words.letter()? {
         b'c' => caller_in(words),
         b'w' => worker_of(words.first()?),

@@ -63,7 +63,7 @@ pub enum Keyword {
 }
 
 /// Every keyword, those that are read most before others with the same first letter.
-const KEYWORDS: [Keyword; 53] = [
+pub const KEYWORDS: [Keyword; 53] = [
     Keyword::Take,
     Keyword::Finish,
     Keyword::Finished,

@@ -1,7 +1,7 @@
 //! Numbers in a text.
 ghost use Rattle.std.specs.Prelude.{◌≡◌, ◌≤◌, IfSome};
 ghost use Rattle.cmwq_text.specs.Numbers.{with_digit, digits_from, is_begun, number_read, byte_of};
-ghost use Rattle.cmwq_model.specs.Prelude.{greatest};
+ghost use Rattle.cmwq_model.specs.Prelude.{greatest, greatest_long};
 
 /// The number with a digit after it, if that is at most the limit.
 #[inline]
@@ -51,6 +51,14 @@ fn limited(limit: u64, word: &[u8]) -> Option<u64>
     } else {
         None
     }
+}
+
+/// The number that a word spells: `0`, or a digit 1 to 9 and digits after it. None: it spells none, or one above
+/// 18,446,744,073,709,551,615.
+pub fn read_number(word: &[u8]) -> Option<u64>
+    ensures { result ≡ number_read greatest_long word.now }
+{
+    limited(u64::MAX, word)
 }
 
 /// The number of at most 4,294,967,295 that a word spells.

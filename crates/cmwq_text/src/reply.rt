@@ -5,18 +5,22 @@ ghost use Rattle.cmwq_text.specs.Words.{with_left};
 ghost use Rattle.cmwq_text.specs.ReplyText.{keyword_has_number, keyword_has_time, ticket_with, ticket_after};
 ghost use Rattle.cmwq_text.specs.ReplyText.{started_with, started_after, reply_after, reply_in};
 
+use crate::expected::{Expected, NumberOf};
 use crate::id::item_in;
 use crate::keyword::{Keyword, keyword_in};
 use crate::word::{Words, byte_in, long_in, number_in, wide_in};
 use cmwq_model::{Number, Reply, Shape};
 
 #[tactic(auto, unfolding(crate::specs::ReplyText::ticket_with))]
-fn ticket_with(k: Number, keyword: Keyword, words: &mut Words<'_>) -> Option<Reply>
+pub fn ticket_with(k: Number, keyword: Keyword, words: &mut Words<'_>) -> Option<Reply>
     ensures { with_left result words.new ≡ ticket_with k keyword words.old }
 {
     match keyword {
         Keyword::Queued => Some(Reply::TicketQueued(k)),
-        Keyword::Cancelled => Some(Reply::TicketCancelled(k, wide_in(words)?)),
+        Keyword::Cancelled => {
+            words.note(Expected::Number(NumberOf::Entry));
+            Some(Reply::TicketCancelled(k, wide_in(words)?))
+        }
         Keyword::Unbooked => Some(Reply::TicketUnbooked(k)),
         Keyword::No => Some(Reply::TicketNo(k)),
         _ => None,
@@ -32,17 +36,21 @@ fn ticket_after(k: Number, words: &mut Words<'_>) -> Option<Reply>
     if words.is_end() {
         return Some(Reply::Ticket(k));
     }
+    words.note(Expected::AfterTicket);
     let keyword = keyword_in(words)?;
     ticket_with(k, keyword, words)
 }
 
 #[tactic(auto, unfolding(crate::specs::ReplyText::started_with))]
 #[inline(always)]
-fn started_with(n: Number, keyword: Keyword, words: &mut Words<'_>) -> Option<Reply>
+pub fn started_with(n: Number, keyword: Keyword, words: &mut Words<'_>) -> Option<Reply>
     ensures { with_left result words.new ≡ started_with n keyword words.old }
 {
     match keyword {
-        Keyword::Enlist => Some(Reply::StartedEnlist(n, byte_in(words)?)),
+        Keyword::Enlist => {
+            words.note(Expected::Number(NumberOf::Worker));
+            Some(Reply::StartedEnlist(n, byte_in(words)?))
+        }
         _ => None,
     }
 }
@@ -56,6 +64,7 @@ fn started_after(n: Number, words: &mut Words<'_>) -> Option<Reply>
     if words.is_end() {
         return Some(Reply::Started(n));
     }
+    words.note(Expected::AfterStarted);
     let keyword = keyword_in(words)?;
     started_with(n, keyword, words)
 }
@@ -67,6 +76,7 @@ fn number_reply_after(keyword: Keyword, words: &mut Words<'_>) -> Option<Reply>
     requires { keyword_has_number keyword ≡ true }
     ensures { with_left result words.new ≡ reply_after keyword words.old }
 {
+    words.note(Expected::Number(NumberOf::Entry));
     let n = wide_in(words)?;
     match keyword {
         Keyword::Yes => Some(Reply::Yes(n)),
@@ -99,7 +109,7 @@ fn time_reply_after(keyword: Keyword, words: &mut Words<'_>) -> Option<Reply>
 /// The reply after its keyword.
 #[tactic(auto, unfolding(crate::specs::ReplyText::reply_after))]
 #[inline(always)]
-fn reply_after(keyword: Keyword, words: &mut Words<'_>) -> Option<Reply>
+pub fn reply_after(keyword: Keyword, words: &mut Words<'_>) -> Option<Reply>
     ensures { with_left result words.new ≡ reply_after keyword words.old }
 {
     match keyword {
@@ -110,9 +120,23 @@ fn reply_after(keyword: Keyword, words: &mut Words<'_>) -> Option<Reply>
         | Keyword::Waiting
         | Keyword::Started
         | Keyword::Finished => number_reply_after(keyword, words),
-        Keyword::Width => Some(Reply::Width(number_in(words)?)),
-        Keyword::Booked | Keyword::Rebooked | Keyword::Now => time_reply_after(keyword, words),
-        Keyword::Fired => Some(Reply::Fired(item_in(words)?, wide_in(words)?)),
+        Keyword::Width => {
+            words.note(Expected::Number(NumberOf::Width));
+            Some(Reply::Width(number_in(words)?))
+        }
+        Keyword::Booked | Keyword::Rebooked => {
+            words.note(Expected::Number(NumberOf::Time));
+            time_reply_after(keyword, words)
+        }
+        Keyword::Now => {
+            words.note(Expected::Number(NumberOf::Now));
+            time_reply_after(keyword, words)
+        }
+        Keyword::Fired => {
+            let item = item_in(words)?;
+            words.note(Expected::Number(NumberOf::Entry));
+            Some(Reply::Fired(item, wide_in(words)?))
+        }
         Keyword::No => Some(Reply::No),
         Keyword::Foreign => Some(Reply::Foreign),
         Keyword::Draining => Some(Reply::Draining),
@@ -140,6 +164,7 @@ fn reply_after(keyword: Keyword, words: &mut Words<'_>) -> Option<Reply>
 pub fn reply_in(words: &mut Words<'_>) -> Option<Reply>
     ensures { with_left result words.new ≡ reply_in words.old }
 {
+    words.note(Expected::Reply);
     let keyword = keyword_in(words)?;
     reply_after(keyword, words)
 }

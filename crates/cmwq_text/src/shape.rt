@@ -1,8 +1,9 @@
 //! Shapes in a text.
 ghost use Rattle.std.specs.Prelude.{◌≡◌};
-ghost use Rattle.cmwq_text.specs.ShapeText.{counts_read, begins_queue, flags_of, queue_line_of, queue_of_calls};
-ghost use Rattle.cmwq_text.specs.ShapeText.{queue_of_history, width_taken};
+ghost use Rattle.cmwq_text.specs.ShapeText.{counts_of_words, counts_read, begins_queue, flags_of, queue_line_of_words};
+ghost use Rattle.cmwq_text.specs.ShapeText.{queue_line_of, queue_of_calls, queue_of_history, width_taken};
 
+use crate::expected::{Expected, NumberOf};
 use crate::word::{Words, byte_count_in, number_in, short_count_in, wide_in};
 use cmwq_model::{Counts, QueueShape};
 
@@ -21,25 +22,43 @@ pub struct QueueLine {
     pub flags: Flags,
 }
 
-/// The counts of a shape line, without its line feed. None: it is no such line, or a number is outside its limits.
-#[tactic(auto, unfolding(crate::specs::ShapeText::counts_read))]
-pub fn read_counts(line: &[u8]) -> Option<Counts>
-    ensures { result ≡ counts_read line.now }
+/// The counts of all words, which are those of a shape line.
+pub fn counts_of_words(words: &mut Words<'_>) -> Option<Counts>
+    ensures { result ≡ counts_of_words words.old }
 {
-    let mut words = Words::of(line);
+    words.note(Expected::Shape);
     words.after(b"shape")?;
+    words.note(Expected::Number(NumberOf::Cpus));
+    let cpus = byte_count_in(words)?;
+    words.note(Expected::Number(NumberOf::Workers));
+    let workers = byte_count_in(words)?;
+    words.note(Expected::Number(NumberOf::Callers));
+    let callers = byte_count_in(words)?;
+    words.note(Expected::Number(NumberOf::Items));
+    let items = short_count_in(words)?;
+    words.note(Expected::Number(NumberOf::Room));
+    let room = wide_in(words)?;
+    words.note(Expected::End);
     let counts = Counts {
-        cpus: byte_count_in(&mut words)?,
-        workers: byte_count_in(&mut words)?,
-        callers: byte_count_in(&mut words)?,
-        items: short_count_in(&mut words)?,
-        room: wide_in(&mut words)?,
+        cpus,
+        workers,
+        callers,
+        items,
+        room,
     };
     if words.is_end() && counts.are_allowed() {
         Some(counts)
     } else {
         None
     }
+}
+
+/// The counts of a shape line, without its line feed. None: it is no such line, or a number is outside its limits.
+#[tactic(auto, unfolding(crate::specs::ShapeText::counts_read))]
+pub fn read_counts(line: &[u8]) -> Option<Counts>
+    ensures { result ≡ counts_read line.now }
+{
+    counts_of_words(&mut Words::of(line))
 }
 
 /// Whether a line begins as that of a queue does, with `wq` and a space.
@@ -71,19 +90,29 @@ fn flags_of(word: &[u8]) -> Option<Flags>
     })
 }
 
-#[tactic(auto, unfolding(crate::specs::ShapeText::queue_line_of))]
-fn queue_line_of(line: &[u8]) -> Option<QueueLine>
-    ensures { result ≡ queue_line_of line.now }
+/// What all words say, which are those of a queue's line.
+pub fn queue_line_of_words(words: &mut Words<'_>) -> Option<QueueLine>
+    ensures { result ≡ queue_line_of_words words.old }
 {
-    let mut words = Words::of(line);
+    words.note(Expected::Queue);
     words.after(b"wq")?;
-    let max_active = number_in(&mut words)?;
+    words.note(Expected::Number(NumberOf::MaxActive));
+    let max_active = number_in(words)?;
+    words.note(Expected::Flags);
     let flags = flags_of(words.first()?)?;
+    words.note(Expected::End);
     if words.is_end() {
         Some(QueueLine { max_active, flags })
     } else {
         None
     }
+}
+
+#[tactic(auto, unfolding(crate::specs::ShapeText::queue_line_of))]
+fn queue_line_of(line: &[u8]) -> Option<QueueLine>
+    ensures { result ≡ queue_line_of line.now }
+{
+    queue_line_of_words(&mut Words::of(line))
 }
 
 /// What a max_active in a file of calls is taken as: 0 as 256, and more than 512 as 512.

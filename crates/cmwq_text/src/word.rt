@@ -4,6 +4,7 @@ ghost use Rattle.cmwq_text.specs.Numbers.{IsLeading, is_begun, digits_from, numb
 ghost use Rattle.cmwq_text.specs.Words.{is_space, words_of, first_word, word_read, with_left, byte_in, short_in};
 ghost use Rattle.cmwq_text.specs.Words.{byte_count_in, short_count_in, number_in, wide_in, long_in};
 
+use crate::expected::Expected;
 use crate::number::digits_of;
 use std::marker::Model;
 
@@ -11,7 +12,7 @@ use std::marker::Model;
 const MANY: u64 = 1_000_000_000_000_000_000;
 
 /// The greatest number of an entry.
-const GREATEST_NUMBER: u64 = 9_223_372_036_854_775_807;
+pub const GREATEST_NUMBER: u64 = 9_223_372_036_854_775_807;
 
 #[inline(always)]
 fn first_space(bytes: &[u8]) -> Option<usize>
@@ -24,6 +25,8 @@ fn first_space(bytes: &[u8]) -> Option<usize>
 #[derive(Drop)]
 pub struct Words<'a> {
     bytes: Option<&'a [u8]>,
+    /// What the word should be that a reader came to last. Contracts don't see it.
+    expected: Expected,
 }
 
 impl<'a> Model for Words<'a> {
@@ -44,7 +47,23 @@ impl<'a> Words<'a> {
     pub fn of(line: &'a [u8]) -> Words<'a>
         ensures { result ≡ words_of line.now }
     {
-        Words { bytes: Some(line) }
+        Words {
+            bytes: Some(line),
+            expected: Expected::End,
+        }
+    }
+
+    /// Notes what the first word should be. Every reader does so before it reads the word.
+    #[inline(always)]
+    pub fn note(&mut self, expected: Expected)
+        ensures { self.new ≡ self.old }
+    {
+        self.expected = expected;
+    }
+
+    /// What was noted last: where a reader stopped, what it expected there.
+    pub fn expected(&self) -> Expected {
+        self.expected
     }
 
     /// Whether no word is left.
@@ -158,7 +177,13 @@ fn leading_number<'a>(limit: u64, bytes: &'a [u8]) -> Option<(u64, Words<'a>)>
 {
     let (value, behind) = leading_digits(bytes);
     match behind {
-        [] => at_most(limit, value, Words { bytes: None }),
+        [] => {
+            let none = Words {
+                bytes: None,
+                expected: Expected::End,
+            };
+            at_most(limit, value, none)
+        }
         [byte, rest @ ..] => {
             if *byte == b' ' {
                 at_most(limit, value, Words::of(rest))

@@ -3,7 +3,8 @@ use Rattle.cmwq_theory_steps.specs.Common.{◌≡◌, ◌<◌, Bool, true, false
 use Rattle.cmwq_theory_steps.specs.Common.{count_by, refl, sym, ap, ◌∙◌, arith, ltb-true, lt-ltb, nat_tests, Entry}
 use Rattle.cmwq_theory_steps.specs.Common.{Queueing, Layout, width, is_live, still_open, is_ahead, is_below_max_active}
 use Rattle.cmwq_theory_steps.specs.Common.{is_active}
-use Rattle.cmwq_theory_steps.specs.Looks.{was_below_max_active, keeps_widths}
+use Rattle.cmwq_model.specs.Widths.{keeps_widths}
+use Rattle.cmwq_theory_steps.specs.Looks.{was_below_max_active}
 use Rattle.cmwq_theory_steps.proofs.Opens.{open_before}
 use Rattle.cmwq_theory_steps.proofs.Joined.{active_go_on, not_live}
 use Rattle.cmwq_theory_steps.proofs.Ahead.{fewer_ahead}

@@ -9,7 +9,7 @@ use Rattle.cmwq_theory_steps.specs.Common.{Reply, Layout, number_finished, numbe
 use Rattle.cmwq_theory_steps.specs.Common.{opens, opening, is_live, still_open, is_ahead, is_below_max_active}
 use Rattle.cmwq_theory_steps.specs.Common.{is_active, newly_active, IsLegal, All_map, All_both, All_each, All_filter}
 use Rattle.cmwq_theory_steps.specs.Common.{All_unfilter, count_by-cons}
-use Rattle.cmwq_theory_steps.specs.Looks.{keeps_widths}
+use Rattle.cmwq_model.specs.Widths.{keeps_widths}
 use Rattle.cmwq_theory_steps.proofs.Rising.{opening_number, open_below}
 use Rattle.cmwq_theory_steps.proofs.Joined.{active_go_on}
 use Rattle.cmwq_theory_steps.proofs.Widths.{width_same}

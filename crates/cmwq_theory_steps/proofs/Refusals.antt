@@ -13,7 +13,7 @@ use Rattle.cmwq_theory_steps.specs.Common.{is_active, newly_active, worklist, ne
 use Rattle.cmwq_theory_steps.specs.Common.{index_enlisted, is_in_pool, is_retired, unended_tickets, gives_ticket}
 use Rattle.cmwq_theory_steps.specs.Common.{ticket_for, ticket_in, is_end_of, is_done, is_gone, ends_destroy, IsLegal}
 use Rattle.cmwq_theory_steps.specs.Common.{bits, owed, answer, All_map, All_each}
-use Rattle.cmwq_theory_steps.specs.Looks.{keeps_widths}
+use Rattle.cmwq_model.specs.Widths.{keeps_widths}
 use Rattle.cmwq_theory_steps.proofs.Joined.{active_go_on, active_live}
 use Rattle.cmwq_theory_steps.proofs.Widths.{frozen_same, max_same, width_same}
 use Rattle.cmwq_theory_steps.proofs.Rising.{open_below}

@@ -4,7 +4,7 @@ use Rattle.cmwq_theory_steps.specs.Common.{if◌then◌else◌, Entry, Reply, La
 use Rattle.cmwq_theory_steps.specs.Common.{is_frozen, frozen_after, sets_max, width_told}
 use Rattle.cmwq_model.specs.declared.reply.Reply.TheVariants as reply
 use Rattle.std.specs.Option.{option_map_or}
-use Rattle.cmwq_theory_steps.specs.Looks.{keeps_widths}
+use Rattle.cmwq_model.specs.Widths.{keeps_widths}
 
 pub frozen_same : (r : Reply) (b : Bool) → keeps_widths r ≡ true → frozen_after r b ≡ b
 frozen_same reply.Frozen b h = cc

@@ -5,7 +5,7 @@ use Rattle.cmwq_theory_steps.specs.Common.{Some, None, option_to_list, nat_lt, A
 use Rattle.cmwq_theory_steps.specs.Common.{Layout, pool_at, width, same_pool, starts, is_started, queueings, is_live}
 use Rattle.cmwq_theory_steps.specs.Common.{still_open, opening, same_place, is_below_max_active, is_active}
 use Rattle.cmwq_theory_steps.specs.Common.{newly_active, worklist, IsLegal}
-use Rattle.cmwq_theory_steps.specs.Looks.{keeps_widths}
+use Rattle.cmwq_model.specs.Widths.{keeps_widths}
 use Rattle.cmwq_theory_steps.specs.Places.{is_on, open_on}
 use Rattle.cmwq_theory_steps.specs.Endings.{survives, ending}
 

@@ -1,15 +1,8 @@
 -- What is active, told by few looks.
 use Rattle.std.specs.Prelude.{◌≡◌, ◌&&◌, ◌||◌, ◌∷◌}
-use Rattle.cmwq_theory_steps.specs.Common.{Bool, true, false, not, List, [], Entry, Queueing, Reply, Layout, is_live}
+use Rattle.cmwq_theory_steps.specs.Common.{Bool, false, not, List, [], Entry, Queueing, Layout, is_live}
 use Rattle.cmwq_theory_steps.specs.Common.{is_below_max_active, is_active}
-use Rattle.cmwq_model.specs.declared.reply.Reply.TheVariants as reply
-
--- a reply of an entry that changes no width
-abbrev pub keeps_widths : Reply → Bool
-keeps_widths (reply.Width n) = false
-keeps_widths reply.Frozen = false
-keeps_widths reply.Thawed = false
-keeps_widths r = true
+use Rattle.cmwq_model.specs.Widths.{keeps_widths}
 
 -- it was below max_active just before an entry that changed a width
 unfoldable pub was_below_max_active : Layout → List Entry → Queueing → Bool

@@ -21,7 +21,7 @@ use Rattle.cmwq_theory_steps.specs.Common.{option_and_then, ◌≤◌, is_freeza
 use Rattle.cmwq_theory_steps.specs.Common.{is_frozen, max_active, is_active, is_below_max_active, is_ahead, count_by}
 use Rattle.cmwq_theory_steps.specs.Common.{number_cancelled, replaces, is_of_item, is_started, All_each}
 use Rattle.cmwq_theory_steps.specs.Endings.{ending, survives}
-use Rattle.cmwq_theory_steps.specs.Looks.{keeps_widths}
+use Rattle.cmwq_model.specs.Widths.{keeps_widths}
 use Rattle.cmwq_theory_steps.specs.RunSteps.{ends_run}
 use Rattle.cmwq_theory_steps.specs.Activations.{is_left, is_in, behind_width, is_of_same_pwq, open_of_same_pwq, waits}
 use Rattle.cmwq_theory_steps.specs.Activations.{is_below_max_active_at_once}

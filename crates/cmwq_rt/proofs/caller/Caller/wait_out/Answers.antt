@@ -12,7 +12,7 @@ returns-in-Err-ended-clause-broke g c =
     let stopped = IfErr-at_err _ c.in-Err-ended.is c.until_ended-hold.ensures.stopped in
     subst (λ (u : View). BrokeOff s u c.args.call c.in-Err-ended.fault w) c.self.view_is
     (ended_broke s v m w c.args.call c.in-Ok.reply c.in-Some.ticket c.in-Err-ended.fault c.requires.waits
-    (sym c.ticket_in.ensures ∙ c.in-Some.is) c.in-Ok.ensures.made.0 stopped)
+    (sym c.ticket.ensures ∙ c.in-Some.is) c.in-Ok.ensures.made.0 stopped)
 
 pub returns-clause-done : goal.returns-clause-done
 returns-clause-done g c =
@@ -23,4 +23,4 @@ returns-clause-done g c =
     let ended = IfOk-at_ok _ c.in-Ok-ended.is c.until_ended-hold.ensures.ended in
     subst (λ (u : View). Completes s u c.args.call c.in-Ok.reply w) c.self.view_is
     (ended_completes s v m w c.args.call c.in-Ok.reply c.in-Some.ticket c.requires.waits
-    (sym c.ticket_in.ensures ∙ c.in-Some.is) c.in-Ok.ensures.made.0 ended)
+    (sym c.ticket.ensures ∙ c.in-Some.is) c.in-Ok.ensures.made.0 ended)

@@ -1,7 +1,0 @@
-use Rattle.cmwq_rt.proofs.caller.Caller.flush_begin.Goals as goal
-
-pub returns-clause-made : goal.returns-clause-made
-returns-clause-made g c = c.make.ensures.made
-
-pub returns-clause-refused : goal.returns-clause-refused
-returns-clause-refused g c = c.make.ensures.refused

@@ -1,8 +1,0 @@
-use Rattle.cmwq_service.proofs.Continuing.{goes_whole}
-use Rattle.cmwq_service.proofs.client.HubClientClient.whole.Goals as goal
-
-pub invariant_of-self : goal.invariant_of-self
-invariant_of-self g c = record {
-  goes = goes_whole g.N.HubName.layout g.B.Start.start c.args.self.now.caller c.make_whole.new.self c.args.call
-      c.make_whole.result c.args.self.now.goes c.make_whole.ensures.done c.make_whole.ensures.broke;
-}
