@@ -120,7 +120,11 @@ fn tell_who(text: &mut Text, line: RefusedLine<'_>) -> bool {
 
 /// Tells that who is there doesn't make the call.
 fn tell_maker(text: &mut Text, line: RefusedLine<'_>) -> bool {
-    let index = if matches!(line.form, Form::Entry) { 2 } else { 1 };
+    let index = if matches!(line.form, Form::Entry) {
+        2
+    } else {
+        1
+    };
     let who = word_at(line.bytes, 0).unwrap_or(b"");
     line.say_place(text, index);
     text.raw(word_at(line.bytes, index).unwrap_or(b""));
@@ -297,7 +301,10 @@ fn keyword_expected(
 ) -> Option<&'static str> {
     let keyword = match expected {
         Expected::AfterTicket => AFTER_TICKET.get(number).copied()?,
-        _ => KEYWORDS.iter().copied().find(|keyword| *keyword as usize == number)?,
+        _ => KEYWORDS
+            .iter()
+            .copied()
+            .find(|keyword| *keyword as usize == number)?,
     };
     let is_new = is_new_at(expected, keyword)?;
     if is_new && line.version == 1 && matches!(line.form, Form::Entry) {

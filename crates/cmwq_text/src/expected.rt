@@ -15,9 +15,7 @@ use crate::keyword::Keyword;
 use crate::reply::{reply_after, started_with, ticket_with};
 use crate::shape::{counts_of_words, queue_line_of_words};
 use crate::word::{GREATEST_NUMBER, Words};
-use cmwq_model::{
-    Call, MOST_ACTIVE, MOST_CALLERS, MOST_CPUS, MOST_ITEMS, MOST_WORKERS, Reply,
-};
+use cmwq_model::{Call, MOST_ACTIVE, MOST_CALLERS, MOST_CPUS, MOST_ITEMS, MOST_WORKERS, Reply};
 
 /// What a number of a line is.
 #[derive(Clone, Copy, PartialEq, Eq)]
