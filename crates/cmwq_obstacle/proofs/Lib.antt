@@ -1,2 +1,3 @@
+pub mod Awaiting
 pub mod Holding
 pub mod Ranges

@@ -1,1 +1,2 @@
 pub mod Obstacles
+pub mod Waits

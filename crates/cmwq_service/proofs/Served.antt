@@ -5,7 +5,7 @@ use Rattle.cmwq_rt.specs.declared.left_out.LeftOut.{LeftOut}
 use Rattle.cmwq_rt_journal.specs.Journaled.{WritesLeft}
 use Rattle.cmwq_service.specs.Serving.{Conduct, Ending, ItemConduct, behaves}
 use Rattle.cmwq_service.proofs.Ending.{calls_of, is_served, roles_of}
-use Rattle.cmwq_service_journal.specs.Writing.{WritesServed}
+use Rattle.cmwq_service.specs.Writing.{WritesServed}
 
 pub writes_served : (s : Layout) (waits : ℕ) (does : ItemConduct) (calls : Conduct) (ends : Ending)
     (entries full : ℕ) (l : LeftOut) (a b : Option (List ℕ))

@@ -1,7 +1,7 @@
 use Rattle.std.proofs.Common.{ap}
 use Rattle.cmwq_rt_journal.proofs.Kept.{nothing_written}
 use Rattle.cmwq_engine.proofs.Outcome.{fails_silently}
-use Rattle.cmwq_rt_journal.proofs.run.run_parts.Goals as goal
+use Rattle.cmwq_rt_journal.proofs.run.write_parts.Goals as goal
 
 pub returns-in-Ok-clause-sink : goal.returns-in-Ok-clause-sink
 returns-in-Ok-clause-sink g c failed =

@@ -1,8 +1,8 @@
 use Rattle.std.proofs.Common.{ℕ, refl, subst}
 use Rattle.cmwq_rt_journal.proofs.Kept.{nothing_written}
-use Rattle.cmwq_service_journal.specs.Writing.{WritesServed}
-use Rattle.cmwq_service_journal.proofs.Served.{writes_served}
-use Rattle.cmwq_service_journal.proofs.writing.run_writing_with_waits.Goals as goal
+use Rattle.cmwq_service.specs.Writing.{WritesServed}
+use Rattle.cmwq_service.proofs.Served.{writes_served}
+use Rattle.cmwq_service.proofs.writing.run_writing_with_waits.Goals as goal
 
 pub returns-in-Err-clause-front : goal.returns-in-Err-clause-front
 returns-in-Err-clause-front g c = nothing_written c.args.shape.now (g.O.Sink.written c.args.output.now) _ refl

@@ -2,14 +2,16 @@
 ghost use Rattle.std.specs.Prelude.{◌≡◌, IfOk, OnOk, OnErr, IsErrOf};
 ghost use Rattle.cmwq_io.specs.Counts.{Rises};
 ghost use Rattle.cmwq_rt_journal.specs.Kept.{WritesFront};
-ghost use Rattle.cmwq_service_journal.specs.Writing.{WritesServed};
-ghost use Rattle.cmwq_service_journal.specs.declared.writing.Unwritten.TheVariants as unwritten;
+ghost use Rattle.cmwq_service.specs.Writing.{WritesServed};
+ghost use Rattle.cmwq_service.specs.declared.writing.Unwritten.TheVariants as unwritten;
 
+use crate::crew::Serving;
+use crate::fault::Fault;
+use crate::running::readers_of;
+use crate::service::Service;
 use cmwq_io::Sink;
 use cmwq_model::Shape;
 use cmwq_rt_journal::{Unwritten as Unended, run_with_journal};
-use cmwq_service::crew::{Serving, readers_of};
-use cmwq_service::{Fault, Service};
 use std::alloc::Global;
 use std::sync::Wait;
 use std::thread::Threads;
@@ -27,7 +29,7 @@ pub enum Unwritten {
     Stopped { fault: Fault },
 }
 
-/// The same as `cmwq_service::run`, but the history is written to a sink while it is made, as text of format 3, and
+/// The same as `run`, but the history is written to a sink while it is made, as text of format 3, and
 /// flushed after each batch. So many entries are kept at a time, or as many as a hold of the lock may make where that
 /// is more; who makes a call waits while there is no space for it. What is made is written after a tenth of a second at
 /// the latest. The shape's room may be as great as any. The answer is how many entries were written, and the text ends
@@ -56,7 +58,7 @@ pub fn run_writing<S: Service + Send + Sync, R: Threads + Wait + Clock + Sync, O
     run_writing_with_waits(rt, alloc, shape, service, 0, kept, output)
 }
 
-/// The same, but so many runs may wait at the same time (`cmwq_service::run_with_waits`).
+/// The same, but so many runs may wait at the same time (`run_with_waits`).
 ///
 /// # Errors
 /// Those of `run_writing`; `NoPlace` if the shape has fewer callers than two and those that are lent.
