@@ -95,7 +95,7 @@ pub struct Party<'a> {
     state: State,
 }
 
-fn waiting(play: &Play<'_>, wait: Ticketed) -> Option<Waiting> {
+fn waiting_of(play: &Play<'_>, wait: Ticketed) -> Option<Waiting> {
     let goal = goal_of(wait.call)?;
     let machine = play.machine();
     let first = waited_for(machine.execution().state(), machine.entries(), wait.ticket);
@@ -121,7 +121,7 @@ fn door_of(play: &Play<'_>, action: Action) -> Option<Door> {
 fn caller_state(play: &Play<'_>, k: usize, at: CallerAt) -> Option<State> {
     let caller = at.id.0;
     if let Some(wait) = at.wait {
-        let wait = waiting(play, wait)?;
+        let wait = waiting_of(play, wait)?;
         return Some(State::Calls { caller, wait });
     }
     if play.may_move(k) {
@@ -160,7 +160,7 @@ impl<'a> Party<'a> {
                 worker,
                 item,
                 caller,
-                wait: waiting(play, wait)?,
+                wait: waiting_of(play, wait)?,
             },
             Doing::Acts => State::Runs { worker, item },
         };
