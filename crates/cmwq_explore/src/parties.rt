@@ -3,9 +3,9 @@
 use crate::noted::{ActionId, Unwaited};
 use crate::place::{CallerAt, Doing, RunAt, Ticketed, WorkerAt};
 use crate::play::Play;
+use cmwq_awaited::{Goal, WaitedFor, goal_of, waited_for};
 use cmwq_json_script::{Action, Holder, Script};
 use cmwq_model::{CallerId, CpuId, ItemId, PoolId, Queueing, Who, WorkerId};
-use cmwq_obstacle::{Goal, WaitedFor, goal_of, waited_for};
 use std::fmt;
 use std::fmt::{Display, Formatter, Write};
 

@@ -1,3 +1,2 @@
-pub mod Awaiting
 pub mod Holding
 pub mod Ranges

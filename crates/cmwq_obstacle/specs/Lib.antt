@@ -1,2 +1,1 @@
 pub mod Obstacles
-pub mod Waits

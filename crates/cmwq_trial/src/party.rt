@@ -3,9 +3,9 @@
 ghost use Rattle.std.specs.Prelude.{◌≡◌, IfSome};
 
 use crate::awaits::{Awaits, Wanted};
+use cmwq_awaited::{Goal, WaitedFor, goal_of, waited_for};
 use cmwq_core::Execution;
 use cmwq_model::{Call, Entry, ItemId, Number, QueueId, Shape, Who, WorkerId};
-use cmwq_obstacle::{Goal, WaitedFor, goal_of, waited_for};
 use cmwq_turns::{Awaited, Party as Member, Standing};
 use std::alloc::Global;
 use thiserror::Error;

@@ -1,8 +1,8 @@
 use Rattle.std.proofs.Common.{◌∙◌, sym}
 use Rattle.cmwq_model.specs.Prelude.{past_of}
 use Rattle.cmwq_refinement.proofs.PlacesFit.{unended_tickets_fit}
-use Rattle.cmwq_obstacle.proofs.Awaiting.{is_unended}
-use Rattle.cmwq_obstacle.proofs.waits.waited_for.Goals as goal
+use Rattle.cmwq_awaited.proofs.Awaiting.{is_unended}
+use Rattle.cmwq_awaited.proofs.waits.waited_for.Goals as goal
 
 pub waits_for-requires-clause-unended : goal.waits_for-requires-clause-unended
 waits_for-requires-clause-unended c =

@@ -7,8 +7,8 @@ use Rattle.cmwq_model.specs.declared.call.Call.TheVariants as call
 use Rattle.cmwq_model.specs.declared.entry.Entry.{Entry}
 use Rattle.cmwq_model.specs.declared.record.Ticket.{Ticket}
 use Rattle.cmwq_state.specs.History.{ticket_has_number}
-use Rattle.cmwq_obstacle.specs.declared.waits.Goal.{Goal}
-use Rattle.cmwq_obstacle.specs.declared.waits.Goal.TheVariants as goal
+use Rattle.cmwq_awaited.specs.declared.waits.Goal.{Goal}
+use Rattle.cmwq_awaited.specs.declared.waits.Goal.TheVariants as goal
 
 abbrev pub goal_of : Call → Option Goal
 goal_of (call.Flush q) = Some (goal.Flush q)

@@ -2,7 +2,7 @@
 
 ghost use Rattle.std.specs.Prelude.{◌≡◌, option_map};
 ghost use Rattle.cmwq_model.specs.Prelude.{past_of};
-ghost use Rattle.cmwq_obstacle.specs.Waits as spec;
+ghost use Rattle.cmwq_awaited.specs.Waits as spec;
 
 use cmwq_model::{Call, Entry, ItemId, Number, QueueId};
 use cmwq_state::State;

@@ -6,7 +6,7 @@ use Rattle.cmwq_model.specs.Prelude.{unended_tickets, waits_for}
 use Rattle.cmwq_model.specs.declared.entry.Entry.{Entry}
 use Rattle.cmwq_model.specs.declared.record.Ticket.{Ticket}
 use Rattle.cmwq_state.specs.History.{ticket_has_number}
-use Rattle.cmwq_obstacle.specs.Waits.{waited_for, of_entry}
+use Rattle.cmwq_awaited.specs.Waits.{waited_for, of_entry}
 
 pub is_unended : (past : List Entry) (n : ℕ) (t : Ticket) → find (ticket_has_number n) (unended_tickets past) ≡ Some t
     → Contains (unended_tickets past) t
