@@ -33,47 +33,6 @@ pub struct Report {
     pub left_out: LeftOut,
 }
 
-/// Runs scripts on a hub of these parts, whose shape is this one.
-fn run_parts<'x, S: Scripts + Sync, W: Work + Sync, R: Threads + Wait + Sync>(
-    rt: &'x R,
-    alloc: Global,
-    shape: &Shape,
-    parts: HubParts,
-    scripts: &'x S,
-    lent: u8,
-    work: &'x W,
-) -> Result<Report, RunFault>
-    requires shape { parts.shape ≡ shape.now }
-    requires fits { AreFit parts.shape (S.scripts scripts.now) }
-    ensures left { IfOk result
-        (λ r. IsLeft shape.now (W.does work.now shape.now) (S.scripts scripts.now) lent r.full
-        r.left_out r.history.items) }
-    ensures counted { IfOk result (λ r. r.answered ≡ length r.history.items) }
-    ensures fails { IfErr result (FailsAs shape.now (S.scripts scripts.now) lent) }
-{
-    let _shape = shape;
-    let crew = ScriptsCrew { scripts, lent };
-    let (rest, outcome) = run(rt, alloc, parts, &crew, work);
-    let Rest { first, entries } = rest;
-    let tally = match outcome {
-        Ok(tally) => tally,
-        Err(fault) => return Err(fault),
-    };
-    // no journal took any
-    if first != 0 {
-        return Err(RunFault::Stranger {
-            own: 0,
-            book: first,
-        });
-    }
-    Ok(Report {
-        history: entries,
-        answered: tally.answered,
-        full: tally.full,
-        left_out: tally.left_out,
-    })
-}
-
 /// Runs scripts on a new hub: a thread for each script, whose caller follows it, and one for each worker. When all
 /// callers have ended, it closes the hub, and the workers go on until no active queueing is open. No run waits.
 ///
@@ -123,10 +82,27 @@ pub fn run_scripts_lending<'x, S: Scripts + Sync, W: Work + Sync, R: Threads + W
     ensures fails { IfErr result (FailsAs shape.now (S.scripts scripts.now) lent) }
 {
     // scripts never look, so it has no readers
-    match HubParts::keeping_all(rt, alloc, shape, 0) {
-        Ok(parts) => run_parts(rt, alloc, shape, parts, scripts, lent, work),
-        Err(fault) => Err(fault),
+    let parts = HubParts::keeping_all(rt, alloc, shape, 0)?;
+    let crew = ScriptsCrew { scripts, lent };
+    let (rest, outcome) = run(rt, alloc, parts, &crew, work);
+    let Rest { first, entries } = rest;
+    let tally = match outcome {
+        Ok(tally) => tally,
+        Err(fault) => return Err(fault),
+    };
+    // no journal took any
+    if first != 0 {
+        return Err(RunFault::Stranger {
+            own: 0,
+            book: first,
+        });
     }
+    Ok(Report {
+        history: entries,
+        answered: tally.answered,
+        full: tally.full,
+        left_out: tally.left_out,
+    })
 }
 
 /// Runs scripts on a new hub, as `run_scripts_lending` does, and writes the history with its shape in format 3 while it
