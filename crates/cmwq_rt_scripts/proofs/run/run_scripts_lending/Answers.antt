@@ -6,9 +6,10 @@ use Rattle.cmwq_rt_scripts.specs.Followed.{AreFit, follows}
 use Rattle.cmwq_rt_scripts.proofs.Leaving.{all_is_rest, fails, leaves, roles}
 use Rattle.cmwq_rt_scripts.proofs.run.run_scripts_lending.Goals as goal
 
-pub run-rest-requires : goal.run-rest-requires
-run-rest-requires g c κs within =
-    subst (λ (s : Layout). AreFit s (g.S.Scripts.scripts c.args.scripts.now)) (sym c.in_ok-parts.ensures.shape) c.requires.fit
+pub run-rest-requires-after_bounds : goal.run-rest-requires-after_bounds
+run-rest-requires-after_bounds g c κs within =
+    subst (λ (s : Layout). AreFit s (g.S.Scripts.scripts c.args.scripts.now)) (sym c.in_ok-parts.ensures.shape)
+    c.requires.fit
 
 pub returns-in-Err-clause-fails : goal.returns-in-Err-clause-fails
 returns-in-Err-clause-fails g c =
