@@ -1,4 +1,4 @@
-//! A service as a crew: what its threads run. For a layer above that takes the history while it is made.
+//! A service as a crew: what its threads run. For a layer above that makes the hub itself, as trials do.
 ghost use Rattle.std.specs.Prelude.{◌≡◌, ◌-◌, true, Ok, IfErr, IfOk, OnOk};
 ghost use Rattle.cmwq_monitor.specs.Participants.{newcomer};
 ghost use Rattle.cmwq_rt.specs.Later.{Later};
