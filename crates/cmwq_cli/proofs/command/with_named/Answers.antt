@@ -1,6 +1,6 @@
 use Rattle.clap.specs.Words.{app_of}
 use Rattle.cmwq_cli.proofs.Commands.{of_word}
-use Rattle.cmwq_cli.proofs.word.with_named.Goals as goal
+use Rattle.cmwq_cli.proofs.command.with_named.Goals as goal
 
 pub returns : goal.returns
 returns c =

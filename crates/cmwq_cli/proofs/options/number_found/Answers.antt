@@ -5,7 +5,7 @@ use Rattle.clap.specs.Words.{found_of}
 use Rattle.clap.proofs.WalkLemmas.{one_text-rows}
 use Rattle.cmwq_cli.specs.Explore.{number_of_text}
 use Rattle.cmwq_cli.proofs.Numbers.{number_of_found}
-use Rattle.cmwq_cli.proofs.word.number_found.Goals as goal
+use Rattle.cmwq_cli.proofs.options.number_found.Goals as goal
 
 pub returns : goal.returns
 returns c =

@@ -3,7 +3,7 @@ use Rattle.std.specs.Borrow.{Bor}
 use Rattle.std.specs.Prelude.{is_some, option_map}
 use Rattle.clap.specs.Words.{Text, found_of}
 use Rattle.clap.proofs.WalkLemmas.{first_value-rows}
-use Rattle.cmwq_cli.proofs.word.has_text.Goals as goal
+use Rattle.cmwq_cli.proofs.options.has_text.Goals as goal
 
 some_of_texts : (text : Option (Bor Text)) → is_some text ≡ is_some (option_map (λ (t : Bor Text). t.now) text)
 some_of_texts None = refl

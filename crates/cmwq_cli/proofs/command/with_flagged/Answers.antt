@@ -1,7 +1,7 @@
 use Rattle.std.proofs.Common.{◌∙◌, ap₂}
 use Rattle.clap.specs.Words.{app_of, with_rule}
 use Rattle.cmwq_cli.proofs.Commands.{neither, of_word}
-use Rattle.cmwq_cli.proofs.word.with_flagged.Goals as goal
+use Rattle.cmwq_cli.proofs.command.with_flagged.Goals as goal
 
 pub with_command-requires : goal.with_command-requires
 with_command-requires c = c.in_ok-word.ensures.globals ∙ neither _ _ c.bare_word.ensures.local c.rule.ensures.local

@@ -4,7 +4,7 @@ use Rattle.std.specs.Str.{bytes_eq}
 use Rattle.clap.specs.Words.{found_of}
 use Rattle.clap.proofs.WalkLemmas.{one_text-rows}
 use Rattle.cmwq_cli.proofs.Truth.{truth_of_text}
-use Rattle.cmwq_cli.proofs.word.has_flag.Goals as goal
+use Rattle.cmwq_cli.proofs.options.has_flag.Goals as goal
 
 pub returns : goal.returns
 returns c =
