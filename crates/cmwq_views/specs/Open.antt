@@ -1,6 +1,6 @@
 -- What is still going on at the end of a history: a line for its entries and ticks, and then a line for each queue,
 -- run, queueing that hasn't started, booking, and unended wait. Idle queues in a row have one line.
-use Rattle.std.specs.Prelude.{ℕ, zero, suc, ◌+◌, ◌*◌, ◌/◌, ◌%◌, Bool, ◌==◌, ◌&&◌, not, if◌then◌else◌, List, []}
+use Rattle.std.specs.Prelude.{ℕ, zero, suc, ◌+◌, ◌-◌, ◌*◌, ◌/◌, ◌%◌, Bool, ◌==◌, ◌&&◌, not, if◌then◌else◌, List, []}
 use Rattle.std.specs.Prelude.{◌∷◌, ◌++◌, length, nat_lt, slice_get}
 use Rattle.std.specs.Prelude.{Option, Some, None, Result, flat_map, codes, find, is_some, option_and_then}
 use Rattle.std.specs.List.{list_any, range_with_len}
@@ -161,10 +161,19 @@ run_line s past k = option_map_or (run_text s past k) (run_of_row s past k) []
 
 -- ---- queueings that haven't started, whether they are active, and why they haven't
 
+-- the queueings that take the places of a queue on its CPU: the first of so many
+abbrev pub more_text : ℕ → List ℕ
+more_text n = if nat_lt 1 n then named_number (codes " and ") (n - 1) ++ codes " more" else []
+
+abbrev pub taken_text : Option Queueing → ℕ → List ℕ
+taken_text None n = []
+taken_text (Some y) n = named_number (codes ", after queueing ") y.number ++ more_text n
+
 abbrev pub reason_text : Option Obstacle → List ℕ
 reason_text None = codes ": may start"
 reason_text (Some obstacles.Frozen) = codes ": its queue is frozen"
-reason_text (Some obstacles.NoPlace) = codes ": its queue has no place left on its CPU"
+reason_text (Some (obstacles.NoPlace first active)) =
+    codes ": its queue has no place left on its CPU" ++ taken_text first active
 reason_text (Some obstacles.ItemRuns) = codes ": its item runs"
 reason_text (Some (obstacles.Held w)) = codes ": the run of worker " ++ worker_name w ++ codes " is awake"
 reason_text (Some obstacles.NoWorker) = codes ": no worker of its pool is idle"
