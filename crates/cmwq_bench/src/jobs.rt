@@ -6,9 +6,8 @@ use anyhow::{Context as _, Result, bail, ensure};
 use cmwq_base::{BufferedSink, FromStd};
 use cmwq_service::{
     Call, Client, Context, CpuId, Fault, ItemId, PLAIN, QueueId, QueueShape, Reply, Service, Shape,
-    ShapeBuilder, run, run_dropping,
+    ShapeBuilder, run, run_dropping, run_writing,
 };
-use cmwq_service_journal::run_writing;
 use std::alloc::Global;
 use std::str::FromStr;
 use std::sync::Wait;

@@ -7,6 +7,7 @@ ghost use Rattle.cmwq_io.specs.Counts.{Rises};
 ghost use Rattle.cmwq_io.specs.Moves.{AppendsFront};
 ghost use Rattle.cmwq_base.specs.declared.refusal.Refusal.{Refusal as TheRefusal};
 ghost use Rattle.cmwq_base.specs.Stages.{stage_of};
+ghost use Rattle.cmwq_history.specs.Faults.{FaultsAreTrue};
 ghost use Rattle.cmwq_cmd_history.specs.Live.{LiveEnds, live_status, left_out_by, new_of, missing_head, rest_text};
 ghost use Rattle.cmwq_cmd_history.specs.Live.{made_text, first_text, new_text};
 
@@ -149,8 +150,7 @@ fn live<S: Source, O: Sink>(
     ensures ends { IfSome (S.left input.old)
         (λ text. LiveEnds text (O.written output.old) (O.written output.new) result) }
     ensures flushed { OnOk result ((O.held output.new ≡ 0) ⊎ (output.new ≡ output.old)) }
-    ensures read_fault { IsErrOf result Refusal.ReadFault → Rises (S.troubles input.old) (S.troubles input.new) }
-    ensures write_fault { IsErrOf result Refusal.WriteFault → Rises (O.troubles output.old) (O.troubles output.new) }
+    ensures faults { FaultsAreTrue result S.troubles input.old input.new O.troubles output.old output.new }
 {
     let mut stage = Stage::Begin;
     let ended = answer_lines(alloc, input, output, &mut stage);
@@ -214,8 +214,7 @@ pub fn run_step_live<S: Source, O: Sink, E: Sink>(
         × (result ≡ live_status ended)
         × IfSome (S.left input.old) (λ text. LiveEnds text (O.written output.old) (O.written output.new) ended)
         × OnOk ended ((O.held output.new ≡ 0) ⊎ (output.new ≡ output.old))
-        × (IsErrOf ended Refusal.ReadFault → Rises (S.troubles input.old) (S.troubles input.new))
-        × (IsErrOf ended Refusal.WriteFault → Rises (O.troubles output.old) (O.troubles output.new)) }
+        × FaultsAreTrue ended S.troubles input.old input.new O.troubles output.old output.new }
 {
     let ended = live(alloc, input, output);
     match ended {

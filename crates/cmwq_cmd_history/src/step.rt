@@ -1,8 +1,8 @@
 //! The word `step`.
 
-ghost use Rattle.std.specs.Prelude.{◌≡◌, ℕ, Result, IfSome, OnOk, IsErrOf};
-ghost use Rattle.cmwq_io.specs.Counts.{Rises};
+ghost use Rattle.std.specs.Prelude.{◌≡◌, ℕ, Result, IfSome, OnOk};
 ghost use Rattle.cmwq_base.specs.declared.refusal.Refusal.{Refusal as TheRefusal};
+ghost use Rattle.cmwq_history.specs.Faults.{FaultsAreTrue};
 ghost use Rattle.cmwq_cmd_history.specs.Step.{StepEnds, step_status};
 
 use crate::recording::Recording;
@@ -16,8 +16,7 @@ fn step<S: Source, O: Sink>(alloc: Global, input: &mut S, output: &mut O) -> Res
     ensures ends { IfSome (S.left input.old)
         (λ text. StepEnds text (O.written output.old) (O.written output.new) result) }
     ensures flushed { OnOk result (O.held output.new ≡ 0) }
-    ensures read_fault { IsErrOf result Refusal.ReadFault → Rises (S.troubles input.old) (S.troubles input.new) }
-    ensures write_fault { IsErrOf result Refusal.WriteFault → Rises (O.troubles output.old) (O.troubles output.new) }
+    ensures faults { FaultsAreTrue result S.troubles input.old input.new O.troubles output.old output.new }
 {
     let file = read_file::<Recording, S>(alloc, input, false)?;
     let steps = file.all;
@@ -40,8 +39,7 @@ pub fn run_step<S: Source, O: Sink, E: Sink>(
         × (result ≡ step_status ended)
         × IfSome (S.left input.old) (λ text. StepEnds text (O.written output.old) (O.written output.new) ended)
         × OnOk ended (O.held output.new ≡ 0)
-        × (IsErrOf ended Refusal.ReadFault → Rises (S.troubles input.old) (S.troubles input.new))
-        × (IsErrOf ended Refusal.WriteFault → Rises (O.troubles output.old) (O.troubles output.new)) }
+        × FaultsAreTrue ended S.troubles input.old input.new O.troubles output.old output.new }
 {
     let ended = step(alloc, input, output);
     match ended {

@@ -4,14 +4,13 @@ ghost use Rattle.std.specs.Prelude.{◌≡◌, [], length, true, IfOk, IfErr, On
 ghost use Rattle.cmwq_rt.specs.Places.{all_free, shares};
 ghost use Rattle.cmwq_engine.specs.Ended.{EndsAll, FailsAs, HaveRun, IsLeft, is_silent};
 
-use crate::crew::Crew;
+use crate::crew::{Crew, Shared};
 use crate::ends::stop_all;
 use crate::gather::{Ends, Tally, gather};
 use crate::running::run_threads;
 use cmwq_monitor::{Journal, Monitor, Rest};
 use cmwq_rt::ending::into_monitor;
 use cmwq_rt::{Hub, HubName, Participants, RunFault, Work};
-use std::alloc::Global;
 use std::marker::PhantomData;
 use std::snapshot::Snapshot;
 use std::sync::Wait;
@@ -35,24 +34,6 @@ impl<N: HubName, C: Crew, W: Work> Promise<Result<Ends<N>, RunFault>> for RunsAl
 /// The thread that runs all others.
 pub type Conductor<N, C, W> = PromisedHandle<Result<Ends<N>, RunFault>, RunsAll<N, C, W>>;
 
-/// Runs all threads to their end. Nobody makes a call from then on, so that a journal ends.
-fn conduct<'x, N: HubName + Send + Sync, C: Crew + Sync, W: Work + Sync, R: Threads + Wait + Sync>(
-    rt: &'x R,
-    alloc: Global,
-    hub: &'x Hub<N>,
-    participants: Participants<N>,
-    crew: &'x C,
-    work: &'x W,
-) -> Result<Ends<N>, RunFault>
-    requires fresh { participants ≡ all_free }
-    requires fits { C.fits crew.now N.layout }
-    ensures { EndsAll N.layout (W.does work.now N.layout) (C.calls crew.now) (C.roles crew.now N.layout) result }
-{
-    let ends = run_threads(rt, alloc, hub, participants, crew, work);
-    hub.fail(rt);
-    ends
-}
-
 /// Starts the thread that runs all others. When they have ended the hub fails, so that its journal ends.
 ///
 /// # Errors
@@ -66,30 +47,31 @@ pub fn start_all<
     R: Threads + Wait + Sync,
 >(
     scope: &Scope<'s, E>,
-    rt: &'s R,
-    alloc: Global,
-    hub: &'s Hub<N>,
+    shared: &'s Shared<'s, N, C, W, R>,
     participants: Participants<N>,
-    crew: &'s C,
-    work: &'s W,
 ) -> Result<Conductor<N, C, W>, RunFault>
     requires fresh { participants ≡ all_free }
-    requires fits { C.fits crew.now N.layout }
-    ensures thread { IfOk result (λ h. (h.promise.crew.value ≡ crew.now) × (h.promise.work.value ≡ work.now)) }
+    requires fits { C.fits shared.now.crew.now N.layout }
+    ensures thread { IfOk result
+        (λ h. (h.promise.crew.value ≡ shared.now.crew.now) × (h.promise.work.value ≡ shared.now.work.now)) }
     ensures fault { IfErr result (λ f. is_silent f ≡ true) }
 {
     let promise: RunsAll<N, C, W> = RunsAll {
-        crew: Snapshot::of(crew),
-        work: Snapshot::of(work),
+        crew: Snapshot::of(shared.crew),
+        work: Snapshot::of(shared.work),
         of: PhantomData,
     };
     let started = scope.spawn_with(
         promise,
         move || -> Result<Ends<N>, RunFault>
-            requires { (participants ≡ all_free) × C.fits crew.now N.layout }
-            ensures { EndsAll N.layout (W.does work.entry.now N.layout) (C.calls crew.entry.now)
-                (C.roles crew.entry.now N.layout) result }
-        { conduct(rt, alloc, hub, participants, crew, work) },
+            requires { (participants ≡ all_free) × C.fits shared.now.crew.now N.layout }
+            ensures { EndsAll N.layout (W.does shared.entry.now.work.now N.layout) (C.calls shared.entry.now.crew.now)
+                (C.roles shared.entry.now.crew.now N.layout) result }
+        {
+            let ends = run_threads(shared, participants);
+            shared.hub.fail(shared.rt);
+            ends
+        },
     );
     match started {
         Ok(thread) => Ok(thread),
@@ -98,8 +80,8 @@ pub fn start_all<
 }
 
 /// All threads come to their end, as the history can't be taken any further.
-pub fn stop<N: HubName, C: Crew, R: Wait>(rt: &R, hub: &Hub<N>, crew: &C) {
-    stop_all(rt, hub, crew, RunFault::NoMemory { ticket: None });
+pub fn stop<'s, N: HubName, C: Crew, W, R: Wait>(shared: &Shared<'s, N, C, W, R>) {
+    stop_all(shared, RunFault::NoMemory { ticket: None });
 }
 
 /// The journal has the whole history of a hub whose threads have ended.

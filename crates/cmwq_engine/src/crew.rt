@@ -1,7 +1,8 @@
-//! What callers do.
+//! What callers do, and what the threads of a run share.
 
 use cmwq_model::Shape;
 use cmwq_rt::{Caller, Hub, HubName, RunFault};
+use std::alloc::Global;
 use std::sync::Wait;
 
 /// Which callers of a hub are used: the first ones have a thread each, and the next ones are lent to runs that wait.
@@ -60,4 +61,15 @@ pub trait Crew {
     fn stop<R: Wait>(&self, rt: &R, fault: RunFault) {
         let (_, _) = (rt, fault);
     }
+}
+
+/// A run: its hub, what its callers do, and what its items do. All its threads share it.
+#[derive(Drop)]
+pub struct Shared<'s, N: HubName, C, W, R> {
+    /// By this its threads are started and joined, and wait.
+    pub rt: &'s R,
+    pub alloc: Global,
+    pub hub: &'s Hub<N>,
+    pub crew: &'s C,
+    pub work: &'s W,
 }

@@ -5,8 +5,8 @@ ghost use Rattle.cmwq_rt.specs.Running.{breaks_off};
 ghost use Rattle.cmwq_engine.specs.Conduct.{caller_numbered};
 ghost use Rattle.cmwq_engine.specs.Ended.{CalledAt, WorkedFrom};
 
-use crate::crew::Crew;
-use cmwq_rt::{Caller, Hub, HubName, Lent, RunFault, Work, Worked, Worker, turns};
+use crate::crew::{Crew, Shared};
+use cmwq_rt::{Caller, HubName, Lent, RunFault, Work, Worked, Worker, turns};
 use std::marker::PhantomData;
 use std::snapshot::Snapshot;
 use std::sync::Wait;
@@ -61,73 +61,60 @@ pub struct WorkerEnd<N: HubName> {
 }
 
 /// All come to their end: calls that are made or wait from then on answer a fault, and the crew is told.
-pub(crate) fn stop_all<N: HubName, C: Crew, R: Wait>(
-    rt: &R,
-    hub: &Hub<N>,
-    crew: &C,
+pub(crate) fn stop_all<'s, N: HubName, C: Crew, W, R: Wait>(
+    shared: &Shared<'s, N, C, W, R>,
     fault: RunFault,
 ) {
-    crew.stop(rt, fault);
-    hub.fail(rt);
+    shared.crew.stop(shared.rt, fault);
+    shared.hub.fail(shared.rt);
 }
 
 /// So where something ended by a fault.
-pub(crate) fn stop_at<T, N: HubName, C: Crew, R: Wait>(
-    rt: &R,
-    hub: &Hub<N>,
-    crew: &C,
+pub(crate) fn stop_at<'s, T, N: HubName, C: Crew, W, R: Wait>(
+    shared: &Shared<'s, N, C, W, R>,
     ended: &Result<T, RunFault>,
 ) {
     if let Err(fault) = ended {
-        stop_all(rt, hub, crew, *fault);
-    }
-}
-
-/// Where threads could not be started, or not be joined, nobody waits for a turn any more.
-pub(crate) fn open_at<T, N: HubName, R: Wait>(rt: &R, hub: &Hub<N>, ended: &Result<T, RunFault>) {
-    if ended.is_err() {
-        turns::open(rt, hub);
+        stop_all(shared, *fault);
     }
 }
 
 /// What a caller's thread runs.
-pub(crate) fn call_all<N: HubName, C: Crew, R: Wait>(
-    rt: &R,
-    hub: &Hub<N>,
-    crew: &C,
+pub(crate) fn call_all<'s, N: HubName, C: Crew, W, R: Wait>(
+    shared: &Shared<'s, N, C, W, R>,
     caller: Caller<N>,
     number: u8,
 ) -> CallerEnd<N>
-    requires fits { C.fits crew.now N.layout }
-    requires number { number < (C.roles crew.now N.layout).threads }
+    requires fits { C.fits shared.now.crew.now N.layout }
+    requires number { number < (C.roles shared.now.crew.now N.layout).threads }
     requires fresh { caller ≡ newcomer (caller_numbered number) }
-    ensures called { IfOk result.outcome (λ full. CalledAt N.layout (C.calls crew.now) number full result.caller) }
+    ensures called { IfOk result.outcome
+        (λ full. CalledAt N.layout (C.calls shared.now.crew.now) number full result.caller) }
     ensures fault { IfErr result.outcome (λ f. breaks_off f ≡ true) }
 {
-    turns::caller_comes(rt, hub, &caller);
-    let (caller, outcome) = crew.call(rt, hub, caller, number);
-    stop_at(rt, hub, crew, &outcome);
-    turns::goes(rt, hub);
+    turns::caller_comes(shared.rt, shared.hub, &caller);
+    let (caller, outcome) = shared.crew.call(shared.rt, shared.hub, caller, number);
+    stop_at(shared, &outcome);
+    turns::goes(shared.rt, shared.hub);
     CallerEnd { caller, outcome }
 }
 
 /// What a worker's thread runs.
-pub(crate) fn work_all<'a, N: HubName, C: Crew, W: Work, R: Wait>(
-    rt: &'a R,
-    hub: &'a Hub<N>,
-    lent: &'a Lent<N>,
-    crew: &C,
-    work: &W,
+pub(crate) fn work_all<'s, N: HubName, C: Crew, W: Work, R: Wait>(
+    shared: &Shared<'s, N, C, W, R>,
+    lent: &'s Lent<N>,
     worker: Worker<N>,
 ) -> WorkerEnd<N>
     ensures worked { IfOk result.outcome
-        (λ t. WorkedFrom N.layout (W.does work.now N.layout) t.left_out worker result.worker) }
+        (λ t. WorkedFrom N.layout (W.does shared.now.work.now N.layout) t.left_out worker result.worker) }
     ensures fault { IfErr result.outcome (λ f. breaks_off f ≡ true) }
 {
     let mut worker = worker;
-    turns::worker_comes(rt, hub, &worker);
-    let outcome = hub.work_counting(rt, &mut worker, work, lent);
-    stop_at(rt, hub, crew, &outcome);
-    turns::goes(rt, hub);
+    turns::worker_comes(shared.rt, shared.hub, &worker);
+    let outcome = shared
+        .hub
+        .work_counting(shared.rt, &mut worker, shared.work, lent);
+    stop_at(shared, &outcome);
+    turns::goes(shared.rt, shared.hub);
     WorkerEnd { worker, outcome }
 }

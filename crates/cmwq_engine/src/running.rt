@@ -3,25 +3,17 @@ ghost use Rattle.std.specs.Prelude.{◌≡◌, length, true, IfOk, IfErr};
 ghost use Rattle.cmwq_rt.specs.Places.{all_free, shares};
 ghost use Rattle.cmwq_engine.specs.Ended.{EndsAll, FailsAs, HaveEnded, IsRest, IsRestOfLeft, is_silent};
 
-use crate::crew::{Crew, Roster};
-use crate::ends::{open_at, stop_at};
+use crate::crew::{Crew, Roster, Shared};
+use crate::ends::stop_at;
 use crate::gather::{Ends, Tally, gather};
 use crate::start::{idle_callers, lend_callers, start_callers, start_workers};
 use cmwq_monitor::Rest;
 use cmwq_rt::ending::into_monitor;
-use cmwq_rt::{Hub, HubName, HubParts, Lent, LentCaller, Participants, RunFault, Work};
+use cmwq_rt::{Hub, HubName, HubParts, Lent, LentCaller, Participants, RunFault, Work, turns};
 use std::alloc::Global;
 use std::marker::Brand;
 use std::sync::Wait;
 use std::thread::{self, Scope, Threads, join_promised};
-
-/// Which callers the crew uses.
-fn roster_of<N: HubName, C: Crew>(hub: &Hub<N>, crew: &C) -> Roster
-    requires { C.fits crew.now N.layout }
-    ensures { result ≡ C.roles crew.now N.layout }
-{
-    crew.roster(hub.shape())
-}
 
 /// Starts all threads, and joins them: first the callers, and then the workers, who go on until no active queueing is
 /// open. The callers that are lent are not yet taken back.
@@ -34,98 +26,54 @@ fn run_all<
     R: Threads + Wait + Sync,
 >(
     scope: &Scope<'s, E>,
-    rt: &'s R,
-    alloc: Global,
-    hub: &'s Hub<N>,
+    shared: &'s Shared<'s, N, C, W, R>,
     lent: &'s Lent<N>,
     roster: Roster,
     participants: Participants<N>,
-    crew: &'s C,
-    work: &'s W,
 ) -> Result<Ends<N>, RunFault>
     requires fresh { participants ≡ all_free }
-    requires fits { C.fits crew.now N.layout }
-    requires roster { roster ≡ C.roles crew.now N.layout }
+    requires fits { C.fits shared.now.crew.now N.layout }
+    requires roster { roster ≡ C.roles shared.now.crew.now N.layout }
     ensures run { IfOk result
-        (λ ends. HaveEnded N.layout (W.does work.now N.layout) (C.calls crew.now) (C.roles crew.now N.layout) ends) }
-    ensures fails { IfErr result (λ f. FailsAs N.layout (C.calls crew.now) (C.roles crew.now N.layout) f) }
+        (λ ends. HaveEnded N.layout (W.does shared.now.work.now N.layout) (C.calls shared.now.crew.now)
+        (C.roles shared.now.crew.now N.layout) ends) }
+    ensures fails { IfErr result
+        (λ f. FailsAs N.layout (C.calls shared.now.crew.now) (C.roles shared.now.crew.now N.layout) f) }
 {
     let mut participants = participants;
-    let many = roster.threads;
-    let handles = match start_callers(scope, rt, alloc, hub, crew, many, &mut participants) {
+    let handles = match start_callers(scope, shared, roster.threads, &mut participants) {
         Ok(handles) => handles,
         Err(fault) => return Err(fault),
     };
-    match lend_callers(rt, lent, roster.lent, &mut participants) {
+    match lend_callers(shared.rt, lent, roster.lent, &mut participants) {
         Ok(()) => {}
         Err(fault) => return Err(fault),
     }
-    let working = match start_workers(scope, rt, alloc, hub, lent, crew, work, &mut participants) {
+    let working = match start_workers(scope, shared, lent, &mut participants) {
         Ok(working) => working,
         Err(fault) => return Err(fault),
     };
-    let joined = join_promised(rt, handles);
+    let joined = join_promised(shared.rt, handles);
     let Ok(callers) = joined else {
         return Err(RunFault::NoMemory { ticket: None });
     };
-    hub.close(rt);
-    let ended = join_promised(rt, working);
+    shared.hub.close(shared.rt);
+    let ended = join_promised(shared.rt, working);
     let Ok(workers) = ended else {
         return Err(RunFault::NoMemory { ticket: None });
     };
-    let idle = idle_callers(alloc, hub.shape(), &mut participants)?;
+    let idle = idle_callers(shared.alloc, shared.hub.shape(), &mut participants)?;
     Ok(Ends {
         callers,
         workers,
-        lent: Vec::new(alloc),
+        lent: Vec::new(shared.alloc),
         idle,
         rest: participants.into_rest(),
     })
 }
 
-/// The same. At a fault all threads come to their end.
-fn run_or_stop<
-    's,
-    E,
-    N: HubName + Send + Sync + 's,
-    C: Crew + Sync,
-    W: Work + Sync,
-    R: Threads + Wait + Sync,
->(
-    scope: &Scope<'s, E>,
-    rt: &'s R,
-    alloc: Global,
-    hub: &'s Hub<N>,
-    lent: &'s Lent<N>,
-    roster: Roster,
-    participants: Participants<N>,
-    crew: &'s C,
-    work: &'s W,
-) -> Result<Ends<N>, RunFault>
-    requires fresh { participants ≡ all_free }
-    requires fits { C.fits crew.now N.layout }
-    requires roster { roster ≡ C.roles crew.now N.layout }
-    ensures run { IfOk result
-        (λ ends. HaveEnded N.layout (W.does work.now N.layout) (C.calls crew.now) (C.roles crew.now N.layout) ends) }
-    ensures fails { IfErr result (λ f. FailsAs N.layout (C.calls crew.now) (C.roles crew.now N.layout) f) }
-{
-    let ends = run_all(
-        scope,
-        rt,
-        alloc,
-        hub,
-        lent,
-        roster,
-        participants,
-        crew,
-        work,
-    );
-    open_at(rt, hub, &ends);
-    stop_at(rt, hub, crew, &ends);
-    ends
-}
-
-/// Runs all threads to their end, in a scope of their own.
+/// Runs all threads to their end, in a scope of their own. At a fault all come to their end, and nobody waits for a
+/// turn any more.
 fn run_in_scope<
     'x,
     N: HubName + Send + Sync,
@@ -133,43 +81,38 @@ fn run_in_scope<
     W: Work + Sync,
     R: Threads + Wait + Sync,
 >(
-    rt: &'x R,
-    alloc: Global,
-    hub: &'x Hub<N>,
+    shared: &'x Shared<'x, N, C, W, R>,
     lent: &'x Lent<N>,
     roster: Roster,
     participants: Participants<N>,
-    crew: &'x C,
-    work: &'x W,
 ) -> Result<Ends<N>, RunFault>
     requires fresh { participants ≡ all_free }
-    requires fits { C.fits crew.now N.layout }
-    requires roster { roster ≡ C.roles crew.now N.layout }
+    requires fits { C.fits shared.now.crew.now N.layout }
+    requires roster { roster ≡ C.roles shared.now.crew.now N.layout }
     ensures run { IfOk result
-        (λ ends. HaveEnded N.layout (W.does work.now N.layout) (C.calls crew.now) (C.roles crew.now N.layout) ends) }
-    ensures fails { IfErr result (λ f. FailsAs N.layout (C.calls crew.now) (C.roles crew.now N.layout) f) }
+        (λ ends. HaveEnded N.layout (W.does shared.now.work.now N.layout) (C.calls shared.now.crew.now)
+        (C.roles shared.now.crew.now N.layout) ends) }
+    ensures fails { IfErr result
+        (λ f. FailsAs N.layout (C.calls shared.now.crew.now) (C.roles shared.now.crew.now N.layout) f) }
 {
     thread::scope(
         thread::scope_env(),
-        rt,
+        shared.rt,
         |scope| -> Result<Ends<N>, RunFault>
-            requires { (participants ≡ all_free) × C.fits crew.now N.layout × (roster ≡ C.roles crew.now N.layout) }
+            requires { (participants ≡ all_free) × C.fits shared.now.crew.now N.layout
+                × (roster ≡ C.roles shared.now.crew.now N.layout) }
             ensures { IfOk result
-                (λ ends. HaveEnded N.layout (W.does work.entry.now N.layout) (C.calls crew.entry.now)
-                (C.roles crew.entry.now N.layout) ends)
-                × IfErr result (λ f. FailsAs N.layout (C.calls crew.entry.now) (C.roles crew.entry.now N.layout) f) }
+                (λ ends. HaveEnded N.layout (W.does shared.entry.now.work.now N.layout)
+                (C.calls shared.entry.now.crew.now) (C.roles shared.entry.now.crew.now N.layout) ends)
+                × IfErr result (λ f. FailsAs N.layout (C.calls shared.entry.now.crew.now)
+                (C.roles shared.entry.now.crew.now N.layout) f) }
         {
-            run_or_stop(
-                scope,
-                rt,
-                alloc,
-                hub,
-                lent,
-                roster,
-                participants,
-                crew,
-                work,
-            )
+            let ends = run_all(scope, shared, lent, roster, participants);
+            if ends.is_err() {
+                turns::open(shared.rt, shared.hub);
+            }
+            stop_at(shared, &ends);
+            ends
         },
     )
 }
@@ -209,24 +152,18 @@ pub(crate) fn run_threads<
     C: Crew + Sync,
     W: Work + Sync,
     R: Threads + Wait + Sync,
->(
-    rt: &'x R,
-    alloc: Global,
-    hub: &'x Hub<N>,
-    participants: Participants<N>,
-    crew: &'x C,
-    work: &'x W,
-) -> Result<Ends<N>, RunFault>
+>(shared: &'x Shared<'x, N, C, W, R>, participants: Participants<N>) -> Result<Ends<N>, RunFault>
     requires fresh { participants ≡ all_free }
-    requires fits { C.fits crew.now N.layout }
-    ensures { EndsAll N.layout (W.does work.now N.layout) (C.calls crew.now) (C.roles crew.now N.layout) result }
+    requires fits { C.fits shared.now.crew.now N.layout }
+    ensures { EndsAll N.layout (W.does shared.now.work.now N.layout) (C.calls shared.now.crew.now)
+        (C.roles shared.now.crew.now N.layout) result }
 {
-    let roster = roster_of(hub, crew);
-    let Ok(callers) = Vec::with_capacity(alloc, usize::from(roster.lent)) else {
+    let roster = shared.crew.roster(shared.hub.shape());
+    let Ok(callers) = Vec::with_capacity(shared.alloc, usize::from(roster.lent)) else {
         return Err(RunFault::NoMemory { ticket: None });
     };
     let lent = Lent::new(callers);
-    let ended = run_in_scope(rt, alloc, hub, &lent, roster, participants, crew, work);
+    let ended = run_in_scope(shared, &lent, roster, participants);
     let callers = lent.into_callers();
     match ended {
         Ok(ends) => with_lent(ends, callers, roster.lent),
@@ -234,33 +171,7 @@ pub(crate) fn run_threads<
     }
 }
 
-/// Ends a hub whose threads have ended: what it kept of its history, and what all count.
-fn end_hub<N: HubName, C: Crew, W: Work, R: Wait>(
-    rt: &R,
-    hub: Hub<N>,
-    ends: Result<Ends<N>, RunFault>,
-    crew: &C,
-    work: &W,
-) -> (Rest, Result<Tally, RunFault>)
-    requires parts { N.parts ≡ shares }
-    requires ends { EndsAll N.layout (W.does work.now N.layout) (C.calls crew.now) (C.roles crew.now N.layout) ends }
-    ensures rest { IsRest N.layout result.0.first result.0.entries.items }
-    ensures left { IfOk result.1
-        (λ t. IsRestOfLeft N.layout (W.does work.now N.layout) (C.calls crew.now) (C.roles crew.now N.layout) t.answered
-        t.full t.left_out result.0.first result.0.entries.items) }
-    ensures fails { IfErr result.1 (FailsAs N.layout (C.calls crew.now) (C.roles crew.now N.layout)) }
-{
-    let mut monitor = into_monitor(hub);
-    match ends {
-        Ok(ends) => {
-            let gathered = gather(&mut monitor, ends, crew, work);
-            (monitor.end(rt), gathered)
-        }
-        Err(fault) => (monitor.end(rt), Err(fault)),
-    }
-}
-
-/// Runs all threads on a hub of these parts, and ends it.
+/// Runs all threads on a hub of these parts, and ends it: what it kept of its history, and what all count.
 fn run_parts<
     'x,
     N: HubName + Send + Sync + 'static,
@@ -285,8 +196,24 @@ fn run_parts<
     ensures fails { IfErr result.1 (FailsAs N.layout (C.calls crew.now) (C.roles crew.now N.layout)) }
 {
     let (hub, participants) = Hub::<N>::open(parts);
-    let ends = run_threads(rt, alloc, &hub, participants, crew, work);
-    end_hub(rt, hub, ends, crew, work)
+    let ended = run_threads(
+        &Shared {
+            rt,
+            alloc,
+            hub: &hub,
+            crew,
+            work,
+        },
+        participants,
+    );
+    let mut monitor = into_monitor(hub);
+    match ended {
+        Ok(ends) => {
+            let gathered = gather(&mut monitor, ends, crew, work);
+            (monitor.end(rt), gathered)
+        }
+        Err(fault) => (monitor.end(rt), Err(fault)),
+    }
 }
 
 /// Runs a crew and its work on a new hub of these parts: a thread for each of the crew's callers, and one for each

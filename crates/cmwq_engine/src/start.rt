@@ -9,10 +9,10 @@ ghost use Rattle.cmwq_rt.specs.Running.{breaks_off};
 ghost use Rattle.cmwq_engine.specs.Conduct.{caller_numbered};
 ghost use Rattle.cmwq_engine.specs.Ended.{AreNewcomers, CalledAt, FailsAs, WorkedFrom, is_silent};
 
-use crate::crew::Crew;
+use crate::crew::{Crew, Shared};
 use crate::ends::{CallerEnd, Calls, RunsWork, WorkerEnd, call_all, work_all};
 use cmwq_model::Shape;
-use cmwq_rt::{Caller, Hub, HubName, Lent, LentCaller, Participants, RunFault, Work, Worker};
+use cmwq_rt::{Caller, HubName, Lent, LentCaller, Participants, RunFault, Work, Worker};
 use std::alloc::Global;
 use std::marker::PhantomData;
 use std::snapshot::Snapshot;
@@ -23,33 +23,32 @@ use std::thread::{PromisedHandle, Scope};
 pub(crate) type CallerThread<N, C> = PromisedHandle<CallerEnd<N>, Calls<N, C>>;
 
 /// Starts the thread of one caller.
-fn start_caller<'s, E, N: HubName + Send + Sync + 's, C: Crew + Sync, R: Wait + Sync>(
+fn start_caller<'s, E, N: HubName + Send + Sync + 's, C: Crew + Sync, W: Sync, R: Wait + Sync>(
     scope: &Scope<'s, E>,
-    rt: &'s R,
-    hub: &'s Hub<N>,
-    crew: &'s C,
+    shared: &'s Shared<'s, N, C, W, R>,
     caller: Caller<N>,
     number: u8,
 ) -> Result<CallerThread<N, C>, RunFault>
-    requires fits { C.fits crew.now N.layout }
-    requires number { number < (C.roles crew.now N.layout).threads }
+    requires fits { C.fits shared.now.crew.now N.layout }
+    requires number { number < (C.roles shared.now.crew.now N.layout).threads }
     requires fresh { caller ≡ newcomer (caller_numbered number) }
-    ensures thread { IfOk result (λ h. (h.promise.number ≡ number) × (h.promise.crew.value ≡ crew.now)) }
+    ensures thread { IfOk result (λ h. (h.promise.number ≡ number) × (h.promise.crew.value ≡ shared.now.crew.now)) }
     ensures fault { IfErr result (λ f. is_silent f ≡ true) }
 {
     let promise: Calls<N, C> = Calls {
         number,
-        crew: Snapshot::of(crew),
+        crew: Snapshot::of(shared.crew),
         of: PhantomData,
     };
     let started = scope.spawn_with(
         promise,
         move || -> CallerEnd<N>
-            requires { C.fits crew.now N.layout × (number < (C.roles crew.now N.layout).threads)
+            requires { C.fits shared.now.crew.now N.layout × (number < (C.roles shared.now.crew.now N.layout).threads)
                 × (caller ≡ newcomer (caller_numbered number)) }
-            ensures { IfOk result.outcome (λ full. CalledAt N.layout (C.calls crew.entry.now) number full result.caller)
+            ensures { IfOk result.outcome
+                (λ full. CalledAt N.layout (C.calls shared.entry.now.crew.now) number full result.caller)
                 × IfErr result.outcome (λ f. breaks_off f ≡ true) }
-        { call_all(rt, hub, crew, caller, number) },
+        { call_all(shared, caller, number) },
     );
     match started {
         Ok(thread) => Ok(thread),
@@ -58,25 +57,30 @@ fn start_caller<'s, E, N: HubName + Send + Sync + 's, C: Crew + Sync, R: Wait + 
 }
 
 /// Starts the threads of so many callers, as far as threads can be made.
-pub(crate) fn start_callers<'s, E, N: HubName + Send + Sync + 's, C: Crew + Sync, R: Wait + Sync>(
+pub(crate) fn start_callers<
+    's,
+    E,
+    N: HubName + Send + Sync + 's,
+    C: Crew + Sync,
+    W: Sync,
+    R: Wait + Sync,
+>(
     scope: &Scope<'s, E>,
-    rt: &'s R,
-    alloc: Global,
-    hub: &'s Hub<N>,
-    crew: &'s C,
+    shared: &'s Shared<'s, N, C, W, R>,
     many: u8,
     participants: &mut Participants<N>,
 ) -> Result<Vec<CallerThread<N, C>>, RunFault>
     requires fresh { participants.old.callers ≡ 0 }
-    requires fits { C.fits crew.now N.layout }
-    requires many { many ≡ (C.roles crew.now N.layout).threads }
+    requires fits { C.fits shared.now.crew.now N.layout }
+    requires many { many ≡ (C.roles shared.now.crew.now N.layout).threads }
     ensures all { IfOk result (λ hs. (participants.new ≡ record participants.old { callers = length hs.items })
         × (length hs.items ≡ many)) }
-    ensures fails { IfErr result (λ f. FailsAs N.layout (C.calls crew.now) (C.roles crew.now N.layout) f) }
+    ensures fails { IfErr result
+        (λ f. FailsAs N.layout (C.calls shared.now.crew.now) (C.roles shared.now.crew.now N.layout) f) }
     ensures each { IfOk result (λ hs. (k : ℕ) (h : _) → slice_get hs.items k ≡ Some h
-        → (h.promise.number ≡ k) × (h.promise.crew.value ≡ crew.now)) }
+        → (h.promise.number ≡ k) × (h.promise.crew.value ≡ shared.now.crew.now)) }
 {
-    let mut threads = Vec::new(alloc);
+    let mut threads = Vec::new(shared.alloc);
     for number in 0..many {
         if threads.reserve(1).is_err() {
             return Err(RunFault::NoMemory { ticket: None });
@@ -85,7 +89,7 @@ pub(crate) fn start_callers<'s, E, N: HubName + Send + Sync + 's, C: Crew + Sync
             Ok(caller) => caller,
             Err(fault) => return Err(fault),
         };
-        match start_caller(scope, rt, hub, crew, caller, number) {
+        match start_caller(scope, shared, caller, number) {
             Ok(thread) => threads.push_reserved(thread),
             Err(fault) => return Err(fault),
         }
@@ -127,27 +131,24 @@ fn start_worker<
     R: Wait + Sync,
 >(
     scope: &Scope<'s, E>,
-    rt: &'s R,
-    hub: &'s Hub<N>,
+    shared: &'s Shared<'s, N, C, W, R>,
     lent: &'s Lent<N>,
-    crew: &'s C,
-    work: &'s W,
     worker: Worker<N>,
 ) -> Result<WorkerThread<N, W>, RunFault>
-    ensures thread { IfOk result (λ h. (h.promise.worker.value ≡ worker) × (h.promise.work.value ≡ work.now)) }
+    ensures thread { IfOk result (λ h. (h.promise.worker.value ≡ worker) × (h.promise.work.value ≡ shared.now.work.now)) }
     ensures fault { IfErr result (λ f. is_silent f ≡ true) }
 {
     let promise: RunsWork<N, W> = RunsWork {
         worker: Snapshot::of(&worker),
-        work: Snapshot::of(work),
+        work: Snapshot::of(shared.work),
     };
     let started = scope.spawn_with(
         promise,
         move || -> WorkerEnd<N>
             ensures { IfOk result.outcome
-                (λ t. WorkedFrom N.layout (W.does work.entry.now N.layout) t.left_out worker result.worker)
+                (λ t. WorkedFrom N.layout (W.does shared.entry.now.work.now N.layout) t.left_out worker result.worker)
                 × IfErr result.outcome (λ f. breaks_off f ≡ true) }
-        { work_all(rt, hub, lent, crew, work, worker) },
+        { work_all(shared, lent, worker) },
     );
     match started {
         Ok(thread) => Ok(thread),
@@ -165,12 +166,8 @@ pub(crate) fn start_workers<
     R: Wait + Sync,
 >(
     scope: &Scope<'s, E>,
-    rt: &'s R,
-    alloc: Global,
-    hub: &'s Hub<N>,
+    shared: &'s Shared<'s, N, C, W, R>,
     lent: &'s Lent<N>,
-    crew: &'s C,
-    work: &'s W,
     participants: &mut Participants<N>,
 ) -> Result<Vec<WorkerThread<N, W>>, RunFault>
     requires fresh { participants.old.next ≡ Some first_worker }
@@ -180,17 +177,17 @@ pub(crate) fn start_workers<
         × (participants.new.callers ≡ participants.old.callers)) }
     ensures each { IfOk result (λ hs. (k : ℕ) (h : _) → slice_get hs.items k ≡ Some h
         → (x : ids.WorkerId) × (worker_by_number N.layout k ≡ Some x)
-        × (h.promise.worker.value ≡ newcomer (whos.Worker x)) × (h.promise.work.value ≡ work.now)) }
+        × (h.promise.worker.value ≡ newcomer (whos.Worker x)) × (h.promise.work.value ≡ shared.now.work.now)) }
 {
-    let mut threads = Vec::new(alloc);
-    for _ in 0..=most_workers(hub.shape()) {
+    let mut threads = Vec::new(shared.alloc);
+    for _ in 0..=most_workers(shared.hub.shape()) {
         if threads.reserve(1).is_err() {
             return Err(RunFault::NoMemory { ticket: None });
         }
         let Ok(worker) = participants.worker() else {
             return Ok(threads);
         };
-        match start_worker(scope, rt, hub, lent, crew, work, worker) {
+        match start_worker(scope, shared, lent, worker) {
             Ok(thread) => threads.push_reserved(thread),
             Err(fault) => return Err(fault),
         }

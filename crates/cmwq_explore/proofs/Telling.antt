@@ -1,6 +1,6 @@
 -- What is told of a stand is told apart again: what of two stands with the same key is the same.
-use Rattle.std.proofs.Common.{ℕ, ◌≡◌, ◌==◌, Bool, true, false, if◌then◌else◌, List, [], ◌∷◌, ◌++◌, length, drop, ap}
-use Rattle.std.proofs.Common.{sym, ◌∙◌, refl, append_assoc, Option, Some, None}
+use Rattle.std.proofs.Common.{ℕ, ◌≡◌, true, false, List, [], ◌∷◌, ◌++◌, length, ap, sym, ◌∙◌, append_assoc}
+use Rattle.std.proofs.Common.{Option, Some, None}
 use Rattle.std.specs.Prelude.{is_some}
 use Rattle.std.specs.List.{AllByRecursion, flat_map, range_with_len}
 use Rattle.cmwq_model.specs.Prelude.{Layout, holds_up, is_active, is_asleep, is_enlisted, is_frozen, is_gone}
@@ -19,80 +19,16 @@ use Rattle.cmwq_model.specs.declared.record.Queueing.{Queueing}
 use Rattle.cmwq_model.specs.declared.record.Ticket.{Ticket}
 use Rattle.cmwq_json_script.specs.declared.action.Holder.{Holder}
 use Rattle.cmwq_json_script.specs.declared.action.Holder.TheVariants as holders
+use Rattle.cmwq_kinds.specs.Numbers.{numbers_of_call}
+use Rattle.cmwq_kinds.proofs.Apart.{calls_split}
 use Rattle.cmwq_explore.specs.Alike.{ListsMatch, OptionsMatch}
-use Rattle.cmwq_explore.specs.Codes.{call_parts, flag, told_flag, told_list}
+use Rattle.cmwq_explore.specs.Codes.{flag, told_flag, told_list}
 use Rattle.cmwq_explore.specs.Firsts.{pool_of}
 use Rattle.cmwq_explore.specs.Keys.{told_booking, told_cpu, told_flush, told_gathered, told_held_up, told_history}
 use Rattle.cmwq_explore.specs.Keys.{told_lock, told_number, told_pool, told_pools, told_queue, told_queues, told_rank}
 use Rattle.cmwq_explore.specs.Keys.{told_running, told_slot, told_slots, told_ticket, told_times, told_unstarted}
 use Rattle.cmwq_explore.specs.Numbered.{Gathered, mark, rank}
 use Rattle.cmwq_explore.proofs.Splitting.{flags_same, lists_split, rows_split}
-
--- ---- calls
-
-call_of : ℕ → ℕ → ℕ → ℕ → ℕ → Call
-call_of k i q c t =
-    if k == 0 then call.Queue (record { 0 = i }) (record { 0 = q }) (record { 0 = c })
-    else if k == 1 then call.Delay (record { 0 = i }) (record { 0 = q }) (record { 0 = c }) t
-    else if k == 2 then call.Modify (record { 0 = i }) (record { 0 = q }) (record { 0 = c }) t
-    else if k == 3 then call.Cancel (record { 0 = i })
-    else if k == 4 then call.Tick i
-    else if k == 5 then call.Fire
-    else if k == 6 then call.Flush (record { 0 = i })
-    else if k == 7 then call.Drain (record { 0 = i })
-    else if k == 8 then call.FlushItem (record { 0 = i })
-    else if k == 9 then call.FlushDelayed (record { 0 = i })
-    else if k == 10 then call.CancelSync (record { 0 = i })
-    else if k == 11 then call.End i
-    else if k == 12 then call.Take
-    else if k == 13 then call.Finish
-    else if k == 14 then call.Sleep
-    else if k == 15 then call.Wake
-    else if k == 16 then call.Retire
-    else if k == 17 then call.SetMax (record { 0 = i }) q
-    else if k == 18 then call.Freeze
-    else if k == 19 then call.Thaw
-    else call.Destroy (record { 0 = i })
-
-call_in : List ℕ → Call
-call_in (k ∷ i ∷ q ∷ c ∷ t ∷ rest) = call_of k i q c t
-call_in ns = call.Fire
-
-rest_in : List ℕ → List ℕ
-rest_in (k ∷ i ∷ q ∷ c ∷ t ∷ rest) = rest
-rest_in ns = []
-
-call_back : (c : Call) (r : List ℕ) → (call_in (call_parts c ++ r) ≡ c) × (rest_in (call_parts c ++ r) ≡ r)
-unfolding call_parts call_of call_in rest_in
-call_back (call.Queue i q c) r = (refl, refl)
-call_back (call.Delay i q c t) r = (refl, refl)
-call_back (call.Modify i q c t) r = (refl, refl)
-call_back (call.Cancel i) r = (refl, refl)
-call_back (call.Tick t) r = (refl, refl)
-call_back call.Fire r = (refl, refl)
-call_back (call.Flush q) r = (refl, refl)
-call_back (call.Drain q) r = (refl, refl)
-call_back (call.FlushItem i) r = (refl, refl)
-call_back (call.FlushDelayed i) r = (refl, refl)
-call_back (call.CancelSync i) r = (refl, refl)
-call_back (call.End t) r = (refl, refl)
-call_back call.Take r = (refl, refl)
-call_back call.Finish r = (refl, refl)
-call_back call.Sleep r = (refl, refl)
-call_back call.Wake r = (refl, refl)
-call_back call.Retire r = (refl, refl)
-call_back (call.SetMax q n) r = (refl, refl)
-call_back call.Freeze r = (refl, refl)
-call_back call.Thaw r = (refl, refl)
-call_back (call.Destroy q) r = (refl, refl)
-
-pub calls_split : (c d : Call) (r t : List ℕ) → call_parts c ++ r ≡ call_parts d ++ t → (d ≡ c) × (r ≡ t)
-calls_split c d r t e =
-    let b = call_back c r in
-    let k = call_back d t in (
-      sym k.0 ∙ ap call_in (sym e) ∙ b.0,
-      sym b.1 ∙ ap rest_in e ∙ k.1,
-    )
 
 -- ---- what is open, unended or booked
 
@@ -230,11 +166,11 @@ module _ (s : Layout) (past other : List Entry) (g h : Gathered) where
   ticket_split t u r v e =
       let ranks : rank g.numbers t.number ≡ rank h.numbers u.number = cc in
       let callers : t.caller.0 ≡ u.caller.0 = cc in
-      let both : (call_parts t.call ++ told_flush past g t t.call) ++ r
-      ≡ (call_parts u.call ++ told_flush other h u u.call) ++ v = cc in
+      let both : (numbers_of_call t.call ++ told_flush past g t t.call) ++ r
+      ≡ (numbers_of_call u.call ++ told_flush other h u u.call) ++ v = cc in
       let apart =
-      sym (append_assoc (call_parts t.call) (told_flush past g t t.call) r) ∙ both
-      ∙ append_assoc (call_parts u.call) (told_flush other h u u.call) v in
+      sym (append_assoc (numbers_of_call t.call) (told_flush past g t t.call) r) ∙ both
+      ∙ append_assoc (numbers_of_call u.call) (told_flush other h u u.call) v in
       let calls = calls_split t.call u.call (told_flush past g t t.call ++ r) (told_flush other h u u.call ++ v)
       apart in
       let flush = flush_split t u t.call r v (calls.1 ∙ ap (λ c. told_flush other h u c ++ v) calls.0) in (

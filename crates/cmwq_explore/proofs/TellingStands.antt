@@ -9,6 +9,8 @@ use Rattle.cmwq_model.specs.Prelude.{Layout}
 use Rattle.cmwq_json_script.specs.declared.action.Holder.{Holder}
 use Rattle.cmwq_json_script.specs.declared.action.Holder.TheVariants as holders
 use Rattle.cmwq_state.specs.History.{past_in}
+use Rattle.cmwq_kinds.specs.Numbers.{numbers_of_call}
+use Rattle.cmwq_kinds.proofs.Apart.{calls_split}
 use Rattle.cmwq_explore.specs.declared.place.Ticketed.{Ticketed}
 use Rattle.cmwq_explore.specs.declared.place.CallerAt.{CallerAt}
 use Rattle.cmwq_explore.specs.declared.place.Doing.{Doing}
@@ -17,13 +19,13 @@ use Rattle.cmwq_explore.specs.declared.place.RunAt.{RunAt}
 use Rattle.cmwq_explore.specs.declared.place.WorkerAt.{WorkerAt}
 use Rattle.cmwq_explore.specs.Alike.{AreCallersAlike, AreDoingsAlike, AreRunsAlike, AreWaitsAlike, AreWorkersAlike}
 use Rattle.cmwq_explore.specs.Alike.{ListsMatch, OptionsMatch}
-use Rattle.cmwq_explore.specs.Codes.{call_parts, codes, flag, told_flag, told_list, told_option}
+use Rattle.cmwq_explore.specs.Codes.{codes, flag, told_flag, told_list, told_option}
 use Rattle.cmwq_explore.specs.Keys.{key_of, still_unended, told, told_caller, told_doing, told_doors, told_lock}
 use Rattle.cmwq_explore.specs.Keys.{told_history, told_number, told_parties, told_run, told_wait, told_worker}
 use Rattle.cmwq_explore.specs.Numbered.{Gathered, gathered, mark}
 use Rattle.cmwq_explore.specs.Stands.{Stand}
 use Rattle.cmwq_explore.proofs.Splitting.{codes_same, flags_same, lists_split, match_same, options_split}
-use Rattle.cmwq_explore.proofs.Telling.{IsSameHistory, calls_split, history_split}
+use Rattle.cmwq_explore.proofs.Telling.{IsSameHistory, history_split}
 
 module _ (past other : List Entry) (g h : Gathered) where
   -- both were ended, or both are unended and have the same rank
@@ -34,7 +36,7 @@ module _ (past other : List Entry) (g h : Gathered) where
       → AreWaitsAlike AreMarkedAlike w v × (r ≡ t)
   wait_split w v r t e =
       let marks : mark g.numbers (still_unended past w.ticket) ≡ mark h.numbers (still_unended other v.ticket) = cc in
-      let rest : call_parts w.call ++ r ≡ call_parts v.call ++ t = cc in
+      let rest : numbers_of_call w.call ++ r ≡ numbers_of_call v.call ++ t = cc in
       let calls = calls_split w.call v.call r t rest in
       (record { call = calls.0; ticket = marks }, calls.1)
 

@@ -15,13 +15,14 @@ use Rattle.cmwq_model.specs.declared.record.Ticket.{Ticket}
 use Rattle.cmwq_json_script.specs.declared.action.Holder.{Holder}
 use Rattle.cmwq_json_script.specs.declared.action.Holder.TheVariants as holders
 use Rattle.cmwq_state.specs.History.{past_in, ticket_has_number}
+use Rattle.cmwq_kinds.specs.Numbers.{numbers_of_call}
 use Rattle.cmwq_explore.specs.declared.place.Ticketed.{Ticketed}
 use Rattle.cmwq_explore.specs.declared.place.CallerAt.{CallerAt}
 use Rattle.cmwq_explore.specs.declared.place.Doing.{Doing}
 use Rattle.cmwq_explore.specs.declared.place.Doing.TheVariants.{Acts, AtGate, AtLock, Waits}
 use Rattle.cmwq_explore.specs.declared.place.RunAt.{RunAt}
 use Rattle.cmwq_explore.specs.declared.place.WorkerAt.{WorkerAt}
-use Rattle.cmwq_explore.specs.Codes.{call_parts, codes, flag, told_flag, told_list, told_option}
+use Rattle.cmwq_explore.specs.Codes.{codes, flag, told_flag, told_list, told_option}
 use Rattle.cmwq_explore.specs.Firsts.{pool_of}
 use Rattle.cmwq_explore.specs.Numbered.{Gathered, gathered, mark, rank}
 use Rattle.cmwq_explore.specs.Stands.{Stand}
@@ -50,7 +51,7 @@ told_flush past g t (call.Flush q) =
 told_flush past g t c = []
 
 abbrev pub told_ticket : List Entry → Gathered → Ticket → List ℕ
-told_ticket past g t = rank g.numbers t.number ∷ t.caller.0 ∷ call_parts t.call ++ told_flush past g t t.call
+told_ticket past g t = rank g.numbers t.number ∷ t.caller.0 ∷ numbers_of_call t.call ++ told_flush past g t t.call
 
 unfoldable pub told_gathered : Layout → List Entry → Gathered → List ℕ
 told_gathered s past g =
@@ -101,7 +102,7 @@ abbrev pub still_unended : List Entry → ℕ → Option ℕ
 still_unended past n = if is_some (find (ticket_has_number n) (unended_tickets past)) then Some n else None
 
 abbrev pub told_wait : List Entry → Gathered → Ticketed → List ℕ
-told_wait past g w = mark g.numbers (still_unended past w.ticket) ∷ call_parts w.call
+told_wait past g w = mark g.numbers (still_unended past w.ticket) ∷ numbers_of_call w.call
 
 abbrev pub told_caller : List Entry → Gathered → CallerAt → List ℕ
 told_caller past g at = at.id.0 ∷ at.next ∷ told_option (told_wait past g) at.wait

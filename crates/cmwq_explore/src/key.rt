@@ -8,7 +8,6 @@ ghost use Rattle.cmwq_explore.specs.Keys as spec;
 ghost use Rattle.cmwq_explore.specs.Numbered.{gathered};
 ghost use Rattle.cmwq_explore.specs.SameKeys.{SameKeysAreAlike};
 
-mod calls;
 mod codes;
 mod numbered;
 mod opened;

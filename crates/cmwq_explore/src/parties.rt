@@ -3,8 +3,9 @@
 use crate::noted::{ActionId, Unwaited};
 use crate::place::{CallerAt, Doing, RunAt, Ticketed, WorkerAt};
 use crate::play::Play;
+use cmwq_awaited::{Goal, WaitedFor, goal_of, waited_for};
 use cmwq_json_script::{Action, Holder, Script};
-use cmwq_model::{Call, CallerId, CpuId, ItemId, Number, PoolId, Queueing, Reply, Who, WorkerId};
+use cmwq_model::{CallerId, CpuId, ItemId, PoolId, Queueing, Who, WorkerId};
 use std::fmt;
 use std::fmt::{Display, Formatter, Write};
 
@@ -37,11 +38,11 @@ impl<'a> Names<'a> {
     }
 }
 
-/// What a wait waits for: the queueing of the least number, if it is known.
+/// A wait: what it is for, and the first queueing that it still waits for.
 #[derive(Clone, Copy)]
-struct Awaited {
-    call: Call,
-    queueing: Option<(Number, Option<ItemId>)>,
+struct Waiting {
+    goal: Goal,
+    first: Option<WaitedFor>,
 }
 
 /// What a party cannot pass now.
@@ -56,7 +57,7 @@ enum State {
     /// A caller of the script waits.
     Calls {
         caller: u8,
-        wait: Awaited,
+        wait: Waiting,
     },
     /// A caller of the script waits at a gate or a lock.
     CallerAt {
@@ -74,7 +75,7 @@ enum State {
         worker: WorkerId,
         item: ItemId,
         caller: u8,
-        wait: Awaited,
+        wait: Waiting,
     },
     /// A run goes on.
     Runs {
@@ -94,23 +95,11 @@ pub struct Party<'a> {
     state: State,
 }
 
-fn awaits(play: &Play<'_>, who: Who, wait: Ticketed) -> Awaited {
-    let ticket = wait.ticket;
-    let queueing = match play.machine().would(who, Call::End { ticket }) {
-        Some(Reply::Waiting(number)) => Some((number, opened_by(play, number))),
-        _ => None,
-    };
-    Awaited {
-        call: wait.call,
-        queueing,
-    }
-}
-
-/// The item of the queueing with this number.
-fn opened_by(play: &Play<'_>, number: Number) -> Option<ItemId> {
-    let place = usize::try_from(number).ok()?;
-    let entry = play.history().get(place)?;
-    entry.item()
+fn waiting_of(play: &Play<'_>, wait: Ticketed) -> Option<Waiting> {
+    let goal = goal_of(wait.call)?;
+    let machine = play.machine();
+    let first = waited_for(machine.execution().state(), machine.entries(), wait.ticket);
+    Some(Waiting { goal, first })
 }
 
 /// The lock, and who holds it.
@@ -132,7 +121,7 @@ fn door_of(play: &Play<'_>, action: Action) -> Option<Door> {
 fn caller_state(play: &Play<'_>, k: usize, at: CallerAt) -> Option<State> {
     let caller = at.id.0;
     if let Some(wait) = at.wait {
-        let wait = awaits(play, Who::Caller(at.id), wait);
+        let wait = waiting_of(play, wait)?;
         return Some(State::Calls { caller, wait });
     }
     if play.may_move(k) {
@@ -171,7 +160,7 @@ impl<'a> Party<'a> {
                 worker,
                 item,
                 caller,
-                wait: awaits(play, Who::Caller(CallerId(caller)), wait),
+                wait: waiting_of(play, wait)?,
             },
             Doing::Acts => State::Runs { worker, item },
         };
@@ -205,59 +194,29 @@ impl Display for WorkerName {
     }
 }
 
-/// What a call waits for.
+/// What a wait is for, and what it still waits for.
 #[derive(Clone, Copy)]
-struct CallWords<'a> {
+struct WaitWords<'a> {
     names: Names<'a>,
-    call: Call,
+    wait: Waiting,
 }
 
-impl<'a> Display for CallWords<'a> {
+impl<'a> Display for WaitWords<'a> {
     fn fmt<W: Write>(&self, f: &mut Formatter<W>) -> fmt::Result {
-        match self.call {
-            Call::Flush { queue } => write!(f, "the flush of queue {}", queue.0),
-            Call::Drain { queue } => write!(f, "the drain of queue {}", queue.0),
-            Call::Destroy { queue } => write!(f, "the destruction of queue {}", queue.0),
-            Call::FlushItem { item } | Call::FlushDelayed { item } => {
-                write!(f, "the flush of item {}", self.names.item(item))
+        match self.wait.goal {
+            Goal::Flush(queue) => write!(f, "the flush of queue {}", queue.0)?,
+            Goal::Drain(queue) => write!(f, "the drain of queue {}", queue.0)?,
+            Goal::Destroy(queue) => write!(f, "the destruction of queue {}", queue.0)?,
+            Goal::FlushItem(item) => write!(f, "the flush of item {}", self.names.item(item))?,
+            Goal::CancelSync(item) => {
+                write!(f, "the cancelling of item {}", self.names.item(item))?
             }
-            Call::CancelSync { item } => {
-                write!(f, "the cancelling of item {}", self.names.item(item))
-            }
-            Call::Queue { .. }
-            | Call::Delay { .. }
-            | Call::Modify { .. }
-            | Call::Cancel { .. }
-            | Call::Tick { .. }
-            | Call::Fire
-            | Call::End { .. }
-            | Call::Take
-            | Call::Finish
-            | Call::Sleep
-            | Call::Wake
-            | Call::Retire
-            | Call::SetMax { .. }
-            | Call::Freeze
-            | Call::Thaw => f.write_str("a call"),
         }
-    }
-}
-
-/// Which queueing that waits for.
-#[derive(Clone, Copy)]
-struct QueueingWords<'a> {
-    names: Names<'a>,
-    queueing: Option<(Number, Option<ItemId>)>,
-}
-
-impl<'a> Display for QueueingWords<'a> {
-    fn fmt<W: Write>(&self, f: &mut Formatter<W>) -> fmt::Result {
-        match self.queueing {
-            Some((number, Some(item))) => {
+        match self.wait.first {
+            Some(WaitedFor { number, item }) => {
                 let name = self.names.item(item);
                 write!(f, ", which waits for queueing {number} of item {name}")
             }
-            Some((number, None)) => write!(f, ", which waits for queueing {number}"),
             None => Ok(()),
         }
     }
@@ -333,17 +292,10 @@ impl<'a> Party<'a> {
         }
     }
 
-    fn call_words(&self, wait: Awaited) -> CallWords<'a> {
-        CallWords {
+    fn wait_words(&self, wait: Waiting) -> WaitWords<'a> {
+        WaitWords {
             names: self.names,
-            call: wait.call,
-        }
-    }
-
-    fn queueing_words(&self, wait: Awaited) -> QueueingWords<'a> {
-        QueueingWords {
-            names: self.names,
-            queueing: wait.queueing,
+            wait,
         }
     }
 }
@@ -352,8 +304,8 @@ impl<'a> Display for Party<'a> {
     fn fmt<W: Write>(&self, f: &mut Formatter<W>) -> fmt::Result {
         match self.state {
             State::Calls { caller, wait } => {
-                let (call, queueing) = (self.call_words(wait), self.queueing_words(wait));
-                write!(f, "caller c{caller} waits for {call}{queueing}")
+                let wait = self.wait_words(wait);
+                write!(f, "caller c{caller} waits for {wait}")
             }
             State::CallerAt { caller, door } => {
                 let door = self.door_words(door);
@@ -371,10 +323,10 @@ impl<'a> Display for Party<'a> {
                 wait,
             } => {
                 let (worker, item) = (WorkerName { id: worker }, self.names.item(item));
-                let (call, queueing) = (self.call_words(wait), self.queueing_words(wait));
+                let wait = self.wait_words(wait);
                 write!(
                     f,
-                    "worker {worker} runs item {item} and waits, by caller c{caller}, for {call}{queueing}"
+                    "worker {worker} runs item {item} and waits, by caller c{caller}, for {wait}"
                 )
             }
             State::Runs { worker, item } => {

@@ -1,5 +1,6 @@
 pub mod Common
 pub mod Ends
+pub mod Faults
 pub mod Verdicts
 pub mod Steps
 pub mod Following

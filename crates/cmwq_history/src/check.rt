@@ -1,11 +1,11 @@
 //! The word `check`.
 
-ghost use Rattle.std.specs.Prelude.{◌≡◌, true, Option, Result, IfSome, OnOk, IsErrOf};
-ghost use Rattle.cmwq_io.specs.Counts.{Rises};
+ghost use Rattle.std.specs.Prelude.{◌≡◌, true, Option, Result, IfSome, OnOk};
 ghost use Rattle.cmwq_model.specs.declared.verdict.Illegal.{Illegal as TheIllegal};
 ghost use Rattle.cmwq_base.specs.declared.refusal.Refusal.{Refusal as TheRefusal};
 ghost use Rattle.cmwq_history.specs.Verdicts.{check_status};
 ghost use Rattle.cmwq_history.specs.Check.{CheckEnds, FrontEnds};
+ghost use Rattle.cmwq_history.specs.Faults.{FaultsAreTrue};
 
 use crate::fold::Nothing;
 use crate::following::Following;
@@ -27,8 +27,7 @@ fn judge<S: Source, O: Sink, E: Sink>(
     ensures ends { IfSome (S.left input.old)
         (λ text. FrontEnds is_front text (O.written output.old) (O.written output.new) result) }
     ensures flushed { OnOk result (O.held output.new ≡ 0) }
-    ensures read_fault { IsErrOf result Refusal.ReadFault → Rises (S.troubles input.old) (S.troubles input.new) }
-    ensures write_fault { IsErrOf result Refusal.WriteFault → Rises (O.troubles output.old) (O.troubles output.new) }
+    ensures faults { FaultsAreTrue result S.troubles input.old input.new O.troubles output.old output.new }
 {
     let file = read_file::<Following<Nothing>, S>(alloc, input, is_front)?;
     let verdict = file.all.verdict()?;
@@ -53,8 +52,7 @@ pub fn run_check<S: Source, O: Sink, E: Sink>(
         × (result ≡ check_status ended)
         × IfSome (S.left input.old) (λ text. CheckEnds text (O.written output.old) (O.written output.new) ended)
         × OnOk ended (O.held output.new ≡ 0)
-        × (IsErrOf ended Refusal.ReadFault → Rises (S.troubles input.old) (S.troubles input.new))
-        × (IsErrOf ended Refusal.WriteFault → Rises (O.troubles output.old) (O.troubles output.new)) }
+        × FaultsAreTrue ended S.troubles input.old input.new O.troubles output.old output.new }
 {
     let ended = judge(alloc, input, output, errors, false);
     if let Err(refusal) = ended {
@@ -82,8 +80,7 @@ pub fn run_front_check<S: Source, O: Sink, E: Sink>(
         × (result ≡ check_status ended)
         × IfSome (S.left input.old) (λ text. FrontEnds true text (O.written output.old) (O.written output.new) ended)
         × OnOk ended (O.held output.new ≡ 0)
-        × (IsErrOf ended Refusal.ReadFault → Rises (S.troubles input.old) (S.troubles input.new))
-        × (IsErrOf ended Refusal.WriteFault → Rises (O.troubles output.old) (O.troubles output.new)) }
+        × FaultsAreTrue ended S.troubles input.old input.new O.troubles output.old output.new }
 {
     let ended = judge(alloc, input, output, errors, true);
     if let Err(refusal) = ended {

@@ -1,9 +1,9 @@
 //! What is written of a legal history.
 
-ghost use Rattle.std.specs.Prelude.{◌≡◌, Option, Result, IfSome, IsErrOf};
-ghost use Rattle.cmwq_io.specs.Counts.{Rises};
+ghost use Rattle.std.specs.Prelude.{◌≡◌, Option, Result, IfSome};
 ghost use Rattle.cmwq_model.specs.declared.verdict.Illegal.{Illegal as TheIllegal};
 ghost use Rattle.cmwq_base.specs.declared.refusal.Refusal.{Refusal as TheRefusal};
+ghost use Rattle.cmwq_history.specs.Faults.{FaultsAreTrue};
 ghost use Rattle.cmwq_history.specs.Verdicts.{check_status};
 ghost use Rattle.cmwq_history.specs.Views.{FrontViewEnds, IsFlushed, ViewEnds};
 
@@ -66,8 +66,7 @@ fn write_view<S: Source, O: Sink, E: Sink, V: View<O>>(
         (λ text. FrontViewEnds (V.text_of view.now) is_front text (O.written output.old) (O.written output.new)
         result) }
     ensures flushed { IsFlushed result (O.held output.new) }
-    ensures read_fault { IsErrOf result Refusal.ReadFault → Rises (S.troubles input.old) (S.troubles input.new) }
-    ensures write_fault { IsErrOf result Refusal.WriteFault → Rises (O.troubles output.old) (O.troubles output.new) }
+    ensures faults { FaultsAreTrue result S.troubles input.old input.new O.troubles output.old output.new }
 {
     let file = read_file::<Following<V::Made>, S>(alloc, input, is_front)?;
     match file.all.legal()? {
@@ -107,8 +106,7 @@ pub fn run_view<S: Source, O: Sink, E: Sink, V: View<O>>(
         × IfSome (S.left input.old)
         (λ text. ViewEnds (V.text_of view.now) text (O.written output.old) (O.written output.new) ended)
         × IsFlushed ended (O.held output.new)
-        × (IsErrOf ended Refusal.ReadFault → Rises (S.troubles input.old) (S.troubles input.new))
-        × (IsErrOf ended Refusal.WriteFault → Rises (O.troubles output.old) (O.troubles output.new)) }
+        × FaultsAreTrue ended S.troubles input.old input.new O.troubles output.old output.new }
 {
     run_front_view(alloc, view, input, output, errors, false)
 }
@@ -129,8 +127,7 @@ pub fn run_front_view<S: Source, O: Sink, E: Sink, V: View<O>>(
         × IfSome (S.left input.old)
         (λ text. FrontViewEnds (V.text_of view.now) is_front text (O.written output.old) (O.written output.new) ended)
         × IsFlushed ended (O.held output.new)
-        × (IsErrOf ended Refusal.ReadFault → Rises (S.troubles input.old) (S.troubles input.new))
-        × (IsErrOf ended Refusal.WriteFault → Rises (O.troubles output.old) (O.troubles output.new)) }
+        × FaultsAreTrue ended S.troubles input.old input.new O.troubles output.old output.new }
 {
     let ended = write_view(alloc, view, input, output, errors, is_front);
     match ended {

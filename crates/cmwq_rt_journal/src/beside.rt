@@ -10,11 +10,10 @@ ghost use Rattle.cmwq_rt_journal.specs.Kept.{HasKept};
 use crate::fault::JournalFault;
 use crate::keep::keep_journal;
 use cmwq_engine::beside::{start_all, stop};
-use cmwq_engine::{Crew, Ends};
+use cmwq_engine::{Crew, Ends, Shared};
 use cmwq_io::Sink;
 use cmwq_monitor::{Journal, RunFault};
-use cmwq_rt::{Hub, HubName, Participants, Work};
-use std::alloc::Global;
+use cmwq_rt::{HubName, Participants, Work};
 use std::sync::Wait;
 use std::thread::{self, Scope, Threads};
 use std::time::{Clock, Duration};
@@ -41,19 +40,16 @@ fn keep_beside_run<
     O: Sink,
 >(
     scope: &Scope<'s, E>,
-    rt: &'s R,
-    alloc: Global,
-    hub: &'s Hub<N>,
+    shared: &'s Shared<'s, N, C, W, R>,
     participants: Participants<N>,
-    crew: &'s C,
-    work: &'s W,
     journal: Journal<N>,
     output: &mut O,
 ) -> Result<Beside<N>, RunFault>
     requires fresh { participants ≡ all_free }
-    requires fits { C.fits crew.now N.layout }
+    requires fits { C.fits shared.now.crew.now N.layout }
     ensures ends { IfOk result
-        (λ b. EndsAll N.layout (W.does work.now N.layout) (C.calls crew.now) (C.roles crew.now N.layout) b.ends) }
+        (λ b. EndsAll N.layout (W.does shared.now.work.now N.layout) (C.calls shared.now.crew.now)
+        (C.roles shared.now.crew.now N.layout) b.ends) }
     ensures legal { IfOk result (λ b. IsLegal N.layout (past_of b.journal.seen)) }
     ensures kept { IfOk result
         (λ b. HasKept N.layout b.journal.seen (O.written output.old) (O.written output.new) b.kept) }
@@ -62,18 +58,18 @@ fn keep_beside_run<
         (λ b. IfErr b.kept (λ f. is_of_sink f ≡ true → Rises (O.troubles output.old) (O.troubles output.new))) }
     ensures none { IfErr result (λ f. (is_silent f ≡ true) × (output.new ≡ output.old)) }
 {
-    let conductor = match start_all(scope, rt, alloc, hub, participants, crew, work) {
+    let conductor = match start_all(scope, shared, participants) {
         Ok(conductor) => conductor,
         Err(fault) => return Err(fault),
     };
     let mut journal = journal;
     let time = Duration::from_millis(MILLISECONDS);
-    let kept = keep_journal(rt, hub, &mut journal, time, output);
+    let kept = keep_journal(shared.rt, shared.hub, &mut journal, time, output);
     if kept.is_err() {
-        stop(rt, hub, crew);
+        stop(shared);
     }
     Ok(Beside {
-        ends: conductor.join(rt),
+        ends: conductor.join(shared.rt),
         journal,
         kept,
     })
@@ -95,19 +91,16 @@ pub(crate) fn run_beside<
     R: Threads + Wait + Clock + Sync,
     O: Sink,
 >(
-    rt: &'x R,
-    alloc: Global,
-    hub: &'x Hub<N>,
+    shared: &'x Shared<'x, N, C, W, R>,
     participants: Participants<N>,
-    crew: &'x C,
-    work: &'x W,
     journal: Journal<N>,
     output: &mut O,
 ) -> Result<Beside<N>, RunFault>
     requires fresh { participants ≡ all_free }
-    requires fits { C.fits crew.now N.layout }
+    requires fits { C.fits shared.now.crew.now N.layout }
     ensures ends { IfOk result
-        (λ b. EndsAll N.layout (W.does work.now N.layout) (C.calls crew.now) (C.roles crew.now N.layout) b.ends) }
+        (λ b. EndsAll N.layout (W.does shared.now.work.now N.layout) (C.calls shared.now.crew.now)
+        (C.roles shared.now.crew.now N.layout) b.ends) }
     ensures legal { IfOk result (λ b. IsLegal N.layout (past_of b.journal.seen)) }
     ensures kept { IfOk result
         (λ b. HasKept N.layout b.journal.seen (O.written output.old) (O.written output.new) b.kept) }
@@ -118,13 +111,13 @@ pub(crate) fn run_beside<
 {
     let (beside, output) = thread::scope(
         thread::scope_env(),
-        rt,
+        shared.rt,
         move |scope| -> (Result<Beside<N>, RunFault>, &mut O)
-            requires { (participants ≡ all_free) × C.fits crew.now N.layout }
+            requires { (participants ≡ all_free) × C.fits shared.now.crew.now N.layout }
             ensures { (result.1.ghost_name ≡ output.entry.ghost_name)
                 × IfOk result.0
-                (λ b. EndsAll N.layout (W.does work.entry.now N.layout) (C.calls crew.entry.now)
-                (C.roles crew.entry.now N.layout) b.ends
+                (λ b. EndsAll N.layout (W.does shared.entry.now.work.now N.layout) (C.calls shared.entry.now.crew.now)
+                (C.roles shared.entry.now.crew.now N.layout) b.ends
                 × IsLegal N.layout (past_of b.journal.seen)
                 × HasKept N.layout b.journal.seen (O.written output.entry.now) (O.written result.1.now) b.kept
                 × IfErr b.kept (λ f. is_of_sink f ≡ true
@@ -132,17 +125,7 @@ pub(crate) fn run_beside<
                 × OnOk result.0 (O.troubles output.entry.now ≤ O.troubles result.1.now)
                 × IfErr result.0 (λ f. (is_silent f ≡ true) × (result.1.now ≡ output.entry.now)) }
         {
-            let beside = keep_beside_run(
-                scope,
-                rt,
-                alloc,
-                hub,
-                participants,
-                crew,
-                work,
-                journal,
-                output,
-            );
+            let beside = keep_beside_run(scope, shared, participants, journal, output);
             (beside, output)
         },
     );

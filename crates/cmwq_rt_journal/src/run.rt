@@ -16,7 +16,7 @@ use crate::beside::{Beside, run_beside};
 use crate::fault::{JournalFault, Unwritten};
 use crate::keep::end_journal;
 use cmwq_engine::beside::{Counted, end_with};
-use cmwq_engine::{Crew, Tally};
+use cmwq_engine::{Crew, Shared, Tally};
 use cmwq_io::Sink;
 use cmwq_model::{Entry, Shape};
 use cmwq_monitor::{Journal, RunFault};
@@ -118,8 +118,8 @@ fn end_run<N: HubName, C: Crew, W: Work, R: Wait, O: Sink>(
     }
 }
 
-/// Runs all threads on a hub of these parts.
-fn run_parts<
+/// Runs all threads on a hub of these parts, and writes its history.
+fn write_parts<
     'x,
     N: HubName + Send + Sync + 'static,
     C: Crew + Sync,
@@ -150,7 +150,19 @@ fn run_parts<
 {
     let (hub, participants) = Hub::<N>::open(parts);
     let journal = hub.journal(rt, spare);
-    match run_beside(rt, alloc, &hub, participants, crew, work, journal, output) {
+    let beside = run_beside(
+        &Shared {
+            rt,
+            alloc,
+            hub: &hub,
+            crew,
+            work,
+        },
+        participants,
+        journal,
+        output,
+    );
+    match beside {
         Ok(beside) => end_run(rt, hub, beside, crew, work, output),
         Err(fault) => {
             into_monitor(hub).end(rt);
@@ -199,7 +211,7 @@ pub fn run_with_journal<
         return Err(Unwritten::Run(RunFault::NoMemory { ticket: None }));
     };
     match HubParts::with_readers(rt, alloc, shape, kept, readers) {
-        Ok(parts) => run_parts::<Brand, C, W, R, O>(rt, alloc, parts, spare, crew, work, output),
+        Ok(parts) => write_parts::<Brand, C, W, R, O>(rt, alloc, parts, spare, crew, work, output),
         Err(fault) => Err(Unwritten::Run(fault)),
     }
 }

@@ -1,3 +1,4 @@
 pub mod Continuing
 pub mod Ending
+pub mod Served
 pub mod Ticking

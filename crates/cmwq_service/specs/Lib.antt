@@ -2,3 +2,4 @@ pub mod Calls
 pub mod Serving
 pub mod Misfits
 pub mod Prelude
+pub mod Writing

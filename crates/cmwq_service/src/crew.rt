@@ -15,7 +15,7 @@ pub use crate::running::{readers_of, run_served};
 use crate::service::Service;
 use crate::signal::Signal;
 use crate::start::Start;
-use cmwq_engine::{Crew, Roster, Tally};
+use cmwq_engine::{Crew, Roster};
 use cmwq_model::{ItemId, Shape};
 use cmwq_rt::{Caller, Hub, HubName, RunCtx, RunFault, Work};
 use core::mem::replace_with;
@@ -157,16 +157,6 @@ impl<'s, S: Service, R: Wait + Clock> Serving<'s, S, R> {
         match self.signal.fault(self.rt) {
             Some(first) => first,
             None => Fault::Run { fault },
-        }
-    }
-
-    /// How it ended, where its hub's threads ended so.
-    pub(crate) fn outcome(&self, ended: Result<Tally, RunFault>) -> Result<Tally, Fault>
-        ensures { IfOk result (λ tally. ended ≡ Ok tally) }
-    {
-        match ended {
-            Ok(tally) => Ok(tally),
-            Err(fault) => Err(self.fault(fault)),
         }
     }
 

@@ -14,10 +14,12 @@ mod running;
 mod service;
 mod signal;
 mod start;
+mod writing;
 
 pub use builder::{Misfit, PLAIN, ShapeBuilder};
 pub use client::Client;
 pub use cmwq_core::check;
+pub use cmwq_io::{BufferedSink, FromStd, Memory, Sink, Trouble};
 pub use cmwq_model::{
     Call, Counts, CpuId, Entry, ItemId, NoMemory, Number, QueueId, QueueShape, Reply, Shape,
     all_fit,
@@ -27,3 +29,4 @@ pub use context::Context;
 pub use fault::{Awaited, Fault, Stopped};
 pub use running::{run, run_dropping, run_dropping_with_waits, run_with_waits};
 pub use service::Service;
+pub use writing::{Unwritten, run_writing, run_writing_with_waits};

@@ -67,7 +67,7 @@ pub fn readers_of<S: Service>(shape: &Shape, service: &S) -> u8
 }
 
 /// Runs a service on a hub of these parts: what the hub kept of its history, and how it ended.
-fn run_parts<'s, S: Service + Send + Sync, R: Threads + Wait + Sync, Q: Wait + Clock + Sync>(
+fn serve<'s, S: Service + Send + Sync, R: Threads + Wait + Sync, Q: Wait + Clock + Sync>(
     rt: &R,
     alloc: Global,
     parts: HubParts,
@@ -78,7 +78,10 @@ fn run_parts<'s, S: Service + Send + Sync, R: Threads + Wait + Sync, Q: Wait + C
         (IsRestOfServed parts.shape serving.now.waits S.calls S.ends S.does result.0.first result.0.entries.items) }
 {
     let (rest, ended) = cmwq_engine::run(&*rt, alloc, parts, &*serving, &*serving);
-    (rest, serving.outcome(ended))
+    match ended {
+        Ok(tally) => (rest, Ok(tally)),
+        Err(fault) => (rest, Err(serving.fault(fault))),
+    }
 }
 
 /// Runs a service on a hub of these parts, which keeps all of its history, and returns that. The handle by which
@@ -96,7 +99,7 @@ pub fn run_served<'s, S: Service + Send + Sync, R: Threads + Wait + Sync, Q: Wai
         (λ history. IsServed parts.shape serving.now.waits S.calls S.ends S.does history.items) }
     ensures stopped { IfErr result (λ stopped. IsReliable parts.shape (past_of stopped.history.items)) }
 {
-    let (rest, outcome) = run_parts(rt, alloc, parts, serving);
+    let (rest, outcome) = serve(rt, alloc, parts, serving);
     give_all::<S>(alloc, rest, outcome)
 }
 
@@ -178,7 +181,7 @@ pub fn run_dropping_with_waits<S: Service + Send + Sync, R: Threads + Wait + Clo
     let serving = Serving::new(rt, service, shape, waits)?;
     match HubParts::dropping(rt, alloc, shape, readers_of(shape, service)) {
         Ok(parts) => {
-            let (_rest, outcome) = run_parts(rt, alloc, parts, &serving);
+            let (_rest, outcome) = serve(rt, alloc, parts, &serving);
             match outcome {
                 Ok(_) => Ok(()),
                 Err(fault) => Err(fault),

@@ -7,9 +7,9 @@ use cmwq_base::{Memory, read_history};
 use cmwq_model::Call;
 use cmwq_service::{
     Awaited, CpuId, Fault, ItemId, Misfit, PLAIN, QueueId, QueueShape, RunFault, Shape,
-    ShapeBuilder, run, run_dropping, run_dropping_with_waits, run_with_waits,
+    ShapeBuilder, Unwritten, run, run_dropping, run_dropping_with_waits, run_with_waits,
+    run_writing, run_writing_with_waits,
 };
-use cmwq_service_journal::{Unwritten, run_writing, run_writing_with_waits};
 use std::alloc::AllocError;
 use std::process::Abort;
 use std::sync::Wait;

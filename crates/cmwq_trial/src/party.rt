@@ -3,8 +3,9 @@
 ghost use Rattle.std.specs.Prelude.{◌≡◌, IfSome};
 
 use crate::awaits::{Awaits, Wanted};
+use cmwq_awaited::{Goal, WaitedFor, goal_of, waited_for};
 use cmwq_core::Execution;
-use cmwq_model::{Call, CallerId, Entry, ItemId, Number, QueueId, Reply, Shape, Who, WorkerId};
+use cmwq_model::{Call, Entry, ItemId, Number, QueueId, Shape, Who, WorkerId};
 use cmwq_turns::{Awaited, Party as Member, Standing};
 use std::alloc::Global;
 use thiserror::Error;
@@ -78,29 +79,6 @@ fn is_caller_at_work(party: &Member, threads: u8) -> bool {
         && !matches!(party.standing, Standing::Gone)
 }
 
-/// The item that the queueing with this number is of.
-fn item_numbered(entries: &[Entry], number: Number) -> Option<ItemId> {
-    let place = usize::try_from(number).ok()?;
-    entries.get(place)?.item()
-}
-
-/// The item that a worker runs at the end of a history.
-fn item_run(entries: &[Entry], worker: WorkerId) -> Option<ItemId> {
-    let mut runs = None;
-    for entry in entries {
-        if entry.who == Who::Worker(worker) {
-            match entry.reply {
-                Reply::Started(number) | Reply::StartedEnlist(number, _) => runs = item_numbered(
-                    entries, number,
-                ),
-                Reply::Finished(_) => runs = None,
-                _ => {}
-            }
-        }
-    }
-    runs
-}
-
 /// A history, played again. None if it can't be, as memory runs out.
 pub(crate) fn replay(alloc: Global, shape: &Shape, entries: &[Entry]) -> Option<Execution>
     ensures { IfSome result (λ book. book.layout ≡ shape.now) }
@@ -127,42 +105,11 @@ pub(crate) struct Scene<'a> {
     ghost of_shape: { book.now.layout ≡ shape.now },
 }
 
-/// The queueing that a ticket waits for.
-fn queueing_awaited(
-    book: &Execution,
-    shape: &Shape,
-    caller: CallerId,
-    ticket: Number,
-) -> Option<Number>
-    requires { book.now.layout ≡ shape.now }
-{
-    let (who, call) = (Who::Caller(caller), Call::End { ticket });
-    if !shape.fits(who, call) {
-        return None;
-    }
-    match book.reply(who, call) {
-        Reply::Waiting(number) => Some(number),
-        _ => None,
-    }
-}
-
 impl<'a> Scene<'a> {
-    /// The queueing that a ticket waits for at the end of the history, and its item.
-    fn awaited_by(&self, caller: CallerId, ticket: Number) -> Option<(Number, ItemId)> {
-        let number = queueing_awaited(self.book, self.shape, caller, ticket)?;
-        Some((number, item_numbered(self.entries, number)?))
-    }
-
-    fn awaits_queue(
-        &self,
-        wanted: Wanted,
-        queue: QueueId,
-        caller: CallerId,
-        ticket: Number,
-    ) -> Awaits {
+    fn awaits_queue(&self, wanted: Wanted, queue: QueueId, ticket: Number) -> Awaits {
         let queue = queue.0;
-        match self.awaited_by(caller, ticket) {
-            Some((number, item)) => Awaits::Queue {
+        match waited_for(self.book.state(), self.entries, ticket) {
+            Some(WaitedFor { number, item }) => Awaits::Queue {
                 wanted,
                 queue,
                 number,
@@ -174,23 +121,13 @@ impl<'a> Scene<'a> {
 
     fn awaits(&self, role: Role, awaited: Awaited) -> Awaits {
         match awaited {
-            Awaited::Ticket {
-                caller,
-                call,
-                ticket,
-            } => match call {
-                Call::FlushItem { item }
-                | Call::FlushDelayed { item }
-                | Call::CancelSync { item } => Awaits::Item(item.0),
-                Call::Drain { queue } => self.awaits_queue(Wanted::Drain, queue, caller, ticket),
-                Call::Destroy { queue } => self.awaits_queue(
-                    Wanted::Destroy,
-                    queue,
-                    caller,
-                    ticket,
-                ),
-                Call::Flush { queue } => self.awaits_queue(Wanted::Flush, queue, caller, ticket),
-                _ => Awaits::Completion,
+            Awaited::Ticket { call, ticket, .. } => match goal_of(call) {
+                Some(Goal::FlushItem(item) | Goal::CancelSync(item)) => Awaits::Item(item.0),
+                Some(Goal::Flush(queue)) => self.awaits_queue(Wanted::Flush, queue, ticket),
+                Some(Goal::Drain(queue)) => self.awaits_queue(Wanted::Drain, queue, ticket),
+                Some(Goal::Destroy(queue)) => self.awaits_queue(Wanted::Destroy, queue, ticket),
+                // no other call gives a ticket
+                None => Awaits::Completion,
             },
             Awaited::Completion if role == Role::Clock => Awaits::Time,
             Awaited::Completion if role == Role::End && !self.have_callers_ended => Awaits::Callers,
@@ -201,11 +138,13 @@ impl<'a> Scene<'a> {
         }
     }
 
-    /// The item that it runs, of a worker.
+    /// The item that it runs at the end of the history, of a worker.
     fn item_of(&self, who: Option<Who>) -> Option<ItemId> {
         match who {
-            Some(Who::Worker(worker)) => item_run(self.entries, worker),
-            _ => None,
+            Some(Who::Worker(worker)) if self.shape.fits(Who::Worker(worker), Call::Finish) => {
+                Some(self.book.state().queueing_run(worker)?.item)
+            }
+            Some(Who::Worker(_) | Who::Caller(_)) | None => None,
         }
     }
 

@@ -1,7 +1,69 @@
-//! The names of the kinds of calls and replies.
+//! The names of the kinds of calls and replies: the keywords with which they begin in a history's line.
 ghost use Rattle.std.specs.Prelude.{◌≡◌, ◌<◌, ◌≤◌, length};
 ghost use Rattle.cmwq_summary.specs.Kinds.{call_kinds, reply_kinds};
 ghost use Rattle.cmwq_views.specs.Names.{call_name, reply_name, CallsAreNamed, RepliesAreNamed};
+
+use cmwq_summary::{CALL_KINDS, REPLY_KINDS};
+use cmwq_text::Keyword;
+
+/// The keyword of each kind of calls.
+const CALLS: [Keyword; CALL_KINDS] = [
+    Keyword::Queue,
+    Keyword::Delay,
+    Keyword::Modify,
+    Keyword::Cancel,
+    Keyword::Tick,
+    Keyword::Fire,
+    Keyword::Flush,
+    Keyword::Drain,
+    Keyword::FlushItem,
+    Keyword::FlushDelayed,
+    Keyword::CancelSync,
+    Keyword::End,
+    Keyword::Take,
+    Keyword::Finish,
+    Keyword::Sleep,
+    Keyword::Wake,
+    Keyword::Retire,
+    Keyword::SetMax,
+    Keyword::Freeze,
+    Keyword::Thaw,
+    Keyword::Destroy,
+];
+
+/// The keyword of each kind of replies.
+const REPLIES: [Keyword; REPLY_KINDS] = [
+    Keyword::Yes,
+    Keyword::Booked,
+    Keyword::Again,
+    Keyword::Rebooked,
+    Keyword::No,
+    Keyword::Foreign,
+    Keyword::Draining,
+    Keyword::Misuse,
+    Keyword::Cancelled,
+    Keyword::Unbooked,
+    Keyword::Now,
+    Keyword::Fired,
+    Keyword::Nothing,
+    Keyword::Ticket,
+    Keyword::Idle,
+    Keyword::Crowded,
+    Keyword::Done,
+    Keyword::Waiting,
+    Keyword::Started,
+    Keyword::Held,
+    Keyword::Finished,
+    Keyword::Slept,
+    Keyword::Woke,
+    Keyword::Retired,
+    Keyword::Kept,
+    Keyword::Width,
+    Keyword::Frozen,
+    Keyword::Thawed,
+    Keyword::Gone,
+    Keyword::Timers,
+];
 
 /// The name of a kind of calls.
 pub(crate) fn call_name(kind: usize) -> &'static str
@@ -9,29 +71,7 @@ pub(crate) fn call_name(kind: usize) -> &'static str
     ensures exact { result.now ≡ call_name kind }
     ensures short { length result.now ≤ 13 }
 {
-    match kind {
-        0 => "queue",
-        1 => "delay",
-        2 => "modify",
-        3 => "cancel",
-        4 => "tick",
-        5 => "fire",
-        6 => "flush",
-        7 => "drain",
-        8 => "flush_item",
-        9 => "flush_delayed",
-        10 => "cancel_sync",
-        11 => "end",
-        12 => "take",
-        13 => "finish",
-        14 => "sleep",
-        15 => "wake",
-        16 => "retire",
-        17 => "set_max",
-        18 => "freeze",
-        19 => "thaw",
-        _ => "destroy",
-    }
+    CALLS[kind].text()
 }
 
 /// The name of a kind of replies.
@@ -40,38 +80,7 @@ pub(crate) fn reply_name(kind: usize) -> &'static str
     ensures exact { result.now ≡ reply_name kind }
     ensures short { length result.now ≤ 13 }
 {
-    match kind {
-        0 => "yes",
-        1 => "booked",
-        2 => "again",
-        3 => "rebooked",
-        4 => "no",
-        5 => "foreign",
-        6 => "draining",
-        7 => "misuse",
-        8 => "cancelled",
-        9 => "unbooked",
-        10 => "now",
-        11 => "fired",
-        12 => "nothing",
-        13 => "ticket",
-        14 => "idle",
-        15 => "crowded",
-        16 => "done",
-        17 => "waiting",
-        18 => "started",
-        19 => "held",
-        20 => "finished",
-        21 => "slept",
-        22 => "woke",
-        23 => "retired",
-        24 => "kept",
-        25 => "width",
-        26 => "frozen",
-        27 => "thawed",
-        28 => "gone",
-        _ => "timers",
-    }
+    REPLIES[kind].text()
 }
 
 /// A call has the name of its first word in a history's line, and so has a reply.

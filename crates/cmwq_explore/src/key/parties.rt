@@ -6,12 +6,12 @@ ghost use Rattle.cmwq_explore.specs.Codes.{codes, told_flag, told_list};
 ghost use Rattle.cmwq_explore.specs.Keys as spec;
 ghost use Rattle.cmwq_explore.specs.Numbered.{mark};
 
-use crate::key::calls::parts_of;
 use crate::key::codes::{flag, push, push_all, push_flag};
 use crate::key::numbered::Numbered;
 use crate::place::{CallerAt, Doing, RunAt, Ticketed, WorkerAt};
 use crate::seen::Key;
 use cmwq_json_script::Holder;
+use cmwq_kinds::numbers_of_call;
 use cmwq_model::Number;
 use cmwq_state::State;
 use std::alloc::AllocError;
@@ -39,7 +39,7 @@ fn push_wait(
         (λ _. key.new.items ≡ key.old.items ++ codes (spec.told_wait (past_of state.now.entries) numbered.now wait)) }
 {
     push(key, mark_of(state, numbered, wait.ticket))?;
-    push_all(key, &parts_of(wait.call))
+    push_all(key, &numbers_of_call(wait.call))
 }
 
 #[tactic(auto, using(crate::proofs::Coding::codes_more))]

@@ -7,10 +7,10 @@ ghost use Rattle.cmwq_explore.specs.Codes.{codes, told_flag, told_list};
 ghost use Rattle.cmwq_explore.specs.Keys as spec;
 ghost use Rattle.cmwq_explore.specs.Numbered.{gathered};
 
-use crate::key::calls::parts_of;
 use crate::key::codes::{push, push_all, push_flag};
 use crate::key::numbered::Numbered;
 use crate::seen::Key;
+use cmwq_kinds::numbers_of_call;
 use cmwq_model::{Call, QueueId, Queueing, Ticket};
 use cmwq_state::State;
 use std::alloc::AllocError;
@@ -111,7 +111,7 @@ fn push_ticket(
         key,
         &[numbered.rank(ticket.number), u64::from(ticket.caller.0)],
     )?;
-    push_all(key, &parts_of(ticket.call))?;
+    push_all(key, &numbers_of_call(ticket.call))?;
     push_if_flush(key, state, numbered, ticket)
 }
 

@@ -2,8 +2,8 @@ use Rattle.std.proofs.Common.{sym, subst, refl}
 use Rattle.cmwq_rt_journal.proofs.Kept.{nothing_written}
 use Rattle.cmwq_rt_journal.proofs.run.run_with_journal.Goals as goal
 
-pub run_parts-requires-clause-fits : goal.run_parts-requires-clause-fits
-run_parts-requires-clause-fits g c κs within =
+pub write_parts-requires-clause-fits : goal.write_parts-requires-clause-fits
+write_parts-requires-clause-fits g c κs within =
     subst (g.C.Crew.fits c.args.crew.now) (sym c.in-Ok-with_readers.ensures.shape) c.requires
 
 pub returns-in_default-clause-front : goal.returns-in_default-clause-front

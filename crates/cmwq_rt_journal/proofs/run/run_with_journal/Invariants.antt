@@ -1,8 +1,8 @@
 use Rattle.cmwq_rt_journal.proofs.run.run_with_journal.Given as goal
 
 -- the ledger and the hub that were just made
-abbrev pub ghosts-run_parts-N-Ledger : goal.ghosts-run_parts-N-Ledger
-ghosts-run_parts-N-Ledger g a = record { name = a.parts.blank.name; parts = a.parts.blank.parts }
+abbrev pub ghosts-write_parts-N-Ledger : goal.ghosts-write_parts-N-Ledger
+ghosts-write_parts-N-Ledger g a = record { name = a.parts.blank.name; parts = a.parts.blank.parts }
 
-abbrev pub ghosts-run_parts-N-HubName : goal.ghosts-run_parts-N-HubName
-ghosts-run_parts-N-HubName g a = record { book = a.parts.opening.book; layout = a.parts.shape }
+abbrev pub ghosts-write_parts-N-HubName : goal.ghosts-write_parts-N-HubName
+ghosts-write_parts-N-HubName g a = record { book = a.parts.opening.book; layout = a.parts.shape }
