@@ -1,7 +1,7 @@
--- The name of a row of a chart: there is little room for it, so the front of a long one is shown, and the rest in the
--- row's tooltip.
-use Rattle.std.specs.Prelude.{ℕ, zero, suc, ◌-◌, ◌/◌, ◌==◌, Bool, false, nat_le, if◌then◌else◌, List, ◌∷◌, [], ◌++◌, length}
-use Rattle.std.specs.Prelude.{take, slice_index_or, codes}
+-- The name of a row of a chart. There is little room for it, so a row shows the front of a long one, and its tooltip all
+-- of it.
+use Rattle.std.specs.Prelude.{ℕ, zero, suc, ◌-◌, ◌/◌, ◌==◌, Bool, false, nat_le, if◌then◌else◌, List, [], ◌∷◌, ◌++◌}
+use Rattle.std.specs.Prelude.{length, take, slice_index_or, codes}
 use Rattle.cmwq_names.specs.Escapes.{escaped}
 use Rattle.cmwq_names.specs.Headings.{is_after}
 use Rattle.cmwq_names.specs.declared.form.Form.{Form}
@@ -16,7 +16,7 @@ abbrev pub is_label : Form → List ℕ → Bool
 is_label Xml words = is_after words label_headings
 is_label form words = false
 
--- for how many bytes there is room: behind the name of a queue stands its CPU
+-- for how many bytes there is room: the CPU follows the name of a queue
 abbrev pub room_of : Kind → ℕ
 room_of Queue = 6
 room_of Item = 12

@@ -1,7 +1,7 @@
 -- A text with names in place of numbers.
-use Rattle.std.specs.Prelude.{ℕ, zero, suc, ◌*◌, ◌+◌, ◌-◌, Bool, true, false, ◌==◌, not, if◌then◌else◌, List, [], ◌∷◌, ◌++◌, length}
-use Rattle.std.specs.Prelude.{take, drop, min, Option, Some, None, option_and_then, codes}
-use Rattle.std.specs.List.{ends_with, list_any, position}
+use Rattle.std.specs.Prelude.{ℕ, zero, suc, ◌*◌, ◌+◌, ◌-◌, Bool, true, false, ◌==◌, not, if◌then◌else◌, List, [], ◌∷◌}
+use Rattle.std.specs.Prelude.{◌++◌, length, take, drop, min, Option, Some, None}
+use Rattle.std.specs.List.{position}
 use Rattle.std.specs.Option.{option_map_or}
 use Rattle.std.specs.Char.{is_ascii_digit}
 use Rattle.serde_json.specs.Data.{Data}
@@ -10,9 +10,9 @@ use Rattle.cmwq_names.specs.Headings.{kind_after}
 use Rattle.cmwq_names.specs.Labels.{beside, is_label, label}
 use Rattle.cmwq_names.specs.Names.{name_of}
 use Rattle.cmwq_names.specs.declared.form.Form.{Form}
-use Rattle.cmwq_names.specs.declared.form.Form.TheVariants.{Plain, Json, Xml}
+use Rattle.cmwq_names.specs.declared.form.Form.TheVariants.{Xml}
 use Rattle.cmwq_names.specs.declared.kind.Kind.{Kind}
-use Rattle.cmwq_names.specs.declared.kind.Kind.TheVariants.{Item, Queue, Caller}
+use Rattle.cmwq_names.specs.declared.kind.Kind.TheVariants.{Queue, Caller}
 
 -- ---- a number
 

@@ -7,8 +7,8 @@ ghost use Rattle.cmwq_base.specs.declared.refusal.Refusal.{Refusal as TheRefusal
 ghost use Rattle.cmwq_history.specs.Views.{WriteEnds};
 ghost use Rattle.cmwq_chart_levels.specs.Seen.{IsSeen};
 ghost use Rattle.cmwq_chart_text.specs.PictureText.{picture_text};
-ghost use Rattle.cmwq_views.specs.Chart.{ChartEnds, IsChartFlushed, chart_status, chart_text, charted_text, has_too_many};
-ghost use Rattle.cmwq_views.specs.Chart.{entries_in};
+ghost use Rattle.cmwq_views.specs.Chart.{ChartEnds, IsChartFlushed, chart_status, chart_text, charted_text};
+ghost use Rattle.cmwq_views.specs.Chart.{entries_in, has_too_many};
 ghost use Rattle.cmwq_views.specs.declared.chart.Charted.{Charted as TheCharted};
 
 use cmwq_base::{Illegal, Refusal, Shape, Sink, Source, read_file, tell};
@@ -18,7 +18,7 @@ use cmwq_core::Judge;
 use cmwq_history::{Following, View, refusal_status, tell_illegal};
 use std::alloc::Global;
 
-/// How many entries a picture shows, unless it is to show them all: browsers show a picture of more slowly or not at all.
+/// How many entries a picture shows, unless it is to show all. A browser shows a larger one slowly or not at all.
 const MOST_SHOWN: u64 = 20_000;
 
 /// What became of a history that was to be drawn.
