@@ -125,8 +125,14 @@ abbrev pub page_word : App
 page_word =
     with_rule (with_rule (new_app (codes "page")) (number_rule (codes "from"))) (number_rule (codes "to"))
 
+abbrev pub with_chart : App
+with_chart = with_named with_texts chart_word
+
+abbrev pub with_trace : App
+with_trace = with_named with_chart (new_app (codes "trace"))
+
 abbrev pub with_lines : App
-with_lines = with_named (with_named (with_named with_texts chart_word) (new_app (codes "trace"))) page_word
+with_lines = with_named with_trace page_word
 
 -- the word `explore`, with its options of seeds, with those of all schedules too, and with all its options
 abbrev pub seeded_word : App

@@ -3,8 +3,8 @@ ghost use Rattle.std.specs.Prelude.{◌≡◌, codes, true, false, IfOk};
 ghost use Rattle.clap.specs.Words.{app_of, new_app, rule_of, with_rule};
 ghost use Rattle.clap.specs.declared.builder.command.Command.TheViews.{out-Command as fields_of};
 ghost use Rattle.cmwq_cli.specs.Word.{app, chart_word, explore_word, file_option, file_rule, flag_rule, number_rule};
-ghost use Rattle.cmwq_cli.specs.Word.{page_word, searching_word, seeded_word, with_command, with_flagged, with_lines};
-ghost use Rattle.cmwq_cli.specs.Word.{with_named, with_texts, with_word, without_words};
+ghost use Rattle.cmwq_cli.specs.Word.{page_word, searching_word, seeded_word, with_chart, with_command, with_flagged};
+ghost use Rattle.cmwq_cli.specs.Word.{with_lines, with_named, with_texts, with_trace, with_word, without_words};
 
 use crate::help::{
     CALLS_HELP, EXPLAIN_HELP, EXPLORE_HELP, FIGURES_HELP, FILE_HELP, FORMER_HELP, FRONT_HELP,
@@ -311,14 +311,28 @@ fn page_word<'a>(alloc: Global) -> Result<Command<'a>, AllocError>
     with_number(alloc, word, "to", help)
 }
 
+/// The program with these words and `chart`.
+fn with_chart<'a>(alloc: Global) -> Result<Command<'a>, AllocError>
+    ensures { IfOk result (λ c. app_of c ≡ with_chart) }
+{
+    let command = with_texts(alloc)?;
+    with_named(alloc, command, chart_word(alloc)?)
+}
+
+/// The program with these words and `trace`.
+fn with_trace<'a>(alloc: Global) -> Result<Command<'a>, AllocError>
+    ensures { IfOk result (λ c. app_of c ≡ with_trace) }
+{
+    let command = with_chart(alloc)?;
+    let about = "Reads a history and writes its trace in JSON, if it is legal";
+    with_named(alloc, command, bare_word(alloc, "trace", about, TRACE_HELP))
+}
+
 /// The program with the words whose inputs are lines.
 fn with_lines<'a>(alloc: Global) -> Result<Command<'a>, AllocError>
     ensures { IfOk result (λ c. app_of c ≡ with_lines) }
 {
-    let command = with_named(alloc, with_texts(alloc)?, chart_word(alloc)?)?;
-    let about = "Reads a history and writes its trace in JSON, if it is legal";
-    let word = bare_word(alloc, "trace", about, TRACE_HELP);
-    let command = with_named(alloc, command, word)?;
+    let command = with_trace(alloc)?;
     with_named(alloc, command, page_word(alloc)?)
 }
 

@@ -161,13 +161,16 @@ run_line s past k = option_map_or (run_text s past k) (run_of_row s past k) []
 
 -- ---- queueings that haven't started, whether they are active, and why they haven't
 
--- the queueings that take the places of a queue on its CPU: the first of so many
-abbrev pub more_text : ℕ → List ℕ
-more_text n = if nat_lt 1 n then named_number (codes " and ") (n - 1) ++ codes " more" else []
+-- the queueings that take the places of a queue on its CPU: the first of n, and how many others
+abbrev pub others_text : ℕ → List ℕ
+others_text n = if nat_lt 0 n then named_number (codes " and ") n ++ codes " more" else []
+
+abbrev pub first_text : Queueing → ℕ → List ℕ
+first_text y others = named_number (codes ", after queueing ") y.number ++ others_text others
 
 abbrev pub taken_text : Option Queueing → ℕ → List ℕ
 taken_text None n = []
-taken_text (Some y) n = named_number (codes ", after queueing ") y.number ++ more_text n
+taken_text (Some y) n = first_text y (n - 1)
 
 abbrev pub reason_text : Option Obstacle → List ℕ
 reason_text None = codes ": may start"

@@ -12,8 +12,8 @@ ghost use Rattle.cmwq_views.specs.Open.{place_text, said_if, frozen_text, queue_
 ghost use Rattle.cmwq_views.specs.Open.{is_open_anywhere, is_idle_queue, idle_from, queues_text, idle_text, ends_idle};
 ghost use Rattle.cmwq_views.specs.Open.{idle_line, queue_row, since_text, tick_text, call_text, cause_text};
 ghost use Rattle.cmwq_views.specs.Open.{lent_if, lent_text, asleep_text, waiting_text, sleep_text};
-ghost use Rattle.cmwq_views.specs.Open.{queueing_text, run_text, run_line, more_text, taken_text, reason_text};
-ghost use Rattle.cmwq_views.specs.Open.{pending_text, pending_line};
+ghost use Rattle.cmwq_views.specs.Open.{queueing_text, run_text, run_line, first_text, others_text, taken_text};
+ghost use Rattle.cmwq_views.specs.Open.{reason_text, pending_text, pending_line};
 ghost use Rattle.cmwq_views.specs.Open.{booked_text, booked_line, last_wait};
 ghost use Rattle.cmwq_views.specs.Open.{wait_text, wait_line, line_count, line_text};
 ghost use Rattle.cmwq_views.specs.declared.deed.Deed.TheVariants as deed;
@@ -517,30 +517,36 @@ fn push_next(row: &mut Row, next: Queueing)
     row.push(" is next");
 }
 
-/// Spells how many queueings take the places of a queue on its CPU beside the first.
-fn push_more(row: &mut Row, active: u32)
+/// Spells how many queueings take places beside one.
+fn push_others(row: &mut Row, others: u64)
     requires { length row.old + 30 ≤ 512 }
-    ensures exact { row.new ≡ row.old ++ more_text active }
+    ensures exact { row.new ≡ row.old ++ others_text others }
     ensures short { length row.new ≤ length row.old + 30 }
 {
-    if active > 1 {
-        row.push_figure(" and ", u64::from(active) - 1);
+    if others > 0 {
+        row.push_figure(" and ", others);
         row.push(" more");
     }
 }
 
-/// Spells which queueings take the places of a queue on its CPU: the first of so many.
+/// Spells which queueing takes a place of a queue on its CPU, beside others.
+fn push_first(row: &mut Row, first: Queueing, others: u64)
+    requires { length row.old + 67 ≤ 512 }
+    ensures exact { row.new ≡ row.old ++ first_text first others }
+    ensures short { length row.new ≤ length row.old + 67 }
+{
+    row.push_figure(", after queueing ", first.number);
+    push_others(row, others);
+}
+
+/// Spells the first of so many queueings that take the places of a queue on its CPU.
 fn push_taken(row: &mut Row, first: Option<Queueing>, active: u32)
     requires { length row.old + 67 ≤ 512 }
     ensures exact { row.new ≡ row.old ++ taken_text first active }
     ensures short { length row.new ≤ length row.old + 67 }
 {
-    match first {
-        Some(first) => {
-            row.push_figure(", after queueing ", first.number);
-            push_more(row, active);
-        }
-        None => {}
+    if let Some(first) = first {
+        push_first(row, first, u64::from(active.saturating_sub(1)));
     }
 }
 
