@@ -92,10 +92,11 @@ pub(crate) fn call_all<'s, N: HubName, C: Crew, W, R: Wait>(
         (λ full. CalledAt N.layout (C.calls shared.now.crew.now) number full result.caller) }
     ensures fault { IfErr result.outcome (λ f. breaks_off f ≡ true) }
 {
-    turns::caller_comes(shared.rt, shared.hub, &caller);
-    let (caller, outcome) = shared.crew.call(shared.rt, shared.hub, caller, number);
+    let (rt, hub) = (shared.rt, shared.hub);
+    turns::caller_comes(rt, hub, &caller);
+    let (caller, outcome) = shared.crew.call(rt, hub, caller, number);
     stop_at(shared, &outcome);
-    turns::goes(shared.rt, shared.hub);
+    turns::goes(rt, hub);
     CallerEnd { caller, outcome }
 }
 
@@ -109,12 +110,11 @@ pub(crate) fn work_all<'s, N: HubName, C: Crew, W: Work, R: Wait>(
         (λ t. WorkedFrom N.layout (W.does shared.now.work.now N.layout) t.left_out worker result.worker) }
     ensures fault { IfErr result.outcome (λ f. breaks_off f ≡ true) }
 {
+    let (rt, hub) = (shared.rt, shared.hub);
     let mut worker = worker;
-    turns::worker_comes(shared.rt, shared.hub, &worker);
-    let outcome = shared
-        .hub
-        .work_counting(shared.rt, &mut worker, shared.work, lent);
+    turns::worker_comes(rt, hub, &worker);
+    let outcome = hub.work_counting(rt, &mut worker, shared.work, lent);
     stop_at(shared, &outcome);
-    turns::goes(shared.rt, shared.hub);
+    turns::goes(rt, hub);
     WorkerEnd { worker, outcome }
 }

@@ -1,15 +1,17 @@
 //! The rows of entries.
-ghost use Rattle.std.specs.Prelude.{◌≡◌, ◌≤◌, OnOk, OnErr};
+ghost use Rattle.std.specs.Prelude.{◌≡◌, ◌∷◌, ◌≤◌, OnOk, OnErr};
 ghost use Rattle.std.specs.Io.KnownBytes.{Appends};
 ghost use Rattle.cmwq_io.specs.Counts.{Rises};
 ghost use Rattle.cmwq_io.specs.Moves.{AppendsFront};
+ghost use Rattle.cmwq_kinds.specs.Numbers.{numbers_of_call};
 ghost use Rattle.cmwq_page.specs.Entries as spec;
+ghost use Rattle.cmwq_page.specs.Rows.{who_number};
 
 use crate::rows::who_number;
 use cmwq_base::{Sink, WriteFault};
 use cmwq_chart_text::write_filled;
 use cmwq_kinds::{numbers_of_call, numbers_of_reply};
-use cmwq_model::{Call, Entry, Reply};
+use cmwq_model::{Call, Entry, Reply, Who};
 
 /// The first part of an entry's row, with a hole for each number: who made it, the call's kind, and what stands in the
 /// call.
@@ -81,6 +83,15 @@ fn reply_template(reply: &Reply) -> &'static str
     }
 }
 
+/// Who made a call, and the call's numbers.
+#[tactic(auto, using(crate::proofs::Five::five))]
+fn call_numbers(who: Who, call: Call) -> [u64; 6]
+    ensures { result ≡ who_number who ∷ numbers_of_call call }
+{
+    let [kind, first, second, third, fourth] = numbers_of_call(call);
+    [who_number(who), kind, first, second, third, fourth]
+}
+
 /// Writes the row of an entry.
 #[tactic(auto, unfolding(crate::specs::Entries::entry_text))]
 fn write_entry<W: Sink>(sink: &mut W, entry: &Entry) -> Result<(), WriteFault>
@@ -89,8 +100,7 @@ fn write_entry<W: Sink>(sink: &mut W, entry: &Entry) -> Result<(), WriteFault>
     ensures grown { W.troubles sink.old ≤ W.troubles sink.new }
     ensures fault { OnErr result (Rises (W.troubles sink.old) (W.troubles sink.new)) }
 {
-    let [kind, first, second, third, fourth] = numbers_of_call(entry.call);
-    let numbers = [who_number(entry.who), kind, first, second, third, fourth];
+    let numbers = call_numbers(entry.who, entry.call);
     write_filled(sink, call_template(&entry.call), &numbers)?;
     write_filled(
         sink,

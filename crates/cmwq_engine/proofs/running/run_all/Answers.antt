@@ -7,9 +7,9 @@ use Rattle.cmwq_engine.proofs.running.run_all.Goals as goal
 pub returns-clause-run : goal.returns-clause-run
 returns-clause-run g c =
     let s = g.N.HubName.layout in
-    let does = g.W.Work.does c.args.work.now s in
-    let calls = g.C.Crew.calls c.args.crew.now in
-    let roles = g.C.Crew.roles c.args.crew.now s in
+    let does = g.W.Work.does c.args.shared.now.work.now s in
+    let calls = g.C.Crew.calls c.args.shared.now.crew.now in
+    let roles = g.C.Crew.roles c.args.shared.now.crew.now s in
     let threads : c.args.roster.threads ≡ roles.threads = ap (λ (r : Roster). r.threads) c.requires.roster in
     let lent : c.args.roster.lent ≡ roles.lent = ap (λ (r : Roster). r.lent) c.requires.roster in
     let hs = c.in-Ok.handles.items in

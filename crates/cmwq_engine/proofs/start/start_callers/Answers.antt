@@ -18,7 +18,7 @@ loop-number-preserved g c =
           omega (arith, l, r, i)),
       c.in-Ok.ensures.given.2 ∙ ap (λ (p : Places). record p { callers = p.callers + 1 }) inv.1,
       (λ k x at.
-          all_push (λ k h. (h.promise.number ≡ k) × (h.promise.crew.value ≡ c.args.crew.now)) hs h inv.2
+          all_push (λ k h. (h.promise.number ≡ k) × (h.promise.crew.value ≡ c.args.shared.now.crew.now)) hs h inv.2
           (c.in-Ok-start_caller.ensures.thread.0 ∙ sym inv.0, c.in-Ok-start_caller.ensures.thread.1)
           k x (subst (λ l. slice_get l k ≡ Some x) items at)),
     )

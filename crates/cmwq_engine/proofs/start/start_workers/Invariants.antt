@@ -8,4 +8,4 @@ invariant-loop g l =
     × (l.participants.workers ≡ l.fn.participants.workers + length l.threads.items)
     × (l.participants.callers ≡ l.fn.participants.callers)
     × ((k : ℕ) (h : _) → slice_get l.threads.items k ≡ Some h → (x : WorkerId) × (worker_by_number s k ≡ Some x)
-    × (h.promise.worker.value ≡ newcomer (Worker x)) × (h.promise.work.value ≡ l.fn.work))
+    × (h.promise.worker.value ≡ newcomer (Worker x)) × (h.promise.work.value ≡ l.fn.shared.work.now))

@@ -1,7 +1,7 @@
 use Rattle.cmwq_engine.specs.Common.{◌≡◌, drop, past_of, subst}
 unfoldable use Rattle.cmwq_engine.specs.Common.{IsLegal}
 use Rattle.cmwq_engine.proofs.Outcome.{rest_left}
-use Rattle.cmwq_engine.proofs.running.end_hub.Goals as goal
+use Rattle.cmwq_engine.proofs.running.run_parts.Goals as goal
 
 pub returns-in-Ok-clause-left : goal.returns-in-Ok-clause-left
 returns-in-Ok-clause-left g c =
