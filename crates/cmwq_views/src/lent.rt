@@ -171,12 +171,19 @@ fn is_queued_as(standing: &Standing<'_>, queueing: Number, number: usize) -> boo
     }
 }
 
+/// How many items the shape has.
+fn item_rows(standing: &Standing<'_>) -> usize
+    ensures { result ≡ standing.now.layout.items }
+{
+    usize::from(standing.shape().counts().items)
+}
+
 /// The number of the item that has this queueing queued.
 fn item_queued(standing: &Standing<'_>, queueing: Number) -> Option<usize>
     ensures is { result ≡ item_queued standing.now.layout (past_of standing.now.entries) queueing }
     ensures there { IfSome result (λ number. number < standing.now.layout.items) }
 {
-    for number in 0..usize::from(standing.shape().counts().items) {
+    for number in 0..item_rows(standing) {
         if is_queued_as(standing, queueing, number) {
             return Some(number);
         }
