@@ -295,7 +295,7 @@ fn run_asked<T: Threads + Wait + Clock + Sync>(rt: &HostRuntime, asked: Asked, t
 }
 
 /// Whether a refused input is one of which `--explain` would tell more: not the other file of `explore`.
-fn is_hinting(asked: &Asked) -> bool {
+fn is_hinting(asked: &Asked<'_>) -> bool {
     let is_of_other = matches!(asked.word, Word::Explore { .. }) && asked.other.is_some();
     !asked.explain && !is_of_other
 }
