@@ -1,5 +1,5 @@
 -- What an item has queued is open.
-use Rattle.std.proofs.Common.{ℕ, ◌≡◌, List, Some, true}
+use Rattle.std.proofs.Common.{ℕ, ◌≡◌, List, Some}
 use Rattle.std.specs.Prelude.{Contains}
 use Rattle.cmwq_model.specs.Prelude.{still_open, unstarted_queueing}
 use Rattle.cmwq_model.specs.Queueings.{is_unstarted}

@@ -1,9 +1,9 @@
 -- Why what is queued has not started.
-use Rattle.std.specs.Prelude.{◌≡◌, ◌==◌, ℕ, Bool, true, not, List, find, Option, Some, None, if◌then◌else◌}
+use Rattle.std.specs.Prelude.{◌==◌, ℕ, Bool, List, find, Option, Some, None, if◌then◌else◌}
 use Rattle.std.specs.Prelude.{◌&&◌, false, option_and_then}
 use Rattle.std.specs.List.{list_any, range_with_len}
 use Rattle.std.specs.Option.{option_map_or}
-use Rattle.cmwq_model.specs.Prelude.{Layout, has_run, indices, is_active, is_enlisted, is_holding, is_idle, item_runs}
+use Rattle.cmwq_model.specs.Prelude.{Layout, indices, is_active, is_holding, is_idle, item_runs}
 use Rattle.cmwq_model.specs.Prelude.{next, pool_at, unstarted_queueing, width}
 use Rattle.cmwq_model.specs.Active.{same_place}
 use Rattle.cmwq_model.specs.declared.entry.Entry.{Entry}
