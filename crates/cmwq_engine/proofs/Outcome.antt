@@ -1,10 +1,10 @@
 -- How a run ends.
-use Rattle.std.proofs.Common.{true≢false}
+use Rattle.std.proofs.Common.{◌⊎◌, inl, inr, true≢false}
 use Rattle.cmwq_engine.specs.Common.{◌≡◌, sym, subst, true, length, Result, Ok, Err, IfOk, IfErr, Layout, Behavior}
 use Rattle.cmwq_engine.specs.Common.{Conduct, Roster, Entry, List, drop, past_of, ℕ}
 unfoldable use Rattle.cmwq_engine.specs.Common.{IsLegal}
 use Rattle.cmwq_engine.specs.Ended.{AllCalled, AllWaited, AllWorked, AreSilent, EndsAll, FailsAs, HaveEnded, HaveRun}
-use Rattle.cmwq_engine.specs.Ended.{IsRestOfLeft, is_silent, used}
+use Rattle.cmwq_engine.specs.Ended.{IsRestOfLeft, IsUnfinished, is_silent, used}
 use Rattle.cmwq_engine.specs.declared.gather.Tally.{Tally}
 use Rattle.cmwq_monitor.specs.Held.{active_in}
 use Rattle.cmwq_engine.specs.declared.gather.Ends.{Ends}
@@ -23,6 +23,15 @@ fails_silently s calls r Unfinished silent = absurd (true≢false (sym silent))
 fails_silently s calls r NoPlace silent = absurd (true≢false (sym silent))
 fails_silently s calls r Full silent = absurd (true≢false (sym silent))
 fails_silently s calls r f silent = record {}
+
+-- so may what was found when all was put together
+pub gathered_fails : (s : Layout) (calls : Conduct) (r : Roster) (h : List Entry) (o : Result Tally RunFault)
+    → IsLegal s (past_of h)
+    → IfErr o (λ f. ((f ≡ Unfinished) × IsUnfinished s calls r.threads h) ⊎ (is_silent f ≡ true))
+    → IfErr o (FailsAs s calls r)
+gathered_fails s calls r h (Ok t) legal fails = tt
+gathered_fails s calls r h (Err f) legal (inl found) = subst (FailsAs s calls r) (sym found.0) (h, legal, found.1)
+gathered_fails s calls r h (Err f) legal (inr silent) = fails_silently s calls r f silent
 
 -- with the callers that were lent
 pub ends_with_lent : {N : Type 0} (s : Layout) (does : Behavior) (calls : Conduct) (r : Roster) (ends all : Ends N)

@@ -135,7 +135,8 @@ fn start_worker<
     lent: &'s Lent<N>,
     worker: Worker<N>,
 ) -> Result<WorkerThread<N, W>, RunFault>
-    ensures thread { IfOk result (λ h. (h.promise.worker.value ≡ worker) × (h.promise.work.value ≡ shared.now.work.now)) }
+    ensures thread { IfOk result
+        (λ h. (h.promise.worker.value ≡ worker) × (h.promise.work.value ≡ shared.now.work.now)) }
     ensures fault { IfErr result (λ f. is_silent f ≡ true) }
 {
     let promise: RunsWork<N, W> = RunsWork {

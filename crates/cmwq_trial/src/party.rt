@@ -139,6 +139,7 @@ impl<'a> Scene<'a> {
     }
 
     /// The item that it runs at the end of the history, of a worker.
+    #[tactic(auto, using(cmwq_state::proofs::Steps::fits_there))]
     fn item_of(&self, who: Option<Who>) -> Option<ItemId> {
         match who {
             Some(Who::Worker(worker)) if self.shape.fits(Who::Worker(worker), Call::Finish) => {

@@ -13,7 +13,7 @@ abbrev pub call_name : ℕ → List ℕ
 call_name k = keyword_text (slice_index_or CALLS k word.Queue)
 
 abbrev pub reply_name : ℕ → List ℕ
-reply_name k = keyword_text (slice_index_or REPLIES k word.Yes)
+reply_name k = keyword_text (slice_index_or REPLIES k word.Queue)
 
 -- a call's kind has the name of the call's first word, and so has a reply's
 abbrev pub CallsAreNamed : Type 0

@@ -20,7 +20,8 @@ loop-preserved g c =
       given.2 ∙ inv.2,
       (λ k x at.
           all_push (λ k h. (x : WorkerId) × (worker_by_number s k ≡ Some x)
-          × (h.promise.worker.value ≡ newcomer (Worker x)) × (h.promise.work.value ≡ c.args.shared.now.work.now)) hs h inv.3 (
+          × (h.promise.worker.value ≡ newcomer (Worker x)) × (h.promise.work.value ≡ c.args.shared.now.work.now))
+          hs h inv.3 (
             which.0,
             sym inv.0 ∙ which.1,
             c.in-Ok-start_worker.ensures.thread.0 ∙ which.2,
