@@ -20,7 +20,6 @@ use Rattle.cmwq_chart_text.specs.Figures.{figures_of}
 use Rattle.cmwq_chart_text.specs.PictureText.{picture_of, picture_text}
 use Rattle.cmwq_views.specs.declared.chart.Charted.{Charted}
 use Rattle.cmwq_views.specs.declared.chart.Charted.TheVariants as charted
-use Rattle.cmwq_views.specs.declared.chart.TheConstants as constants
 
 -- the picture of what a window shows of a history
 unfoldable pub chart_text : Window → Layout → List Entry → List ℕ
@@ -41,9 +40,9 @@ charted_text w f = chart_text w f.layout f.items
 abbrev pub entries_in : Window → ℕ → ℕ
 entries_in w n = min w.to n - min w.from n
 
--- more than that are drawn only if all are to be
+-- more than 20,000 are drawn only if all are to be
 abbrev pub has_too_many : Window → Bool → ℕ → Bool
-has_too_many w all n = not all && nat_lt constants.MOST_SHOWN (entries_in w n)
+has_too_many w all n = not all && nat_lt 20000 (entries_in w n)
 
 -- A legal history is drawn, unless its window shows too many entries. An illegal one has its first wrong entry.
 abbrev pub IsCharted : Window → Bool → File Entry → Charted → Type 0
