@@ -2,11 +2,9 @@
 -- run, queueing that hasn't started, booking, and unended wait. Idle queues in a row have one line.
 use Rattle.std.specs.Prelude.{ℕ, zero, suc, ◌+◌, ◌-◌, ◌*◌, ◌/◌, ◌%◌, Bool, ◌==◌, ◌&&◌, not, if◌then◌else◌, List, []}
 use Rattle.std.specs.Prelude.{◌∷◌, ◌++◌, length, nat_lt, slice_get}
-use Rattle.std.specs.Prelude.{Option, Some, None, Result, flat_map, codes, find, is_some, option_and_then}
+use Rattle.std.specs.Prelude.{Option, Some, None, Result, flat_map, codes, option_and_then}
 use Rattle.std.specs.List.{list_any, range_with_len}
 use Rattle.std.specs.Option.{option_map_or}
-use Rattle.cmwq_model.specs.declared.id.Who.TheVariants.{Worker}
-use Rattle.cmwq_model.specs.declared.id.WorkerId.{WorkerId}
 use Rattle.cmwq_model.specs.declared.call.Call.{Call}
 use Rattle.cmwq_model.specs.declared.call.Call.TheVariants as call
 use Rattle.cmwq_model.specs.declared.entry.Entry.{Entry}
@@ -15,17 +13,15 @@ use Rattle.cmwq_model.specs.declared.record.Place.{Place}
 use Rattle.cmwq_model.specs.declared.record.Queueing.{Queueing}
 use Rattle.cmwq_model.specs.declared.record.Ticket.{Ticket}
 use Rattle.cmwq_model.specs.declared.verdict.Illegal.{Illegal}
-use Rattle.cmwq_model.specs.Prelude.{Layout, is_active, max_active, most_cpus, most_workers, now, past_of, waits_for}
-use Rattle.cmwq_model.specs.Prelude.{is_at, width}
+use Rattle.cmwq_model.specs.Prelude.{Layout, is_active, max_active, most_cpus, now, past_of, waits_for}
+use Rattle.cmwq_model.specs.Prelude.{width}
 use Rattle.cmwq_model.specs.Bookings.{booking}
 use Rattle.cmwq_model.specs.Queueings.{unstarted_queueing}
 use Rattle.cmwq_model.specs.Runs.{runs_asleep}
 use Rattle.cmwq_model.specs.Tickets.{is_draining, is_gone, most_tickets, unended_tickets}
 use Rattle.cmwq_model.specs.Widths.{is_shut_down}
-use Rattle.cmwq_theory_steps.specs.ItemQueueings.{queueing_run}
 use Rattle.cmwq_theory_steps.specs.Places.{open_on}
 use Rattle.cmwq_refinement.specs.Tickets.{tickets_held}
-use Rattle.cmwq_state.specs.History.{ticket_has_number}
 use Rattle.cmwq_obstacle.specs.Obstacles.{obstacle_of}
 use Rattle.cmwq_obstacle.specs.declared.obstacle.Obstacle.{Obstacle}
 use Rattle.cmwq_obstacle.specs.declared.obstacle.Obstacle.TheVariants as obstacles
