@@ -2,6 +2,9 @@
 //! threads or plays their schedules in one. It reads a file or standard input, and writes standard output.
 #![tactic(auto)]
 
+mod hint;
+
+use crate::hint::Hinting;
 use clap::error::ErrorKind;
 use cmwq_base::{BufferedSink, FromStd, Sink, Source};
 use cmwq_cli::{Asked, Schedules, Word, word_of};
@@ -123,7 +126,9 @@ fn run<S: Source, P: Source, O: Sink, E: Sink, T: Threads + Wait + Clock + Sync>
         Word::Upgrade => run_upgrade(alloc, input, output, errors),
         Word::Summary => run_summary(alloc, input, output, errors),
         Word::Open { front } => run_open(alloc, input, output, errors, front),
-        Word::Chart { from, to } => run_chart(alloc, input, output, errors, window(from, to)),
+        Word::Chart { from, to, all } => {
+            run_chart(alloc, input, output, errors, window(from, to), all)
+        }
         Word::Trace => run_trace(alloc, input, output, errors),
         Word::Page { from, to } => run_page(alloc, input, output, errors, window(from, to)),
         Word::Replay => run_replay(alloc, input, output, errors),
@@ -289,6 +294,12 @@ fn run_asked<T: Threads + Wait + Clock + Sync>(rt: &HostRuntime, asked: Asked, t
     }
 }
 
+/// Whether a refused input is one of which `--explain` would tell more: not the other file of `explore`.
+fn is_hinting(asked: &Asked<'_>) -> bool {
+    let is_of_other = matches!(asked.word, Word::Explore { .. }) && asked.other.is_some();
+    !asked.explain && !is_of_other
+}
+
 /// Does what was asked, and writes to this output.
 fn run_to<P: Source, T: Threads + Wait + Clock + Sync>(
     rt: &HostRuntime,
@@ -302,7 +313,7 @@ fn run_to<P: Source, T: Threads + Wait + Clock + Sync>(
         Ok(input) => FromStd::new(input),
         Err(error) => return not_opened(rt, asked.file.unwrap_or("-"), &error),
     };
-    let mut errors = FromStd::new(rt.stderr());
+    let mut errors = FromStd::new(Hinting::new(rt.stderr(), is_hinting(&asked)));
     let Ok(mut output) = BufferedSink::new(alloc, FromStd::new(output)) else {
         return no_memory(rt);
     };

@@ -5,7 +5,7 @@ use Rattle.std.specs.Prelude.{IfOk, option_map}
 use Rattle.clap.specs.Words.{App, Row, Text, app_of, first_of}
 use Rattle.clap.specs.declared.builder.command.Command.{Command}
 use Rattle.cmwq_cli.specs.declared.word.Word.{Word}
-use Rattle.cmwq_cli.specs.Word.{asked_found, with_command, with_named, word_found}
+use Rattle.cmwq_cli.specs.Word.{asked_found, with_command, word_found}
 use Rattle.cmwq_cli.specs.Explore.{followed_found, has_flag, other_found}
 
 pub neither : (a b : Bool) → a ≡ false → b ≡ false → (a || b) ≡ false
@@ -15,11 +15,6 @@ neither a b h k = ap₂ (λ x y. x || y) h k
 pub of_word : {E : Type 0} {old new : App} (program : App) (result : Result Command E) → old ≡ new
     → IfOk result (λ c. app_of c ≡ with_command program old) → IfOk result (λ c. app_of c ≡ with_command program new)
 of_word program result is h = subst (λ (a : App). IfOk result (λ c. app_of c ≡ with_command program a)) is h
-
--- the same of one that shows a history
-pub of_named : {E : Type 0} {old new : App} (program : App) (result : Result Command E) → old ≡ new
-    → IfOk result (λ c. app_of c ≡ with_named program old) → IfOk result (λ c. app_of c ≡ with_named program new)
-of_named program result is h = subst (λ (a : App). IfOk result (λ c. app_of c ≡ with_named program a)) is h
 
 -- what is asked, of its parts
 pub asked : (name : Text) (rows : List Row) (w : Word) (e : Bool) (f o : Option Text)

@@ -6,7 +6,7 @@ use Rattle.std.specs.Str.{bytes_eq}
 use Rattle.std.specs.Str.Parse.{digits_value, without_leading_plus}
 use Rattle.clap.specs.Words.{Row, first_of, one_of}
 use Rattle.clap.specs.ValueTests.{is_unsigned_in}
-use Rattle.cmwq_cli.specs.declared.word.Options.{Options}
+use Rattle.cmwq_cli.specs.declared.options.Options.{Options}
 use Rattle.cmwq_cli.specs.declared.word.Schedules.{Schedules}
 use Rattle.cmwq_cli.specs.declared.word.Schedules.TheVariants as schedules
 

@@ -21,7 +21,9 @@ word_found found =
     else if bytes_eq found.0 (codes "summary") then Some word.Summary
     else if bytes_eq found.0 (codes "open") then Some (word.Open (has_flag (codes "front") found.1))
     else if bytes_eq found.0 (codes "chart")
-    then Some (word.Chart (number_found (codes "from") found.1) (number_found (codes "to") found.1))
+    then Some
+    (word.Chart (number_found (codes "from") found.1) (number_found (codes "to") found.1)
+    (has_flag (codes "all") found.1))
     else if bytes_eq found.0 (codes "trace") then Some word.Trace
     else if bytes_eq found.0 (codes "page")
     then Some (word.Page (number_found (codes "from") found.1) (number_found (codes "to") found.1))
@@ -101,13 +103,9 @@ file_option name = record (new_rule name) { long = Some name; action = Some Set;
 abbrev pub with_named : App → App → App
 with_named a command = with_command a (with_rule command (file_option (codes "names")))
 
--- one of them with two options with numbers too
-abbrev pub with_numbers : App → List ℕ → List ℕ → List ℕ → App
-with_numbers a name first second =
-    with_named a (with_rule (with_rule (new_app name) (number_rule first)) (number_rule second))
-
 -- the words whose inputs are lines and whose outputs are too, of which `step` also has `--live`, and `check` and `open`
--- have `--front`; then those that draw a history, of which `chart` and `page` have `--from` and `--to`
+-- have `--front`; then those that draw a history, of which `chart` and `page` have `--from` and `--to`, and `chart` has
+-- `--all`
 abbrev pub with_texts : App
 with_texts =
     with_named
@@ -117,11 +115,24 @@ with_texts =
     (codes "upgrade")) (new_app (codes "summary")))
     (with_rule (new_app (codes "open")) (flag_rule (codes "front")))
 
+abbrev pub chart_word : App
+chart_word =
+    with_rule
+    (with_rule (with_rule (new_app (codes "chart")) (number_rule (codes "from"))) (number_rule (codes "to")))
+    (flag_rule (codes "all"))
+
+abbrev pub page_word : App
+page_word =
+    with_rule (with_rule (new_app (codes "page")) (number_rule (codes "from"))) (number_rule (codes "to"))
+
+abbrev pub with_chart : App
+with_chart = with_named with_texts chart_word
+
+abbrev pub with_trace : App
+with_trace = with_named with_chart (new_app (codes "trace"))
+
 abbrev pub with_lines : App
-with_lines =
-    with_numbers
-    (with_named (with_numbers with_texts (codes "chart") (codes "from") (codes "to")) (new_app (codes "trace")))
-    (codes "page") (codes "from") (codes "to")
+with_lines = with_named with_trace page_word
 
 -- the word `explore`, with its options of seeds, with those of all schedules too, and with all its options
 abbrev pub seeded_word : App

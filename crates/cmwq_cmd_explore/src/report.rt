@@ -7,7 +7,7 @@ use arrayvec::ArrayString;
 use cmwq_explore::{Party, PartyName, Play, Progress, Refused, Return};
 use cmwq_io::{Sink, flush_all, write_all};
 use cmwq_json::Fault;
-use cmwq_model::{ItemId, WorkerId};
+use cmwq_model::{ItemId, Queueing, WorkerId};
 use cmwq_obstacle::{Obstacle, obstacle_of};
 use std::fmt;
 use std::fmt::{Display, Formatter, Write};
@@ -202,11 +202,30 @@ struct ObstacleWords {
     holder: Option<PartyName>,
 }
 
+/// Writes which queueings take the places of a queue on its CPU: the first of so many.
+fn write_taken<W: Write>(
+    f: &mut Formatter<W>,
+    first: Option<Queueing>,
+    active: u32,
+) -> fmt::Result {
+    match first {
+        Some(first) if active > 1 => {
+            let more = active - 1;
+            write!(f, ", after queueing {} and {more} more", first.number)
+        }
+        Some(first) => write!(f, ", after queueing {}", first.number),
+        None => Ok(()),
+    }
+}
+
 impl Display for ObstacleWords {
     fn fmt<W: Write>(&self, f: &mut Formatter<W>) -> fmt::Result {
         match (self.obstacle, self.holder) {
             (Some(Obstacle::Frozen), _) => f.write_str(": its queue is frozen"),
-            (Some(Obstacle::NoPlace), _) => f.write_str(": its queue has no place left on its CPU"),
+            (Some(Obstacle::NoPlace { first, active }), _) => {
+                f.write_str(": its queue has no place left on its CPU")?;
+                write_taken(f, first, active)
+            }
             (Some(Obstacle::ItemRuns), _) => f.write_str(": its item runs"),
             (Some(Obstacle::Held(_)), Some(name)) => {
                 write!(f, ": the run of worker {name} is awake")

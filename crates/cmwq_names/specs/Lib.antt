@@ -1,3 +1,5 @@
 pub mod Names
 pub mod Escapes
+pub mod Headings
+pub mod Labels
 pub mod Named

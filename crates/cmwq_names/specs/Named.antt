@@ -1,46 +1,18 @@
 -- A text with names in place of numbers.
-use Rattle.std.specs.Prelude.{ℕ, zero, suc, ◌*◌, ◌+◌, ◌-◌, Bool, true, false, ◌==◌, not, if◌then◌else◌, List, [], ◌∷◌, ◌++◌, length}
-use Rattle.std.specs.Prelude.{take, drop, min, Option, Some, None, option_and_then, codes}
-use Rattle.std.specs.List.{ends_with, list_any, position}
+use Rattle.std.specs.Prelude.{ℕ, zero, suc, ◌*◌, ◌+◌, ◌-◌, Bool, true, false, ◌==◌, not, if◌then◌else◌, List, [], ◌∷◌}
+use Rattle.std.specs.Prelude.{◌++◌, length, take, drop, min, Option, Some, None}
+use Rattle.std.specs.List.{position}
 use Rattle.std.specs.Option.{option_map_or}
 use Rattle.std.specs.Char.{is_ascii_digit}
 use Rattle.serde_json.specs.Data.{Data}
 use Rattle.cmwq_names.specs.Escapes.{escaped}
+use Rattle.cmwq_names.specs.Headings.{kind_after}
+use Rattle.cmwq_names.specs.Labels.{beside, is_label, label}
 use Rattle.cmwq_names.specs.Names.{name_of}
 use Rattle.cmwq_names.specs.declared.form.Form.{Form}
-use Rattle.cmwq_names.specs.declared.form.Form.TheVariants.{Plain, Json, Xml}
+use Rattle.cmwq_names.specs.declared.form.Form.TheVariants.{Xml}
 use Rattle.cmwq_names.specs.declared.kind.Kind.{Kind}
-use Rattle.cmwq_names.specs.declared.kind.Kind.TheVariants.{Item, Queue, Caller}
-
--- ---- after which words the number of an item, a queue or a caller stands
-
-abbrev pub item_headings : Form → List (List ℕ)
-item_headings Plain = codes "item " ∷ codes "flush_delayed " ∷ codes "cancel_sync " ∷ []
-item_headings Json = codes "item " ∷ []
-item_headings Xml = codes "<title>item " ∷ []
-
-abbrev pub queue_headings : Form → List (List ℕ)
-queue_headings Plain = codes "queue " ∷ codes "flush " ∷ codes "drain " ∷ codes "destroy " ∷ []
-queue_headings Json = codes "\"queue " ∷ []
-queue_headings Xml = codes "\">q" ∷ []
-
-abbrev pub caller_headings : Form → List (List ℕ)
-caller_headings Plain = codes "caller c" ∷ []
-caller_headings Json = codes "\"c" ∷ []
-caller_headings Xml = codes "\">c" ∷ codes "<title>c" ∷ []
-
-abbrev pub is_heading : List ℕ → List ℕ → Bool
-is_heading words heading = ends_with (λ a b. a == b) words heading
-
-abbrev pub is_after : List ℕ → List (List ℕ) → Bool
-is_after words headings = list_any (is_heading words) headings
-
-abbrev pub kind_after : Form → List ℕ → Option Kind
-kind_after form words =
-    if is_after words (item_headings form) then Some Item
-    else if is_after words (queue_headings form) then Some Queue
-    else if is_after words (caller_headings form) then Some Caller
-    else None
+use Rattle.cmwq_names.specs.declared.kind.Kind.TheVariants.{Queue, Caller}
 
 -- ---- a number
 
@@ -58,19 +30,19 @@ is_beside form Caller = true
 is_beside Xml Queue = true
 is_beside form kind = false
 
-abbrev pub beside : List ℕ → List ℕ → List ℕ
-beside digits name = digits ++ codes " (" ++ name ++ codes ")"
+-- A row of a chart has little room for it.
+abbrev pub with_name : Form → Bool → Kind → List ℕ → List ℕ → List ℕ
+with_name form row kind digits name =
+    if row then label kind digits name
+    else if is_beside form kind then beside digits (escaped form name) else escaped form name
 
-abbrev pub with_name : Form → Kind → List ℕ → List ℕ → List ℕ
-with_name form kind digits name =
-    if is_beside form kind then beside digits (escaped form name) else escaped form name
-
-abbrev pub of_kind : Data → Form → List ℕ → Kind → List ℕ
-of_kind script form digits kind =
-    option_map_or (with_name form kind digits) (name_of script kind (value_from 0 digits)) digits
+abbrev pub of_kind : Data → Form → Bool → List ℕ → Kind → List ℕ
+of_kind script form row digits kind =
+    option_map_or (with_name form row kind digits) (name_of script kind (value_from 0 digits)) digits
 
 abbrev pub shown : Data → Form → List ℕ → List ℕ → List ℕ
-shown script form words digits = option_map_or (of_kind script form digits) (kind_after form words) digits
+shown script form words digits =
+    option_map_or (of_kind script form (is_label form words) digits) (kind_after form words) digits
 
 -- ---- a text: words, and a number after them, and what is left
 

@@ -78,11 +78,10 @@ fn push_byte(out: &mut Vec<u8>, form: Form, byte: u8) -> Result<(), AllocError>
 }
 
 /// Adds a name.
-pub(crate) fn push_escaped(out: &mut Vec<u8>, form: Form, name: &str) -> Result<(), AllocError>
+pub(crate) fn push_escaped(out: &mut Vec<u8>, form: Form, name: &[u8]) -> Result<(), AllocError>
     ensures { OnOk result (out.new.items ≡ out.old.items ++ escaped form name.now) }
 {
-    let bytes = name.as_bytes();
-    for byte in bytes {
+    for byte in name {
         push_byte(out, form, *byte)?;
     }
     Ok(())

@@ -1,8 +1,8 @@
 //! The forms of text, and after which words a number in one is that of an item, a queue or a caller.
 ghost use Rattle.std.specs.Prelude.{◌≡◌};
 ghost use Rattle.std.specs.List.{list_any};
-ghost use Rattle.cmwq_names.specs.Named.{caller_headings, is_after, is_heading, item_headings, kind_after};
-ghost use Rattle.cmwq_names.specs.Named.{queue_headings};
+ghost use Rattle.cmwq_names.specs.Headings.{caller_headings, is_after, is_heading, item_headings, kind_after};
+ghost use Rattle.cmwq_names.specs.Headings.{queue_headings};
 
 use crate::kind::Kind;
 
@@ -18,7 +18,7 @@ pub enum Form {
 }
 
 /// Whether the words end with one of these headings.
-fn is_after(words: &[u8], headings: &[&str]) -> bool
+pub(crate) fn is_after(words: &[u8], headings: &[&str]) -> bool
     ensures { result ≡ list_any (λ heading. is_heading words.now heading.now) headings.now }
 {
     headings

@@ -4,6 +4,7 @@
 mod escape;
 mod form;
 mod kind;
+mod label;
 mod page;
 mod texts;
 

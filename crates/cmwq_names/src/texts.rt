@@ -3,14 +3,14 @@ ghost use Rattle.std.specs.Prelude.{◌≡◌, ◌++◌, ◌<◌, ◌≤◌, len
 ghost use Rattle.std.specs.List.{position};
 ghost use Rattle.std.specs.Char.{is_ascii_digit};
 ghost use Rattle.serde_json.specs.View.{view};
-ghost use Rattle.cmwq_names.specs.Escapes.{escaped};
 ghost use Rattle.cmwq_names.specs.Named.{after_digits, digits_at, digits_end, from_digits, is_no_digit, named, of_kind};
 ghost use Rattle.cmwq_names.specs.Named.{place_or_end, shown, value_from, words_before};
-ghost use Rattle.cmwq_names.specs.Named.{beside, is_beside, with_digit, with_name};
+ghost use Rattle.cmwq_names.specs.Named.{is_beside, with_digit, with_name};
 
 use crate::escape::push_escaped;
 use crate::form::{Form, kind_after};
 use crate::kind::{Kind, name_of};
+use crate::label::{is_label, push_beside, push_label};
 use serde_json::Value;
 use std::alloc::{AllocError, Global};
 
@@ -48,27 +48,20 @@ fn is_beside(form: Form, kind: Kind) -> bool
     }
 }
 
-/// Adds digits and a name beside them.
-fn push_beside(out: &mut Vec<u8>, form: Form, digits: &[u8], name: &str) -> Result<(), AllocError>
-    ensures { OnOk result (out.new.items ≡ out.old.items ++ beside digits.now (escaped form name.now)) }
-{
-    out.extend_from_slice(digits)?;
-    out.extend_from_slice(" (".as_bytes())?;
-    push_escaped(out, form, name)?;
-    out.extend_from_slice(")".as_bytes())
-}
-
 /// Adds what has this name, in place of its digits.
 fn push_name(
     out: &mut Vec<u8>,
     form: Form,
+    is_row: bool,
     kind: Kind,
     digits: &[u8],
-    name: &str,
+    name: &[u8],
 ) -> Result<(), AllocError>
-    ensures { OnOk result (out.new.items ≡ out.old.items ++ with_name form kind digits.now name.now) }
+    ensures { OnOk result (out.new.items ≡ out.old.items ++ with_name form is_row kind digits.now name.now) }
 {
-    if is_beside(form, kind) {
+    if is_row {
+        push_label(out, kind, digits, name)
+    } else if is_beside(form, kind) {
         push_beside(out, form, digits, name)
     } else {
         push_escaped(out, form, name)
@@ -80,13 +73,14 @@ fn push_of_kind(
     out: &mut Vec<u8>,
     script: &Value,
     form: Form,
+    is_row: bool,
     digits: &[u8],
     kind: Kind,
 ) -> Result<(), AllocError>
-    ensures { OnOk result (out.new.items ≡ out.old.items ++ of_kind (view script.now) form digits.now kind) }
+    ensures { OnOk result (out.new.items ≡ out.old.items ++ of_kind (view script.now) form is_row digits.now kind) }
 {
     match name_of(script, kind, value_of(digits)) {
-        Some(name) => push_name(out, form, kind, digits, name),
+        Some(name) => push_name(out, form, is_row, kind, digits, name.as_bytes()),
         None => out.extend_from_slice(digits),
     }
 }
@@ -103,7 +97,7 @@ fn push_shown(
         (out.new.items ≡ out.old.items ++ shown (view script.now) form words.now digits.now) }
 {
     match kind_after(form, words) {
-        Some(kind) => push_of_kind(out, script, form, digits, kind),
+        Some(kind) => push_of_kind(out, script, form, is_label(form, words), digits, kind),
         None => out.extend_from_slice(digits),
     }
 }

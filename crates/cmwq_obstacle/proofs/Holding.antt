@@ -1,9 +1,9 @@
 -- Whether a run holds its pool, by what its worker runs.
-use Rattle.std.proofs.Common.{ℕ, ◌≡◌, ◌&&◌, Bool, true, false, not, List, Option, Some, None, option_and_then, refl, ap}
+use Rattle.std.proofs.Common.{ℕ, ◌≡◌, ◌&&◌, Bool, true, false, not, List, Option, Some, None, option_and_then, refl}
 use Rattle.std.proofs.Common.{ap₂, sym}
 use Rattle.std.proofs.Common.{◌∙◌}
 use Rattle.std.specs.Option.{option_map_or}
-use Rattle.cmwq_model.specs.Prelude.{Layout, is_holding, is_intensive, queueing_at, run, run_queue, runs_awake}
+use Rattle.cmwq_model.specs.Prelude.{Layout, is_holding, is_intensive, queueing_at, run, runs_awake}
 use Rattle.cmwq_model.specs.Queueings.{queue_of}
 use Rattle.cmwq_model.specs.declared.entry.Entry.{Entry}
 use Rattle.cmwq_model.specs.declared.id.WorkerId.{WorkerId}

@@ -1,2 +1,3 @@
 pub mod Holding
 pub mod Ranges
+pub mod Unstarted

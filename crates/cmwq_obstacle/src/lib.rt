@@ -1,6 +1,9 @@
 //! Why what is queued has not started.
 #![tactic(auto)]
 
+mod keeper;
 mod obstacle;
+mod places;
 
+pub use keeper::keeper_of;
 pub use obstacle::{Obstacle, obstacle_of};

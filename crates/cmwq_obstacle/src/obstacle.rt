@@ -6,6 +6,7 @@ ghost use Rattle.cmwq_model.specs.Prelude.{indices, is_holding, is_idle, is_inte
 ghost use Rattle.cmwq_refinement.specs.Places.{IsQueueingThere};
 ghost use Rattle.cmwq_obstacle.specs.Obstacles as spec;
 
+use crate::places::{active_beside, first_active};
 use cmwq_model::{ItemId, PoolId, Queueing, Shape, WorkerId};
 use cmwq_state::State;
 
@@ -14,8 +15,13 @@ use cmwq_state::State;
 pub enum Obstacle {
     /// Its queue is frozen.
     Frozen,
-    /// As many of its queue as may be active on its CPU are queued there before it.
-    NoPlace,
+    /// As many queueings of its queue are active on its CPU as may be.
+    NoPlace {
+        /// The first of them.
+        first: Option<Queueing>,
+        /// How many there are.
+        active: u32,
+    },
     /// Its item runs.
     ItemRuns,
     /// A run that is awake holds the pool: that of this worker.
@@ -90,7 +96,7 @@ fn is_any_idle(state: &State, shape: &Shape, pool: PoolId) -> bool
 }
 
 /// The pool in which this queueing runs.
-fn pool_of(shape: &Shape, queueing: Queueing) -> PoolId
+pub(crate) fn pool_of(shape: &Shape, queueing: Queueing) -> PoolId
     ensures { result ≡ pool_at shape.now queueing.place }
 {
     let high = match shape.queues().get(usize::from(queueing.place.queue.0)) {
@@ -121,19 +127,30 @@ fn of_pool(state: &State, shape: &Shape, queueing: Queueing, pool: PoolId) -> Op
     }
 }
 
+/// What keeps an open queueing that is not active.
+fn of_inactive(state: &State, shape: &Shape, queueing: Queueing) -> Obstacle
+    requires shape { shape.now ≡ state.now.layout }
+    requires there { IsQueueingThere state.now.layout queueing }
+    ensures { result ≡ spec.of_inactive state.now.layout (past_of state.now.entries) queueing }
+{
+    if state.width(queueing.place.queue) == 0 {
+        return Obstacle::Frozen;
+    }
+    Obstacle::NoPlace {
+        first: first_active(state, shape, queueing.place, pool_of(shape, queueing)),
+        active: active_beside(state, shape, queueing),
+    }
+}
+
 /// What keeps an open queueing.
-fn of_queueing(state: &State, shape: &Shape, queueing: Queueing) -> Option<Obstacle>
+pub(crate) fn of_queueing(state: &State, shape: &Shape, queueing: Queueing) -> Option<Obstacle>
     requires shape { shape.now ≡ state.now.layout }
     requires open { Contains (still_open (past_of state.now.entries)) queueing }
     requires there { IsQueueingThere state.now.layout queueing }
     ensures { result ≡ spec.obstacle state.now.layout (past_of state.now.entries) queueing }
 {
     if !state.is_active(queueing) {
-        return Some(if state.width(queueing.place.queue) == 0 {
-            Obstacle::Frozen
-        } else {
-            Obstacle::NoPlace
-        });
+        return Some(of_inactive(state, shape, queueing));
     }
     if state.is_running(queueing.item) {
         return Some(Obstacle::ItemRuns);

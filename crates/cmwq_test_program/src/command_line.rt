@@ -17,6 +17,7 @@ const WORDS: [(&str, Word); 10] = [
         Word::Chart {
             from: None,
             to: None,
+            all: false,
         },
     ),
     ("trace", Word::Trace),
@@ -51,6 +52,12 @@ fn subcommands_and_flags_are_read(rt: HostRuntime) {
     let window = Word::Chart {
         from: Some(10),
         to: Some(40),
+        all: false,
+    };
+    let from_there = Word::Chart {
+        from: Some(10),
+        to: None,
+        all: true,
     };
     let opened_at = Word::Page {
         from: Some(10),
@@ -106,6 +113,7 @@ fn subcommands_and_flags_are_read(rt: HostRuntime) {
         (&["cmwq", "open", "--front"], Word::Open { front: true }),
         (&["cmwq", "step", "--live"], Word::Step { live: true }),
         (&["cmwq", "chart", "--from", "10", "--to=40"], window),
+        (&["cmwq", "chart", "--from", "10", "--all"], from_there),
         (&["cmwq", "page", "--from=10"], opened_at),
     ] {
         let asked = word_of(rt.alloc(), words).expect(&rt, "a subcommand");

@@ -123,7 +123,7 @@ fn each_call_of_the_errors_may_fail(rt: HostRuntime) {
     }
 }
 
-/// A thousand interruptions in a row are borne, and one more is a fault.
+/// A call is made again after a thousand interruptions in a row, and one more is a fault.
 #[test]
 fn interruptions_are_borne(rt: HostRuntime) {
     for (reads, writes, wanted) in [(1_000, 1_000, 0), (1_001, 0, 5), (0, 1_001, 5)] {

@@ -72,7 +72,7 @@ impl Subcommand {
             Subcommand::Upgrade => run_upgrade(alloc, input, output, errors),
             Subcommand::Summary => run_summary(alloc, input, output, errors),
             Subcommand::Open => run_open(alloc, input, output, errors, false),
-            Subcommand::Chart => run_chart(alloc, input, output, errors, WHOLE),
+            Subcommand::Chart => run_chart(alloc, input, output, errors, WHOLE, false),
             Subcommand::Trace => run_trace(alloc, input, output, errors),
             Subcommand::Page => run_page(alloc, input, output, errors, WHOLE),
             Subcommand::Replay => run_replay(alloc, input, output, errors),

@@ -15,6 +15,7 @@ mod trying;
 mod watch;
 
 pub use awaits::{Awaits, Wanted};
+pub use cmwq_history::write_history;
 pub use cmwq_turns::Schedule;
 pub use counting::Trials;
 pub use failure::{Failure, Tried};

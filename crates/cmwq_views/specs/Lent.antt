@@ -7,10 +7,11 @@ use Rattle.cmwq_model.specs.declared.id.Who.TheVariants.{Worker}
 use Rattle.cmwq_model.specs.declared.entry.Entry.{Entry}
 use Rattle.cmwq_model.specs.declared.record.Queueing.{Queueing}
 use Rattle.cmwq_model.specs.declared.record.Ticket.{Ticket}
-use Rattle.cmwq_model.specs.Prelude.{Layout, is_at, most_workers, unended_tickets, waits_for}
+use Rattle.cmwq_model.specs.Prelude.{Layout, is_at, most_workers, unended_tickets, unstarted_queueing, waits_for}
 use Rattle.cmwq_model.specs.Runs.{runs_asleep}
 use Rattle.cmwq_theory_steps.specs.ItemQueueings.{queueing_run}
 use Rattle.cmwq_state.specs.History.{ticket_has_number}
+use Rattle.cmwq_obstacle.specs.Obstacles.{keeper_of}
 use Rattle.cmwq_views.specs.Page.{worker_of_row}
 use Rattle.cmwq_views.specs.Since.{last}
 use Rattle.cmwq_views.specs.declared.deed.Deed.TheVariants as deed
@@ -51,18 +52,41 @@ cause_of_run past k x =
 abbrev pub cause_of_row : Layout → List Entry → ℕ → Option ℕ
 cause_of_row s past k = option_and_then (cause_of_run past k) (run_of_row s past k)
 
--- ---- circles of waits
+-- ---- which run keeps a queueing from its end
 
--- the worker that runs this queueing
+-- whether an option is a queueing with this number
+abbrev pub has_that_number : ℕ → Option Queueing → Bool
+has_that_number n o = option_map_or (λ (x : Queueing). x.number == n) o false
+
+-- the worker that runs it
 abbrev pub runs_number : Layout → List Entry → ℕ → ℕ → Bool
-runs_number s past n k = option_map_or (λ (x : Queueing). x.number == n) (run_of_row s past k) false
+runs_number s past n k = has_that_number n (run_of_row s past k)
 
 abbrev pub row_running : Layout → List Entry → ℕ → Option ℕ
 row_running s past n = find (runs_number s past n) (range_with_len 0 (worker_rows s))
 
+-- if it has not started, the worker whose run alone keeps it from that
+abbrev pub is_queued_as : List Entry → ℕ → ℕ → Bool
+is_queued_as past n i = has_that_number n (unstarted_queueing past i)
+
+abbrev pub item_queued : Layout → List Entry → ℕ → Option ℕ
+item_queued s past n = find (is_queued_as past n) (range_with_len 0 s.items)
+
+abbrev pub row_keeping_item : Layout → List Entry → ℕ → Option ℕ
+row_keeping_item s past i = option_and_then (λ (x : Queueing). row_running s past x.number) (keeper_of s past i)
+
+abbrev pub row_keeping : Layout → List Entry → ℕ → Option ℕ
+row_keeping s past n = option_and_then (row_keeping_item s past) (item_queued s past n)
+
+-- the one or the other
+abbrev pub row_holding : Layout → List Entry → ℕ → Option ℕ
+row_holding s past n = if is_some (row_running s past n) then row_running s past n else row_keeping s past n
+
+-- ---- circles of waits
+
 -- the worker for whose run that of this worker waits
 abbrev pub next_row : Layout → List Entry → ℕ → Option ℕ
-next_row s past k = option_and_then (row_running s past) (cause_of_row s past k)
+next_row s past k = option_and_then (row_holding s past) (cause_of_row s past k)
 
 -- the worker to which so many such waits lead
 unfoldable pub row_after : Layout → List Entry → ℕ → ℕ → Option ℕ

@@ -1,12 +1,10 @@
 -- What is still going on at the end of a history: a line for its entries and ticks, and then a line for each queue,
 -- run, queueing that hasn't started, booking, and unended wait. Idle queues in a row have one line.
-use Rattle.std.specs.Prelude.{ℕ, zero, suc, ◌+◌, ◌*◌, ◌/◌, ◌%◌, Bool, ◌==◌, ◌&&◌, not, if◌then◌else◌, List, []}
+use Rattle.std.specs.Prelude.{ℕ, zero, suc, ◌+◌, ◌-◌, ◌*◌, ◌/◌, ◌%◌, Bool, ◌==◌, ◌&&◌, not, if◌then◌else◌, List, []}
 use Rattle.std.specs.Prelude.{◌∷◌, ◌++◌, length, nat_lt, slice_get}
-use Rattle.std.specs.Prelude.{Option, Some, None, Result, flat_map, codes, find, is_some, option_and_then}
+use Rattle.std.specs.Prelude.{Option, Some, None, Result, flat_map, codes, option_and_then}
 use Rattle.std.specs.List.{list_any, range_with_len}
 use Rattle.std.specs.Option.{option_map_or}
-use Rattle.cmwq_model.specs.declared.id.Who.TheVariants.{Worker}
-use Rattle.cmwq_model.specs.declared.id.WorkerId.{WorkerId}
 use Rattle.cmwq_model.specs.declared.call.Call.{Call}
 use Rattle.cmwq_model.specs.declared.call.Call.TheVariants as call
 use Rattle.cmwq_model.specs.declared.entry.Entry.{Entry}
@@ -15,17 +13,15 @@ use Rattle.cmwq_model.specs.declared.record.Place.{Place}
 use Rattle.cmwq_model.specs.declared.record.Queueing.{Queueing}
 use Rattle.cmwq_model.specs.declared.record.Ticket.{Ticket}
 use Rattle.cmwq_model.specs.declared.verdict.Illegal.{Illegal}
-use Rattle.cmwq_model.specs.Prelude.{Layout, is_active, max_active, most_cpus, most_workers, now, past_of, waits_for}
-use Rattle.cmwq_model.specs.Prelude.{is_at, width}
+use Rattle.cmwq_model.specs.Prelude.{Layout, is_active, max_active, most_cpus, now, past_of, waits_for}
+use Rattle.cmwq_model.specs.Prelude.{width}
 use Rattle.cmwq_model.specs.Bookings.{booking}
 use Rattle.cmwq_model.specs.Queueings.{unstarted_queueing}
 use Rattle.cmwq_model.specs.Runs.{runs_asleep}
 use Rattle.cmwq_model.specs.Tickets.{is_draining, is_gone, most_tickets, unended_tickets}
 use Rattle.cmwq_model.specs.Widths.{is_shut_down}
-use Rattle.cmwq_theory_steps.specs.ItemQueueings.{queueing_run}
 use Rattle.cmwq_theory_steps.specs.Places.{open_on}
 use Rattle.cmwq_refinement.specs.Tickets.{tickets_held}
-use Rattle.cmwq_state.specs.History.{ticket_has_number}
 use Rattle.cmwq_obstacle.specs.Obstacles.{obstacle_of}
 use Rattle.cmwq_obstacle.specs.declared.obstacle.Obstacle.{Obstacle}
 use Rattle.cmwq_obstacle.specs.declared.obstacle.Obstacle.TheVariants as obstacles
@@ -161,10 +157,22 @@ run_line s past k = option_map_or (run_text s past k) (run_of_row s past k) []
 
 -- ---- queueings that haven't started, whether they are active, and why they haven't
 
+-- the queueings that take the places of a queue on its CPU: the first of n, and how many others
+abbrev pub others_text : ℕ → List ℕ
+others_text n = if nat_lt 0 n then named_number (codes " and ") n ++ codes " more" else []
+
+abbrev pub first_text : Queueing → ℕ → List ℕ
+first_text y others = named_number (codes ", after queueing ") y.number ++ others_text others
+
+abbrev pub taken_text : Option Queueing → ℕ → List ℕ
+taken_text None n = []
+taken_text (Some y) n = first_text y (n - 1)
+
 abbrev pub reason_text : Option Obstacle → List ℕ
 reason_text None = codes ": may start"
 reason_text (Some obstacles.Frozen) = codes ": its queue is frozen"
-reason_text (Some obstacles.NoPlace) = codes ": its queue has no place left on its CPU"
+reason_text (Some (obstacles.NoPlace first active)) =
+    codes ": its queue has no place left on its CPU" ++ taken_text first active
 reason_text (Some obstacles.ItemRuns) = codes ": its item runs"
 reason_text (Some (obstacles.Held w)) = codes ": the run of worker " ++ worker_name w ++ codes " is awake"
 reason_text (Some obstacles.NoWorker) = codes ": no worker of its pool is idle"

@@ -1,16 +1,18 @@
 //! By which caller a run waits that sleeps, and runs that wait for one another in a circle.
 ghost use Rattle.std.specs.Prelude.{◌≡◌, ◌<◌, Contains, IfSome, is_some, not, option_and_then};
 ghost use Rattle.cmwq_model.specs.Prelude.{is_at, past_of, unended_tickets, waits_for};
-ghost use Rattle.cmwq_views.specs.Lent.{cause_by, cause_of_row, cause_of_run, is_in_circle, is_lent_for, next_row};
-ghost use Rattle.cmwq_views.specs.Lent.{row_running, run_of_row, runs_number, ticket_after_sleep, worker_rows};
+ghost use Rattle.cmwq_views.specs.Lent.{cause_by, cause_of_row, cause_of_run, is_in_circle, is_lent_for, is_queued_as};
+ghost use Rattle.cmwq_views.specs.Lent.{item_queued, next_row, row_holding, row_keeping, row_keeping_item, row_running};
+ghost use Rattle.cmwq_views.specs.Lent.{run_of_row, runs_number, ticket_after_sleep, worker_rows};
 ghost use Rattle.cmwq_views.specs.Page.{worker_of_row};
 ghost use Rattle.cmwq_views.specs.Since.{last};
 ghost use Rattle.cmwq_views.specs.declared.deed.Deed.TheVariants as deed;
 
 use crate::deed::Deed;
-use crate::number::{OF_POOL, worker_at};
+use crate::number::{OF_POOL, item_at, worker_at};
 use crate::standing::Standing;
 use cmwq_model::{Number, Queueing, Ticket};
+use cmwq_obstacle::keeper_of;
 
 /// What an unended wait is for.
 pub(crate) fn cause_of(standing: &Standing<'_>, ticket: Ticket) -> Option<Number>
@@ -155,6 +157,75 @@ fn row_running(standing: &Standing<'_>, queueing: Number) -> Option<usize>
     None
 }
 
+/// Whether the item with this number has this queueing queued.
+fn is_queued_as(standing: &Standing<'_>, queueing: Number, number: usize) -> bool
+    requires { number < standing.now.layout.items }
+    ensures { result ≡ is_queued_as (past_of standing.now.entries) queueing number }
+{
+    match standing
+        .state()
+        .unstarted(item_at(standing.shape(), number))
+    {
+        Some(queued) => queued.number == queueing,
+        None => false,
+    }
+}
+
+/// How many items the shape has.
+fn item_rows(standing: &Standing<'_>) -> usize
+    ensures { result ≡ standing.now.layout.items }
+{
+    usize::from(standing.shape().counts().items)
+}
+
+/// The number of the item that has this queueing queued.
+fn item_queued(standing: &Standing<'_>, queueing: Number) -> Option<usize>
+    ensures is { result ≡ item_queued standing.now.layout (past_of standing.now.entries) queueing }
+    ensures there { IfSome result (λ number. number < standing.now.layout.items) }
+{
+    for number in 0..item_rows(standing) {
+        if is_queued_as(standing, queueing, number) {
+            return Some(number);
+        }
+    }
+    None
+}
+
+/// The worker whose run alone keeps what an item has queued from its start.
+fn row_keeping_item(standing: &Standing<'_>, number: usize) -> Option<usize>
+    requires { number < standing.now.layout.items }
+    ensures is { result ≡ row_keeping_item standing.now.layout (past_of standing.now.entries) number }
+    ensures there { IfSome result (λ number. number < worker_rows standing.now.layout) }
+{
+    let shape = standing.shape();
+    match keeper_of(standing.state(), shape, item_at(shape, number)) {
+        Some(run) => row_running(standing, run.number),
+        None => None,
+    }
+}
+
+/// The worker whose run alone keeps this queueing from its start, if it has not started.
+fn row_keeping(standing: &Standing<'_>, queueing: Number) -> Option<usize>
+    ensures is { result ≡ row_keeping standing.now.layout (past_of standing.now.entries) queueing }
+    ensures there { IfSome result (λ number. number < worker_rows standing.now.layout) }
+{
+    match item_queued(standing, queueing) {
+        Some(number) => row_keeping_item(standing, number),
+        None => None,
+    }
+}
+
+/// The worker that runs this queueing, or whose run alone keeps it from its start.
+fn row_holding(standing: &Standing<'_>, queueing: Number) -> Option<usize>
+    ensures is { result ≡ row_holding standing.now.layout (past_of standing.now.entries) queueing }
+    ensures there { IfSome result (λ number. number < worker_rows standing.now.layout) }
+{
+    match row_running(standing, queueing) {
+        Some(number) => Some(number),
+        None => row_keeping(standing, queueing),
+    }
+}
+
 /// The worker for whose run that of this worker waits.
 fn next_row(standing: &Standing<'_>, number: usize) -> Option<usize>
     requires { number < worker_rows standing.now.layout }
@@ -162,7 +233,7 @@ fn next_row(standing: &Standing<'_>, number: usize) -> Option<usize>
     ensures there { IfSome result (λ number. number < worker_rows standing.now.layout) }
 {
     match cause_of_row(standing, number) {
-        Some(queueing) => row_running(standing, queueing),
+        Some(queueing) => row_holding(standing, queueing),
         None => None,
     }
 }

@@ -12,7 +12,8 @@ ghost use Rattle.cmwq_views.specs.Open.{place_text, said_if, frozen_text, queue_
 ghost use Rattle.cmwq_views.specs.Open.{is_open_anywhere, is_idle_queue, idle_from, queues_text, idle_text, ends_idle};
 ghost use Rattle.cmwq_views.specs.Open.{idle_line, queue_row, since_text, tick_text, call_text, cause_text};
 ghost use Rattle.cmwq_views.specs.Open.{lent_if, lent_text, asleep_text, waiting_text, sleep_text};
-ghost use Rattle.cmwq_views.specs.Open.{queueing_text, run_text, run_line, reason_text, pending_text, pending_line};
+ghost use Rattle.cmwq_views.specs.Open.{queueing_text, run_text, run_line, first_text, others_text, taken_text};
+ghost use Rattle.cmwq_views.specs.Open.{reason_text, pending_text, pending_line};
 ghost use Rattle.cmwq_views.specs.Open.{booked_text, booked_line, last_wait};
 ghost use Rattle.cmwq_views.specs.Open.{wait_text, wait_line, line_count, line_text};
 ghost use Rattle.cmwq_views.specs.declared.deed.Deed.TheVariants as deed;
@@ -516,16 +517,59 @@ fn push_next(row: &mut Row, next: Queueing)
     row.push(" is next");
 }
 
+/// Spells how many queueings take places beside one.
+fn push_others(row: &mut Row, others: u64)
+    requires { length row.old + 30 ≤ 512 }
+    ensures exact { row.new ≡ row.old ++ others_text others }
+    ensures short { length row.new ≤ length row.old + 30 }
+{
+    if others > 0 {
+        row.push_figure(" and ", others);
+        row.push(" more");
+    }
+}
+
+/// Spells which queueing takes a place of a queue on its CPU, beside others.
+fn push_first(row: &mut Row, first: Queueing, others: u64)
+    requires { length row.old + 67 ≤ 512 }
+    ensures exact { row.new ≡ row.old ++ first_text first others }
+    ensures short { length row.new ≤ length row.old + 67 }
+{
+    row.push_figure(", after queueing ", first.number);
+    push_others(row, others);
+}
+
+/// Spells the first of so many queueings that take the places of a queue on its CPU.
+fn push_taken(row: &mut Row, first: Option<Queueing>, active: u32)
+    requires { length row.old + 67 ≤ 512 }
+    ensures exact { row.new ≡ row.old ++ taken_text first active }
+    ensures short { length row.new ≤ length row.old + 67 }
+{
+    if let Some(first) = first {
+        push_first(row, first, u64::from(active.saturating_sub(1)));
+    }
+}
+
+/// Spells that a queue has no place left on its CPU.
+fn push_full(row: &mut Row, first: Option<Queueing>, active: u32)
+    requires { length row.old + 110 ≤ 512 }
+    ensures exact { row.new ≡ row.old ++ reason_text (Some (obstacles.NoPlace first active)) }
+    ensures short { length row.new ≤ length row.old + 110 }
+{
+    row.push(": its queue has no place left on its CPU");
+    push_taken(row, first, active);
+}
+
 /// Spells why a queueing has not started.
 fn push_reason(row: &mut Row, why: Option<Obstacle>)
-    requires { length row.old + 80 ≤ 512 }
+    requires { length row.old + 110 ≤ 512 }
     ensures exact { row.new ≡ row.old ++ reason_text why }
-    ensures short { length row.new ≤ length row.old + 80 }
+    ensures short { length row.new ≤ length row.old + 110 }
 {
     match why {
         None => row.push(": may start"),
         Some(Obstacle::Frozen) => row.push(": its queue is frozen"),
-        Some(Obstacle::NoPlace) => row.push(": its queue has no place left on its CPU"),
+        Some(Obstacle::NoPlace { first, active }) => push_full(row, first, active),
         Some(Obstacle::ItemRuns) => row.push(": its item runs"),
         Some(Obstacle::Held(worker)) => push_holder(row, worker),
         Some(Obstacle::NoWorker) => row.push(": no worker of its pool is idle"),

@@ -1,4 +1,4 @@
-use Rattle.std.proofs.Common.{sym, ap, subst, ◌∙◌, ◌≡◌, not}
+use Rattle.std.proofs.Common.{sym, ap, ◌∙◌, not}
 use Rattle.cmwq_model.specs.Prelude.{Layout, is_intensive, past_of}
 use Rattle.cmwq_obstacle.proofs.Holding.{holds_by}
 use Rattle.cmwq_obstacle.proofs.obstacle.holds.Goals as goal
