@@ -16,7 +16,7 @@ fn numbers_of_place(kind: u64, item: ItemId, queue: QueueId, cpu: CpuId, ticks: 
     ]
 }
 
-/// A call as numbers: that of its kind, those that stand in it in the order of its fields, and 0 for each that it lacks.
+/// A call as numbers: that of its kind, those that stand in it, by the order of its fields, and 0 for each it lacks.
 /// No two calls have the same.
 #[tactic(auto, unfolding(crate::specs::Numbers::numbers_of_call))]
 pub fn numbers_of_call(call: Call) -> [u64; 5]

@@ -8,7 +8,7 @@ loop-end-preserved c =
     let less = c.loop-end.invariant.1 in
     let fewer : c.loop-end.end - 1 ≤ c.args.most = omega arith in (
       one_before c.args.name.now c.loop-end.end c.loop-end-test.true (sym c.is_inner.ensures ∙ c.if-is_inner.true)
-      ∙ c.loop-end.invariant.0,
+          ∙ c.loop-end.invariant.0,
       fewer,
     )
 
