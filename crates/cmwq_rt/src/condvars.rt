@@ -5,7 +5,8 @@ use cmwq_monitor::Named;
 use std::alloc::Global;
 use std::hint::spin_loop;
 use std::sync::atomic::{AtomicBool, AtomicU32, Ordering};
-use std::sync::{Condvar, MutexGuard, Wait};
+use std::sync::{Condvar, Wait};
+use std::time::Duration;
 
 /// How often one who spins looks whether it is notified, before it sleeps.
 const LOOKS: u32 = 1_000;
@@ -53,11 +54,12 @@ impl Parker {
         self.has_spun.store(true, Ordering::Relaxed);
     }
 
-    fn sleep<'a, R: Wait, T>(&self, rt: &R, guard: MutexGuard<'a, T>) -> MutexGuard<'a, T> {
+    /// Sleeps until there are more notifications than those that were seen.
+    fn sleep<R: Wait>(&self, rt: &R, seen: u64) {
         let sleeps = self.sleeps.load(Ordering::Relaxed);
         self.sleeps.store(sleeps.wrapping_add(1), Ordering::Relaxed);
         self.has_spun.store(false, Ordering::Relaxed);
-        self.condvar.wait(rt, guard)
+        self.condvar.sleep(rt, seen, Duration::MAX);
     }
 }
 
@@ -129,16 +131,18 @@ impl Condvars {
         }
     }
 
-    /// Sleeps until its condvar is notified, with the lock let go meanwhile.
-    pub fn wait<'a, R: Wait, T>(
-        &self,
-        rt: &R,
-        guard: MutexGuard<'a, T>,
-        who: Who,
-    ) -> MutexGuard<'a, T> {
+    /// How often its condvar was notified so far, for one that lets the lock go and sleeps then.
+    pub fn notifications(&self, who: Who) -> u64 {
         match self.of(who) {
-            Some(parker) => parker.sleep(rt, guard),
-            None => guard,
+            Some(parker) => parker.condvar.notifications(),
+            None => 0,
+        }
+    }
+
+    /// Sleeps until its condvar was notified more often than so, without the lock. It may come back before that.
+    pub fn sleep<R: Wait>(&self, rt: &R, who: Who, seen: u64) {
+        if let Some(parker) = self.of(who) {
+            parker.sleep(rt, seen);
         }
     }
 
