@@ -5,8 +5,7 @@ use cmwq_monitor::Named;
 use std::alloc::Global;
 use std::hint::spin_loop;
 use std::sync::atomic::{AtomicBool, AtomicU32, Ordering};
-use std::sync::{Condvar, Wait};
-use std::time::Duration;
+use std::sync::{Condvar, MutexGuard, Wait};
 
 /// How often one who spins looks whether it is notified, before it sleeps.
 const LOOKS: u32 = 1_000;
@@ -54,12 +53,11 @@ impl Parker {
         self.has_spun.store(true, Ordering::Relaxed);
     }
 
-    /// Sleeps until there are more notifications than those that were seen.
-    fn sleep<R: Wait>(&self, rt: &R, seen: u64) {
+    fn sleep<'a, R: Wait, T>(&self, rt: &R, guard: MutexGuard<'a, T>) -> MutexGuard<'a, T> {
         let sleeps = self.sleeps.load(Ordering::Relaxed);
         self.sleeps.store(sleeps.wrapping_add(1), Ordering::Relaxed);
         self.has_spun.store(false, Ordering::Relaxed);
-        self.condvar.sleep(rt, seen, Duration::MAX);
+        self.condvar.wait(rt, guard)
     }
 }
 
@@ -131,18 +129,16 @@ impl Condvars {
         }
     }
 
-    /// How often its condvar was notified so far, for one that lets the lock go and sleeps then.
-    pub fn notifications(&self, who: Who) -> u64 {
+    /// Sleeps until its condvar is notified, with the lock let go meanwhile.
+    pub fn wait<'a, R: Wait, T>(
+        &self,
+        rt: &R,
+        guard: MutexGuard<'a, T>,
+        who: Who,
+    ) -> MutexGuard<'a, T> {
         match self.of(who) {
-            Some(parker) => parker.condvar.notifications(),
-            None => 0,
-        }
-    }
-
-    /// Sleeps until its condvar was notified more often than so, without the lock. It may come back before that.
-    pub fn sleep<R: Wait>(&self, rt: &R, who: Who, seen: u64) {
-        if let Some(parker) = self.of(who) {
-            parker.sleep(rt, seen);
+            Some(parker) => parker.sleep(rt, guard),
+            None => guard,
         }
     }
 

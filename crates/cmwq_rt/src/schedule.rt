@@ -186,13 +186,10 @@ impl<N: HubName> Hub<N> {
         }
     }
 
-    /// Lets the lock go, wakes those who are named, and sleeps until its own condvar is notified. The notifications are
-    /// counted under the lock, so that one which comes before the sleep ends it.
-    fn sleep_at_once<'a, R: Wait>(&'a self, rt: &R, hold: Hold<'a, N>, who: Who) -> Hold<'a, N> {
-        let seen = self.condvars.notifications(who);
-        self.leave(rt, hold);
-        self.condvars.sleep(rt, who, seen);
-        self.lock_at_once(rt)
+    /// Sleeps until its condvar is notified, with the lock let go meanwhile.
+    fn sleep_at_once<'a, R: Wait>(&self, rt: &R, hold: Hold<'a, N>, who: Who) -> Hold<'a, N> {
+        let monitor = self.wake_first(rt, hold);
+        Hold::new(self.condvars.wait(rt, monitor, who))
     }
 
     /// Sleeps until there is space for so many entries, or makes it where nobody wants them.
