@@ -8,17 +8,8 @@ use cmwq_model::{Call, Number, Who};
 use cmwq_monitor::{Monitor, Named, Wakes};
 use cmwq_publish::HubName;
 use cmwq_turns::{Awaited, Turnstile};
-use std::hint::spin_loop;
 use std::sync::{CondvarTimeouts, MutexGuard, Wait};
 use std::time::{Clock, Duration};
-
-/// How often a thread that finds the lock held looks whether it is free, before it sleeps by it.
-const LOOKS: u32 = 32;
-
-/// How long it pauses before its first look. Each pause is twice as long as the one before, up to the longest.
-const FIRST_PAUSE: u32 = 16;
-
-const LONGEST_PAUSE: u32 = 128;
 
 /// What a caller sleeps for whose call gave this ticket.
 pub(crate) fn awaited_end(who: Who, call: Call, ticket: Number) -> Awaited {
@@ -70,29 +61,8 @@ impl<N: HubName> Hub<N> {
     }
 
     /// Takes the lock, in a trial too without a turn.
-    #[inline(always)]
     pub(crate) fn lock_at_once<R: Wait>(&self, rt: &R) -> Hold<N> {
-        match self.monitor.try_lock() {
-            Some(monitor) => Hold::new(monitor),
-            None => Hold::new(self.lock_later(rt)),
-        }
-    }
-
-    /// Takes the lock, which another thread has. It looks only now and then whether the lock is free, so that the other
-    /// thread can take it a few times more: what the lock guards moves to another processor less often. After a while
-    /// it sleeps by the lock.
-    fn lock_later<R: Wait>(&self, rt: &R) -> MutexGuard<Monitor<N>> {
-        let mut pause = FIRST_PAUSE;
-        for _ in 0..LOOKS {
-            for _ in 0..pause {
-                spin_loop();
-            }
-            if let Some(monitor) = self.monitor.try_lock() {
-                return monitor;
-            }
-            pause = pause.saturating_mul(2).min(LONGEST_PAUSE);
-        }
-        self.monitor.lock(rt)
+        Hold::new(self.monitor.lock(rt))
     }
 
     /// Takes the lock for the one that has the turn. A trial that has stopped fails the hub, so that all come to their
