@@ -102,7 +102,7 @@ struct Service<N: HubName> {
 impl<N: HubName> Service<N> {
     /// A writer's thread: each line puts the writing off. After each tenth comes a pause, unless `busy` sees, without a
     /// lock, that the writing neither is pending nor runs.
-    fn gather<R: Wait>(&self, rt: &R, caller: Caller<N>) -> Result<(), RunFault> {
+    fn gather<'x, R: Wait>(&'x self, rt: &'x R, caller: Caller<N>) -> Result<(), RunFault> {
         let hub = &self.hub;
         let mut writer = HubCaller { rt, hub, caller };
         for line in 1..=LINES {
