@@ -2,7 +2,7 @@
 
 use crate::same::same;
 use cmwq_explain::{
-    Kept, Text, explain_calls, explain_gate, explain_history, explain_unkept, likely, tell_text,
+    Kept, Text, explain_calls, explain_gate, explain_history, explain_unkept, say_names, tell_text,
 };
 use cmwq_explain_json::{explain_scenario, explain_script};
 use cmwq_io::{FailsAt, Memory, Source, Trouble};
@@ -175,13 +175,15 @@ fn an_explanation_is_one_line(rt: HostRuntime) {
     tell_text(&mut errors, &text);
     let wanted = b"cmwq: line 3, column 8: \"a\\x09b\": at most 64..!\n";
     same(&rt, errors.as_slice(), wanted.as_slice());
-    for (word, other, changes) in [
-        ("flsuh", "flush", Some(2)),
-        ("tak", "take", Some(1)),
-        ("take", "tick", None),
-        ("x", "no", None),
-        ("yes", "yes", Some(0)),
+    for (word, name, said) in [
+        ("flsuh", "flush", "; did you mean \"flush\"?"),
+        ("tak", "take", "; did you mean \"take\"?"),
+        ("take", "tick", "; expected tick"),
+        ("x", "no", "; expected no"),
+        ("yes", "yes", "; did you mean \"yes\"?"),
     ] {
-        same(&rt, likely(word.as_bytes(), other.as_bytes()), changes);
+        let mut text = Text::new();
+        say_names(&mut text, &[name], word.as_bytes());
+        same(&rt, text.as_str(), said);
     }
 }
