@@ -184,7 +184,7 @@ pub extern "C" fn cmwq_ready(alloc: Global, book: &mut Handle, ticket: u64) -> b
 {
     match mem::replace(book, Handle::none()).into_box(alloc) {
         Some(made) => {
-            let answer = made.as_ref().ready(ticket);
+            let answer = made.as_ref().book().execution().ready(ticket);
             *book = Handle::of(made);
             answer
         }
@@ -255,7 +255,7 @@ pub extern "C" fn cmwq_len(alloc: Global, book: &mut Handle) -> u64
 {
     match mem::replace(book, Handle::none()).into_box(alloc) {
         Some(made) => {
-            let answer = made.as_ref().len();
+            let answer = made.as_ref().book().len();
             *book = Handle::of(made);
             answer
         }
@@ -292,7 +292,7 @@ pub extern "C" fn cmwq_first(alloc: Global, book: &mut Handle) -> u64
 {
     match mem::replace(book, Handle::none()).into_box(alloc) {
         Some(made) => {
-            let answer = made.as_ref().first();
+            let answer = made.as_ref().book().first();
             *book = Handle::of(made);
             answer
         }
@@ -310,7 +310,7 @@ pub extern "C" fn cmwq_open_count(alloc: Global, book: &mut Handle) -> u32
 {
     match mem::replace(book, Handle::none()).into_box(alloc) {
         Some(made) => {
-            let answer = made.as_ref().open_count();
+            let answer = made.as_ref().book().execution().state().open_count();
             *book = Handle::of(made);
             answer
         }
@@ -330,7 +330,7 @@ pub extern "C" fn cmwq_active_count(alloc: Global, book: &mut Handle) -> u32
 {
     match mem::replace(book, Handle::none()).into_box(alloc) {
         Some(made) => {
-            let answer = made.as_ref().active_count();
+            let answer = made.as_ref().book().execution().state().active_count();
             *book = Handle::of(made);
             answer
         }

@@ -1,15 +1,15 @@
 //! A book with its shape, so that each call of C is tried before it is made.
-ghost use Rattle.std.specs.Prelude.{◌≡◌, ◌+◌, ◌<◌, true, length, count_by, None, Some, IfOk, IfErr, OnErr, IfSome};
+ghost use Rattle.std.specs.Prelude.{◌≡◌, ◌+◌, ◌<◌, true, length, None, Some, IfOk, IfErr, OnErr, IfSome};
 ghost use Rattle.std.specs.Prelude.{is_some, nat_lt};
-ghost use Rattle.cmwq_model.specs.Prelude.{fits, serial_of, still_open, is_active};
+ghost use Rattle.cmwq_model.specs.Prelude.{fits, serial_of};
 ghost use Rattle.cmwq_model.specs.Legal as legal;
-ghost use Rattle.cmwq_core.specs.History.{next_entry, past_in, is_ready};
+ghost use Rattle.cmwq_core.specs.History.{next_entry, past_in};
 ghost use Rattle.cmwq_core.specs.Plans.{IsPlan};
-ghost use Rattle.cmwq_core.specs.Lasting.{lasting_at_first, with_made, with_none_kept, has_space, lasting_entry};
+ghost use Rattle.cmwq_core.specs.Lasting.{lasting_at_first, with_made, with_none_kept, has_space};
 ghost use Rattle.cmwq_c.specs.Books.{is_inside, refusal_of, refused_by};
 
 use cmwq_core::{Plan, TailBook, Unmade};
-use cmwq_model::{Call, Entry, ItemId, NoMemory, Number, Shape, Who};
+use cmwq_model::{Call, Entry, ItemId, NoMemory, Shape, Who};
 use std::alloc::Global;
 use std::marker::Model;
 
@@ -102,11 +102,11 @@ impl Session {
         }
     }
 
-    /// How many entries there are.
-    pub fn len(&self) -> u64
-        ensures { result ≡ length self.now.history.entries }
+    /// The book of its calls.
+    pub fn book(&self) -> &TailBook
+        ensures { result.now ≡ self.now }
     {
-        self.book.len()
+        &self.book
     }
 
     /// How many entries more there is room for, what is owed among them.
@@ -117,32 +117,11 @@ impl Session {
         self.shape.counts().room - len
     }
 
-    /// How many entries were forgotten.
-    pub fn first(&self) -> u64
-        ensures { result ≡ self.now.given }
-    {
-        self.book.first()
-    }
-
-    /// The entry with this number, if it is kept.
-    pub fn entry(&self, number: Number) -> Option<Entry>
-        ensures { result ≡ lasting_entry self.now number }
-    {
-        self.book.entry(number)
-    }
-
     /// Forgets all entries that are kept.
     pub fn forget(&mut self)
         ensures { self.new ≡ with_none_kept self.old }
     {
         self.book.forget();
-    }
-
-    /// Whether the ticket with this number waits for nothing.
-    pub fn ready(&self, ticket: Number) -> bool
-        ensures { result ≡ is_ready (past_in self.now.history) ticket }
-    {
-        self.book.ready(ticket)
     }
 
     /// The bits of an item, if the shape has it.
@@ -151,7 +130,7 @@ impl Session {
         ensures bits { IfSome result (λ b. b ≡ legal.bits (past_in self.now.history) item.0) }
     {
         if item.0 < self.shape.counts().items {
-            Some(self.book.bits(item))
+            Some(self.book.execution().bits(item))
         } else {
             None
         }
@@ -175,24 +154,9 @@ impl Session {
         ensures serial { IfSome result (λ s. s ≡ serial_of (past_in self.now.history) who) }
     {
         if self.has(who) {
-            Some(self.book.serial(who))
+            Some(self.book.execution().state().serial(who))
         } else {
             None
         }
-    }
-
-    /// How many queueings are open.
-    pub fn open_count(&self) -> u32
-        ensures { result ≡ length (still_open (past_in self.now.history)) }
-    {
-        self.book.open_count()
-    }
-
-    /// How many of them are active.
-    pub fn active_count(&self) -> u32
-        ensures { result ≡ count_by (is_active self.now.history.layout (past_in self.now.history))
-            (still_open (past_in self.now.history)) }
-    {
-        self.book.active_count()
     }
 }

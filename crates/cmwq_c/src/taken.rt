@@ -149,7 +149,7 @@ pub fn entry_of(session: &Session, number: Number, entry: &mut EntryNumbers) -> 
     ensures entry { result ≡ 0 → IfSome (lasting_entry session.now number) (λ e. entry.new ≡ entry_numbers e) }
     ensures kept { result ≢ 0 → entry.new ≡ entry.old }
 {
-    match session.entry(number) {
+    match session.book().entry(number) {
         Some(found) => {
             *entry = told::entry_numbers(&found);
             DONE
@@ -165,7 +165,7 @@ pub fn line_of(session: &Session, number: Number, out: &mut [u8], written: &mut 
         → IfSome (lasting_entry session.now number) (λ e. IsTextWritten (entry_text e) written.new out.old out.new) }
     ensures kept { result ≢ 0 → (out.new ≡ out.old) × (written.new ≡ written.old) }
 {
-    let Some(entry) = session.entry(number) else {
+    let Some(entry) = session.book().entry(number) else {
         return REFUSED;
     };
     match put(entry_line(&entry).as_bytes(), out) {

@@ -1,7 +1,7 @@
 -- How many queueings of a place are open and active.
 use Rattle.cmwq_model.specs.Prelude.{most_cpus}
 use Rattle.std.proofs.Common.{◌≡◌, ℕ, ◌+◌, ◌*◌, ◌≤◌, Bool, cond, ◌==◌, ◌&&◌, List, ◌∷◌, length, filter, count_by}
-use Rattle.std.proofs.Common.{option_to_list, refl, sym, ap, ap₂, ◌∙◌, arith}
+use Rattle.std.proofs.Common.{option_to_list, refl, sym, ap, ap₂, ◌∙◌, arith, subst}
 use Rattle.std.specs.Prelude.{slice_index}
 use Rattle.std.proofs.lemmas.List.Sums.{count_by-le-length}
 use Rattle.std.proofs.lemmas.List.Filters.{sum_by-filter_both}
@@ -19,8 +19,7 @@ use Rattle.cmwq_theory_steps.proofs.Ended.{one_ends}
 use Rattle.cmwq_state.specs.Pwqs.{AreActiveCounts}
 use Rattle.cmwq_chart.specs.Levels.{is_of_place, open_at, active_at, is_active_at, IsPlaceOf}
 use Rattle.cmwq_state.specs.declared.effect.Effect.{Effect}
-use Rattle.cmwq_state.specs.Effects.{IsEffect}
-use Rattle.cmwq_chart_levels.specs.Turns.{is_one_of_place}
+use Rattle.cmwq_chart_levels.specs.Turns.{is_one_of_place, IsEffectOf}
 
 pub open_goes_on : (s : Layout) (past : List Entry) (e : Entry) (p : Place) → IsLegal s (e ∷ past)
     → open_at (e ∷ past) p + one (is_one_of_place p (ending past e))
@@ -44,17 +43,18 @@ pub open_few : (past : List Entry) (p : Place) → open_at past p ≤ length (st
 open_few past p = count_by-le-length (is_of_place p) (still_open past)
 
 -- the same of what was read off an entry
-pub open_step : (s : Layout) (past : List Entry) (f : Effect) (p : Place) (before : ℕ) (is_opened is_ended : Bool)
-    → IsEffect s past f → before ≡ open_at past p
+pub open_step : (s : Layout) (past : List Entry) (e : Entry) (f : Effect) (p : Place) (before : ℕ)
+    (is_opened is_ended : Bool) → IsEffectOf s past e f → before ≡ open_at past p
     → is_opened ≡ is_one_of_place p f.opened → is_ended ≡ is_one_of_place p f.ended
-    → open_at (f.entry ∷ past) p + one is_ended ≡ before + one is_opened
-open_step s past f p before is_opened is_ended is was o n =
+    → open_at (e ∷ past) p + one is_ended ≡ before + one is_opened
+open_step s past e f p before is_opened is_ended (same, is) was o n =
     let opened : one is_opened ≡ one (is_one_of_place p (opening past f.entry)) =
     ap one (o ∙ ap (is_one_of_place p) is.opened) in
     let ended : one is_ended ≡ one (is_one_of_place p (ending past f.entry)) =
     ap one (n ∙ ap (is_one_of_place p) is.ended) in
     let step = open_goes_on s past f.entry p is.legal in
-    omega (arith, opened, ended, step, was)
+    subst (λ e. open_at (e ∷ past) p + one is_ended ≡ before + one is_opened) same
+    (omega (arith, opened, ended, step, was))
 
 eqb-swap : (a b : ℕ) → (a == b) ≡ (b == a)
 eqb-swap a b = grind arith

@@ -1,7 +1,7 @@
 -- Which places an entry affects: the height of the others stays, and so do their levels.
 use Rattle.std.proofs.Common.{◌≡◌, ℕ, ◌<◌, ◌≤◌, Bool, true, false, not, ◌||◌, ◌&&◌, ◌==◌, if◌then◌else◌, List, [], ◌∷◌}
 use Rattle.std.proofs.Common.{◌++◌, length, map, take, drop, take-append-drop, append-nil, option_to_list, Some, None}
-use Rattle.std.proofs.Common.{refl, sym, ap, ap₂, ◌∙◌, arith}
+use Rattle.std.proofs.Common.{refl, sym, ap, ap₂, ◌∙◌, arith, subst}
 use Rattle.std.specs.Prelude.{flat_map}
 use Rattle.std.specs.Option.{option_map_or}
 use Rattle.std.specs.List.{All}
@@ -25,8 +25,7 @@ use Rattle.cmwq_chart_levels.specs.declared.affected.PlaceRange.{PlaceRange}
 use Rattle.cmwq_chart_levels.specs.declared.affected.AffectedPlaces.{AffectedPlaces}
 use Rattle.cmwq_chart_levels.specs.declared.affected.AffectedPlaces.TheVariants.{Nowhere, Within, Everywhere}
 use Rattle.cmwq_state.specs.declared.effect.Effect.{Effect}
-use Rattle.cmwq_state.specs.Effects.{IsEffect}
-use Rattle.cmwq_chart_levels.specs.Turns.{is_one_of_place, IsLevelAfter, ended_levels, level_after}
+use Rattle.cmwq_chart_levels.specs.Turns.{is_one_of_place, IsEffectOf, IsLevelAfter, ended_levels, level_after}
 use Rattle.cmwq_chart_levels.specs.Affected.{is_width, keeps_width, moves_at, affects, has_level_number, AreAffected}
 use Rattle.cmwq_chart_levels.specs.Affected.{IsOnlyWithin}
 use Rattle.cmwq_chart_levels.proofs.Unmoved.{height_stays, none_left, stays_level}
@@ -59,12 +58,13 @@ none_of true false true h = cc
 none_of true true c h = cc
 none_of false o c h = cc
 
-pub unaffected : (s : Layout) (past : List Entry) (f : Effect) (p : Place) → IsEffect s past f → affects f p ≡ false
-    → height_at s (f.entry ∷ past) p ≡ height_at s past p
-unaffected s past f p is none =
+pub unaffected : (s : Layout) (past : List Entry) (e : Entry) (f : Effect) (p : Place) → IsEffectOf s past e f
+    → affects f p ≡ false → height_at s (e ∷ past) p ≡ height_at s past p
+unaffected s past e f p (same, is) none =
     let all = none_of (keeps_width f.entry p.queue.0) (is_one_of_place p f.opened) (is_one_of_place p f.ended) none in
-    height_stays s past f.entry p is.legal (width_kept s past f.entry p.queue.0 all.0)
-    (ap (is_one_of_place p) (sym is.opened) ∙ all.1) (ap (is_one_of_place p) (sym is.ended) ∙ all.2)
+    subst (λ e. height_at s (e ∷ past) p ≡ height_at s past p) same
+    (height_stays s past f.entry p is.legal (width_kept s past f.entry p.queue.0 all.0)
+    (ap (is_one_of_place p) (sym is.opened) ∙ all.1) (ap (is_one_of_place p) (sym is.ended) ∙ all.2))
 
 -- ---- fewer places are affected
 
@@ -91,7 +91,7 @@ both_moved f x y a is h = fewer _ (moves_at f) (λ p none.
 
 -- ---- what of the levels is outside
 
-module _ (s : Layout) (past : List Entry) (f : Effect) (is_effect : IsEffect s past f) where
+module _ (s : Layout) (past : List Entry) (e : Entry) (f : Effect) (is_effect : IsEffectOf s past e f) where
   abbrev pub Stays : Level → Type 0
   Stays l = affects f l.place ≡ false
 
@@ -101,20 +101,20 @@ module _ (s : Layout) (past : List Entry) (f : Effect) (is_effect : IsEffect s p
   none_affected xs go none = λ k d less. none _ (go k d less).inside.1
 
   pub all_stay : (xs : List Level) → All (IsLevelAfter s past) xs → All Stays xs
-      → map (level_after s (f.entry ∷ past)) xs ≡ xs
+      → map (level_after s (e ∷ past)) xs ≡ xs
   all_stay [] go stay = refl
   all_stay (x ∷ xs) go stay =
       ap₂ (λ y ys. y ∷ ys)
-      (sym (stays_level s past f.entry x (go 0 x (omega arith))
-      (unaffected s past f x.place is_effect (stay 0 x (omega arith)))))
+      (sym (stays_level s past e x (go 0 x (omega arith))
+      (unaffected s past e f x.place is_effect (stay 0 x (omega arith)))))
       (all_stay xs (All-tail (IsLevelAfter s past) x xs go) (All-tail Stays x xs stay))
 
-  pub none_end : (xs : List Level) → All Stays xs → flat_map (ended_levels s past f.entry) xs ≡ []
+  pub none_end : (xs : List Level) → All Stays xs → flat_map (ended_levels s past e) xs ≡ []
   none_end [] stay = refl
-  none_end (x ∷ xs) stay = flat_map-cons (ended_levels s past f.entry) x xs
+  none_end (x ∷ xs) stay = flat_map-cons (ended_levels s past e) x xs
       ∙ ap₂ (λ a b. a ++ b)
       (ap option_to_list
-      (sym (none_left s past f.entry x.place (unaffected s past f x.place is_effect (stay 0 x (omega arith))))))
+      (sym (none_left s past e x.place (unaffected s past e f x.place is_effect (stay 0 x (omega arith))))))
       (none_end xs (All-tail Stays x xs stay))
 
   -- outside a range
@@ -132,10 +132,10 @@ module _ (s : Layout) (past : List Entry) (f : Effect) (is_effect : IsEffect s p
 
   -- so it is enough to turn those inside
   pub range_turned : (xs part : List Level) (i j : ℕ) → All (IsLevelAfter s past) xs → All Stays (take i xs)
-      → All Stays (drop j (drop i xs)) → part ≡ map (level_after s (f.entry ∷ past)) (take j (drop i xs))
-      → take i xs ++ (part ++ drop j (drop i xs)) ≡ map (level_after s (f.entry ∷ past)) xs
+      → All Stays (drop j (drop i xs)) → part ≡ map (level_after s (e ∷ past)) (take j (drop i xs))
+      → take i xs ++ (part ++ drop j (drop i xs)) ≡ map (level_after s (e ∷ past)) xs
   range_turned xs part i j go low high is =
-      let turn = level_after s (f.entry ∷ past) in
+      let turn = level_after s (e ∷ past) in
       let P = IsLevelAfter s past in
       let rest = drop i xs in
       ap₂ (λ a b. a ++ b) (sym (all_stay (take i xs) (All-take P i xs go) low))
@@ -144,9 +144,9 @@ module _ (s : Layout) (past : List Entry) (f : Effect) (is_effect : IsEffect s p
       ∙ sym (map-append turn (take i xs) rest) ∙ ap (map turn) (take-append-drop i xs)
 
   pub range_ended : (xs : List Level) (i j : ℕ) → All Stays (take i xs) → All Stays (drop j (drop i xs))
-      → flat_map (ended_levels s past f.entry) (take j (drop i xs)) ≡ flat_map (ended_levels s past f.entry) xs
+      → flat_map (ended_levels s past e) (take j (drop i xs)) ≡ flat_map (ended_levels s past e) xs
   range_ended xs i j low high =
-      let g = ended_levels s past f.entry in
+      let g = ended_levels s past e in
       let rest = drop i xs in
       sym (append-nil (flat_map g (take j rest)))
       ∙ ap (λ l. flat_map g (take j rest) ++ l) (sym (none_end (drop j rest) high))

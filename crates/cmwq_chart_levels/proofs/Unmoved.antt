@@ -1,7 +1,7 @@
 -- Where an entry gives no width, and opens and ends nothing at a place, the height of the place stays.
 use Rattle.std.proofs.Common.{◌≡◌, ℕ, ◌+◌, ◌-◌, ◌<◌, ◌≤◌, Bool, true, false, cond, if◌then◌else◌, not, ◌&&◌, ◌||◌, ◌==◌}
 use Rattle.std.proofs.Common.{List, [], ◌∷◌, ◌++◌, append-nil, append_assoc, length, get_or, filter, count_by, map}
-use Rattle.std.proofs.Common.{take, drop, min, max, Option, Some, None, refl, sym, ap, ap₂, ◌∙◌, arith}
+use Rattle.std.proofs.Common.{take, drop, min, max, Option, Some, None, refl, sym, ap, ap₂, ◌∙◌, arith, subst}
 use Rattle.std.specs.Prelude.{flat_map, nat_lt}
 use Rattle.std.specs.Option.{option_map_or}
 use Rattle.std.proofs.lemmas.Bool.Decides.{nat_tests}
@@ -28,8 +28,8 @@ use Rattle.cmwq_chart.specs.declared.levels.Level.{Level}
 use Rattle.cmwq_chart.specs.Levels.{is_of_place, open_at, active_at, is_active_at, height_at, is_same_height}
 use Rattle.cmwq_chart.specs.Levels.{changes_level, level_ended, level_until}
 use Rattle.cmwq_state.specs.declared.effect.Effect.{Effect}
-use Rattle.cmwq_state.specs.Effects.{IsEffect}
-use Rattle.cmwq_chart_levels.specs.Turns.{is_one_of_place, may_change, IsLevelAfter, ended_levels, level_after}
+use Rattle.cmwq_chart_levels.specs.Turns.{is_one_of_place, may_change, IsEffectOf, IsLevelAfter, ended_levels}
+use Rattle.cmwq_chart_levels.specs.Turns.{level_after}
 use Rattle.cmwq_chart_levels.proofs.Counts.{open_goes_on, is_on_is}
 use Rattle.cmwq_chart_levels.proofs.Turned.{turned, one_more_ended}
 
@@ -135,12 +135,13 @@ no_change true false true h = cc
 no_change true true c h = cc
 no_change false o c h = cc
 
-pub unmoved : (s : Layout) (past : List Entry) (f : Effect) (p : Place) → IsEffect s past f → may_change f p ≡ false
-    → height_at s (f.entry ∷ past) p ≡ height_at s past p
-unmoved s past f p is none =
+pub unmoved : (s : Layout) (past : List Entry) (e : Entry) (f : Effect) (p : Place) → IsEffectOf s past e f
+    → may_change f p ≡ false → height_at s (e ∷ past) p ≡ height_at s past p
+unmoved s past e f p (same, is) none =
     let all = no_change (keeps_widths f.entry.reply) (is_one_of_place p f.opened) (is_one_of_place p f.ended) none in
-    height_stays s past f.entry p is.legal (width_same s past f.entry p.queue.0 all.0)
-    (ap (is_one_of_place p) (sym is.opened) ∙ all.1) (ap (is_one_of_place p) (sym is.ended) ∙ all.2)
+    subst (λ e. height_at s (e ∷ past) p ≡ height_at s past p) same
+    (height_stays s past f.entry p is.legal (width_same s past f.entry p.queue.0 all.0)
+    (ap (is_one_of_place p) (sym is.opened) ∙ all.1) (ap (is_one_of_place p) (sym is.ended) ∙ all.2))
 
 same_height : (h : Height) → is_same_height h h ≡ true
 same_height h =

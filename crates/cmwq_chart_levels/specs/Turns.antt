@@ -7,10 +7,15 @@ use Rattle.cmwq_model.specs.declared.record.Place.{Place}
 use Rattle.cmwq_model.specs.declared.record.Queueing.{Queueing}
 use Rattle.cmwq_model.specs.Prelude.{Layout}
 use Rattle.cmwq_model.specs.Widths.{keeps_widths}
+use Rattle.cmwq_state.specs.Effects.{IsEffect}
 use Rattle.cmwq_state.specs.declared.effect.Effect.{Effect}
 use Rattle.cmwq_chart.specs.declared.levels.Height.{Height}
 use Rattle.cmwq_chart.specs.declared.levels.Level.{Level}
 use Rattle.cmwq_chart.specs.Levels.{is_of_place, height_at, level_ended, level_from, level_until, IsPlaceOf}
+
+-- an entry does this
+abbrev pub IsEffectOf : Layout → List Entry → Entry → Effect → Type 0
+IsEffectOf s past e f = (f.entry ≡ e) × IsEffect s past f
 
 abbrev pub is_one_of_place : Place → Option Queueing → Bool
 is_one_of_place p x = option_map_or (is_of_place p) x false

@@ -1,7 +1,6 @@
 //! How high a level is.
 ghost use Rattle.std.specs.Prelude.{◌≡◌, ◌+◌, ◌≤◌};
 ghost use Rattle.cmwq_theory_steps.specs.Histories.{one};
-ghost use Rattle.cmwq_state.specs.Effects.{IsEffect};
 ghost use Rattle.cmwq_history.specs.Steps.{after};
 ghost use Rattle.cmwq_chart.specs.Levels as spec;
 ghost use Rattle.cmwq_chart_levels.specs.Turns.{is_one_of_place, may_change};
@@ -37,13 +36,13 @@ fn open_after(before: u32, is_opened: bool, is_ended: bool) -> u32
 }
 
 /// How many queueings of this place are open after an entry.
-fn open_at(step: &Step<'_>, before: u32, place: Place) -> u32
+fn open_at(step: &Step<'_, Effect>, before: u32, place: Place) -> u32
     requires { before ≡ spec.open_at step.now.past place }
     ensures { result ≡ spec.open_at (after step.now) place }
 {
     // it shows that they are few
-    let _all = step.open_count();
-    let effect = step.effect();
+    let _all = step.state().open_count();
+    let effect = step.told();
     let is_opened = is_of_place(place, effect.opened);
     let is_ended = is_of_place(place, effect.ended);
     open_after(before, is_opened, is_ended)
@@ -51,16 +50,16 @@ fn open_at(step: &Step<'_>, before: u32, place: Place) -> u32
 
 /// How many of them are active.
 #[tactic(auto, using(crate::proofs::Counts::active_count_is))]
-fn active_at(step: &Step<'_>, place: Place) -> u32
+fn active_at(step: &Step<'_, Effect>, place: Place) -> u32
     requires { spec.IsPlaceOf step.now.layout place }
     ensures { result ≡ spec.active_at step.now.layout (after step.now) place }
 {
     let cpus = usize::from(MOST_CPUS);
-    step.active_counts()[cpus * usize::from(place.queue.0) + usize::from(place.cpu.0)]
+    step.state().active_counts()[cpus * usize::from(place.queue.0) + usize::from(place.cpu.0)]
 }
 
 /// The height of a place after an entry, of which that before it is known.
-pub(crate) fn height_after(step: &Step<'_>, before: Height, place: Place) -> Height
+pub(crate) fn height_after(step: &Step<'_, Effect>, before: Height, place: Place) -> Height
     requires before { before ≡ spec.height_at step.now.layout step.now.past place }
     requires inside { spec.IsPlaceOf step.now.layout place }
     ensures { result ≡ spec.height_at step.now.layout (after step.now) place }
@@ -68,7 +67,7 @@ pub(crate) fn height_after(step: &Step<'_>, before: Height, place: Place) -> Hei
     Height {
         open_count: open_at(step, before.open_count, place),
         active_count: active_at(step, place),
-        width: step.width(place.queue),
+        width: step.state().width(place.queue),
     }
 }
 

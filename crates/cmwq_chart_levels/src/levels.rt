@@ -2,11 +2,10 @@
 ghost use Rattle.std.specs.Prelude.{◌≡◌, ◌<◌, ◌≤◌, ◌∷◌, ◌++◌, [], length, take, drop, flat_map, map, slice_index_or};
 ghost use Rattle.std.specs.Prelude.{OnOk, option_to_list};
 ghost use Rattle.std.specs.List.{All};
-ghost use Rattle.cmwq_state.specs.Effects.{IsEffect};
 ghost use Rattle.cmwq_history.specs.Steps.{after};
 ghost use Rattle.cmwq_chart.specs.Levels.{level_number};
 ghost use Rattle.cmwq_chart_levels.specs.Affected.{affects, AreLevelsInOrder, AreRanges, IsOnlyWithin};
-ghost use Rattle.cmwq_chart_levels.specs.Turns.{IsLevelAfter, after_if, ended_if, ended_levels};
+ghost use Rattle.cmwq_chart_levels.specs.Turns.{IsEffectOf, IsLevelAfter, after_if, ended_if, ended_levels};
 ghost use Rattle.cmwq_chart_levels.specs.Turns.{level_after as level_then};
 
 use crate::affected::{AffectedPlaces, PlaceRange, place_number, places_affected};
@@ -14,6 +13,7 @@ use crate::heights::{height_after, is_changed, may_change};
 use cmwq_chart::{Height, Level};
 use cmwq_history::Step;
 use cmwq_model::NoMemory;
+use cmwq_state::Effect;
 
 /// The level that an entry after so many ends, of that which went on before it.
 fn level_ended(before: &Level, is_changed: bool, entries: usize) -> Option<Level>
@@ -76,20 +76,24 @@ fn level_at(levels: &[Level], number: usize) -> Level
 
 /// Takes the levels that go on beyond an entry, and puts those that it ends after the others. It looks at each of
 /// them.
-fn update(levels: &mut Vec<Level>, running: &mut [Level], step: &Step<'_>) -> Result<(), NoMemory>
+fn update(
+    levels: &mut Vec<Level>,
+    running: &mut [Level],
+    step: &Step<'_, Effect>,
+) -> Result<(), NoMemory>
     requires short { length step.now.past ≤ 1073741824 }
     requires running { All (IsLevelAfter step.now.layout step.now.past) running.old }
     ensures running { OnOk result (running.new ≡ map (level_then step.now.layout (after step.now)) running.old) }
     ensures levels { OnOk result
         (levels.new.items ≡ levels.old.items
-        ++ flat_map (ended_levels step.now.layout step.now.past step.now.effect.entry) running.old) }
+        ++ flat_map (ended_levels step.now.layout step.now.past step.now.entry) running.old) }
 {
-    let effect = step.effect();
+    let effect = step.told();
     let entries = step.at() as usize;
     for k in 0..running.len() {
         let before = level_at(running, k);
         let place = before.place;
-        if may_change(&effect, place) {
+        if may_change(effect, place) {
             let height = height_after(step, before.height, place);
             let is_changed = is_changed(entries, &before.height, &height);
             push_if_some(levels, level_ended(&before, is_changed, entries))?;
@@ -113,18 +117,18 @@ fn count_below(levels: &[Level], number: usize) -> usize
 fn update_in_range(
     levels: &mut Vec<Level>,
     running: &mut [Level],
-    step: &Step<'_>,
+    step: &Step<'_, Effect>,
     range: PlaceRange,
 ) -> Result<(), NoMemory>
     requires short { length step.now.past ≤ 1073741824 }
     requires running { All (IsLevelAfter step.now.layout step.now.past) running.old }
-    requires effect { IsEffect step.now.layout step.now.past step.now.effect }
+    requires effect { IsEffectOf step.now.layout step.now.past step.now.entry step.now.told }
     requires order { AreLevelsInOrder running.old }
-    requires only { All (IsOnlyWithin (affects step.now.effect) range) running.old }
+    requires only { All (IsOnlyWithin (affects step.now.told) range) running.old }
     ensures running { OnOk result (running.new ≡ map (level_then step.now.layout (after step.now)) running.old) }
     ensures levels { OnOk result
         (levels.new.items ≡ levels.old.items
-        ++ flat_map (ended_levels step.now.layout step.now.past step.now.effect.entry) running.old) }
+        ++ flat_map (ended_levels step.now.layout step.now.past step.now.entry) running.old) }
 {
     let from = count_below(running, range.from);
     let (_, rest) = running.split_at_mut(from);
@@ -138,19 +142,19 @@ fn update_in_range(
 fn update_in_ranges(
     levels: &mut Vec<Level>,
     running: &mut [Level],
-    step: &Step<'_>,
+    step: &Step<'_, Effect>,
     first: PlaceRange,
     second: PlaceRange,
 ) -> Result<(), NoMemory>
     requires short { length step.now.past ≤ 1073741824 }
     requires running { All (IsLevelAfter step.now.layout step.now.past) running.old }
-    requires effect { IsEffect step.now.layout step.now.past step.now.effect }
+    requires effect { IsEffectOf step.now.layout step.now.past step.now.entry step.now.told }
     requires order { AreLevelsInOrder running.old }
-    requires ranges { AreRanges (affects step.now.effect) first second }
+    requires ranges { AreRanges (affects step.now.told) first second }
     ensures running { OnOk result (running.new ≡ map (level_then step.now.layout (after step.now)) running.old) }
     ensures levels { OnOk result
         (levels.new.items ≡ levels.old.items
-        ++ flat_map (ended_levels step.now.layout step.now.past step.now.effect.entry) running.old) }
+        ++ flat_map (ended_levels step.now.layout step.now.past step.now.entry) running.old) }
 {
     let middle = count_below(running, second.from);
     let (low, high) = running.split_at_mut(middle);
@@ -163,19 +167,19 @@ fn update_in_ranges(
 pub(crate) fn update_affected(
     levels: &mut Vec<Level>,
     running: &mut [Level],
-    step: &Step<'_>,
+    step: &Step<'_, Effect>,
 ) -> Result<(), NoMemory>
     requires short { length step.now.past ≤ 1073741824 }
     requires running { All (IsLevelAfter step.now.layout step.now.past) running.old }
-    requires effect { IsEffect step.now.layout step.now.past step.now.effect }
+    requires effect { IsEffectOf step.now.layout step.now.past step.now.entry step.now.told }
     requires order { AreLevelsInOrder running.old }
     ensures running { OnOk result (running.new ≡ map (level_then step.now.layout (after step.now)) running.old) }
     ensures levels { OnOk result
         (levels.new.items ≡ levels.old.items
-        ++ flat_map (ended_levels step.now.layout step.now.past step.now.effect.entry) running.old) }
+        ++ flat_map (ended_levels step.now.layout step.now.past step.now.entry) running.old) }
 {
-    let effect = step.effect();
-    match places_affected(&effect) {
+    let effect = step.told();
+    match places_affected(effect) {
         AffectedPlaces::Nowhere => Ok(()),
         AffectedPlaces::Within(first, second) => update_in_ranges(
             levels, running, step, first, second,

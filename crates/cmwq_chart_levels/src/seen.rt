@@ -2,7 +2,6 @@
 ghost use Rattle.std.specs.Prelude.{◌≡◌, ◌<◌, ◌≤◌, ◌∷◌, ◌++◌, [], List, length, map, option_to_list, IfOk, OnOk};
 ghost use Rattle.std.specs.List.{range_with_len};
 ghost use Rattle.cmwq_model.specs.declared.record.Queueing.{Queueing as TheQueueing};
-ghost use Rattle.cmwq_state.specs.Effects.{IsEffect};
 ghost use Rattle.cmwq_history.specs.Steps.{after};
 ghost use Rattle.cmwq_chart.specs.Levels as spec;
 ghost use Rattle.cmwq_chart.specs.Marks.{AreMarks};
@@ -11,9 +10,9 @@ ghost use Rattle.cmwq_chart_levels.specs.Seen.{AreLevels};
 use crate::affected::place_number;
 use crate::levels::{push, update_affected};
 use cmwq_chart::{Height, Level, mark};
-use cmwq_core::Judge;
-use cmwq_history::{Fold, Look, Step, look_at};
-use cmwq_model::{CpuId, Entry, MOST_CPUS, NoMemory, Place, QueueId, Queueing, Shape, Wanted};
+use cmwq_history::{Fold, Step};
+use cmwq_model::{CpuId, Entry, MOST_CPUS, NoMemory, Place, QueueId, Queueing, Shape};
+use cmwq_state::Effect;
 use std::alloc::Global;
 
 /// No more entries than these are kept, so that a place among them has 32 bits.
@@ -100,14 +99,14 @@ fn mark_opened(used: &mut Vec<bool>, opened: Option<Queueing>)
 fn update_all(
     ended: &mut Vec<Level>,
     running: &mut Vec<Level>,
-    step: &Step<'_>,
+    step: &Step<'_, Effect>,
 ) -> Result<(), NoMemory>
     requires short { length step.now.past ≤ 1073741824 }
     requires levels { AreLevels step.now.layout step.now.past ended.old.items running.old.items }
     ensures { OnOk result (AreLevels step.now.layout (after step.now) ended.new.items running.new.items) }
 {
     // it shows that the places are in order
-    let _effect = step.effect();
+    let _effect = step.told();
     update_affected(ended, running, step)?;
     Ok(())
 }
@@ -125,6 +124,8 @@ fn push_entry(entries: &mut Vec<Entry>, entry: Entry) -> Result<(), NoMemory>
 impl Fold for Seen {
     ghost use Rattle.cmwq_chart_levels.specs.Seen.{IsSeen};
 
+    type Told = Effect;
+
     ghost is_of = { λ s past seen. IsSeen s past seen };
 
     fn begin(alloc: Global, shape: &Shape) -> Result<Self, NoMemory> {
@@ -136,24 +137,13 @@ impl Fold for Seen {
         })
     }
 
-    fn follow(&mut self, judge: &mut Judge, entry: &Entry) -> Result<Result<(), Wanted>, NoMemory> {
-        look_at(self, judge, entry)
-    }
-}
-
-impl Look for Seen {
-    ghost use Rattle.cmwq_chart_levels.specs.Seen.{IsSeen};
-
-    ghost is_of = { λ s past seen. IsSeen s past seen };
-
-    fn take(&mut self, step: &Step<'_>) -> Result<(), NoMemory> {
+    fn take(&mut self, step: &Step<'_, Effect>) -> Result<(), NoMemory> {
         if step.at() >= MOST_KEPT {
             return Err(NoMemory);
         }
-        let effect = step.effect();
-        push_entry(&mut self.entries, effect.entry)?;
+        push_entry(&mut self.entries, *step.entry())?;
         update_all(&mut self.ended, &mut self.running, step)?;
-        mark_opened(&mut self.used, effect.opened);
+        mark_opened(&mut self.used, step.told().opened);
         Ok(())
     }
 }

@@ -1,10 +1,10 @@
 -- A history that is judged from its first entry on.
-use Rattle.cmwq_core.specs.Common.{◌≡◌, ◌∷◌, ◌+◌, ◌*◌, ◌^◌, ◌<◌, ◌≤◌, ℕ, Bool, true, false, refl, List, [], length}
+use Rattle.cmwq_core.specs.Common.{◌≡◌, ◌∷◌, ◌+◌, ◌*◌, ◌^◌, ◌<◌, ◌≤◌, ℕ, true, refl, List, length}
 use Rattle.cmwq_core.specs.Common.{take, get_or, sym, subst, ap, arith, take_more, Entry, Call, Layout, is_layout, now}
-use Rattle.cmwq_core.specs.Common.{ticks_told, has_room, has_time, most_time, IsLegal, IsTrue, past_of, AllFit, le-leb}
+use Rattle.cmwq_core.specs.Common.{ticks_told, has_room, has_time, most_time, IsLegal, IsTrue, past_of, le-leb}
 use Rattle.cmwq_model.specs.Prelude.{most_room}
 use Rattle.cmwq_model.specs.declared.call.Call.TheVariants as call
-use Rattle.cmwq_model.proofs.Growing.{nothing_is_legal, past_more}
+use Rattle.cmwq_model.proofs.Growing.{past_more}
 use Rattle.cmwq_core.specs.History.{History}
 use Rattle.cmwq_core.specs.Judged.{Judged, judged_none, seen_too}
 use Rattle.cmwq_core.proofs.OwedBound.{taken}

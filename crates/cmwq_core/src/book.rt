@@ -61,7 +61,7 @@ impl Book {
         requires { tables.IsThere self.now.layout who }
         ensures { result ≡ calls.serial_of (past_in self.now) who }
     {
-        self.execution.serial(who)
+        self.execution.state().serial(who)
     }
 
     /// What the call would be answered, whether or not there is room for it.
@@ -146,14 +146,14 @@ impl Book {
     pub fn open_count(&self) -> u32
         ensures { result ≡ length (still_open (past_in self.now)) }
     {
-        self.execution.open_count()
+        self.execution.state().open_count()
     }
 
     /// How many of them are active.
     pub fn active_count(&self) -> u32
         ensures { result ≡ count_by (is_active self.now.layout (past_in self.now)) (still_open (past_in self.now)) }
     {
-        self.execution.active_count()
+        self.execution.state().active_count()
     }
 
     /// The entries, the oldest first. What a user relies on holds of them.

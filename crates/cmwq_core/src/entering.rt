@@ -12,9 +12,9 @@ use crate::plan::Plan;
 use cmwq_model::{Entry, Reply};
 use cmwq_state::{Effect, State};
 
-/// What is returned of the effect of an entry that is made. An effect is large, so that copies of it cost more than
-/// making it, where nobody reads it.
-pub(crate) trait Told: Sized {
+/// What is told of an entry that is made: nothing, as `()`, or its `Effect`. An effect is large, so that copies of it
+/// cost more than making it, where nobody reads it.
+pub trait Told: Sized {
     ghost use Rattle.std.specs.Prelude.{List};
     ghost use Rattle.cmwq_model.specs.Prelude.{Layout};
     ghost use Rattle.cmwq_model.specs.declared.entry.Entry.{Entry};
@@ -23,21 +23,16 @@ pub(crate) trait Told: Sized {
     /// It tells of this entry after this past.
     ghost tells: { Layout → List Entry → Entry → Self → Type 0 };
 
+    /// What is told of an entry with this effect.
     fn of(effect: Effect) -> Self
         ensures { (s : Layout) (past : List Entry) → IsEffect s past effect → tells s past effect.entry result };
 }
 
-/// Nothing is told.
-#[derive(Drop)]
-pub(crate) struct Untold;
-
-impl Told for Untold {
+impl Told for () {
     ghost tells = { λ s past e told. Unit {0} };
 
     #[inline(always)]
-    fn of(_: Effect) -> Self {
-        Untold
-    }
+    fn of(_: Effect) -> Self {}
 }
 
 impl Told for Effect {

@@ -1,11 +1,7 @@
-ghost use Rattle.std.specs.Prelude.{◌≡◌, ◌<◌, ◌≤◌, [], length, count_by, is_ok, IfOk, IsOk, OnErr, IsTrue};
-ghost use Rattle.cmwq_model.specs.Prelude.{fits, most_room, IsLegal, still_open, room_needed, is_active, opening};
-ghost use Rattle.cmwq_model.specs.Calls as calls;
+ghost use Rattle.std.specs.Prelude.{◌≡◌, ◌<◌, ◌≤◌, [], length, is_ok, IfOk, IsOk, OnErr, IsTrue};
+ghost use Rattle.cmwq_model.specs.Prelude.{fits, most_room, IsLegal, room_needed, opening};
 ghost use Rattle.cmwq_model.specs.Legal as legal;
-ghost use Rattle.cmwq_model.specs.Widths as widths;
-ghost use Rattle.cmwq_state.specs.Pwqs.{AreActiveCounts};
 ghost use Rattle.cmwq_state.specs.State.{AreOfOneSize};
-ghost use Rattle.cmwq_state.specs.Tables as tables;
 ghost use Rattle.cmwq_theory_steps.specs.Endings.{ending};
 ghost use Rattle.cmwq_theory_steps.specs.TicketSteps.{ticket_ended};
 ghost use Rattle.cmwq_core.specs.History.{past_in, next_entry, queued_of_booked, takes, takes_with, with_entry};
@@ -14,11 +10,11 @@ ghost use Rattle.cmwq_core.specs.Plans.{IsPlan};
 ghost use Rattle.cmwq_core.specs.Relied.{IsReliable};
 
 use crate::effects::{done_by, effect_of, ended_by, next_entry as predicted, opened_by, queued_at};
-use crate::entering::{Untold, enter, plan};
+use crate::entering::{enter, plan};
 use crate::marks::bits_of;
 use crate::plan::Plan;
 use cmwq_model::{
-    Call, Entry, ItemId, Mark, NoMemory, Number, QueueId, Queueing, Reply, Shape, Ticket, Who,
+    Call, Entry, ItemId, Mark, NoMemory, Number, Queueing, Reply, Shape, Ticket, Who,
 };
 use cmwq_state::State;
 use std::alloc::Global;
@@ -81,14 +77,6 @@ impl Execution {
         ensures legal { IsLegal self.now.layout (past_in self.now) }
     {
         self.state.len()
-    }
-
-    /// The serial of the next entry of this caller or worker: how many entries it has.
-    pub fn serial(&self, who: Who) -> u64
-        requires { tables.IsThere self.now.layout who }
-        ensures { result ≡ calls.serial_of (past_in self.now) who }
-    {
-        self.state.serial(who)
     }
 
     /// What the call would be answered, whether or not there is room for it.
@@ -169,8 +157,8 @@ impl Execution {
         ensures reply { result ≡ plan.now.mark.entry.reply }
         ensures entry { self.new ≡ with_entry self.old plan.now.mark.entry }
     {
-        match enter::<Untold>(&mut self.state, &plan.mark.entry) {
-            Ok(Untold) => plan.mark.entry.reply,
+        match enter::<()>(&mut self.state, &plan.mark.entry) {
+            Ok(()) => plan.mark.entry.reply,
             Err(Full) => unreachable!(),
         }
     }
@@ -203,7 +191,7 @@ impl Execution {
         ensures full { OnErr result (self.new ≡ self.old) }
     {
         let entry = predicted(&self.state, who, call);
-        enter::<Untold>(&mut self.state, &entry)?;
+        enter::<()>(&mut self.state, &entry)?;
         Ok(entry)
     }
 
@@ -224,35 +212,6 @@ impl Execution {
         ensures { result ≡ legal.bits (past_in self.now) item.0 }
     {
         bits_of(self.state.is_pending(item), self.state.is_running(item))
-    }
-
-    /// How many queueings are open.
-    pub fn open_count(&self) -> u32
-        ensures { result ≡ length (still_open (past_in self.now)) }
-    {
-        self.state.open_count()
-    }
-
-    /// How many of them are active.
-    pub fn active_count(&self) -> u32
-        ensures { result ≡ count_by (is_active self.now.layout (past_in self.now)) (still_open (past_in self.now)) }
-    {
-        self.state.active_count()
-    }
-
-    /// How many queueings of each queue are active on each CPU, with a number for each CPU that a shape may have.
-    pub fn active_counts(&self) -> &[u32]
-        ensures { AreActiveCounts self.now.layout (past_in self.now) result.now }
-    {
-        self.state.active_counts()
-    }
-
-    /// How wide a queue is.
-    pub fn width(&self, queue: QueueId) -> u32
-        requires { queue.0 < length self.now.layout.queues }
-        ensures { result ≡ widths.width self.now.layout (past_in self.now) queue.0 }
-    {
-        self.state.width(queue)
     }
 
     /// What stands after the entries: all that a state can be asked.

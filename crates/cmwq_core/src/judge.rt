@@ -1,19 +1,17 @@
 //! The verdict of a history.
 
-ghost use Rattle.std.specs.Prelude.{◌≡◌, ◌<◌, ◌≤◌, ◌∷◌, false, [], length, None, IfOk, IfSome, OnOk, OnErr, IfErr};
+ghost use Rattle.std.specs.Prelude.{◌≡◌, ◌≤◌, ◌∷◌, false, [], length, None, IfOk, IfSome, OnOk, OnErr, IfErr};
 ghost use Rattle.std.specs.Prelude.{IsTrue, true};
-ghost use Rattle.cmwq_model.specs.Prelude.{fits, has_room, is_layout, IsLegal, most_room, most_time, now, past_of};
-ghost use Rattle.cmwq_model.specs.Prelude.{still_open, width, AllFit, Wants, IsFirstWrong};
-ghost use Rattle.cmwq_state.specs.Effects.{IsEffect};
-ghost use Rattle.cmwq_state.specs.Pwqs.{AreActiveCounts};
+ghost use Rattle.cmwq_model.specs.Prelude.{fits, has_room, is_layout, AllFit, IsFirstWrong, IsLegal, most_room};
+ghost use Rattle.cmwq_model.specs.Prelude.{past_of, Wants};
 ghost use Rattle.cmwq_core.specs.History.{next_entry as entry_due};
 ghost use Rattle.cmwq_core.specs.Judged.{judged_none, seen_too};
 
 use crate::effects::next_entry;
-use crate::entering::{Untold, enter};
+use crate::entering::{Told, enter};
 use crate::execution::Full;
-use cmwq_model::{Entry, Illegal, NoMemory, QueueId, Shape, Wanted};
-use cmwq_state::{Effect, State};
+use cmwq_model::{Entry, Illegal, NoMemory, Shape, Wanted};
+use cmwq_state::State;
 use std::alloc::Global;
 use std::marker::Model;
 
@@ -75,42 +73,16 @@ impl Judge {
     }
 
     /// Judges one entry more. An entry that is the one that its call gets after those that were right is taken, and
-    /// what it does is returned. Of any other, what should stand there is: the serial, or if the serial is right the
-    /// reply.
+    /// what it does is told, as an `Effect`, or nothing, as `()`, which costs less. Of any other, what should stand
+    /// there is returned: the serial, or if the serial is right the reply.
     ///
     /// # Errors
     /// `Full` for a right entry, if there would be more than 2^62 entries or ticks. The judge is then as it was, as
     /// after a wrong entry.
-    pub fn next(&mut self, entry: Entry) -> Result<Result<Effect, Wanted>, Full>
-        requires { fits self.old.layout entry.who entry.call ≡ true }
-        ensures entry { IfOk result (λ verdict. IfOk verdict (λ effect. effect.entry ≡ entry)) }
-        ensures effect { IfOk result (λ verdict. IfOk verdict (IsEffect self.old.layout (past_of self.old.entries))) }
-        ensures room { IfOk result
-            (λ verdict. OnOk verdict (has_room self.old.layout most_room (past_of self.old.entries) entry.who entry.call
-            ≡ true)) }
-        ensures seen { IfOk result (λ verdict. OnOk verdict (self.new ≡ seen_too self.old entry)) }
-        ensures wrong { IfOk result
-            (λ verdict. IfErr verdict (Wants self.old.layout (past_of self.old.entries) entry)) }
-        ensures same { IfOk result (λ verdict. OnErr verdict (self.new ≡ self.old)) }
-        ensures full { OnErr result (IsLegal self.old.layout (entry ∷ past_of self.old.entries)
-            × (has_room self.old.layout most_room (past_of self.old.entries) entry.who entry.call ≡ false)
-            × (self.new ≡ self.old)) }
-    {
-        if let Some(wanted) = wanted(&self.state, &entry) {
-            return Ok(Err(wanted));
-        }
-        match enter::<Effect>(&mut self.state, &entry) {
-            Ok(effect) => Ok(Ok(effect)),
-            Err(Full) => Err(Full),
-        }
-    }
-
-    /// Judges one entry more, as `next` does, and doesn't return what it does, which costs less.
-    ///
-    /// # Errors
-    /// `Full` as at `next`.
-    pub fn pass(&mut self, entry: &Entry) -> Result<Result<(), Wanted>, Full>
+    pub fn next<T: Told>(&mut self, entry: &Entry) -> Result<Result<T, Wanted>, Full>
         requires { fits self.old.layout entry.now.who entry.now.call ≡ true }
+        ensures told { IfOk result
+            (λ verdict. IfOk verdict (T.tells self.old.layout (past_of self.old.entries) entry.now)) }
         ensures room { IfOk result
             (λ verdict. OnOk verdict (has_room self.old.layout most_room (past_of self.old.entries) entry.now.who
             entry.now.call ≡ true)) }
@@ -125,40 +97,10 @@ impl Judge {
         if let Some(wanted) = wanted(&self.state, entry) {
             return Ok(Err(wanted));
         }
-        match enter::<Untold>(&mut self.state, entry) {
-            Ok(Untold) => Ok(Ok(())),
+        match enter::<T>(&mut self.state, entry) {
+            Ok(told) => Ok(Ok(told)),
             Err(Full) => Err(Full),
         }
-    }
-
-    /// How many ticks went by.
-    pub fn time(&self) -> u64
-        ensures time { result ≡ now (past_of self.now.entries) }
-        ensures few { result ≤ most_time }
-    {
-        self.state.time()
-    }
-
-    /// How many queueings are open.
-    pub fn open_count(&self) -> u32
-        ensures { result ≡ length (still_open (past_of self.now.entries)) }
-    {
-        self.state.open_count()
-    }
-
-    /// How many queueings of each queue are active on each CPU, with a number for each CPU that a shape may have.
-    pub fn active_counts(&self) -> &[u32]
-        ensures { AreActiveCounts self.now.layout (past_of self.now.entries) result.now }
-    {
-        self.state.active_counts()
-    }
-
-    /// How wide a queue is.
-    pub fn width(&self, queue: QueueId) -> u32
-        requires { queue.0 < length self.now.layout.queues }
-        ensures { result ≡ width self.now.layout (past_of self.now.entries) queue.0 }
-    {
-        self.state.width(queue)
     }
 }
 
@@ -215,7 +157,7 @@ fn verdict(judge: &mut Judge, entries: &[Entry]) -> Result<(), Illegal>
         let _ticks = entry.call.ticks();
         // and it that the shape is inside the limits, on which the room does
         let _len = judge.len();
-        match judge.pass(entry) {
+        match judge.next::<()>(entry) {
             Ok(Ok(())) => {}
             Ok(Err(wanted)) => {
                 return Err(Illegal {

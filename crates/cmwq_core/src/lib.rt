@@ -14,6 +14,7 @@ mod workers;
 
 pub use book::Book;
 pub use cmwq_state::{Effect, those_who_fit_are_there};
+pub use entering::Told;
 pub use execution::{Execution, Full};
 pub use judge::{Judge, check};
 pub use plan::Plan;

@@ -1,11 +1,8 @@
-ghost use Rattle.std.specs.Prelude.{◌≡◌, ◌≤◌, ◌<◌, ◌+◌, [], length, count_by, None, Some, IfOk, IfErr, OnErr, IsTrue};
+ghost use Rattle.std.specs.Prelude.{◌≡◌, ◌≤◌, ◌+◌, [], length, None, Some, IfOk, IfErr, OnErr, IsTrue};
 ghost use Rattle.std.specs.Prelude.{true};
 ghost use Rattle.std.specs.Vec.{vec_capacity};
-ghost use Rattle.cmwq_model.specs.Prelude.{fits, IsLegal, still_open, is_active};
-ghost use Rattle.cmwq_model.specs.Calls as calls;
-ghost use Rattle.cmwq_model.specs.Legal as legal;
-ghost use Rattle.cmwq_state.specs.Tables as tables;
-ghost use Rattle.cmwq_core.specs.History.{next_entry, past_in, is_ready};
+ghost use Rattle.cmwq_model.specs.Prelude.{fits, IsLegal};
+ghost use Rattle.cmwq_core.specs.History.{next_entry, past_in};
 ghost use Rattle.cmwq_core.specs.Plans.{IsPlan};
 ghost use Rattle.cmwq_core.specs.Relied.{IsReliable};
 ghost use Rattle.cmwq_core.specs.Lasting.{lasting_at_first, with_made, with_none_kept, has_space, lasting_kept};
@@ -13,7 +10,7 @@ ghost use Rattle.cmwq_core.specs.Lasting.{lasting_entry, unmade_by};
 
 use crate::execution::{Execution, Full};
 use crate::plan::Plan;
-use cmwq_model::{Call, Entry, ItemId, NoMemory, Number, Reply, Shape, Who};
+use cmwq_model::{Call, Entry, NoMemory, Number, Reply, Shape, Who};
 use cmwq_state::Tail;
 use std::alloc::Global;
 use std::marker::Model;
@@ -56,6 +53,13 @@ impl TailBook {
             tail: Tail::new(alloc, keep)?,
             execution: Execution::new(alloc, shape, shape.counts().room)?,
         })
+    }
+
+    /// The execution of its calls: what can be asked of a history that is not kept.
+    pub fn execution(&self) -> &Execution
+        ensures { result.now ≡ self.now.history }
+    {
+        &self.execution
     }
 
     /// Lets the book go, as `Execution::end` does an execution.
@@ -185,43 +189,5 @@ impl TailBook {
         ensures { self.new ≡ with_none_kept self.old }
     {
         self.tail.forget();
-    }
-
-    /// The serial of the next entry of this caller or worker: how many entries it has.
-    pub fn serial(&self, who: Who) -> u64
-        requires { tables.IsThere self.now.history.layout who }
-        ensures { result ≡ calls.serial_of (past_in self.now.history) who }
-    {
-        self.execution.serial(who)
-    }
-
-    /// Whether the ticket with this number stands and waits for nothing, so that its end would be answered done.
-    pub fn ready(&self, ticket: Number) -> bool
-        ensures { result ≡ is_ready (past_in self.now.history) ticket }
-    {
-        self.execution.ready(ticket)
-    }
-
-    /// The bits of an item (`work_busy`): 1 if it is pending, plus 2 if it runs.
-    pub fn bits(&self, item: ItemId) -> u8
-        requires { item.0 < self.now.history.layout.items }
-        ensures { result ≡ legal.bits (past_in self.now.history) item.0 }
-    {
-        self.execution.bits(item)
-    }
-
-    /// How many queueings are open.
-    pub fn open_count(&self) -> u32
-        ensures { result ≡ length (still_open (past_in self.now.history)) }
-    {
-        self.execution.open_count()
-    }
-
-    /// How many of them are active.
-    pub fn active_count(&self) -> u32
-        ensures { result ≡ count_by (is_active self.now.history.layout (past_in self.now.history))
-            (still_open (past_in self.now.history)) }
-    {
-        self.execution.active_count()
     }
 }

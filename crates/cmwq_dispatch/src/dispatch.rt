@@ -399,7 +399,7 @@ impl Dispatch {
 fn is_finished(execution: &Execution, closed: bool, firing: u32) -> bool
     ensures { result ≡ is_finished execution.now closed firing }
 {
-    closed && execution.active_count() == 0 && firing == 0
+    closed && execution.state().active_count() == 0 && firing == 0
 }
 
 /// Whether a queueing starts.

@@ -28,7 +28,7 @@ fn mended(judge: &mut Judge, entry: Entry, wanted: Wanted) -> Entry
     requires { fits judge.old.layout entry.who entry.call ≡ true }
 {
     let entry = mended_by(entry, wanted);
-    match judge.pass(&entry) {
+    match judge.next::<()>(&entry) {
         Ok(Err(wanted)) => mended_by(entry, wanted),
         _ => entry,
     }
@@ -41,7 +41,7 @@ fn first_wrong(judge: &mut Judge, entries: &[Entry]) -> Option<(usize, Wanted, E
 {
     for at in 0..entries.len() {
         let entry = entries[at];
-        match judge.pass(&entry) {
+        match judge.next::<()>(&entry) {
             Ok(Ok(())) => {}
             Ok(Err(wanted)) => return Some((at, wanted, mended(judge, entry, wanted))),
             Err(Full) => return None,

@@ -377,7 +377,7 @@ impl<'a> Play<'a> {
     fn active_count(&self) -> u32
         ensures { result ≡ spec.active_in self.now.history }
     {
-        self.machine.execution().active_count()
+        self.machine.execution().state().active_count()
     }
 
     /// How it stands, where nobody may move.

@@ -12,8 +12,6 @@ use Rattle.cmwq_model.specs.declared.verdict.Illegal.{Illegal}
 use Rattle.std.proofs.lemmas.List.{reverse-append, reverse-reverse}
 use Rattle.std.proofs.Common.{reverse, sym}
 use Rattle.std.specs.Prelude.{true}
-use Rattle.cmwq_state.specs.Effects.{IsEffect}
-use Rattle.cmwq_state.specs.declared.effect.Effect.{Effect}
 use Rattle.cmwq_history.specs.Steps.{IsStep}
 use Rattle.cmwq_model.specs.Prelude.{Layout, IsLegal, past_of, Wants, IsFirstWrong, is_layout, has_room, most_room}
 
@@ -38,12 +36,13 @@ wrong_now s entries x i at legal wants =
 pub past_more : (entries : List Entry) (x : Entry) → past_of (entries ++ x ∷ []) ≡ x ∷ past_of entries
 past_more entries x = reverse-append entries (x ∷ [])
 
-pub step_made : (s : Layout) (entries : List Entry) (f : Effect) → is_layout s ≡ true → IsEffect s (past_of entries) f
-    → has_room s most_room (past_of entries) f.entry.who f.entry.call ≡ true
-    → IsStep (record { layout = s; entries = entries ++ f.entry ∷ [] }) f
-step_made s entries f inside effect few =
-    let p = past_more entries f.entry in
-    record { seen = rw p refl; next = rw p (record { inside = inside; effect = effect; few = few }) }
+pub step_made : {T : Type 0} (tells : Layout → List Entry → Entry → T → Type 0) (s : Layout) (entries : List Entry)
+    (e : Entry) (t : T) → is_layout s ≡ true → tells s (past_of entries) e t
+    → has_room s most_room (past_of entries) e.who e.call ≡ true
+    → IsStep tells (record { layout = s; entries = entries ++ e ∷ [] }) e t
+step_made tells s entries e t inside told few =
+    let p = past_more entries e in
+    record { seen = rw p refl; next = rw p (record { inside = inside; told_is = told; few = few }) }
 
 -- histories with one past are one
 pub same_entries : (xs ys : List Entry) → past_of xs ≡ past_of ys → xs ≡ ys

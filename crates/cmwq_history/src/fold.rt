@@ -6,15 +6,18 @@ ghost use Rattle.cmwq_history.specs.Following.{IsFollowed};
 
 use crate::step::Step;
 use cmwq_base::{Entry, NoMemory, Shape, Wanted};
-use cmwq_core::{Full, Judge};
+use cmwq_core::{Full, Judge, Told};
 use std::alloc::Global;
 
 /// What is made of a legal history, one entry after the other. It looks back at none of them.
 pub trait Fold: Sized {
-    ghost use Rattle.std.specs.Prelude.{◌≡◌, true, [], List, IfOk, OnOk, IfErr};
-    ghost use Rattle.cmwq_model.specs.Prelude.{Layout, fits, past_of, Wants};
+    ghost use Rattle.std.specs.Prelude.{[], List, IfOk, OnOk};
+    ghost use Rattle.cmwq_model.specs.Prelude.{Layout};
     ghost use Rattle.cmwq_model.specs.declared.entry.Entry.{Entry};
-    ghost use Rattle.cmwq_history.specs.Following.{IsFollowed};
+    ghost use Rattle.cmwq_history.specs.Steps.{after};
+
+    /// What it is told of each entry: `()`, or what the entry does, an `Effect`.
+    type Told: Told + Drop;
 
     /// It is what is made of a history of this shape, whose entries are sorted with the newest first.
     ghost is_of: { Layout → List Entry → Self → Type 0 };
@@ -23,37 +26,16 @@ pub trait Fold: Sized {
     fn begin(alloc: Global, shape: &Shape) -> Result<Self, NoMemory>
         ensures { IfOk result (is_of shape.now []) };
 
-    /// Has one more entry judged, and takes it if it is right. If it is wrong, returns what should stand there. The
-    /// error says that memory ran out.
-    fn follow(&mut self, judge: &mut Judge, entry: &Entry) -> Result<Result<(), Wanted>, NoMemory>
-        requires fit { fits judge.old.layout entry.now.who entry.now.call ≡ true }
-        requires made { is_of judge.old.layout (past_of judge.old.entries) self.old }
-        ensures right { IfOk result
-            (λ verdict. OnOk verdict (IsFollowed is_of judge.old entry.now judge.new self.new)) }
-        ensures wrong { IfOk result
-            (λ verdict. IfErr verdict (Wants judge.old.layout (past_of judge.old.entries) entry.now)) };
-}
-
-/// What looks at what entries do. A fold of it follows a history by `look_at`.
-pub trait Look: Sized {
-    ghost use Rattle.std.specs.Prelude.{List, OnOk};
-    ghost use Rattle.cmwq_model.specs.Prelude.{Layout};
-    ghost use Rattle.cmwq_model.specs.declared.entry.Entry.{Entry};
-    ghost use Rattle.cmwq_history.specs.Steps.{after};
-
-    /// As `is_of` of the fold.
-    ghost is_of: { Layout → List Entry → Self → Type 0 };
-
     /// Takes one more entry. The error says that memory ran out.
-    fn take(&mut self, step: &Step<'_>) -> Result<(), NoMemory>
+    fn take(&mut self, step: &Step<'_, Self::Told>) -> Result<(), NoMemory>
         requires { is_of step.now.layout step.now.past self.old }
         ensures { OnOk result (is_of step.now.layout (after step.now) self.new) };
 }
 
-/// Has one more entry judged, and taken with what it does if it is right. If it is wrong, returns what should stand
-/// there. The error says that memory ran out.
+/// Has one more entry judged, and taken if it is right. If it is wrong, returns what should stand there. The error says
+/// that memory ran out.
 #[tactic(auto, using(crate::proofs::Followed::step_made, crate::proofs::Followed::past_more))]
-pub fn look_at<F: Look>(
+pub(crate) fn follow<F: Fold>(
     made: &mut F,
     judge: &mut Judge,
     entry: &Entry,
@@ -66,9 +48,9 @@ pub fn look_at<F: Look>(
 {
     // it shows that the shape is inside the limits
     let _len = judge.len();
-    match judge.next(*entry) {
-        Ok(Ok(effect)) => {
-            made.take(&Step::new(effect, judge))?;
+    match judge.next::<F::Told>(entry) {
+        Ok(Ok(told)) => {
+            made.take(&Step::new(entry, told, judge))?;
             Ok(Ok(()))
         }
         Ok(Err(wanted)) => Ok(Err(wanted)),
@@ -81,17 +63,16 @@ pub fn look_at<F: Look>(
 pub struct Nothing;
 
 impl Fold for Nothing {
+    type Told = ();
+
     ghost is_of = { λ s past made. Unit {0} };
 
     fn begin(_: Global, _: &Shape) -> Result<Self, NoMemory> {
         Ok(Nothing)
     }
 
-    fn follow(&mut self, judge: &mut Judge, entry: &Entry) -> Result<Result<(), Wanted>, NoMemory> {
-        match judge.pass(entry) {
-            Ok(verdict) => Ok(verdict),
-            Err(Full) => Err(NoMemory),
-        }
+    fn take(&mut self, _: &Step<'_, ()>) -> Result<(), NoMemory> {
+        Ok(())
     }
 }
 
@@ -105,6 +86,8 @@ impl Fold for Kept {
     ghost use Rattle.std.specs.Prelude.{◌≡◌};
     ghost use Rattle.cmwq_model.specs.Prelude.{past_of};
 
+    type Told = ();
+
     ghost is_of = { λ s past kept. past_of kept.entries.items ≡ past };
 
     fn begin(alloc: Global, _: &Shape) -> Result<Self, NoMemory> {
@@ -114,14 +97,10 @@ impl Fold for Kept {
     }
 
     #[tactic(auto, using(crate::proofs::Followed::past_more))]
-    fn follow(&mut self, judge: &mut Judge, entry: &Entry) -> Result<Result<(), Wanted>, NoMemory> {
-        match judge.pass(entry) {
-            Ok(Ok(())) => match self.entries.push(*entry) {
-                Ok(()) => Ok(Ok(())),
-                Err(_) => Err(NoMemory),
-            },
-            Ok(Err(wanted)) => Ok(Err(wanted)),
-            Err(Full) => Err(NoMemory),
+    fn take(&mut self, step: &Step<'_, ()>) -> Result<(), NoMemory> {
+        match self.entries.push(*step.entry()) {
+            Ok(()) => Ok(()),
+            Err(_) => Err(NoMemory),
         }
     }
 }

@@ -5,7 +5,7 @@ ghost use Rattle.cmwq_model.specs.Prelude.{IsLegal, IsFirstWrong, past_of};
 ghost use Rattle.cmwq_history.specs.Following.{judged_of};
 ghost use Rattle.cmwq_history.specs.Verdicts.{IsVerdictOf};
 
-use crate::fold::Fold;
+use crate::fold::{Fold, follow};
 use cmwq_base::{Entry, Gather, Illegal, NoMemory, Shape};
 use cmwq_core::Judge;
 use cmwq_state::Trail;
@@ -141,7 +141,7 @@ impl<F: Fold + Drop> Gather for Following<F> {
             Course::Failed => return Err(NoMemory),
             Course::Legal => {
                 let at = self.judge.len();
-                match self.made.follow(&mut self.judge, &item) {
+                match follow(&mut *self.made, &mut self.judge, &item) {
                     Ok(Ok(())) => self.all.push(&item),
                     Ok(Err(wanted)) => {
                         self.course = Course::Wrong(Illegal { at, wanted });

@@ -12,7 +12,7 @@ mod verdict;
 mod view;
 
 pub use check::{run_check, run_front_check};
-pub use fold::{Fold, Kept, Look, Nothing, look_at};
+pub use fold::{Fold, Kept, Nothing};
 pub use following::{Following, Legal};
 pub use output::write_history;
 pub use step::Step;

@@ -1,47 +1,55 @@
 //! The next entry of a legal history.
 
-ghost use Rattle.std.specs.Prelude.{◌≡◌, ◌<◌, length};
-ghost use Rattle.cmwq_model.specs.Prelude.{now, still_open, width};
-ghost use Rattle.cmwq_state.specs.Pwqs.{AreActiveCounts};
+ghost use Rattle.std.specs.Prelude.{◌≡◌, length};
+ghost use Rattle.cmwq_core.specs.History.{past_in};
 ghost use Rattle.cmwq_history.specs.Steps.{IsStep, IsNext, step_of, after};
 
-use cmwq_base::QueueId;
-use cmwq_core::{Effect, Judge};
+use cmwq_base::Entry;
+use cmwq_core::{Judge, Told};
+use cmwq_state::State;
 use std::marker::Model;
 
-/// The next entry of a legal history: what it does to what was there before it, and what can be read after it.
-/// Contracts see all entries before it.
+/// The next entry of a legal history: what is told of it, and what stands after it. Contracts see all entries before
+/// it.
 #[derive(Drop)]
-pub struct Step<'a> {
-    effect: Effect,
+pub struct Step<'a, T: Told + Drop> {
+    entry: &'a Entry,
+    told: T,
     judge: &'a Judge,
 }
 
-impl<'a> Model for Step<'a> {
+impl<'a, T: Told + Drop> Model for Step<'a, T> {
     ghost use Rattle.cmwq_history.specs.Steps.{Stepped, IsStep, step_of};
 
-    ghost Value = { Stepped };
+    ghost Value = { Stepped T };
 
-    ghost view = { λ s. step_of s.judge.now s.effect };
+    ghost view = { λ s. step_of s.judge.now s.entry.now s.told };
 
-    ghost invariant = { λ s. IsStep s.judge.now s.effect };
+    ghost invariant = { λ s. IsStep T.tells s.judge.now s.entry.now s.told };
 }
 
-impl<'a> Step<'a> {
+impl<'a, T: Told + Drop> Step<'a, T> {
     /// The step that a judge has just made.
-    pub(crate) fn new(effect: Effect, judge: &'a Judge) -> Step<'a>
-        requires { IsStep judge.now effect }
-        ensures { result ≡ step_of judge.now effect }
+    pub(crate) fn new(entry: &'a Entry, told: T, judge: &'a Judge) -> Step<'a, T>
+        requires { IsStep T.tells judge.now entry.now told }
+        ensures { result ≡ step_of judge.now entry.now told }
     {
-        Step { effect, judge }
+        Step { entry, told, judge }
     }
 
-    /// The entry, and what it does.
-    pub fn effect(&self) -> Effect
-        ensures effect { result ≡ self.now.effect }
-        ensures next { IsNext self.now }
+    /// The entry.
+    pub fn entry(&self) -> &Entry
+        ensures { result.now ≡ self.now.entry }
     {
-        self.effect
+        self.entry
+    }
+
+    /// What is told of the entry.
+    pub fn told(&self) -> &T
+        ensures told { result.now ≡ self.now.told }
+        ensures next { IsNext T.tells self.now }
+    {
+        &self.told
     }
 
     /// How many entries are before it.
@@ -51,33 +59,11 @@ impl<'a> Step<'a> {
         self.judge.len() - 1
     }
 
-    /// How many ticks went by after it.
-    pub fn time(&self) -> u64
-        ensures { result ≡ now (after self.now) }
+    /// What stands after it: all that a state can be asked.
+    pub fn state(&self) -> &State
+        ensures layout { result.now.layout ≡ self.now.layout }
+        ensures past { past_in result.now ≡ after self.now }
     {
-        self.judge.time()
-    }
-
-    /// How many queueings are open after it.
-    pub fn open_count(&self) -> u32
-        ensures { result ≡ length (still_open (after self.now)) }
-    {
-        self.judge.open_count()
-    }
-
-    /// How many queueings of each queue are active on each CPU after it, with a number for each CPU that a shape may
-    /// have.
-    pub fn active_counts(&self) -> &[u32]
-        ensures { AreActiveCounts self.now.layout (after self.now) result.now }
-    {
-        self.judge.active_counts()
-    }
-
-    /// How wide a queue is after it.
-    pub fn width(&self, queue: QueueId) -> u32
-        requires { queue.0 < length self.now.layout.queues }
-        ensures { result ≡ width self.now.layout (after self.now) queue.0 }
-    {
-        self.judge.width(queue)
+        self.judge.state()
     }
 }

@@ -210,7 +210,7 @@ impl<N: HubName> Monitor<N> {
         ensures stranger { IfErr result (λ f. IsStranger participant.now f) }
     {
         let own = participant.serial();
-        let book = self.dispatch.execution().serial(participant.who());
+        let book = self.dispatch.execution().state().serial(participant.who());
         if own != book {
             return Err(RunFault::Stranger {
                 own: u64::from(own),
@@ -602,7 +602,7 @@ impl<N: HubName> Monitor<N> {
     pub fn active_count(&self) -> u32
         ensures { result ≡ active_in N.layout self.now.history }
     {
-        self.dispatch.execution().active_count()
+        self.dispatch.execution().state().active_count()
     }
 
     /// Callers make no calls from now on. Everybody is named.

@@ -118,8 +118,9 @@ impl Copies {
     /// Both have made as much.
     fn compare(&self, rt: &impl Abort) {
         assert_eq!(rt; self.copy.len(), self.original.len());
-        assert_eq!(rt; self.copy.open_count(), self.original.open_count());
-        assert_eq!(rt; self.copy.active_count(), self.original.active_count());
+        let (copy, original) = (self.copy.state(), self.original.state());
+        assert_eq!(rt; copy.open_count(), original.open_count());
+        assert_eq!(rt; copy.active_count(), original.active_count());
     }
 }
 
@@ -191,7 +192,7 @@ fn a_copy_takes_the_shape_of_its_original(rt: HostRuntime) {
     copies.next(&rt, CALLER, queue(4));
     let mut copy = Execution::new(rt.alloc(), &narrow, 50).expect(&rt, "memory");
     copy.copy_from(&copies.original).expect(&rt, "memory");
-    assert_eq!(rt; (copy.len(), copy.open_count()), (1, 1));
+    assert_eq!(rt; (copy.len(), copy.state().open_count()), (1, 1));
     copies.copy.copy_from(&copy).expect(&rt, "memory");
     copies.next(&rt, WORKER, Call::Take);
     assert_eq!(rt; (copies.original.len(), copy.len()), (2, 1));

@@ -5,7 +5,7 @@ ghost use Rattle.std.specs.Prelude.{◌≡◌};
 
 use crate::fixture::shape;
 use crate::generator::Generator;
-use cmwq_core::{Book, Full, Judge, TailBook, Unmade};
+use cmwq_core::{Book, Effect, Full, Judge, TailBook, Unmade};
 use cmwq_model::{
     Call, Counts, Entry, Illegal, ItemId, Mark, Number, Reply, Shape, Wanted, Who, all_fit,
 };
@@ -178,30 +178,31 @@ impl Machines {
         assert!(rt; self.shape.fits(entry.who, entry.call));
         let mut other = entry;
         other.reply = other_than(entry.reply);
-        let wanted = self.judge.pass(&other);
+        let wanted = self.judge.next::<()>(&other);
         assert!(rt; matches!(wanted, Ok(Err(Wanted::Reply(reply))) if reply.is_same(entry.reply)));
         other.serial = entry.serial.wrapping_add(1);
-        let wanted = self.judge.next(other);
+        let wanted = self.judge.next::<()>(&other);
         assert!(rt; matches!(wanted, Ok(Err(Wanted::Serial(serial))) if serial == entry.serial));
-        let before = (self.judge.len(), self.judge.time());
+        let before = (self.judge.len(), self.judge.state().time());
         if before.0 % 2 == 0 {
-            let passed = self.judge.pass(&entry);
+            let passed = self.judge.next::<()>(&entry);
             assert!(rt; matches!(passed, Ok(Ok(()))), "{entry:?}");
         } else {
-            let taken = self.judge.next(entry);
+            let taken = self.judge.next::<Effect>(&entry);
             assert!(rt;
                 matches!(taken, Ok(Ok(effect)) if is_same(&effect.entry, &entry)),
                 "{entry:?}"
             );
         }
-        let after = (self.judge.len(), self.judge.time());
+        let after = (self.judge.len(), self.judge.state().time());
         assert!(rt;
             after == (before.0 + 1, before.1 + u64::from(entry.call.ticks())),
             "{entry:?}"
         );
-        assert_eq!(rt; self.judge.open_count(), self.book.open_count());
+        let judged = self.judge.state();
+        assert_eq!(rt; judged.open_count(), self.book.open_count());
         assert_eq!(rt;
-            total(self.judge.active_counts()),
+            total(judged.active_counts()),
             u64::from(self.book.active_count())
         );
     }
@@ -217,7 +218,7 @@ impl Machines {
             _ => return,
         };
         assert_eq!(rt; self.book.ready(ticket), is_over, "{entry:?}");
-        assert_eq!(rt; self.tail.ready(ticket), is_over, "{entry:?}");
+        assert_eq!(rt; self.tail.execution().ready(ticket), is_over, "{entry:?}");
     }
 
     /// After an entry its item has the bits of its mark; and one item, another after each entry, those that the plain
@@ -225,7 +226,7 @@ impl Machines {
     fn compare_bits(&self, rt: &impl Abort, mark: &Mark) {
         if let Some(item) = mark.item {
             assert!(rt; item.0 < self.shape.counts().items);
-            let found = (self.book.bits(item), self.tail.bits(item));
+            let found = (self.book.bits(item), self.tail.execution().bits(item));
             assert_eq!(rt; found, (mark.bits, mark.bits));
             assert_eq!(rt; bits_of(rt, &self.entries, item), mark.bits);
         }
@@ -312,7 +313,8 @@ impl Machines {
             );
         }
         let open = (self.book.open_count(), self.book.active_count());
-        assert_eq!(rt; (self.tail.open_count(), self.tail.active_count()), open);
+        let of_tail = self.tail.execution().state();
+        assert_eq!(rt; (of_tail.open_count(), of_tail.active_count()), open);
     }
 
     /// What the plain checks say of the history with this entry changed, and of the history without it.

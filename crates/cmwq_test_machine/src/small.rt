@@ -98,7 +98,14 @@ fn what_is_planned_is_made(rt: HostRuntime) {
     };
     assert!(rt; book.commit(&plan).is_same(Reply::Yes(0)));
     assert!(rt; tail.commit(&same).is_same(Reply::Yes(0)));
-    assert_eq!(rt; (book.len(), tail.len(), tail.serial(CALLER)), (1, 1, 1));
+    assert_eq!(rt;
+        (
+            book.len(),
+            tail.len(),
+            tail.execution().state().serial(CALLER)
+        ),
+        (1, 1, 1)
+    );
     assert!(rt;
         tail.entry(0)
             .is_some_and(|entry| entry.reply.is_same(Reply::Yes(0)))

@@ -3,7 +3,7 @@
 ghost use Rattle.std.specs.Prelude.{◌≡◌};
 
 use crate::fixture::{CALLER, FIRST, FLUSH, SMALL, WORKER, queue, shape};
-use cmwq_core::{Execution, Judge};
+use cmwq_core::{Effect, Execution, Judge};
 use cmwq_model::{Call, CallerId, ItemId, QueueId, Who};
 use cmwq_summary::{CALL_KINDS, Counter, REPLY_KINDS, Span, Summary};
 use std::process::Abort;
@@ -28,30 +28,23 @@ impl Summing {
             panic!(rt; "there is room");
         };
         assert!(rt; self.summary.shape().fits(entry.who, entry.call));
-        let Ok(Ok(effect)) = self.judge.next(entry) else {
+        let Ok(Ok(effect)) = self.judge.next::<Effect>(&entry) else {
             panic!(rt; "the entry is right");
         };
         // it shows that the entries are few
         let _len = self.judge.len();
-        self.summary.add(&effect, self.judge.active_counts());
+        self.summary
+            .add(&effect, self.judge.state().active_counts());
     }
 
     /// What is read of the execution and of its judge.
     fn show(&self, rt: &impl Abort) {
         let _counts = self.summary.shape().counts();
-        assert_eq!(rt;
-            (
-                self.execution.width(QueueId(0)),
-                self.judge.width(QueueId(0))
-            ),
-            (2, 2)
-        );
+        let (made, judged) = (self.execution.state(), self.judge.state());
+        assert_eq!(rt; (made.width(QueueId(0)), judged.width(QueueId(0))), (2, 2));
         assert_eq!(rt; (self.execution.len(), self.judge.len()), (10, 10));
-        assert_eq!(rt;
-            (self.execution.open_count(), self.judge.open_count()),
-            (0, 0)
-        );
-        assert_eq!(rt; self.judge.time(), 3);
+        assert_eq!(rt; (made.open_count(), judged.open_count()), (0, 0));
+        assert_eq!(rt; judged.time(), 3);
         assert!(rt; !self.execution.ready(3) && self.execution.bits(ItemId(0)) == 0);
     }
 }

@@ -1,8 +1,8 @@
 -- Where the waits of runs lead, wait by wait.
-use Rattle.std.proofs.Common.{◌≡◌, ◌∙◌, ℕ, zero, suc, ◌+◌, List, Option, Some, add-one, ap, option_and_then, refl, sym}
+use Rattle.std.proofs.Common.{◌≡◌, ◌∙◌, ℕ, ◌+◌, List, Option, Some, add-one, ap, option_and_then, refl}
 use Rattle.cmwq_model.specs.declared.entry.Entry.{Entry}
-use Rattle.cmwq_model.specs.Prelude.{Layout, is_at}
-use Rattle.cmwq_views.specs.Lent.{leads_back, next_row}
+use Rattle.cmwq_model.specs.Prelude.{Layout}
+use Rattle.cmwq_views.specs.Lent.{next_row}
 unfoldable use Rattle.cmwq_views.specs.Lent.{row_after}
 
 pub first_row : (s : Layout) (past : List Entry) (k : ℕ) → Some k ≡ row_after s past k 0

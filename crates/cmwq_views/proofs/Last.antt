@@ -1,12 +1,11 @@
 -- The last entries of each kind, as more come.
-use Rattle.std.proofs.Common.{◌≡◌, ℕ, ◌<◌, Bool, List, [], ◌∷◌, length, get_or, set, eqb, Option, Some, None, refl, sym}
-use Rattle.std.proofs.Common.{ap, ap₂, ◌∙◌, ◌++◌, subst, replicate, length-set, true, false, arith}
+use Rattle.std.proofs.Common.{◌≡◌, ℕ, ◌<◌, Bool, List, [], ◌∷◌, length, eqb, Option, Some, None, refl, sym}
+use Rattle.std.proofs.Common.{ap, ◌∙◌, subst, replicate, length-set, true, false, arith}
 use Rattle.std.proofs.lemmas.Option.{same_Some}
-use Rattle.std.proofs.lemmas.List.{length-replicate, length-reverse, get_or-replicate}
+use Rattle.std.proofs.lemmas.List.{length-replicate, get_or-replicate}
 use Rattle.std.specs.Prelude.{if◌then◌else◌}
 use Rattle.cmwq_model.specs.declared.entry.Entry.{Entry}
-use Rattle.cmwq_history.proofs.Followed.{past_more}
-use Rattle.cmwq_model.specs.Prelude.{Layout, is_at, now, past_of}
+use Rattle.cmwq_model.specs.Prelude.{Layout, is_at}
 use Rattle.cmwq_summary.proofs.Tables.{updated}
 use Rattle.cmwq_views.specs.declared.beginnings.Beginnings.{Beginnings}
 use Rattle.cmwq_views.specs.declared.beginnings.Lasts.{Lasts}
@@ -95,11 +94,3 @@ pub last_below : (d : Deed) (past : List Entry) (k : ℕ) (x : Since) → last d
 unfolding last
 last_below d [] k x h = absurd (let never : None ≡ Some x = h in cc)
 last_below d (e ∷ past) k x h = below_of d past e k x (is_at (key_of d e) k) refl h (last_below d past k x)
-
--- an entry that a judge has taken is the last one, and the tick after it is that of the judge
-pub since_is : (entries : List Entry) (e : Entry) (n t : ℕ) → n ≡ length entries
-    → t ≡ now (past_of (entries ++ e ∷ []))
-    → (let x : Since = record { entry = n; tick = t } in x) ≡ since_entry (past_of entries) e
-since_is entries e n t count time =
-    ap₂ (λ (a b : ℕ). let x : Since = record { entry = a; tick = b } in x)
-    (count ∙ sym (length-reverse entries)) (time ∙ ap now (past_more entries e))

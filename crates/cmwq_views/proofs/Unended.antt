@@ -1,6 +1,6 @@
 -- Unended tickets: that their callers and their numbers are there, and which one is found after a sleep.
-use Rattle.std.proofs.Common.{◌≡◌, ℕ, ◌<◌, List, Option, Some, None, option_and_then}
-use Rattle.std.specs.Prelude.{◌+◌, true, Contains}
+use Rattle.std.proofs.Common.{◌≡◌, ◌<◌, List, Option, Some, None, option_and_then}
+use Rattle.std.specs.Prelude.{◌+◌, Contains}
 use Rattle.cmwq_lemmas.proofs.Members.{contained_in, found, in_contained, in_filter, of_in}
 use Rattle.cmwq_model.specs.declared.entry.Entry.{Entry}
 use Rattle.cmwq_model.specs.declared.record.Ticket.{Ticket}

@@ -7,9 +7,8 @@ ghost use Rattle.cmwq_views.specs.declared.deed.Deed.TheVariants as deed;
 use crate::deed::Deed;
 use crate::number::OF_POOL;
 use crate::since::Since;
-use cmwq_base::{Entry, NoMemory, Shape, Wanted};
-use cmwq_core::{Full, Judge};
-use cmwq_history::Fold;
+use cmwq_base::{Entry, NoMemory, Shape};
+use cmwq_history::{Fold, Step};
 use std::alloc::Global;
 
 /// A row for each worker, item or caller, with the last entry of it that does something.
@@ -112,6 +111,8 @@ impl Beginnings {
 impl Fold for Beginnings {
     ghost use Rattle.cmwq_views.specs.Since.{AreBeginnings};
 
+    type Told = ();
+
     ghost is_of = { λ s past beginnings. AreBeginnings s past beginnings };
 
     fn begin(alloc: Global, shape: &Shape) -> Result<Self, NoMemory> {
@@ -126,19 +127,12 @@ impl Fold for Beginnings {
         })
     }
 
-    fn follow(&mut self, judge: &mut Judge, entry: &Entry) -> Result<Result<(), Wanted>, NoMemory> {
-        let number = judge.len();
-        match judge.pass(entry) {
-            Ok(Ok(())) => {
-                let now = Since {
-                    entry: number,
-                    tick: judge.time(),
-                };
-                self.note(entry, now);
-                Ok(Ok(()))
-            }
-            Ok(Err(wanted)) => Ok(Err(wanted)),
-            Err(Full) => Err(NoMemory),
-        }
+    fn take(&mut self, step: &Step<'_, ()>) -> Result<(), NoMemory> {
+        let now = Since {
+            entry: step.at(),
+            tick: step.state().time(),
+        };
+        self.note(step.entry(), now);
+        Ok(())
     }
 }

@@ -4,6 +4,7 @@ ghost use Rattle.std.specs.Prelude.{◌≡◌, Option, Result, IfSome, IsErrOf, 
 ghost use Rattle.cmwq_io.specs.Counts.{Rises};
 ghost use Rattle.cmwq_model.specs.Prelude.{past_of};
 ghost use Rattle.cmwq_base.specs.declared.refusal.Refusal.{Refusal as TheRefusal};
+ghost use Rattle.cmwq_history.specs.Faults.{FaultsAreTrue};
 ghost use Rattle.cmwq_history.specs.Views.{WriteEnds};
 ghost use Rattle.cmwq_chart_levels.specs.Seen.{IsSeen};
 ghost use Rattle.cmwq_chart_text.specs.PictureText.{picture_text};
@@ -118,8 +119,7 @@ fn write_chart<S: Source, O: Sink>(
         (λ text. ChartEnds chart.now.window chart.now.shows_all text (O.written output.old) (O.written output.new)
         result) }
     ensures flushed { IsChartFlushed result (O.held output.new) }
-    ensures read_fault { IsErrOf result Refusal.ReadFault → Rises (S.troubles input.old) (S.troubles input.new) }
-    ensures write_fault { IsErrOf result Refusal.WriteFault → Rises (O.troubles output.old) (O.troubles output.new) }
+    ensures faults { FaultsAreTrue result S.troubles input.old input.new O.troubles output.old output.new }
 {
     let file = read_file::<Following<Seen>, S>(alloc, input, false)?;
     let entries = file.all.entries();
@@ -189,8 +189,7 @@ pub fn run_chart<S: Source, O: Sink, E: Sink>(
         × IfSome (S.left input.old)
         (λ text. ChartEnds window shows_all text (O.written output.old) (O.written output.new) ended)
         × IsChartFlushed ended (O.held output.new)
-        × (IsErrOf ended Refusal.ReadFault → Rises (S.troubles input.old) (S.troubles input.new))
-        × (IsErrOf ended Refusal.WriteFault → Rises (O.troubles output.old) (O.troubles output.new)) }
+        × FaultsAreTrue ended S.troubles input.old input.new O.troubles output.old output.new }
 {
     let ended = write_chart(alloc, &Chart { window, shows_all }, input, output);
     tell_charted(errors, &ended);

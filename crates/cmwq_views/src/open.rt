@@ -1,11 +1,12 @@
 //! The subcommand `open`: what is still going on at the end of a history.
-ghost use Rattle.std.specs.Prelude.{◌≡◌, ◌≤◌, flat_map, Option, Result, IfErr, IfSome, IsErrOf, OnOk, OnErr};
+ghost use Rattle.std.specs.Prelude.{◌≡◌, ◌≤◌, flat_map, Option, Result, IfErr, IfSome, OnOk, OnErr};
 ghost use Rattle.std.specs.Io.KnownBytes.{Appends};
 ghost use Rattle.cmwq_model.specs.Prelude.{past_of};
 ghost use Rattle.cmwq_model.specs.declared.verdict.Illegal.{Illegal as TheIllegal};
 ghost use Rattle.cmwq_io.specs.Counts.{Rises};
 ghost use Rattle.cmwq_io.specs.Moves.{AppendsFront};
 ghost use Rattle.cmwq_base.specs.declared.refusal.Refusal.{Refusal as TheRefusal};
+ghost use Rattle.cmwq_history.specs.Faults.{FaultsAreTrue};
 ghost use Rattle.cmwq_history.specs.Verdicts.{check_status};
 ghost use Rattle.cmwq_history.specs.Views.{IsFlushed};
 ghost use Rattle.cmwq_views.specs.Open.{OpenEnds, open_text, section_text, standing_text};
@@ -97,8 +98,7 @@ pub fn run_open<S: Source, O: Sink, E: Sink>(
         × (result ≡ check_status ended)
         × IfSome (S.left input.old) (λ text. OpenEnds is_front text (O.written output.old) (O.written output.new) ended)
         × IsFlushed ended (O.held output.new)
-        × (IsErrOf ended Refusal.ReadFault → Rises (S.troubles input.old) (S.troubles input.new))
-        × (IsErrOf ended Refusal.WriteFault → Rises (O.troubles output.old) (O.troubles output.new)) }
+        × FaultsAreTrue ended S.troubles input.old input.new O.troubles output.old output.new }
 {
     run_front_view(alloc, &OpenView, input, output, errors, is_front)
 }

@@ -46,6 +46,6 @@ impl<'a> Progress<'a> {
         requires { queue.0 < length self.now.layout.queues }
         ensures { result ≡ width self.now.layout (past_of self.now.entries) queue.0 }
     {
-        self.judge.width(queue)
+        self.judge.state().width(queue)
     }
 }

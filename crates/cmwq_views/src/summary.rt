@@ -1,17 +1,18 @@
 //! The word `summary`.
-ghost use Rattle.std.specs.Prelude.{◌≡◌, Option, Result, IfSome, IsErrOf};
-ghost use Rattle.cmwq_io.specs.Counts.{Rises};
+ghost use Rattle.std.specs.Prelude.{◌≡◌, Option, Result, IfSome};
 ghost use Rattle.cmwq_model.specs.declared.verdict.Illegal.{Illegal as TheIllegal};
 ghost use Rattle.cmwq_base.specs.declared.refusal.Refusal.{Refusal as TheRefusal};
+ghost use Rattle.cmwq_history.specs.Faults.{FaultsAreTrue};
 ghost use Rattle.cmwq_history.specs.Verdicts.{check_status};
 ghost use Rattle.cmwq_history.specs.Views.{IsFlushed};
 ghost use Rattle.cmwq_views.specs.Summary.{SummaryEnds, summary_text};
 
 use crate::page::write_page;
 use crate::progress::Progress;
-use cmwq_base::{Entry, NoMemory, Refusal, Shape, Sink, Source, Wanted};
+use cmwq_base::{NoMemory, Refusal, Shape, Sink, Source};
 use cmwq_core::Judge;
-use cmwq_history::{Fold, Look, Step, View, look_at, run_view};
+use cmwq_history::{Fold, Step, View, run_view};
+use cmwq_state::Effect;
 use cmwq_summary::Summary;
 use std::alloc::Global;
 
@@ -24,6 +25,8 @@ struct Figures {
 impl Fold for Figures {
     ghost use Rattle.cmwq_views.specs.Summary.{IsSummaryOf};
 
+    type Told = Effect;
+
     ghost is_of = { λ s past figures. IsSummaryOf s past figures.summary };
 
     fn begin(alloc: Global, shape: &Shape) -> Result<Self, NoMemory> {
@@ -32,19 +35,8 @@ impl Fold for Figures {
         })
     }
 
-    fn follow(&mut self, judge: &mut Judge, entry: &Entry) -> Result<Result<(), Wanted>, NoMemory> {
-        look_at(self, judge, entry)
-    }
-}
-
-impl Look for Figures {
-    ghost use Rattle.cmwq_views.specs.Summary.{IsSummaryOf};
-
-    ghost is_of = { λ s past figures. IsSummaryOf s past figures.summary };
-
-    fn take(&mut self, step: &Step<'_>) -> Result<(), NoMemory> {
-        let effect = step.effect();
-        self.summary.add(&effect, step.active_counts());
+    fn take(&mut self, step: &Step<'_, Effect>) -> Result<(), NoMemory> {
+        self.summary.add(step.told(), step.state().active_counts());
         Ok(())
     }
 }
@@ -82,8 +74,7 @@ pub fn run_summary<S: Source, O: Sink, E: Sink>(
         × (result ≡ check_status ended)
         × IfSome (S.left input.old) (λ text. SummaryEnds text (O.written output.old) (O.written output.new) ended)
         × IsFlushed ended (O.held output.new)
-        × (IsErrOf ended Refusal.ReadFault → Rises (S.troubles input.old) (S.troubles input.new))
-        × (IsErrOf ended Refusal.WriteFault → Rises (O.troubles output.old) (O.troubles output.new)) }
+        × FaultsAreTrue ended S.troubles input.old input.new O.troubles output.old output.new }
 {
     run_view(alloc, &Page, input, output, errors)
 }

@@ -5,6 +5,7 @@ ghost use Rattle.cmwq_io.specs.Counts.{Rises};
 ghost use Rattle.cmwq_model.specs.declared.verdict.Illegal.{Illegal as TheIllegal};
 ghost use Rattle.cmwq_model.specs.Prelude.{past_of};
 ghost use Rattle.cmwq_base.specs.declared.refusal.Refusal.{Refusal as TheRefusal};
+ghost use Rattle.cmwq_history.specs.Faults.{FaultsAreTrue};
 ghost use Rattle.cmwq_history.specs.Verdicts.{check_status};
 ghost use Rattle.cmwq_history.specs.Views.{IsFlushed, WriteEnds};
 ghost use Rattle.cmwq_chart_levels.specs.Seen.{IsSeen};
@@ -81,8 +82,7 @@ pub fn run_trace<S: Source, O: Sink, E: Sink>(
         × (result ≡ check_status ended)
         × IfSome (S.left input.old) (λ text. TraceEnds text (O.written output.old) (O.written output.new) ended)
         × IsFlushed ended (O.held output.new)
-        × (IsErrOf ended Refusal.ReadFault → Rises (S.troubles input.old) (S.troubles input.new))
-        × (IsErrOf ended Refusal.WriteFault → Rises (O.troubles output.old) (O.troubles output.new)) }
+        × FaultsAreTrue ended S.troubles input.old input.new O.troubles output.old output.new }
 {
     run_view(alloc, &Trace, input, output, errors)
 }

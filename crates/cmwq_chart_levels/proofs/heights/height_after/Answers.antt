@@ -6,4 +6,4 @@ pub open_at-requires : goal.open_at-requires
 open_at-requires c = ap (λ (h : Height). h.open_count) c.requires.before
 
 pub returns : goal.returns
-returns c = rw (c.open_at.ensures, c.active_at.ensures, c.width.ensures) refl
+returns c = rw (c.open_at.ensures, c.active_at.ensures, c.width.ensures, c.state.ensures.layout, c.state.ensures.past) refl

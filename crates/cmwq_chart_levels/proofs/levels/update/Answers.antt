@@ -13,7 +13,7 @@ height_after-height-requires-clause-before c =
     let past = c.args.step.now.past in
     let xs = c.args.running.now in
     let less : c.loop-k.k < length xs = omega (arith, c.loop-k.invariant.long) in
-    let is = untouched s past c.args.step.now.effect.entry xs c.loop-k.running c.loop-k.k c.level_at-before.result less
+    let is = untouched s past c.args.step.now.entry xs c.loop-k.running c.loop-k.k c.level_at-before.result less
     c.loop-k.invariant.running c.level_at-before.ensures in
     (they_go_on s past xs c.loop-k.k c.level_at-before.result c.requires.running less is).height
 
@@ -23,7 +23,7 @@ height_after-height-requires-clause-inside c =
     let past = c.args.step.now.past in
     let xs = c.args.running.now in
     let less : c.loop-k.k < length xs = omega (arith, c.loop-k.invariant.long) in
-    let is = untouched s past c.args.step.now.effect.entry xs c.loop-k.running c.loop-k.k c.level_at-before.result less
+    let is = untouched s past c.args.step.now.entry xs c.loop-k.running c.loop-k.k c.level_at-before.result less
     c.loop-k.invariant.running c.level_at-before.ensures in
     (they_go_on s past xs c.loop-k.k c.level_at-before.result c.requires.running less is).inside
 
@@ -31,7 +31,7 @@ pub loop-k-preserved : goal.loop-k-preserved
 loop-k-preserved c =
     let s = c.args.step.now.layout in
     let past = c.args.step.now.past in
-    let e = c.args.step.now.effect.entry in
+    let e = c.args.step.now.entry in
     let xs = c.args.running.now in
     let x = c.level_at-before.result in
     let less : c.loop-k.k < length xs = omega (arith, c.loop-k.invariant.long) in
@@ -59,8 +59,8 @@ loop-k-preserved c =
           }
       | else-may_change w ↦
           let same =
-          unmoved s past c.args.step.now.effect x.place c.effect-effect.ensures.next.effect
-          (ap (λ f. may_change f x.place) (sym c.effect-effect.ensures.effect) ∙ sym c.may_change.ensures
+          unmoved s past e c.args.step.now.told x.place c.told-effect.ensures.next.told_is
+          (ap (λ f. may_change f x.place) (sym c.told-effect.ensures.told) ∙ sym c.may_change.ensures
           ∙ w.if-may_change.false) in
           record {
             running =

@@ -9,6 +9,6 @@ invariant-loop-k l = record {
   running : l.running ≡ map (level_after l.step.layout (after l.step)) (take l.k l.initial.running)
       ++ drop l.k l.initial.running;
   levels : (l.levels).items ≡ (l.initial.levels).items
-      ++ flat_map (ended_levels l.step.layout l.step.past l.step.effect.entry) (take l.k l.initial.running);
+      ++ flat_map (ended_levels l.step.layout l.step.past l.step.entry) (take l.k l.initial.running);
   long : length l.running ≡ length l.initial.running;
 }

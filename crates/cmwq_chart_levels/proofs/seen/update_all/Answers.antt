@@ -14,14 +14,14 @@ pub update_affected-requires : goal.update_affected-requires
 update_affected-requires c =
     let s = c.args.step.now.layout in
     let past = c.args.step.now.past in
-    let next = c.effect-effect.ensures.next in
+    let next = c.told-effect.ensures.next in
     let now = c.deref_mut.ensures.value ∙ c.requires.levels.running_are in
     record {
       short = c.requires.short;
       running = subst (All (IsLevelAfter s past)) (sym now)
           (all_go_on s past (all_places s)
           (λ i d less. at_each (IsPlaceOf s) (all_places s) i d less (all_inside s next.inside)));
-      effect = next.effect;
+      effect = next.told_is;
       order = subst AreLevelsInOrder (sym now)
           (levels_in_order s past (all_places s) (all_in_order s next.inside));
     }
@@ -30,7 +30,7 @@ pub returns : goal.returns
 returns c =
     let s = c.args.step.now.layout in
     let past = c.args.step.now.past in
-    let e = c.args.step.now.effect.entry in
+    let e = c.args.step.now.entry in
     let i = c.requires.levels in
     let now = c.deref_mut.ensures.value ∙ i.running_are in
     let long = ap length c.in_ok-update_affected.ensures.running ∙ length-map c.deref_mut.result.now _

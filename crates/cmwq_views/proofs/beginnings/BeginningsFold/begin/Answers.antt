@@ -1,4 +1,4 @@
-use Rattle.std.proofs.Common.{◌≡◌, ◌*◌, ◌∙◌, ap}
+use Rattle.std.proofs.Common.{◌*◌, ◌∙◌, ap}
 use Rattle.cmwq_model.specs.Prelude.{Layout, most_workers}
 use Rattle.cmwq_views.specs.declared.deed.Deed.TheVariants.{Book, Other, Queue, Sleep, Start, Wait}
 use Rattle.cmwq_views.proofs.Last.{no_lasts}

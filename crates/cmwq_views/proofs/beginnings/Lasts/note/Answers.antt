@@ -1,5 +1,3 @@
-use Rattle.std.proofs.Common.{◌∙◌, ap}
-use Rattle.cmwq_views.specs.Since.{noted}
 use Rattle.cmwq_views.proofs.Last.{lasts_go_on}
 use Rattle.cmwq_views.proofs.beginnings.Lasts.note.Goals as goal
 

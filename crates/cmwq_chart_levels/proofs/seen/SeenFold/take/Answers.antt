@@ -1,22 +1,23 @@
 use Rattle.std.proofs.Common.{◌∷◌, ◌++◌, [], option_to_list, ap, ◌∙◌, subst, arith}
 use Rattle.std.proofs.lemmas.List.{reverse-append}
-use Rattle.cmwq_model.specs.Prelude.{past_of, queueings}
+use Rattle.cmwq_model.specs.Prelude.{opening, past_of, queueings}
 use Rattle.cmwq_chart.specs.Levels.{level_number_of, most_places}
 use Rattle.cmwq_chart.specs.Marks.{AreMarks}
-use Rattle.cmwq_chart_levels.proofs.seen.SeenLook.take.Goals as goal
+use Rattle.cmwq_chart_levels.proofs.seen.SeenFold.take.Goals as goal
 
 pub returns : goal.returns
 unfolding queueings
 returns c =
     let s = c.args.step.now in
     let is = c.requires in
-    let read = c.effect-effect.ensures.effect in
-    let opened = ap (λ f. f.opened) read ∙ c.effect-effect.ensures.next.effect.opened in
+    let told = c.told.ensures.next.told_is in
+    let opened = ap (λ f. f.opened) c.told.ensures.told ∙ told.1.opened
+    ∙ ap (opening s.past) told.0 in
     record {
       entries = ap past_of c.in_ok-push_entry.ensures
-          ∙ reverse-append c.args.self.now.entries.items (c.effect-effect.result.entry ∷ [])
-          ∙ ap (λ f. f.entry ∷ past_of c.args.self.now.entries.items) read
-          ∙ ap (λ l. s.effect.entry ∷ l) is.entries;
+          ∙ reverse-append c.args.self.now.entries.items (c.entry.result.now ∷ [])
+          ∙ ap (λ e. e ∷ past_of c.args.self.now.entries.items) c.entry.ensures
+          ∙ ap (λ l. s.entry ∷ l) is.entries;
       short = omega arith;
       used = subst
           (λ o. AreMarks level_number_of (queueings s.past ++ option_to_list o) most_places c.mark_opened.new.used.items)
