@@ -1,4 +1,5 @@
 pub mod Continuing
 pub mod Ending
+pub mod FirstOutside
 pub mod Served
 pub mod Ticking

@@ -1,8 +1,8 @@
 -- What a call of a service answers, and what it leaves.
-use Rattle.std.specs.Prelude.{◌≡◌, ◌⊎◌, ◌≤◌, ℕ, Bool, ◌&&◌, true, false, List, length, take, Result, Ok, Err}
+use Rattle.std.specs.Prelude.{◌≡◌, ◌⊎◌, ◌≤◌, ℕ, Bool, true, false, List, length, take, Result, Ok, Err}
 use Rattle.std.specs.Prelude.{IfOk, IfErr}
 use Rattle.std.specs.List.{list_all}
-use Rattle.cmwq_model.specs.Prelude.{Layout, has_numbers, is_callers, is_workers}
+use Rattle.cmwq_model.specs.Prelude.{Layout, has_numbers}
 use Rattle.cmwq_model.specs.declared.call.Call.{Call}
 use Rattle.cmwq_model.specs.declared.call.Call.TheVariants as call
 use Rattle.cmwq_model.specs.declared.entry.Entry.{Entry}
@@ -21,39 +21,34 @@ use Rattle.cmwq_rt.specs.Running.{MakesOne}
 use Rattle.cmwq_rt.specs.Waiting.{HadNoRoom, HasWaited, is_for_itself}
 use Rattle.cmwq_rt.specs.declared.wait_fault.WaitFault.{WaitFault}
 use Rattle.cmwq_rt.specs.declared.wait_fault.WaitFault.TheVariants as wait
+use Rattle.cmwq_service.specs.Outside.{IsFirstOutside, IsOutside, is_allowed}
 use Rattle.cmwq_service.specs.declared.fault.Fault.{Fault}
 use Rattle.cmwq_service.specs.declared.fault.Fault.TheVariants.{Outside, Run, Itself, Deadlock, NoCaller, Own}
 
--- A call of one entry made none: a number of it isn't inside the shape, and nothing has changed, or the hub refused it.
--- No call answers a fault of the service's own.
+-- A call of one entry made none: a number of it isn't inside the shape, which the fault tells, and nothing has changed,
+-- or the hub refused it. No call answers a fault of the service's own.
 abbrev pub Denied : Layout → View → Call → Fault → View → Type 0
-Denied s v c Outside w = (has_numbers s c ≡ false) × (w ≡ v)
+Denied s v c (Outside o) w = (has_numbers s c ≡ false) × IsOutside s c o × (w ≡ v)
 Denied s v c (Run f) w = Refused s v c f w
 Denied _ _ _ f _ = ⊥
 
--- a call that callers make, or workers, with its numbers inside the shape
-abbrev pub is_of_caller : Layout → Call → Bool
-is_of_caller s c = is_callers c && has_numbers s c
-
-abbrev pub is_of_worker : Layout → Call → Bool
-is_of_worker s c = is_workers c && has_numbers s c
-
--- A batch of calls stopped: one of them isn't of its maker, and none was made, or the hub refused one.
+-- A batch of calls stopped: one of them isn't of its maker, the first of which the fault tells, and none was made, or
+-- the hub refused one.
 abbrev pub DeniedBatch : (Call → Bool) → Layout → View → List Call → ℕ → Fault → List Reply → List Reply → View → Type 0
-DeniedBatch is_own s v cs made Outside old new w =
-    (made ≡ 0) × (list_all is_own cs ≡ false) × (new ≡ old) × (w ≡ v)
-DeniedBatch is_own s v cs made (Run f) old new w = StopsBatch s v cs made f old new w
+DeniedBatch is_made s v cs made (Outside o) old new w =
+    (made ≡ 0) × (list_all (is_allowed is_made s) cs ≡ false) × IsFirstOutside is_made s cs o × (new ≡ old) × (w ≡ v)
+DeniedBatch is_made s v cs made (Run f) old new w = StopsBatch s v cs made f old new w
 DeniedBatch _ _ _ _ _ f _ _ _ = ⊥
 
 -- a call of several entries: so too, or it stopped after some of them
 abbrev pub Interrupted : Layout → View → Call → Fault → View → Type 0
-Interrupted s v c Outside w = (has_numbers s c ≡ false) × (w ≡ v)
+Interrupted s v c (Outside o) w = (has_numbers s c ≡ false) × IsOutside s c o × (w ≡ v)
 Interrupted s v c (Run f) w = BrokeOff s v c f w
 Interrupted _ _ _ f _ = ⊥
 
 -- A run's wait was refused: no entry was made, but that a run that was asleep is awake. Or it broke off.
 abbrev pub Unwaited : Layout → View → Call → Fault → View → Type 0
-Unwaited s v c Outside w = (has_numbers s c ≡ false) × (w ≡ v)
+Unwaited s v c (Outside o) w = (has_numbers s c ≡ false) × IsOutside s c o × (w ≡ v)
 Unwaited s v c (Run f) w = Later v w
 Unwaited s v c (Own _) w = ⊥
 Unwaited s v c f w = (w ≡ v) ⊎ MakesOne s v call.Wake w

@@ -1,3 +1,4 @@
+pub mod Outside
 pub mod Calls
 pub mod Serving
 pub mod Misfits

@@ -2,7 +2,8 @@
 ghost use Rattle.std.specs.Prelude.{◌≡◌};
 ghost use Rattle.cmwq_service.specs.Calls.{GoesOn};
 
-use crate::fault::{Fault, are_of_callers, in_batch};
+use crate::fault::{Fault, in_batch};
+use crate::outside::{Outside, outside_for_callers};
 use crate::start::Start;
 use cmwq_model::{Call, ItemId, Reply, Shape};
 use cmwq_rt::{BatchFault, Caller, CallerCalls, Calls, Completion, Hub, HubCaller, HubName, turns};
@@ -14,9 +15,10 @@ use std::sync::Wait;
 ///
 /// # Errors
 /// Every call that names an item, a queue or a CPU answers `Fault::Outside` where one isn't inside the shape, and has
-/// made no entry then; a `set_max` to 0 too. Otherwise a call answers what the hub does, as `Fault::Run`: `Closed`,
-/// `NoMemory` where the hub has failed, `Full`. It has made no entry then; but a call of several entries may break off
-/// after some of them, with `NoMemory`, which tells a ticket that stands unended.
+/// made no entry then; a `set_max` to 0 too. The fault tells the first such number, and its limit. Otherwise a call
+/// answers what the hub does, as `Fault::Run`: `Closed`, `NoMemory` where the hub has failed, `Full`. It has made no
+/// entry then; but a call of several entries may break off after some of them, with `NoMemory`, which tells a ticket
+/// that stands unended.
 pub trait Client: CallerCalls<Fault = Fault, WaitFault = Fault> {
     ghost use Rattle.std.specs.Prelude.{◌≡◌, ◌≤◌, [], false, true, length, Result};
     ghost use Rattle.std.specs.Prelude.{IfOk, IfErr, OnOk, MatchOption, None};
@@ -26,10 +28,11 @@ pub trait Client: CallerCalls<Fault = Fault, WaitFault = Fault> {
     ghost use Rattle.cmwq_model.specs.Prelude.{IsLegal, Layout, past_of, bits, has_numbers, is_callers};
     ghost use Rattle.cmwq_monitor.specs.Participants.{View, Gains};
     ghost use Rattle.cmwq_rt.specs.Batches.{MakesBatch};
-    ghost use Rattle.cmwq_service.specs.Calls.{DeniedBatch, DoneOrInterrupted, MadeOrDenied, is_of_caller};
+    ghost use Rattle.cmwq_service.specs.Calls.{DeniedBatch, DoneOrInterrupted, MadeOrDenied};
+    ghost use Rattle.cmwq_service.specs.Outside.{look_outside};
     ghost use Rattle.cmwq_monitor.specs.declared.fault.RunFault.TheVariants.{NoMemory};
     ghost use Rattle.cmwq_service.specs.declared.fault.Fault.{Fault};
-    ghost use Rattle.cmwq_service.specs.declared.fault.Fault.TheVariants.{Outside, Run};
+    ghost use Rattle.cmwq_service.specs.declared.fault.Fault.TheVariants.{Run};
 
     /// The shape of its hub.
     ghost layout: { Layout };
@@ -52,8 +55,8 @@ pub trait Client: CallerCalls<Fault = Fault, WaitFault = Fault> {
         ensures bits { IfOk result
             (λ o. MatchOption o (view self.new ≡ view self.old) (λ b. b ≡ bits (past_of (view self.new).seen) item.0)) }
         ensures legal { OnOk result (IsLegal layout (past_of (view self.new).seen)) }
-        ensures outside { IfErr result (λ f. (f ≡ Outside) × (has_numbers layout (calls.Cancel item) ≡ false)
-            × (view self.new ≡ view self.old)) }
+        ensures outside { IfErr result (λ f. (f ≡ Fault.Outside (look_outside layout item))
+            × (has_numbers layout (calls.Cancel item) ≡ false) × (view self.new ≡ view self.old)) }
         ensures own { Gains (view self.old) [] (view self.new) };
 
     /// Makes calls of one entry each, one after another: 64 at most in one hold of the hub's lock, which is faster than
@@ -61,13 +64,13 @@ pub trait Client: CallerCalls<Fault = Fault, WaitFault = Fault> {
     ///
     /// # Errors
     /// Those of `make`, with how many calls were made before; no later call is made. `Outside` also where one of them
-    /// is no call of callers; none is made then.
+    /// is no call of callers. It tells the first of the calls that is refused, and none is made.
     fn make_all(&mut self, calls: &[Call], replies: &mut [Reply]) -> Result<(), BatchFault<Fault>>
         requires room { length calls.now ≤ length replies.old }
         ensures made { IfOk result
             (λ _. MakesBatch layout (view self.old) calls.now replies.old replies.new (view self.new)) }
         ensures denied { IfErr result
-            (λ e. DeniedBatch (is_of_caller layout) layout (view self.old) calls.now e.made e.fault replies.old
+            (λ e. DeniedBatch is_callers layout (view self.old) calls.now e.made e.fault replies.old
             replies.new (view self.new)) };
 
     /// Waits until another thread of the service completes it (`wait_for_completion`). This makes no entry.
@@ -159,8 +162,9 @@ impl<'a, N: HubName, B: Start, R: Wait> Calls for HubClient<'a, N, B, R> {
 
     #[tactic(auto, using(crate::proofs::Continuing::goes_extends, crate::proofs::Continuing::goes_refused))]
     fn make(&mut self, call: Call) -> Result<Reply, Fault> {
-        if !self.calls.hub.shape().has_numbers(call) {
-            return Err(Fault::Outside);
+        let shape = self.calls.hub.shape();
+        if !shape.has_numbers(call) {
+            return Err(Fault::Outside(Outside::of_call(shape, call)));
         }
         match self.calls.make(call) {
             Ok(reply) => Ok(reply),
@@ -169,8 +173,9 @@ impl<'a, N: HubName, B: Start, R: Wait> Calls for HubClient<'a, N, B, R> {
     }
 
     fn wait(&mut self, call: Call) -> Result<Reply, Fault> {
-        if !self.calls.hub.shape().has_numbers(call) {
-            return Err(Fault::Outside);
+        let shape = self.calls.hub.shape();
+        if !shape.has_numbers(call) {
+            return Err(Fault::Outside(Outside::of_call(shape, call)));
         }
         match self.calls.wait(call) {
             Ok(reply) => Ok(reply),
@@ -195,19 +200,20 @@ impl<'a, N: HubName, B: Start, R: Wait> Client for HubClient<'a, N, B, R> {
     }
 
     fn busy(&mut self, item: ItemId) -> Result<Option<u8>, Fault> {
+        let shape = self.calls.hub.shape();
         // a cancel names the item, and nothing else
-        if !self.calls.hub.shape().has_numbers(Call::Cancel { item }) {
-            return Err(Fault::Outside);
+        if !shape.has_numbers(Call::Cancel { item }) {
+            return Err(Fault::Outside(Outside::of_look(shape, item)));
         }
         turns::turn(self.calls.rt, self.calls.hub);
         Ok(self.calls.caller.busy(item))
     }
 
     fn make_all(&mut self, calls: &[Call], replies: &mut [Reply]) -> Result<(), BatchFault<Fault>> {
-        if !are_of_callers(self.calls.hub.shape(), calls) {
+        if let Some(outside) = outside_for_callers(self.calls.hub.shape(), calls) {
             return Err(BatchFault {
                 made: 0,
-                fault: Fault::Outside,
+                fault: Fault::Outside(outside),
             });
         }
         let (rt, hub) = (self.calls.rt, self.calls.hub);

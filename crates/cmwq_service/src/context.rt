@@ -3,7 +3,8 @@ ghost use Rattle.std.specs.Prelude.{◌≡◌};
 ghost use Rattle.cmwq_rt.specs.Later.{Later};
 ghost use Rattle.cmwq_service.specs.Calls.{IsAfter};
 
-use crate::fault::{Fault, are_of_workers, fault_of_wait, in_batch};
+use crate::fault::{Fault, fault_of_wait, in_batch};
+use crate::outside::{Outside, outside_for_workers};
 use crate::start::Start;
 use cmwq_model::{Call, ItemId, Reply, Shape};
 use cmwq_rt::{BatchFault, Calls, Completion, HubName, RunCalls, RunCtx};
@@ -14,9 +15,9 @@ use std::sync::Wait;
 /// who it is, its serial and the history that it has seen.
 ///
 /// # Errors
-/// Every call that names an item, a queue or a CPU answers `Fault::Outside` where one isn't inside the shape. Otherwise
-/// a call answers what the hub does, as `Fault::Run`: `Full` where there is no room for it, `NoMemory` where the hub
-/// has failed. It has made no entry then.
+/// Every call that names an item, a queue or a CPU answers `Fault::Outside` where one isn't inside the shape. The fault
+/// tells the first such number, and its limit. Otherwise a call answers what the hub does, as `Fault::Run`: `Full`
+/// where there is no room for it, `NoMemory` where the hub has failed. It has made no entry then.
 ///
 /// A wait is made by a caller that the library lends to the run, which sleeps meanwhile, and wakes after it. It answers
 /// `Itself`, `Deadlock` or `NoCaller` if the run may not wait, and otherwise `Run` as the hub returns it: the run may
@@ -31,7 +32,7 @@ pub trait Context: RunCalls<Fault = Fault, WaitFault = Fault> {
     ghost use Rattle.cmwq_rt.specs.Waiting.{is_wait};
     ghost use Rattle.cmwq_monitor.specs.declared.fault.RunFault.TheVariants.{NoMemory};
     ghost use Rattle.cmwq_rt.specs.Batches.{MakesBatch};
-    ghost use Rattle.cmwq_service.specs.Calls.{DeniedBatch, MadeOrDenied, WaitedOrNot, is_of_worker};
+    ghost use Rattle.cmwq_service.specs.Calls.{DeniedBatch, MadeOrDenied, WaitedOrNot};
     ghost use Rattle.cmwq_service.specs.declared.fault.Fault.{Fault};
     ghost use Rattle.cmwq_service.specs.declared.fault.Fault.TheVariants.{Run};
 
@@ -57,13 +58,13 @@ pub trait Context: RunCalls<Fault = Fault, WaitFault = Fault> {
     ///
     /// # Errors
     /// Those of `make`, with how many calls were made before; no later call is made. `Outside` also where one of them
-    /// is no call of workers; none is made then.
+    /// is no call of workers. It tells the first of the calls that is refused, and none is made.
     fn make_all(&mut self, calls: &[Call], replies: &mut [Reply]) -> Result<(), BatchFault<Fault>>
         requires room { length calls.now ≤ length replies.old }
         ensures made { IfOk result
             (λ _. MakesBatch layout (view self.old) calls.now replies.old replies.new (view self.new)) }
         ensures denied { IfErr result
-            (λ e. DeniedBatch (is_of_worker layout) layout (view self.old) calls.now e.made e.fault replies.old
+            (λ e. DeniedBatch is_workers layout (view self.old) calls.now e.made e.fault replies.old
             replies.new (view self.new)) }
         ensures runs { runs self.new ≡ runs self.old };
 
@@ -148,8 +149,9 @@ impl<'a, N: HubName, B: Start, R: Wait> Calls for HubContext<'a, N, B, R> {
 
     #[tactic(auto, using(crate::proofs::Continuing::after_later))]
     fn make(&mut self, call: Call) -> Result<Reply, Fault> {
-        if !self.run.shape().has_numbers(call) {
-            return Err(Fault::Outside);
+        let shape = self.run.shape();
+        if !shape.has_numbers(call) {
+            return Err(Fault::Outside(Outside::of_call(shape, call)));
         }
         match self.run.make(call) {
             Ok(reply) => Ok(reply),
@@ -159,8 +161,9 @@ impl<'a, N: HubName, B: Start, R: Wait> Calls for HubContext<'a, N, B, R> {
 
     #[tactic(auto, using(crate::proofs::Continuing::after_later))]
     fn wait(&mut self, call: Call) -> Result<Reply, Fault> {
-        if !self.run.shape().has_numbers(call) {
-            return Err(Fault::Outside);
+        let shape = self.run.shape();
+        if !shape.has_numbers(call) {
+            return Err(Fault::Outside(Outside::of_call(shape, call)));
         }
         match self.run.wait(call) {
             Ok(reply) => Ok(reply),
@@ -188,10 +191,10 @@ impl<'a, N: HubName, B: Start, R: Wait> Context for HubContext<'a, N, B, R> {
 
     #[tactic(auto, using(crate::proofs::Continuing::after_later))]
     fn make_all(&mut self, calls: &[Call], replies: &mut [Reply]) -> Result<(), BatchFault<Fault>> {
-        if !are_of_workers(self.run.shape(), calls) {
+        if let Some(outside) = outside_for_workers(self.run.shape(), calls) {
             return Err(BatchFault {
                 made: 0,
-                fault: Fault::Outside,
+                fault: Fault::Outside(outside),
             });
         }
         in_batch(self.run.make_all(calls, replies))

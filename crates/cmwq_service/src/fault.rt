@@ -1,12 +1,12 @@
 //! Why a call isn't answered, and why a service stopped.
 ghost use Rattle.std.specs.Prelude.{◌≡◌, true, None};
-ghost use Rattle.std.specs.List.{list_all};
 ghost use Rattle.cmwq_monitor.specs.declared.fault.RunFault.TheVariants.{NoMemory};
 ghost use Rattle.cmwq_rt.specs.Waiting.{is_wait};
-ghost use Rattle.cmwq_service.specs.Calls.{IsBatchAnswer, IsFaultOfWait, is_of_caller, is_of_worker};
+ghost use Rattle.cmwq_service.specs.Calls.{IsBatchAnswer, IsFaultOfWait};
 ghost use Rattle.cmwq_service.specs.declared.fault.Fault.TheVariants.{Run};
 
-use cmwq_model::{Call, Entry, ItemId, Shape};
+use crate::outside::Outside;
+use cmwq_model::{Call, Entry, ItemId};
 use cmwq_rt::{BatchFault, RunFault, WaitFault};
 use std::alloc::{AllocError, AllocFailed};
 use thiserror::Error;
@@ -23,9 +23,9 @@ pub enum Awaited {
 /// Why a call fails, or why a function of the service gives up: `?` makes one of a call's fault, and of want of memory.
 #[derive(Clone, Copy, Debug, PartialEq, Eq, Error)]
 pub enum Fault {
-    /// A number of the call isn't inside the shape. It has made no entry.
-    #[error("a number outside of the shape")]
-    Outside,
+    /// A number of the call isn't inside the shape, or in a batch, its maker makes no such calls. It has made no entry.
+    #[error("{0}")]
+    Outside(Outside),
     /// What the hub answered. Unless `RunFault` says so, the call has made no entry.
     #[error("{fault}")]
     Run { fault: RunFault },
@@ -69,24 +69,6 @@ pub(crate) fn fault_of_wait(item: ItemId, call: Call, fault: WaitFault) -> Fault
         WaitFault::NoCaller => Fault::NoCaller { item, awaited },
         WaitFault::Run { fault } => Fault::Run { fault },
     }
-}
-
-/// Whether callers make such calls, and all numbers are inside the shape.
-pub(crate) fn are_of_callers(shape: &Shape, calls: &[Call]) -> bool
-    ensures { result ≡ list_all (is_of_caller shape.now) calls.now }
-{
-    calls
-        .iter()
-        .all(|call| call.is_callers() && shape.has_numbers(*call))
-}
-
-/// Whether workers make such calls, and all numbers are inside the shape.
-pub(crate) fn are_of_workers(shape: &Shape, calls: &[Call]) -> bool
-    ensures { result ≡ list_all (is_of_worker shape.now) calls.now }
-{
-    calls
-        .iter()
-        .all(|call| call.is_workers() && shape.has_numbers(*call))
 }
 
 /// What the hub answered to a batch, as a service sees it.

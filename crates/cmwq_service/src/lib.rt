@@ -10,6 +10,7 @@ mod client;
 mod context;
 pub mod crew;
 mod fault;
+mod outside;
 mod running;
 mod service;
 mod signal;
@@ -27,6 +28,7 @@ pub use cmwq_model::{
 pub use cmwq_rt::{BatchFault, CallerCalls, Calls, Completion, RunCalls, RunFault};
 pub use context::Context;
 pub use fault::{Awaited, Fault, Stopped};
+pub use outside::{Asked, Limit, Outside};
 pub use running::{run, run_dropping, run_dropping_with_waits, run_with_waits};
 pub use service::Service;
 pub use writing::{Unwritten, run_writing, run_writing_with_waits};

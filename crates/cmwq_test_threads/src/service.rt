@@ -2,12 +2,12 @@
 
 use crate::scene::NEVER;
 use crate::sink::{Output, entries_of, is_legal, lines_in, output};
-use crate::table::{Act, Table};
+use crate::table::{Act, Table, outside};
 use cmwq_base::{Memory, read_history};
 use cmwq_model::Call;
 use cmwq_service::{
-    Awaited, CpuId, Fault, ItemId, Misfit, PLAIN, QueueId, QueueShape, RunFault, Shape,
-    ShapeBuilder, Unwritten, run, run_dropping, run_dropping_with_waits, run_with_waits,
+    Asked, Awaited, CpuId, Fault, ItemId, Limit, Misfit, PLAIN, QueueId, QueueShape, RunFault,
+    Shape, ShapeBuilder, Unwritten, run, run_dropping, run_dropping_with_waits, run_with_waits,
     run_writing, run_writing_with_waits,
 };
 use std::alloc::AllocError;
@@ -113,6 +113,15 @@ const MODIFY_OUTSIDE: Call = Call::Modify {
 
 const CANCEL_OUTSIDE: Call = Call::Cancel { item: ItemId(4) };
 
+const ITEMS: Limit = Limit::Item { item: 4, items: 4 };
+
+const QUEUES: Limit = Limit::Queue {
+    queue: 2,
+    queues: 2,
+};
+
+const CPUS: Limit = Limit::Cpu { cpu: 1, cpus: 1 };
+
 /// Every call of a client once or more.
 const CALLS: [Act; 18] = [
     Act::Make(QUEUE_FIRST),
@@ -208,7 +217,7 @@ const WAITS_OF_RUN: [Act; 9] = [
             awaited: Awaited::Queue(0),
         },
     ),
-    Act::MakeOutside(Call::FlushItem { item: ItemId(4) }),
+    Act::MakeOutside(Call::FlushItem { item: ItemId(4) }, ITEMS),
     Act::Make(QUEUE_SECOND),
     Act::Make(Call::FlushItem { item: ItemId(1) }),
     Act::Make(Call::FlushDelayed { item: ItemId(2) }),
@@ -250,31 +259,34 @@ fn runs_wait_by_callers_that_are_lent(rt: HostRuntime) {
     is_as_told(&rt, &table, 1);
 }
 
-const OUTSIDE: [Act; 14] = [
-    Act::MakeOutside(QUEUE_OUTSIDE),
-    Act::MakeOutside(DELAY_OUTSIDE),
-    Act::MakeOutside(MODIFY_OUTSIDE),
-    Act::MakeOutside(CANCEL_OUTSIDE),
-    Act::MakeOutside(Call::SetMax {
-        queue: QUEUE,
-        max_active: 0,
-    }),
-    Act::MakeOutside(Call::Flush { queue: QueueId(2) }),
-    Act::MakeOutside(Call::FlushItem { item: ItemId(4) }),
-    Act::MakeOutside(Call::FlushDelayed { item: ItemId(4) }),
-    Act::MakeOutside(Call::CancelSync { item: ItemId(4) }),
-    Act::MakeOutside(Call::Drain { queue: QueueId(2) }),
-    Act::MakeOutside(Call::Destroy { queue: QueueId(2) }),
+const SET_MAX_OUTSIDE: Call = Call::SetMax {
+    queue: QUEUE,
+    max_active: 0,
+};
+
+const OUTSIDE: [Act; 15] = [
+    Act::MakeOutside(QUEUE_OUTSIDE, ITEMS),
+    Act::MakeOutside(DELAY_OUTSIDE, QUEUES),
+    Act::MakeOutside(MODIFY_OUTSIDE, CPUS),
+    Act::MakeOutside(CANCEL_OUTSIDE, ITEMS),
+    Act::MakeOutside(SET_MAX_OUTSIDE, Limit::MaxActive { max_active: 0 }),
+    Act::MakeOutside(Call::Flush { queue: QueueId(2) }, QUEUES),
+    Act::MakeOutside(Call::FlushItem { item: ItemId(4) }, ITEMS),
+    Act::MakeOutside(Call::FlushDelayed { item: ItemId(4) }, ITEMS),
+    Act::MakeOutside(Call::CancelSync { item: ItemId(4) }, ITEMS),
+    Act::MakeOutside(Call::Drain { queue: QueueId(2) }, QUEUES),
+    Act::MakeOutside(Call::Destroy { queue: QueueId(2) }, QUEUES),
+    Act::LookOutside(ItemId(4), ITEMS),
     Act::Make(QUEUE_FIRST),
     Act::UntilRuns(1),
     Act::Look(ItemId(1), Some(0)),
 ];
 
 const OUTSIDE_OF_RUN: [Act; 4] = [
-    Act::MakeOutside(QUEUE_OUTSIDE),
-    Act::MakeOutside(DELAY_OUTSIDE),
-    Act::MakeOutside(MODIFY_OUTSIDE),
-    Act::MakeOutside(CANCEL_OUTSIDE),
+    Act::MakeOutside(QUEUE_OUTSIDE, ITEMS),
+    Act::MakeOutside(DELAY_OUTSIDE, QUEUES),
+    Act::MakeOutside(MODIFY_OUTSIDE, CPUS),
+    Act::MakeOutside(CANCEL_OUTSIDE, ITEMS),
 ];
 
 /// The history is a queueing, its run, and the end of the service.
@@ -290,6 +302,53 @@ fn numbers_outside_make_no_entry(rt: HostRuntime) {
         .iter()
         .filter(|entry| matches!(entry.who, cmwq_model::Who::Caller(_)));
     assert_eq!(rt; by_callers.count(), 3);
+}
+
+#[test]
+fn a_fault_names_the_call_and_its_limit(rt: HostRuntime) {
+    let five = Limit::Item { item: 9, items: 5 };
+    let one = Limit::Item { item: 1, items: 1 };
+    for (asked, limit, text) in [
+        (
+            Asked::Call(Call::CancelSync { item: ItemId(9) }),
+            five,
+            "cancel_sync 9: item 9 is outside the shape, which has 5 items",
+        ),
+        (
+            Asked::Busy(ItemId(1)),
+            one,
+            "busy 1: item 1 is outside the shape, which has 1 item",
+        ),
+        (
+            Asked::Call(DELAY_OUTSIDE),
+            QUEUES,
+            "delay 0 2 0 1: queue 2 is outside the shape, which has 2 queues",
+        ),
+        (
+            Asked::Call(MODIFY_OUTSIDE),
+            CPUS,
+            "modify 0 0 1 1: CPU 1 is outside the shape, which has 1 CPU",
+        ),
+        (
+            Asked::Call(SET_MAX_OUTSIDE),
+            Limit::MaxActive { max_active: 0 },
+            "set_max 0 0: max_active 0 is less than 1",
+        ),
+        (
+            Asked::Call(Call::Take),
+            Limit::OfWorkers,
+            "take: only workers make this call",
+        ),
+        (
+            Asked::Call(Call::Flush { queue: QUEUE }),
+            Limit::OfCallers,
+            "flush 0: only callers make this call",
+        ),
+    ] {
+        let fault = outside(asked, limit);
+        let said = format!(in rt.alloc(); "{fault}").expect(&rt, "memory");
+        assert_eq!(rt; said.as_str(), text);
+    }
 }
 
 /// Only the clock lets the item run.
@@ -322,11 +381,12 @@ fn a_fault_stops_all(rt: HostRuntime) {
     let full = Fault::Run {
         fault: RunFault::Full,
     };
+    let outside = outside(Asked::Call(CANCEL_OUTSIDE), ITEMS);
     for (act, room, fault) in [
-        (Act::Make(CANCEL_OUTSIDE), 20_000, Fault::Outside),
+        (Act::Make(CANCEL_OUTSIDE), 20_000, outside),
         (Act::GiveUp(Fault::Own(7)), 20_000, Fault::Own(7)),
         (Act::GiveUp(no_memory), 20_000, no_memory),
-        (Act::Make(QUEUE_FIRST), 20_000, Fault::Outside),
+        (Act::Make(QUEUE_FIRST), 20_000, outside),
         (Act::UntilFault(CANCEL_LAST), 50, full),
     ] {
         let shape = shape(&rt, 3, room);

@@ -1,7 +1,9 @@
 //! A service that does what a table says.
 
 use cmwq_model::Call;
-use cmwq_service::{Client, Context, Fault, ItemId, QueueId, Reply, Service};
+use cmwq_service::{
+    Asked, Client, Context, Fault, ItemId, Limit, Outside, QueueId, Reply, Service,
+};
 use std::sync::Wait;
 use std::sync::atomic::{AtomicU64, Ordering};
 use std::thread;
@@ -11,12 +13,14 @@ use std::time::{Clock, Duration};
 #[derive(Clone, Copy)]
 pub(crate) enum Act {
     Make(Call),
-    /// Makes a call of which a number isn't inside the shape.
-    MakeOutside(Call),
+    /// Makes a call that breaks this limit.
+    MakeOutside(Call, Limit),
     /// Begins a flush and ends it, if it may end.
     Flush(QueueId),
     /// Compares what is seen of an item.
     Look(ItemId, Option<u8>),
+    /// Looks at an item that breaks this limit.
+    LookOutside(ItemId, Limit),
     /// Waits until there were so many runs.
     UntilRuns(u64),
     /// Makes a call again and again, a millisecond apart, until it answers a fault.
@@ -40,6 +44,11 @@ pub(crate) struct Table<'a> {
 
 /// How often a caller looks how many runs there were, or makes a call until it answers a fault.
 const LOOKS: u32 = 10_000;
+
+/// What is told of a call that breaks this limit.
+pub(crate) const fn outside(asked: Asked, limit: Limit) -> Fault {
+    Fault::Outside(Outside { asked, limit })
+}
 
 fn make_in_run<C: Context>(context: &mut C, call: Call) -> Result<Reply, Fault> {
     match call {
@@ -147,8 +156,9 @@ impl<'a> Table<'a> {
             Act::Make(call) => {
                 make(client, call)?;
             }
-            Act::MakeOutside(call) => {
-                self.expect(matches!(make(client, call), Err(Fault::Outside)));
+            Act::MakeOutside(call, limit) => {
+                let fault = outside(Asked::Call(call), limit);
+                self.expect(make(client, call).err() == Some(fault));
             }
             Act::Flush(queue) => {
                 if let Reply::Ticket(ticket) = client.flush_begin(queue)? {
@@ -156,6 +166,10 @@ impl<'a> Table<'a> {
                 }
             }
             Act::Look(item, bits) => self.expect(client.busy(item)? == bits),
+            Act::LookOutside(item, limit) => {
+                let fault = outside(Asked::Busy(item), limit);
+                self.expect(client.busy(item).err() == Some(fault));
+            }
             Act::UntilRuns(runs) => self.until_runs(rt, runs),
             Act::UntilFault(call) => self.until_fault(rt, client, call)?,
             Act::GiveUp(fault) => return Err(fault),
@@ -186,8 +200,9 @@ impl<'a> Table<'a> {
                 Act::Make(call) => {
                     make_in_run(context, call)?;
                 }
-                Act::MakeOutside(call) => {
-                    self.expect(matches!(make_in_run(context, call), Err(Fault::Outside)));
+                Act::MakeOutside(call, limit) => {
+                    let fault = outside(Asked::Call(call), limit);
+                    self.expect(make_in_run(context, call).err() == Some(fault));
                 }
                 Act::WaitInVain(call, fault) => {
                     self.expect(make_in_run(context, call).err() == Some(fault));

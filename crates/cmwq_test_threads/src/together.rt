@@ -1,9 +1,10 @@
 //! Calls that are made together: several in one hold of the lock.
 
+use crate::table::outside;
 use cmwq_model::{Entry, Who};
 use cmwq_service::{
-    Call, Client, Context, CpuId, Fault, ItemId, PLAIN, QueueId, Reply, RunFault, Service, Shape,
-    ShapeBuilder, run,
+    Asked, Call, Client, Context, CpuId, Fault, ItemId, Limit, PLAIN, QueueId, Reply, RunFault,
+    Service, Shape, ShapeBuilder, run,
 };
 use std::process::Abort;
 use std::sync::Wait;
@@ -55,9 +56,10 @@ fn count_done(replies: &[Reply]) -> u32 {
     done
 }
 
-/// Its first item makes calls together. How many of them did something is kept.
+/// Its first item makes four calls together. How many of them did something is kept.
 #[derive(Drop)]
 struct InRun {
+    last: Call,
     done: AtomicU32,
 }
 
@@ -71,7 +73,7 @@ impl Service for InRun {
         if item.0 != 0 {
             return Ok(());
         }
-        let calls = [queue(1), queue(1), Call::Sleep, Call::Wake];
+        let calls = [queue(1), queue(1), Call::Sleep, self.last];
         let mut replies = [Reply::No; 5];
         context.make_all(&calls, &mut replies)?;
         self.done.store(count_done(&replies), Ordering::SeqCst);
@@ -157,6 +159,7 @@ fn is_callers(entry: &Entry) -> bool {
 #[test]
 fn a_run_makes_calls_together(rt: HostRuntime) {
     let service = InRun {
+        last: Call::Wake,
         done: AtomicU32::new(0),
     };
     let history = run(&rt, rt.alloc(), &shape(&rt, 100), &service).expect(&rt, "no fault");
@@ -198,11 +201,33 @@ fn a_caller_makes_more_calls_than_stand_in_one_hold(rt: HostRuntime) {
 /// Where a call isn't of its maker, none is made.
 #[test]
 fn calls_that_are_no_callers_are_refused(rt: HostRuntime) {
-    for second in [queue(ITEMS), Call::Finish] {
+    let item = Limit::Item {
+        item: ITEMS,
+        items: ITEMS,
+    };
+    for (second, limit) in [(queue(ITEMS), item), (Call::Finish, Limit::OfWorkers)] {
         let service = Refused { second };
         let stopped = run(&rt, rt.alloc(), &shape(&rt, 1_000), &service).expect_err(&rt, "a fault");
-        assert_eq!(rt; stopped.fault, Fault::Outside);
+        assert_eq!(rt; stopped.fault, outside(Asked::Call(second), limit));
         assert_eq!(rt; stopped.history.len(), 0);
+    }
+}
+
+#[test]
+fn calls_that_are_no_workers_are_refused(rt: HostRuntime) {
+    for last in [Call::Freeze, Call::Flush { queue: QUEUE }] {
+        let service = InRun {
+            last,
+            done: AtomicU32::new(0),
+        };
+        let stopped = run(&rt, rt.alloc(), &shape(&rt, 100), &service).expect_err(&rt, "a fault");
+        assert_eq!(rt; stopped.fault, outside(Asked::Call(last), Limit::OfCallers));
+        assert!(rt;
+            stopped
+                .history
+                .iter()
+                .all(|entry| !matches!(entry.call, Call::Sleep))
+        );
     }
 }
 
