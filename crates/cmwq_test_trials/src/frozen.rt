@@ -1,8 +1,8 @@
 //! One caller freezes, queues and flushes; the other one thaws, which may come too early.
 
 use crate::common::{CPU, FIRST, PRIORITIES, QUEUE, SEEDS, is_legal, is_same, shape};
-use cmwq_service::{Client, Context, Fault, ItemId, Service};
-use cmwq_trial::{Failure, Progress, Setup, Trials, UNIFORM, trial, trials};
+use cmwq_service::{BufferedSink, Client, Context, Fault, ItemId, Memory, Service};
+use cmwq_trial::{Failure, Progress, Setup, Trials, UNIFORM, trial, trials, write_history};
 use std::process::Abort;
 use std::sync::Wait;
 use std::sync::atomic::{AtomicU64, Ordering};
@@ -116,6 +116,19 @@ fn who_waits_for_what_is_told(rt: HostRuntime) {
             .contains("; worker w0n0 waits for something to start"),
         "{words}"
     );
+}
+
+#[test]
+fn the_history_of_a_failure_is_written(rt: HostRuntime) {
+    let told = AtomicU64::new(0);
+    let tried = try_seeds(&rt, &UNIFORM, &told);
+    let failure = tried.first_failure.expect(&rt, "a failure");
+    let memory = Memory::writer(rt.alloc(), 10_000).expect(&rt, "memory");
+    let mut output = BufferedSink::new(rt.alloc(), memory).expect(&rt, "memory");
+    let written = write_history(&mut output, 3, &shape(&rt, 0), failure.history());
+    assert!(rt; written.is_ok());
+    let text = output.inner().as_slice();
+    assert!(rt; text.starts_with(b"history 3\n"));
 }
 
 #[test]
