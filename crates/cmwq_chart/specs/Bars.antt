@@ -3,8 +3,9 @@ use Rattle.std.specs.Prelude.{◌≡◌, ◌<◌, ℕ, if◌then◌else◌, List
 use Rattle.std.specs.Prelude.{option_and_then, option_to_list, slice_get}
 use Rattle.std.specs.Option.{option_or}
 use Rattle.cmwq_model.specs.declared.entry.Entry.{Entry}
+use Rattle.cmwq_model.specs.declared.record.Queueing.{Queueing}
 use Rattle.cmwq_model.specs.declared.record.Start.{Start}
-use Rattle.cmwq_model.specs.Prelude.{finishes, start_in, item_at}
+use Rattle.cmwq_model.specs.Prelude.{finishes, start_in, item_at, number_started, queueing_at}
 use Rattle.cmwq_chart.specs.declared.bars.Bar.{Bar}
 
 -- the place of the first entry that finishes this queueing
@@ -37,9 +38,14 @@ bars_in whole (e ∷ past) = bars_in whole past ++ option_to_list (bar_of whole 
 abbrev pub bars_of : List Entry → List Bar
 bars_of past = bars_in past past
 
--- a table of the finishes of the queueings with the first n numbers, and what an entry more makes of it
-abbrev pub AreFinishes : List Entry → ℕ → List (Option ℕ) → Type 0
-AreFinishes past n table = (length table ≡ n) × ((k : ℕ) → k < n → slice_get table k ≡ Some (finish_place past k))
+-- the queueing that an entry starts
+abbrev pub started_by : List Entry → Entry → Option Queueing
+started_by past e = option_and_then (queueing_at past) (number_started e.reply)
+
+-- a table of the finishes of the queueings of a past, and what an entry more makes of it
+abbrev pub AreFinishes : List Entry → List (Option ℕ) → Type 0
+AreFinishes past table =
+    (length table ≡ length past) × ((k : ℕ) → k < length past → slice_get table k ≡ Some (finish_place past k))
 
 abbrev pub FinishIsKept : List (Option ℕ) → List (Option ℕ) → Entry → ℕ → Type 0
 FinishIsKept old new e place =
@@ -47,3 +53,7 @@ FinishIsKept old new e place =
     × ((k : ℕ) → k < length old
     → slice_get new k ≡ option_map (λ before. option_or before (if finishes k e then Some place else None))
     (slice_get old k))
+
+-- with the end that the table has
+abbrev pub ended_bar : List (Option ℕ) → Bar → Bar
+ended_bar table b = record b { to = option_and_then (λ place. place) (slice_get table b.number) }

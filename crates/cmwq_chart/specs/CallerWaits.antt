@@ -1,6 +1,6 @@
 -- Waits of callers: from the entry that gives a ticket to the one by which its end is answered done. Waits of a caller
 -- that overlap stand in rows of their own: each in the first that is free where it begins.
-use Rattle.std.specs.Prelude.{◌≡◌, ◌≤◌, ◌<◌, ℕ, ◌+◌, Bool, true, false, if◌then◌else◌, List, [], ◌∷◌, ◌++◌, length}
+use Rattle.std.specs.Prelude.{ℕ, ◌+◌, Bool, true, false, if◌then◌else◌, List, [], ◌∷◌, ◌++◌, length}
 use Rattle.std.specs.Prelude.{map, filter}
 use Rattle.std.specs.Prelude.{flat_map, min, Option, Some, None, option_map, option_and_then, option_to_list, nat_lt}
 use Rattle.std.specs.Prelude.{slice_get, slice_set}
@@ -10,16 +10,13 @@ use Rattle.cmwq_model.specs.declared.call.Call.{Call}
 use Rattle.cmwq_model.specs.declared.call.Call.TheVariants as call
 use Rattle.cmwq_model.specs.declared.entry.Entry.{Entry}
 use Rattle.cmwq_model.specs.declared.id.CallerId.{CallerId}
-use Rattle.cmwq_model.specs.declared.id.Who.{Who}
-use Rattle.cmwq_model.specs.declared.id.Who.TheVariants.{Caller, Worker}
+use Rattle.cmwq_model.specs.declared.id.Who.TheVariants.{Caller}
 use Rattle.cmwq_model.specs.declared.reply.Reply.{Reply}
 use Rattle.cmwq_model.specs.declared.reply.Reply.TheVariants as reply
 use Rattle.cmwq_model.specs.Prelude.{Layout, is_at, is_by, is_done, gives_ticket, most_tickets}
 use Rattle.cmwq_chart.specs.declared.waits.CallerLane.{CallerLane}
 use Rattle.cmwq_chart.specs.declared.waits.CallerWait.{CallerWait}
-use Rattle.cmwq_chart.specs.declared.waits.KnownWaits.{KnownWaits}
 use Rattle.cmwq_chart.specs.declared.waits.WaitSign.{WaitSign}
-use Rattle.cmwq_chart.specs.Known.{AreAllKnown}
 
 -- ---- the rows of a caller: of each the ticket that waits there, if one does
 
@@ -121,10 +118,6 @@ wait_signs_by (e ∷ past) c = wait_signs_by past c ++ option_to_list (wait_sign
 abbrev pub wait_signs_of : List Entry → List CallerId → List WaitSign
 wait_signs_of past callers = flat_map (wait_signs_by past) callers
 
-abbrev pub caller_number_of : Who → Option ℕ
-caller_number_of (Caller c) = Some c.0
-caller_number_of (Worker w) = None
-
 -- ---- the callers that have entries, each with as many rows as it has unended tickets at most
 
 abbrev pub has_calls : List Entry → CallerId → Bool
@@ -133,31 +126,14 @@ has_calls entries c = list_any (is_by (Caller c)) entries
 abbrev pub caller_of_number : ℕ → CallerId
 caller_of_number n = record { 0 = n }
 
+abbrev pub all_callers : Layout → List CallerId
+all_callers s = map caller_of_number (range_with_len 0 s.callers)
+
 unfoldable pub callers_of : Layout → List Entry → List CallerId
-callers_of s entries = filter (has_calls entries) (map caller_of_number (range_with_len 0 s.callers))
+callers_of s entries = filter (has_calls entries) (all_callers s)
 
 abbrev pub caller_lane : List Entry → CallerId → CallerLane
 caller_lane past c = record { caller = c; rows = min (length (wait_rows past c)) most_tickets }
 
 abbrev pub caller_lanes_of : List Entry → List CallerId → List CallerLane
 caller_lanes_of past callers = map (caller_lane past) callers
-
--- the number of the caller that made an entry, if one did
-abbrev pub caller_number_by : Entry → Option ℕ
-caller_number_by e = caller_number_of e.who
-
--- ---- what is known of each caller after a past, in a table by their numbers
-abbrev pub caller_number : CallerId → ℕ
-caller_number c = c.0
-
-abbrev pub HasCallerNumber : CallerId → Type 0
-HasCallerNumber c = c.0 < 256
-
-pub record AreWaitsKnown (past : List Entry) (c : CallerId) (known : KnownWaits) : Type 0 where
-  pub rows : known.rows.items ≡ wait_rows past c
-  pub few : length known.rows.items ≤ length past
-  pub ended : known.ended.items ≡ waits_ended past c
-  pub signs : known.signs.items ≡ wait_signs_by past c
-
-abbrev pub AreAllWaitsKnown : List Entry → List KnownWaits → Type 0
-AreAllWaitsKnown past table = AreAllKnown caller_number 256 HasCallerNumber (AreWaitsKnown past) table

@@ -1,6 +1,6 @@
 pub mod Bars
 pub mod CallerWaits
-pub mod Known
+pub mod Intervals
 pub mod Lanes
 pub mod Levels
 pub mod Marks

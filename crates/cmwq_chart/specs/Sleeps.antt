@@ -1,5 +1,5 @@
 -- Sleeps: from the entry by which a worker's run sleeps to the one by which it goes on.
-use Rattle.std.specs.Prelude.{◌≡◌, ◌<◌, ◌+◌, ◌*◌, ℕ, ◌&&◌, Bool, true, false, if◌then◌else◌, List, [], ◌∷◌, ◌++◌}
+use Rattle.std.specs.Prelude.{ℕ, ◌&&◌, Bool, true, false, if◌then◌else◌, List, [], ◌∷◌, ◌++◌}
 use Rattle.std.specs.Prelude.{length, flat_map, Option, Some, None, option_map, option_to_list}
 use Rattle.cmwq_model.specs.declared.entry.Entry.{Entry}
 use Rattle.cmwq_model.specs.declared.id.WorkerId.{WorkerId}
@@ -8,8 +8,6 @@ use Rattle.cmwq_model.specs.declared.reply.Reply.{Reply}
 use Rattle.cmwq_model.specs.declared.reply.Reply.TheVariants as reply
 use Rattle.cmwq_model.specs.Prelude.{is_by}
 use Rattle.cmwq_chart.specs.declared.sleeps.Sleep.{Sleep}
-use Rattle.cmwq_chart.specs.declared.sleeps.WorkerSleeps.{WorkerSleeps}
-use Rattle.cmwq_chart.specs.Known.{AreAllKnown}
 
 -- the place of the entry by which a worker sleeps, after an entry of its own
 abbrev pub since_after : Reply → ℕ → Option ℕ → Option ℕ
@@ -47,17 +45,3 @@ sleeps_by past w = sleeps_ended past w ++ option_to_list (option_map (sleep_from
 
 abbrev pub sleeps_of : List Entry → List WorkerId → List Sleep
 sleeps_of past lanes = flat_map (sleeps_by past) lanes
-
--- ---- what is known of each worker after a past, in a table by the numbers of all workers that an entry can name
-abbrev pub table_number : WorkerId → ℕ
-table_number w = 512 * w.pool.cpu.0 + (if w.pool.high then 256 else 0) + w.index
-
-abbrev pub HasTableNumber : WorkerId → Type 0
-HasTableNumber w = (w.pool.cpu.0 < 256) × (w.index < 256)
-
-pub record AreSleepsKnown (past : List Entry) (w : WorkerId) (known : WorkerSleeps) : Type 0 where
-  pub ended : known.ended.items ≡ sleeps_ended past w
-  pub since : known.since ≡ asleep_since past w
-
-abbrev pub AreAllSleepsKnown : List Entry → List WorkerSleeps → Type 0
-AreAllSleepsKnown past table = AreAllKnown table_number 131072 HasTableNumber (AreSleepsKnown past) table

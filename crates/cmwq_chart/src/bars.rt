@@ -1,10 +1,10 @@
 //! Bars: the runs of a history.
-ghost use Rattle.std.specs.Prelude.{◌≡◌, ◌+◌, ◌<◌, ◌≤◌, ◌++◌, length, option_to_list, IfOk, OnOk};
-ghost use Rattle.cmwq_model.specs.Prelude.{past_of};
+ghost use Rattle.std.specs.Prelude.{◌≡◌, ◌≤◌, ◌∷◌, [], length, map, IfOk, OnOk};
+ghost use Rattle.cmwq_model.specs.Prelude.{past_of, IsLegal, Layout};
 ghost use Rattle.cmwq_chart.specs.Bars as spec;
 
-use crate::entries::{entry_at, item_at, start_in};
-use cmwq_model::{Entry, ItemId, Number, Reply, WorkerId};
+use crate::entries::place_in;
+use cmwq_model::{Entry, ItemId, Number, Queueing, Reply, Who, WorkerId};
 use std::alloc::{AllocError, Global};
 
 /// A run: what was started by which worker, and the places of the entries that started and finished it. One that has
@@ -18,6 +18,27 @@ pub struct Bar {
     pub to: Option<u32>,
 }
 
+/// The bar that an entry after these begins, which starts this queueing. Its end is still to come.
+#[tactic(auto, using(crate::proofs::BarSteps::bar_begun, crate::proofs::Steps::length_past))]
+pub(crate) fn bar_begun(entries: &[Entry], entry: Entry, started: Option<Queueing>) -> Option<Bar>
+    requires short { length entries.now ≤ 1073741824 }
+    requires legal { (s : Layout) × IsLegal s (entry ∷ past_of entries.now) }
+    requires started { started ≡ spec.started_by (past_of entries.now) entry }
+    ensures { result ≡ spec.bar_of [] (past_of entries.now) entry }
+{
+    let queueing = started?;
+    match entry.who {
+        Who::Worker(worker) => Some(Bar {
+            worker,
+            item: queueing.item,
+            number: queueing.number,
+            from: entries.len() as u32,
+            to: None,
+        }),
+        Who::Caller(_) => None,
+    }
+}
+
 /// Keeps the place of an entry that finishes a queueing, if it is the first.
 fn keep_finish(finishes: &mut Vec<Option<u32>>, entry: Entry, place: u32)
     ensures { spec.FinishIsKept finishes.old.items finishes.new.items entry place }
@@ -29,66 +50,35 @@ fn keep_finish(finishes: &mut Vec<Option<u32>>, entry: Entry, place: u32)
     }
 }
 
-/// Where each queueing has finished.
-#[tactic(auto, using(crate::proofs::Steps::finish_steps, crate::proofs::Steps::length_past_taken))]
-fn finishes(alloc: Global, entries: &[Entry]) -> Result<Vec<Option<u32>>, AllocError>
-    requires { length entries.now ≤ 1073741824 }
-    ensures { IfOk result (λ finishes. spec.AreFinishes (past_of entries.now) (length entries.now) finishes.items) }
-{
-    let mut finishes = vec![in alloc; None; entries.len()]?;
-    for k in 0..entries.len() {
-        keep_finish(&mut finishes, entry_at(entries, k), k as u32);
-    }
-    Ok(finishes)
-}
-
-/// The bar that the entry after these entries begins.
+/// Takes the finishes of all queueings beyond an entry after these, whose own queueing has none.
 #[tactic(auto, using(crate::proofs::Steps::length_past))]
-fn bar_from(
+pub(crate) fn update_finishes(
+    finishes: &mut Vec<Option<u32>>,
     entries: &[Entry],
-    finishes: &[Option<u32>],
-    whole: &[Entry],
     entry: Entry,
-) -> Option<Bar>
+) -> Result<(), AllocError>
     requires short { length entries.now ≤ 1073741824 }
-    requires within { length entries.now ≤ length whole.now }
-    requires known { spec.AreFinishes (past_of whole.now) (length whole.now) finishes.now }
-    ensures { result ≡ spec.bar_of (past_of whole.now) (past_of entries.now) entry }
+    requires legal { (s : Layout) × IsLegal s (entry ∷ past_of entries.now) }
+    requires finishes { spec.AreFinishes (past_of entries.now) finishes.old.items }
+    ensures { OnOk result (spec.AreFinishes (entry ∷ past_of entries.now) finishes.new.items) }
 {
-    let start = start_in(entry)?;
-    let item = item_at(entries, start.number)?;
-    Some(Bar {
-        worker: start.worker,
-        item: ItemId(item),
-        number: start.number,
-        from: entries.len() as u32,
-        to: finishes[start.number as usize],
-    })
-}
-
-/// Adds a bar after the others, where there is one.
-fn push_if_some(bars: &mut Vec<Bar>, bar: Option<Bar>) -> Result<(), AllocError>
-    ensures { OnOk result (bars.new.items ≡ bars.old.items ++ option_to_list bar) }
-{
-    if let Some(bar) = bar {
-        bars.push(bar)?;
-    }
+    keep_finish(finishes, entry, entries.len() as u32);
+    finishes.push(None)?;
     Ok(())
 }
 
-/// The bars of all runs, in the order of their starts.
-#[tactic(auto, using(crate::proofs::Steps::bars_steps))]
-pub fn bars_of(alloc: Global, entries: &[Entry]) -> Result<Vec<Bar>, AllocError>
-    requires { length entries.now ≤ 1073741824 }
-    ensures { IfOk result (λ bars. bars.items ≡ spec.bars_of (past_of entries.now)) }
+/// These bars, each with its end.
+pub(crate) fn ended_bars(
+    alloc: Global,
+    bars: &[Bar],
+    finishes: &[Option<u32>],
+) -> Result<Vec<Bar>, AllocError>
+    ensures { IfOk result (λ ended. ended.items ≡ map (spec.ended_bar finishes.now) bars.now) }
 {
-    let finishes = finishes(alloc, entries)?;
-    let mut bars = Vec::new(alloc);
-    for k in 0..entries.len() {
-        push_if_some(
-            &mut bars,
-            bar_from(&entries[..k], &finishes, entries, entry_at(entries, k)),
-        )?;
-    }
-    Ok(bars)
+    bars.iter()
+        .map(|bar| Bar {
+            to: place_in(finishes, bar.number as usize),
+            ..*bar
+        })
+        .collect(alloc)
 }

@@ -4,20 +4,21 @@
 mod bars;
 mod callers;
 mod entries;
-mod lanes;
+mod intervals;
 mod levels;
 mod marks;
 mod shapes;
 mod signs;
 mod sleeps;
 mod waits;
+mod workers;
 
-pub use bars::{Bar, bars_of};
-pub use callers::callers_of;
-pub use lanes::lanes_of;
+pub use bars::Bar;
+pub use callers::CallerShapes;
+pub use intervals::Intervals;
 pub use levels::{Height, Level};
 pub use marks::mark;
 pub use shapes::Shapes;
-pub use signs::{Sign, SignKind, signs_of};
-pub use sleeps::{Sleep, sleeps_of};
-pub use waits::{CallerLane, CallerShapes, CallerWait, WaitSign};
+pub use signs::{Sign, SignKind};
+pub use sleeps::Sleep;
+pub use waits::{CallerLane, CallerWait, WaitSign};

@@ -1,5 +1,5 @@
 //! Tables that mark which numbers the elements of a list have.
-ghost use Rattle.std.specs.Prelude.{◌≡◌, ◌<◌, length, slice_get, Some};
+ghost use Rattle.std.specs.Prelude.{◌≡◌};
 ghost use Rattle.cmwq_chart.specs.Marks as spec;
 
 /// Marks a number, if there is one and the table has it.
@@ -11,12 +11,4 @@ pub fn mark(marks: &mut Vec<bool>, number: Option<usize>)
             *mark = true;
         }
     }
-}
-
-/// Whether a number of the table is marked.
-pub(crate) fn is_marked(marks: &[bool], number: usize) -> bool
-    requires { number < length marks.now }
-    ensures { slice_get marks.now number ≡ Some result }
-{
-    marks[number]
 }

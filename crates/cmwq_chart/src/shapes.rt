@@ -1,10 +1,10 @@
 //! All that is shown of a history.
 
 use crate::bars::Bar;
+use crate::callers::CallerShapes;
 use crate::levels::Level;
 use crate::signs::Sign;
 use crate::sleeps::Sleep;
-use crate::waits::CallerShapes;
 use cmwq_model::{Place, WorkerId};
 
 /// All that is shown of a history: what its callers did, the workers that have entries, what they did, the queues on

@@ -1,11 +1,9 @@
 //! Signs: what callers and workers did.
-ghost use Rattle.std.specs.Prelude.{◌≡◌, ◌≤◌, ◌++◌, length, option_to_list, IfOk, OnOk};
-ghost use Rattle.cmwq_model.specs.Prelude.{past_of};
+ghost use Rattle.std.specs.Prelude.{◌≡◌};
 ghost use Rattle.cmwq_chart.specs.Signs as spec;
 
-use crate::entries::{entry_at, item_of};
+use crate::entries::item_of;
 use cmwq_model::{Entry, Reply, Who};
-use std::alloc::{AllocError, Global};
 
 /// What an entry did.
 #[derive(Clone, Copy, PartialEq, Eq)]
@@ -73,7 +71,7 @@ fn sign_kind(reply: Reply) -> Option<SignKind>
 }
 
 /// The sign of an entry at this place.
-fn sign_of(entry: Entry, place: u32) -> Option<Sign>
+pub(crate) fn sign_of(entry: Entry, place: u32) -> Option<Sign>
     ensures { result ≡ spec.sign_of entry place }
 {
     let kind = sign_kind(entry.reply)?;
@@ -83,27 +81,4 @@ fn sign_of(entry: Entry, place: u32) -> Option<Sign>
         item: item_of(entry),
         at: place,
     })
-}
-
-/// Adds a sign after the others, where there is one.
-fn push_if_some(signs: &mut Vec<Sign>, sign: Option<Sign>) -> Result<(), AllocError>
-    ensures { OnOk result (signs.new.items ≡ signs.old.items ++ option_to_list sign) }
-{
-    if let Some(sign) = sign {
-        signs.push(sign)?;
-    }
-    Ok(())
-}
-
-/// The signs of all entries, in their order.
-#[tactic(auto, using(crate::proofs::Steps::signs_steps))]
-pub fn signs_of(alloc: Global, entries: &[Entry]) -> Result<Vec<Sign>, AllocError>
-    requires { length entries.now ≤ 1073741824 }
-    ensures { IfOk result (λ signs. signs.items ≡ spec.signs_of (past_of entries.now)) }
-{
-    let mut signs = Vec::new(alloc);
-    for k in 0..entries.len() {
-        push_if_some(&mut signs, sign_of(entry_at(entries, k), k as u32))?;
-    }
-    Ok(signs)
 }

@@ -1,10 +1,11 @@
 -- What is kept of a history while it is read.
-use Rattle.std.specs.Prelude.{◌≡◌, ◌≤◌, Bool, false, List, length, slice_get}
+use Rattle.std.specs.Prelude.{◌≡◌, Bool, false, List, slice_get}
 use Rattle.std.specs.Option.{option_map_or}
 use Rattle.cmwq_model.specs.declared.entry.Entry.{Entry}
 use Rattle.cmwq_model.specs.declared.record.Place.{Place}
 use Rattle.cmwq_model.specs.Prelude.{Layout, past_of, queueings}
 use Rattle.cmwq_chart.specs.declared.levels.Level.{Level}
+use Rattle.cmwq_chart.specs.Intervals.{AreIntervals}
 use Rattle.cmwq_chart.specs.Levels.{all_places, level_number, level_number_of, levels_ended, levels_left, most_places}
 use Rattle.cmwq_chart.specs.Marks.{AreMarks}
 use Rattle.cmwq_chart_levels.specs.declared.seen.Seen.{Seen}
@@ -16,7 +17,7 @@ pub record AreLevels (s : Layout) (past : List Entry) (ended running : List Leve
 
 pub record IsSeen (s : Layout) (past : List Entry) (seen : Seen) : Type 0 where
   pub entries : past_of seen.entries.items ≡ past
-  pub short : length past ≤ 1073741824
+  pub intervals : AreIntervals s past seen.intervals
   pub used : AreMarks level_number_of (queueings past) most_places seen.used.items
   pub levels : AreLevels s past seen.ended.items seen.running.items
 

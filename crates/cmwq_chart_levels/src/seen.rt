@@ -9,7 +9,7 @@ ghost use Rattle.cmwq_chart_levels.specs.Seen.{AreLevels};
 
 use crate::affected::place_number;
 use crate::levels::{push, update_affected};
-use cmwq_chart::{Height, Level, mark};
+use cmwq_chart::{Height, Intervals, Level, mark};
 use cmwq_history::{Fold, Step};
 use cmwq_model::{CpuId, Entry, MOST_CPUS, NoMemory, Place, QueueId, Queueing, Shape};
 use cmwq_state::Effect;
@@ -18,11 +18,12 @@ use std::alloc::Global;
 /// No more entries than these are kept, so that a place among them has 32 bits.
 const MOST_KEPT: u64 = 1_073_741_824;
 
-/// What is kept of a history while it is read: its entries, which queues had queueings on which CPUs, and the levels of
-/// all queues on all CPUs, those that an entry ended and those that go on.
+/// What is kept of a history while it is read: its entries, the intervals of its callers and workers, which queues had
+/// queueings on which CPUs, and the levels of all queues on all CPUs, those that an entry ended and those that go on.
 #[derive(Drop)]
 pub struct Seen {
     pub entries: Vec<Entry>,
+    pub(crate) intervals: Intervals,
     pub(crate) used: Vec<bool>,
     pub(crate) ended: Vec<Level>,
     pub(crate) running: Vec<Level>,
@@ -131,6 +132,7 @@ impl Fold for Seen {
     fn begin(alloc: Global, shape: &Shape) -> Result<Self, NoMemory> {
         Ok(Seen {
             entries: Vec::new(alloc),
+            intervals: Intervals::new(alloc, shape)?,
             used: vec![in alloc; false; 16_320]?,
             ended: Vec::new(alloc),
             running: first_levels(alloc, shape)?,
@@ -141,9 +143,12 @@ impl Fold for Seen {
         if step.at() >= MOST_KEPT {
             return Err(NoMemory);
         }
-        push_entry(&mut self.entries, *step.entry())?;
+        let entry = *step.entry();
+        let effect = step.told();
+        self.intervals.take(&self.entries, entry, effect.started)?;
+        push_entry(&mut self.entries, entry)?;
         update_all(&mut self.ended, &mut self.running, step)?;
-        mark_opened(&mut self.used, step.told().opened);
+        mark_opened(&mut self.used, effect.opened);
         Ok(())
     }
 }

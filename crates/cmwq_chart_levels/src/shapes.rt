@@ -10,7 +10,7 @@ ghost use Rattle.cmwq_chart_levels.specs.Seen.{IsSeen};
 
 use crate::affected::place_number;
 use crate::seen::Seen;
-use cmwq_chart::{CallerShapes, Level, Shapes, bars_of, callers_of, lanes_of, signs_of, sleeps_of};
+use cmwq_chart::{Level, Shapes};
 use cmwq_model::{NoMemory, Place, Shape};
 use std::alloc::{AllocError, Global};
 
@@ -96,18 +96,17 @@ pub fn shapes_of(alloc: Global, shape: &Shape, seen: &Seen) -> Result<Shapes, No
     ensures lanes { IfOk result (λ shapes. length shapes.lanes.items ≤ most_lanes) }
     ensures places { IfOk result (λ shapes. length shapes.places.items ≤ most_places) }
 {
-    let entries = seen.entries.as_slice();
-    let callers = CallerShapes::new(alloc, entries, &callers_of(alloc, shape, entries)?)?;
-    let lanes = lanes_of(alloc, shape, entries)?;
-    let sleeps = sleeps_of(alloc, entries, &lanes)?;
+    // it shows that the workers and callers are few
+    let _counts = shape.counts();
+    let intervals = &seen.intervals;
     let places = places_of(alloc, shape, seen)?;
     let levels = levels_of(alloc, shape, seen)?;
     Ok(Shapes {
-        callers,
-        lanes,
-        bars: bars_of(alloc, entries)?,
-        sleeps,
-        signs: signs_of(alloc, entries)?,
+        callers: intervals.callers(alloc)?,
+        lanes: intervals.lanes(alloc)?,
+        bars: intervals.bars(alloc)?,
+        sleeps: intervals.sleeps(alloc)?,
+        signs: intervals.signs(alloc)?,
         places,
         levels,
     })

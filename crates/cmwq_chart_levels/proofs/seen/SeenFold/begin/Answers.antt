@@ -1,4 +1,4 @@
-use Rattle.std.proofs.Common.{[], rules, sym, ap, subst, arith}
+use Rattle.std.proofs.Common.{[], rules, sym, ap, subst}
 use Rattle.cmwq_model.specs.Prelude.{past_of, queueings}
 use Rattle.cmwq_chart.specs.Levels.{level_number_of, levels_ended, most_places}
 use Rattle.cmwq_chart.specs.Marks.{AreMarks}
@@ -11,7 +11,7 @@ returns c =
     let empty = c.in_ok-vec.ensures.items_if_clones_equal (λ y h. search rules) in
     record {
       entries = ap past_of c.new.ensures.items;
-      short = omega arith;
+      intervals = c.in_ok-new.ensures;
       used = subst (AreMarks level_number_of [] most_places) (sym empty) (none_marked level_number_of most_places);
-      levels = record { ended_are = c.new-2.ensures.items; running_are = c.in_ok-first_levels.ensures };
+      levels = record { ended_are = c.new-3.ensures.items; running_are = c.in_ok-first_levels.ensures };
     }
