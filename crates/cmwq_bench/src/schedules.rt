@@ -42,6 +42,12 @@ fn move_lines(from: &AtomicU32, to: &AtomicU32) {
     to.fetch_add(from.swap(0, Ordering::SeqCst), Ordering::SeqCst);
 }
 
+/// Whether lines are to be written or are being written.
+fn is_busy<C: Client>(client: &mut C) -> Result<bool, Fault> {
+    let bits = client.busy(WRITE)?;
+    Ok(bits != Some(0))
+}
+
 impl Service for Log {
     fn run<R: Wait + Clock, C: Context>(
         &self,
@@ -70,7 +76,7 @@ impl Service for Log {
             self.waiting.fetch_add(1, Ordering::SeqCst);
             client.modify(WRITE, WRITING, CPU, QUIET)?;
             client.tick(1)?;
-            if line % 10 == 0 && client.busy(WRITE)? != Some(0) {
+            if line % 10 == 0 && is_busy(client)? {
                 client.tick(QUIET)?;
             }
         }
