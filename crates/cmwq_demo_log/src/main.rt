@@ -68,6 +68,12 @@ fn move_lines(from: &AtomicU32, to: &AtomicU32) {
     to.fetch_add(from.swap(0, Ordering::SeqCst), Ordering::SeqCst);
 }
 
+/// Whether lines are to be written or are being written, as a look without a lock tells.
+fn is_writing<C: Client>(client: &mut C) -> Result<bool, Fault> {
+    let bits = client.busy(WRITE)?;
+    Ok(bits != Some(0))
+}
+
 impl Service for Log {
     /// The work function: a worker calls it once for each start of an item. What it calls by its context is the
     /// worker's.
@@ -91,7 +97,7 @@ impl Service for Log {
 
     /// A writer's thread: each line puts the writing off (`modify` delays the item anew, whether or not it is pending).
     /// Time is what the writers hand in, a tick for each line. After each tenth comes a pause, in which the lines are
-    /// written, unless `busy` sees, without a lock, that the writing neither is pending nor runs.
+    /// written, unless the writing neither is pending nor runs.
     fn call<R: Wait + Clock, C: Client>(
         &self,
         _rt: &R,
@@ -102,7 +108,7 @@ impl Service for Log {
             self.waiting.fetch_add(1, Ordering::SeqCst);
             client.modify(WRITE, WRITING, CPU, QUIET)?;
             client.tick(1)?;
-            if line % 10 == 0 && client.busy(WRITE)? != Some(0) {
+            if line % 10 == 0 && is_writing(client)? {
                 client.tick(QUIET)?;
             }
         }
