@@ -8,12 +8,12 @@ use Rattle.cmwq_json_script.specs.Runs.{Run}
 use Rattle.cmwq_explore.specs.declared.finding.Finding.{Finding}
 use Rattle.cmwq_explore.specs.declared.seeds.Tally.{Tally}
 use Rattle.cmwq_explore.specs.Findings.{Tells, way_of}
-use Rattle.cmwq_explore.specs.declared.play.Standing.{Standing}
-use Rattle.cmwq_explore.specs.declared.play.Standing.TheVariants as standings
+use Rattle.cmwq_play.specs.declared.play.Standing.{Standing}
+use Rattle.cmwq_play.specs.declared.play.Standing.TheVariants as standings
 use Rattle.cmwq_explore.specs.Seeds.{StandsAs}
-use Rattle.cmwq_explore.specs.Stands.{IsDone, Stand}
-use Rattle.cmwq_explore.specs.Searches.{GetsStuck, Rests}
-use Rattle.cmwq_explore.specs.Starts.{first_stand}
+use Rattle.cmwq_play.specs.Stands.{IsDone, Stand}
+use Rattle.cmwq_play.specs.Searches.{GetsStuck, Rests}
+use Rattle.cmwq_play.specs.Starts.{first_stand}
 use Rattle.cmwq_explore.proofs.Joining.{end_within}
 use Rattle.cmwq_cmd_explore.specs.declared.verdict.Ends.{Ends}
 use Rattle.cmwq_cmd_explore.specs.declared.verdict.Verdict.{Verdict}

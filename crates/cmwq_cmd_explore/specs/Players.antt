@@ -4,10 +4,10 @@ use Rattle.std.specs.Option.{unwrap_or}
 use Rattle.cmwq_json_script.specs.Scripts.{run_of}
 use Rattle.cmwq_explore.specs.declared.chance.Chooser.{Chooser}
 use Rattle.cmwq_explore.specs.declared.chance.Chooser.TheVariants as choosers
-use Rattle.cmwq_explore.specs.declared.setup.Setup.{Setup}
+use Rattle.cmwq_play.specs.declared.setup.Setup.{Setup}
 use Rattle.cmwq_explore.specs.Chances.{IsPlay, chosen_by}
-use Rattle.cmwq_explore.specs.Stands.{Stand}
-use Rattle.cmwq_explore.specs.Starts.{most_moves, start_of}
+use Rattle.cmwq_play.specs.Stands.{Stand}
+use Rattle.cmwq_play.specs.Starts.{most_moves, start_of}
 use Rattle.cmwq_cmd_explore.specs.declared.explore.Seeding.{Seeding}
 use Rattle.cmwq_cmd_explore.specs.declared.seeds.Player.{Player}
 

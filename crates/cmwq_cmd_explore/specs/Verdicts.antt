@@ -12,14 +12,14 @@ use Rattle.cmwq_core.specs.History.{History, past_in}
 use Rattle.cmwq_text.specs.HistoryText.{text_of_format}
 use Rattle.cmwq_json.specs.Inputs.{Says}
 use Rattle.cmwq_json_script.specs.Runs.{Run, run_said}
-use Rattle.cmwq_explore.specs.declared.play.Standing.{Standing}
-use Rattle.cmwq_explore.specs.declared.play.Standing.TheVariants as standings
+use Rattle.cmwq_play.specs.declared.play.Standing.{Standing}
+use Rattle.cmwq_play.specs.declared.play.Standing.TheVariants as standings
 use Rattle.cmwq_explore.specs.declared.seeds.Tally.{Tally}
-use Rattle.cmwq_explore.specs.Stands.{Stand}
-use Rattle.cmwq_explore.specs.Searches.{AllEnd, GetsStuck, IsPathTo}
+use Rattle.cmwq_play.specs.Stands.{Stand}
+use Rattle.cmwq_play.specs.Searches.{AllEnd, GetsStuck, IsPathTo}
 use Rattle.cmwq_explore.specs.Chances.{IsPlay, chosen_by}
 use Rattle.cmwq_explore.specs.Seeds.{StandsAs, TellsSeeds}
-use Rattle.cmwq_explore.specs.Starts.{first_stand, most_moves}
+use Rattle.cmwq_play.specs.Starts.{first_stand, most_moves}
 use Rattle.cmwq_cmd_explore.specs.declared.explore.Seeding.{Seeding}
 use Rattle.cmwq_cmd_explore.specs.declared.explore.Task.{Task}
 use Rattle.cmwq_cmd_explore.specs.declared.explore.Task.TheVariants as tasks

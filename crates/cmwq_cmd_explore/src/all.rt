@@ -8,10 +8,11 @@ use crate::report::{flush, write_cut_off, write_found, write_parties, write_path
 use crate::seeds::write_play;
 use crate::verdict::{Ends, Verdict};
 use crate::watching::Watching;
-use cmwq_explore::{Finding, Limits, Play, Progress, Setup, Way, first_return, search_all};
+use cmwq_explore::{Finding, Limits, Progress, Way, first_return, search_all};
 use cmwq_io::Sink;
 use cmwq_json::Fault;
 use cmwq_json_script::Script;
+use cmwq_play::{Play, Setup};
 use std::alloc::{AllocError, Global};
 
 /// The moves of a way, the first one first.
@@ -128,6 +129,20 @@ fn tell_shown<'a, O: Sink>(
     }
 }
 
+/// The same, in a play of its own.
+fn tell_with_play<'a, O: Sink>(
+    alloc: Global,
+    setup: &'a Setup<'a>,
+    shown: &Shown,
+    found: Found<'_>,
+    output: &mut O,
+) -> Result<(), Fault> {
+    let mut play = Play::new(alloc, setup)?;
+    let told = tell_shown(alloc, setup, &mut play, shown, found, output);
+    drop(play);
+    told
+}
+
 /// Writes what a search of a script found.
 fn tell_found<O: Sink>(
     alloc: Global,
@@ -140,8 +155,9 @@ fn tell_found<O: Sink>(
     let found = Found { ends, progress };
     let shown = shown_of(alloc, finding)?;
     let setup = Setup::new(alloc, script)?;
-    let mut play = Play::new(alloc, &setup)?;
-    tell_shown(alloc, &setup, &mut play, &shown, found, output)
+    let told = tell_with_play(alloc, &setup, &shown, found, output);
+    drop(setup);
+    told
 }
 
 /// Searches all schedules, and writes what was found.

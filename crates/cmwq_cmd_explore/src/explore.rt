@@ -1,8 +1,10 @@
 //! The subcommand `explore`.
 
-ghost use Rattle.std.specs.Prelude.{◌≡◌, ◌⊎◌, IfOk, IfSome, true};
+ghost use Rattle.std.specs.Prelude.{◌≡◌, ◌⊎◌, IfOk, IfSome, Ok, true};
+ghost use Rattle.serde_json.specs.View.{view};
+ghost use Rattle.cmwq_json_script.specs.Runs.{run_said};
 ghost use Rattle.cmwq_json_script.specs.Scripts.{run_of};
-ghost use Rattle.cmwq_explore.specs.Starts.{first_stand};
+ghost use Rattle.cmwq_play.specs.Starts.{first_stand};
 ghost use Rattle.cmwq_cmd_explore.specs.Verdicts.{NeverBoth, OfRun, SaysHistory, SaysOf, SaysOfHistory, SaysOfPath};
 ghost use Rattle.cmwq_cmd_explore.specs.Verdicts.{SaysPath, Tells, is_told, status_of};
 
@@ -18,6 +20,7 @@ use cmwq_history::{refusal_status, tell_full};
 use cmwq_io::{Sink, Source, tell};
 use cmwq_json::{Fault, fault_status, read_value};
 use cmwq_json_script::{Script, read_script};
+use serde_json::Value;
 use std::alloc::Global;
 
 /// How many moves are made at most of all schedules, where no other number is given.
@@ -103,6 +106,26 @@ fn explore_script<O: Sink, E: Sink>(
     }
 }
 
+/// The script that a value says.
+fn script_of(alloc: Global, value: &Value) -> Result<Script, Fault>
+    ensures { IfOk result (λ script. run_said (view value.now) ≡ Ok (run_of script)) }
+{
+    match read_script(alloc, value)? {
+        Ok(script) => Ok(script),
+        Err(refused) => Err(Fault::Member(refused)),
+    }
+}
+
+/// Reads a script.
+fn script_in<S: Source>(alloc: Global, input: &mut S) -> Result<Script, Fault>
+    ensures { IfOk result (λ script. IfSome (S.left input.old) (OfRun (λ r. r ≡ run_of script))) }
+{
+    let value = read_value(alloc, input)?;
+    let script = script_of(alloc, &value);
+    drop(value);
+    script
+}
+
 /// Reads a script, and explores it.
 fn explore<S: Source, O: Sink, E: Sink>(
     alloc: Global,
@@ -115,11 +138,10 @@ fn explore<S: Source, O: Sink, E: Sink>(
     ensures { IfOk result (λ verdict. IfSome (S.left input.old)
         (OfRun (λ r. Tells task r (O.written output.old) (O.written output.new) verdict))) }
 {
-    let value = read_value(alloc, input)?;
-    match read_script(alloc, &value)? {
-        Ok(script) => explore_script(alloc, &script, task, output, errors, shows_progress),
-        Err(refused) => Err(Fault::Member(refused)),
-    }
+    let script = script_in(alloc, input)?;
+    let verdict = explore_script(alloc, &script, task, output, errors, shows_progress);
+    drop(script);
+    verdict
 }
 
 /// Reads all of a script in JSON, plays schedules of it in one thread, and writes what came of them: of one seed the
@@ -179,11 +201,10 @@ fn play_path<S: Source, P: Source, O: Sink, E: Sink>(
     ensures { IfOk result (λ verdict. IfSome (S.left input.old)
         (OfRun (λ r. SaysPath (first_stand r) r.version (O.written output.old) (O.written output.new) verdict))) }
 {
-    let value = read_value(alloc, input)?;
-    match read_script(alloc, &value)? {
-        Ok(script) => explore_path(alloc, &script, path, output, errors),
-        Err(refused) => Err(Fault::Member(refused)),
-    }
+    let script = script_in(alloc, input)?;
+    let verdict = explore_path(alloc, &script, path, output, errors);
+    drop(script);
+    verdict
 }
 
 /// Reads a history and a script, and writes the moves of the schedule that left the history. Returns the exit status: 0
@@ -227,11 +248,10 @@ fn follow_file<S: Source, O: Sink>(
     ensures { IfOk result (λ verdict. IfSome (S.left input.old)
         (OfRun (λ r. SaysHistory (first_stand r) file.now.entries.items verdict))) }
 {
-    let value = read_value(alloc, input)?;
-    match read_script(alloc, &value)? {
-        Ok(script) => explore_history(alloc, &script, file, moves, output),
-        Err(refused) => Err(Fault::Member(refused)),
-    }
+    let script = script_in(alloc, input)?;
+    let verdict = explore_history(alloc, &script, file, moves, output);
+    drop(script);
+    verdict
 }
 
 /// Tells how schedules ended, and returns the exit status.

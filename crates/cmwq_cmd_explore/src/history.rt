@@ -3,19 +3,20 @@
 ghost use Rattle.std.specs.Prelude.{◌≡◌, List, IfOk};
 ghost use Rattle.cmwq_model.specs.declared.entry.Entry.{Entry};
 ghost use Rattle.cmwq_json_script.specs.Scripts.{run_of};
-ghost use Rattle.cmwq_explore.specs.Stands.{Stand};
-ghost use Rattle.cmwq_explore.specs.Starts.{first_stand};
+ghost use Rattle.cmwq_play.specs.Stands.{Stand};
+ghost use Rattle.cmwq_play.specs.Starts.{first_stand, start_of};
 ghost use Rattle.cmwq_follow.specs.Followed.{IfBreaks, IfPath, LeaveAtMost, Leaves};
 ghost use Rattle.cmwq_cmd_explore.specs.Verdicts.{SaysHistory};
 
 use crate::report::{flush, write_found_path};
 use crate::verdict::Verdict;
 use cmwq_base::{HistoryFile, Shape};
-use cmwq_explore::{Play, Setup};
 use cmwq_follow::{Followed, follow};
 use cmwq_io::Sink;
 use cmwq_json::Fault;
 use cmwq_json_script::Script;
+use cmwq_model::Entry;
+use cmwq_play::{Play, Setup};
 use std::alloc::Global;
 
 /// How many moves are tried at most, where no other number is given.
@@ -49,7 +50,9 @@ fn tell_way<'a, O: Sink>(
     output: &mut O,
 ) -> Result<(), Fault> {
     let play = Play::new(alloc, setup)?;
-    write_way(output, &play, path)
+    let written = write_way(output, &play, path);
+    drop(play);
+    written
 }
 
 /// Writes what was found.
@@ -74,6 +77,20 @@ fn tell_followed<'a, O: Sink>(
     }
 }
 
+/// Finds the schedule of a setup that left these entries, by so many tries of a move at most, and writes its moves.
+fn follow_history<'a, O: Sink>(
+    alloc: Global,
+    setup: &'a Setup<'a>,
+    entries: &[Entry],
+    moves: u64,
+    output: &mut O,
+) -> Result<Verdict, Fault>
+    ensures { IfOk result (λ verdict. SaysHistory (start_of setup.now) entries.now verdict) }
+{
+    let followed = follow(alloc, setup, entries, moves)?;
+    tell_followed(alloc, setup, &followed, output)
+}
+
 /// Finds the schedule of a script that left a history, and writes its moves.
 pub(crate) fn explore_history<O: Sink>(
     alloc: Global,
@@ -85,10 +102,11 @@ pub(crate) fn explore_history<O: Sink>(
     ensures { IfOk result
         (λ verdict. SaysHistory (first_stand (run_of script.now)) file.now.entries.items verdict) }
 {
-    let setup = Setup::new(alloc, script)?;
     if !is_same_shape(&script.shape, &file.shape) {
         return Ok(Verdict::OtherShape);
     }
-    let followed = follow(alloc, &setup, &file.entries, moves.unwrap_or(MOVES))?;
-    tell_followed(alloc, &setup, &followed, output)
+    let setup = Setup::new(alloc, script)?;
+    let told = follow_history(alloc, &setup, &file.entries, moves.unwrap_or(MOVES), output);
+    drop(setup);
+    told
 }

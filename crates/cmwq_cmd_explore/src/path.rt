@@ -2,16 +2,16 @@
 
 ghost use Rattle.std.specs.Prelude.{◌≡◌, ℕ, true, List, IfOk, IfSome, None};
 ghost use Rattle.cmwq_json_script.specs.Scripts.{run_of};
-ghost use Rattle.cmwq_explore.specs.Searches.{IsPathTo};
-ghost use Rattle.cmwq_explore.specs.Starts.{first_stand, start_of};
+ghost use Rattle.cmwq_play.specs.Searches.{IsPathTo};
+ghost use Rattle.cmwq_play.specs.Starts.{first_stand, start_of};
 ghost use Rattle.cmwq_cmd_explore.specs.Verdicts.{SaysPath, is_refused};
 
 use crate::seeds::{tell_parties, write_played};
 use crate::verdict::Verdict;
-use cmwq_explore::{PartyName, Play, Setup};
 use cmwq_io::{Sink, Source, tell};
 use cmwq_json::{Fault, read_bytes};
 use cmwq_json_script::Script;
+use cmwq_play::{PartyName, Play, Setup};
 use std::alloc::Global;
 
 /// A name of a path that is no party, or one that may not move: how many moves stand before it.
@@ -120,6 +120,23 @@ fn play_and_write<'a, P: Source, O: Sink, E: Sink>(
     }
 }
 
+/// The same, in a play of its own.
+fn play_with_setup<'a, P: Source, O: Sink, E: Sink>(
+    alloc: Global,
+    setup: &'a Setup<'a>,
+    path: &mut P,
+    output: &mut O,
+    errors: &mut E,
+) -> Result<Verdict, Fault>
+    ensures { IfOk result (λ verdict. SaysPath (start_of setup.now) setup.now.script.now.version
+        (O.written output.old) (O.written output.new) verdict) }
+{
+    let mut play = Play::new(alloc, setup)?;
+    let verdict = play_and_write(alloc, setup, &mut play, path, output, errors);
+    drop(play);
+    verdict
+}
+
 /// Plays the moves that a file names, and writes the history of them.
 pub(crate) fn explore_path<P: Source, O: Sink, E: Sink>(
     alloc: Global,
@@ -132,6 +149,7 @@ pub(crate) fn explore_path<P: Source, O: Sink, E: Sink>(
         (O.written output.old) (O.written output.new) verdict) }
 {
     let setup = Setup::new(alloc, script)?;
-    let mut play = Play::new(alloc, &setup)?;
-    play_and_write(alloc, &setup, &mut play, path, output, errors)
+    let verdict = play_with_setup(alloc, &setup, path, output, errors);
+    drop(setup);
+    verdict
 }

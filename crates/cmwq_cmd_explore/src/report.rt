@@ -4,11 +4,12 @@ ghost use Rattle.std.specs.Prelude.{◌<◌};
 
 use crate::verdict::Ends;
 use arrayvec::ArrayString;
-use cmwq_explore::{Party, PartyName, Play, Progress, Refused, Return};
+use cmwq_explore::{Progress, Return};
 use cmwq_io::{Sink, flush_all, write_all};
 use cmwq_json::Fault;
 use cmwq_model::{ItemId, Queueing, WorkerId};
 use cmwq_obstacle::{Obstacle, obstacle_of};
+use cmwq_play::{Party, PartyName, Play, Refused};
 use std::fmt;
 use std::fmt::{Display, Formatter, Write};
 

@@ -4,7 +4,7 @@ ghost use Rattle.std.specs.Prelude.{◌≡◌, true, false, length, max, IfErr, 
 ghost use Rattle.cmwq_model.specs.Prelude.{IsLegal};
 ghost use Rattle.cmwq_core.specs.History.{past_in};
 ghost use Rattle.cmwq_json_script.specs.Scripts.{run_of};
-ghost use Rattle.cmwq_explore.specs.Starts.{first_stand};
+ghost use Rattle.cmwq_play.specs.Starts.{first_stand, start_of};
 ghost use Rattle.cmwq_explore.specs.declared.chance.Chooser.TheVariants as choosers;
 ghost use Rattle.cmwq_cmd_explore.specs.Players.{HasPlayed, IsPlayer, IsSamePlayer, start_in, version_in};
 ghost use Rattle.cmwq_cmd_explore.specs.Verdicts.{HasWritten, SaysSeed, SaysSeeds, Writes};
@@ -14,13 +14,12 @@ use crate::explore::Seeding;
 use crate::report::{flush, write_cut_off, write_parties, write_refused, write_seed, write_seeds};
 use crate::verdict::{Ends, Verdict};
 use crate::watching::Watching;
-use cmwq_explore::{
-    Chooser, Play, Seeds, Setup, Standing, StuckSeed, Tally, first_return, play_by, play_seeds,
-};
+use cmwq_explore::{Chooser, Seeds, StuckSeed, Tally, first_return, play_by, play_seeds};
 use cmwq_history::write_history;
 use cmwq_io::Sink;
 use cmwq_json::Fault;
 use cmwq_json_script::Script;
+use cmwq_play::{Play, Setup, Standing};
 use std::alloc::Global;
 
 /// Writes the history of a play.
@@ -157,6 +156,25 @@ fn write_seed_of<'a, O: Sink, E: Sink>(
     }
 }
 
+/// The schedule of one seed of a setup.
+fn explore_one<'a, O: Sink, E: Sink>(
+    alloc: Global,
+    setup: &'a Setup<'a>,
+    seed: u64,
+    seeding: Seeding,
+    output: &mut O,
+    errors: &mut E,
+) -> Result<Verdict, Fault>
+    ensures { IfOk result (λ verdict. SaysSeed (start_of setup.now) setup.now.script.now.version
+        (moves_in (run_of setup.now.script.now) seeding) seed seeding.pct (O.written output.old) (O.written output.new)
+        verdict) }
+{
+    let mut player = Player::new(alloc, setup, seeding)?;
+    let verdict = write_seed_of(&mut player, seed, seeding.pct, output, errors);
+    drop(player);
+    verdict
+}
+
 /// The schedule of one seed: its history, and what everybody waits for if it didn't end.
 pub(crate) fn explore_seed<O: Sink, E: Sink>(
     alloc: Global,
@@ -170,8 +188,9 @@ pub(crate) fn explore_seed<O: Sink, E: Sink>(
         (moves_in (run_of script.now) seeding) seed seeding.pct (O.written output.old) (O.written output.new) verdict) }
 {
     let setup = Setup::new(alloc, script)?;
-    let mut player = Player::new(alloc, &setup, seeding)?;
-    write_seed_of(&mut player, seed, seeding.pct, output, errors)
+    let verdict = explore_one(alloc, &setup, seed, seeding, output, errors);
+    drop(setup);
+    verdict
 }
 
 /// What is told of the schedules of seeds: how many ended so, and at most one of them.
@@ -238,6 +257,74 @@ fn write_seeds_of<'a, O: Sink, E: Sink>(
     Ok(ends_of(&tally).verdict())
 }
 
+/// What is written of the schedules of so many seeds.
+#[derive(Clone, Copy)]
+struct Figures {
+    times: u64,
+    moves: u64,
+    ends: Ends,
+}
+
+impl Figures {
+    fn write<O: Sink>(&self, output: &mut O) -> Result<(), Fault> {
+        write_seeds(output, self.times, self.moves, &self.ends)
+    }
+
+    /// Writes them, and which seed is shown.
+    fn write_with<O: Sink>(
+        &self,
+        output: &mut O,
+        what: &str,
+        shown: StuckSeed,
+    ) -> Result<(), Fault> {
+        self.write(output)?;
+        write_seed(output, what, shown.seed, shown.moves)
+    }
+}
+
+/// Writes the figures, and the schedule of a seed that got stuck.
+fn tell_stuck<'a, O: Sink>(
+    player: &mut Player<'a>,
+    chooser: Chooser,
+    shown: StuckSeed,
+    figures: Figures,
+    output: &mut O,
+) -> Result<(), Fault> {
+    player.play_seed(shown.seed, chooser)?;
+    figures.write_with(output, "stuck", shown)?;
+    write_parties(output, "", &player.play)?;
+    write_play(output, player.setup.script().version, &player.play)
+}
+
+/// Writes the figures, and the schedule of a seed in which a wait is refused.
+fn tell_refusing<'a, O: Sink>(
+    player: &mut Player<'a>,
+    chooser: Chooser,
+    shown: StuckSeed,
+    figures: Figures,
+    output: &mut O,
+) -> Result<(), Fault> {
+    player.play_seed(shown.seed, chooser)?;
+    figures.write_with(output, "with a refused wait", shown)?;
+    write_refused(output, &player.play)?;
+    write_play(output, player.setup.script().version, &player.play)
+}
+
+/// Writes the figures, and whether the schedule of a seed that was cut off comes to a state again.
+fn tell_cut_off<'a, O: Sink>(
+    player: &mut Player<'a>,
+    chooser: Chooser,
+    shown: StuckSeed,
+    figures: Figures,
+    output: &mut O,
+) -> Result<(), Fault> {
+    player.play_seed(shown.seed, chooser)?;
+    let again = first_return(player.alloc, player.setup, &player.path)?;
+    figures.write_with(output, "cut off", shown)?;
+    write_cut_off(output, again)?;
+    flush(output)
+}
+
 /// What came of so many seeds. The schedule that is shown is played again before anything is written, since a play
 /// takes memory.
 fn tell_seeds<'a, O: Sink>(
@@ -247,36 +334,38 @@ fn tell_seeds<'a, O: Sink>(
     tally: &Tally,
     output: &mut O,
 ) -> Result<(), Fault> {
-    let ends = ends_of(tally);
-    let version = player.setup.script().version;
+    let figures = Figures {
+        times,
+        moves: tally.moves,
+        ends: ends_of(tally),
+    };
     match shown_of(tally) {
-        Shown::Stuck(StuckSeed { seed, moves }) => {
-            player.play_seed(seed, chooser)?;
-            write_seeds(output, times, tally.moves, &ends)?;
-            write_seed(output, "stuck", seed, moves)?;
-            write_parties(output, "", &player.play)?;
-            write_play(output, version, &player.play)
-        }
-        Shown::Refusing(StuckSeed { seed, moves }) => {
-            player.play_seed(seed, chooser)?;
-            write_seeds(output, times, tally.moves, &ends)?;
-            write_seed(output, "with a refused wait", seed, moves)?;
-            write_refused(output, &player.play)?;
-            write_play(output, version, &player.play)
-        }
-        Shown::CutOff(StuckSeed { seed, moves }) => {
-            player.play_seed(seed, chooser)?;
-            let again = first_return(player.alloc, player.setup, &player.path)?;
-            write_seeds(output, times, tally.moves, &ends)?;
-            write_seed(output, "cut off", seed, moves)?;
-            write_cut_off(output, again)?;
-            flush(output)
-        }
+        Shown::Stuck(shown) => tell_stuck(player, chooser, shown, figures, output),
+        Shown::Refusing(shown) => tell_refusing(player, chooser, shown, figures, output),
+        Shown::CutOff(shown) => tell_cut_off(player, chooser, shown, figures, output),
         Shown::None => {
-            write_seeds(output, times, tally.moves, &ends)?;
+            figures.write(output)?;
             flush(output)
         }
     }
+}
+
+/// The schedules of so many seeds of a setup.
+fn explore_many<'a, O: Sink, E: Sink>(
+    alloc: Global,
+    setup: &'a Setup<'a>,
+    first: u64,
+    times: u64,
+    seeding: Seeding,
+    watching: &mut Watching<'_, O, E>,
+) -> Result<Verdict, Fault>
+    ensures { IfOk result (λ verdict. SaysSeeds (start_of setup.now) (moves_in (run_of setup.now.script.now) seeding)
+        first times seeding.pct verdict) }
+{
+    let mut player = Player::new(alloc, setup, seeding)?;
+    let verdict = write_seeds_of(&mut player, first, times, seeding.pct, watching);
+    drop(player);
+    verdict
 }
 
 /// The schedules of so many seeds from the first on, in a play of their own.
@@ -292,6 +381,7 @@ pub(crate) fn explore_seeds<O: Sink, E: Sink>(
         first times seeding.pct verdict) }
 {
     let setup = Setup::new(alloc, script)?;
-    let mut player = Player::new(alloc, &setup, seeding)?;
-    write_seeds_of(&mut player, first, times, seeding.pct, watching)
+    let verdict = explore_many(alloc, &setup, first, times, seeding, watching);
+    drop(setup);
+    verdict
 }

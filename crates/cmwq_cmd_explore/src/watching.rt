@@ -1,9 +1,10 @@
 //! What is written while schedules are played: how far it is, and histories.
 
 use arrayvec::ArrayString;
-use cmwq_explore::{Play, Progress, Standing, Watch};
+use cmwq_explore::{Progress, Watch};
 use cmwq_history::write_history;
 use cmwq_io::{Sink, flush_all, write_all};
+use cmwq_play::{Play, Standing};
 use std::fmt;
 use std::fmt::Write;
 

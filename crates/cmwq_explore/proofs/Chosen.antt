@@ -5,26 +5,8 @@ use Rattle.std.proofs.lemmas.Bool.{eqb-true}
 use Rattle.std.specs.List.{filter, range_with_len}
 use Rattle.std.proofs.lemmas.List.{append-nil}
 use Rattle.std.proofs.lemmas.List.Elements.{filter-append}
-use Rattle.cmwq_explore.specs.Stands.{Stand, may, moved}
-use Rattle.cmwq_explore.specs.Chances.{after_draw, chosen, chosen_by, movers_of}
-use Rattle.cmwq_explore.proofs.First.{range_next}
-
--- one more who may move, or who may not
-pub filter_with : (p : Stand) (k : ℕ) (xs : List ℕ) → xs ≡ filter (may p) (range_with_len 0 k) → may p k ≡ true
-    → xs ++ k ∷ [] ≡ filter (may p) (range_with_len 0 (k + 1))
-filter_with p k xs so is =
-    let one : filter (may p) (k ∷ []) ≡ k ∷ [] = rw is refl in
-    sym (ap (λ m. filter (may p) (range_with_len 0 m)) (add-one k) ∙ ap (filter (may p)) (range_next k)
-    ∙ filter-append (may p) (range_with_len 0 k) (k ∷ [])
-    ∙ ap (λ ys. filter (may p) (range_with_len 0 k) ++ ys) one ∙ ap (λ ys. ys ++ k ∷ []) (sym so))
-
-pub filter_without : (p : Stand) (k : ℕ) (xs : List ℕ) → xs ≡ filter (may p) (range_with_len 0 k) → may p k ≡ false
-    → xs ≡ filter (may p) (range_with_len 0 (k + 1))
-filter_without p k xs so is =
-    let none : filter (may p) (k ∷ []) ≡ [] = rw is refl in
-    so ∙ sym (ap (λ m. filter (may p) (range_with_len 0 m)) (add-one k) ∙ ap (filter (may p)) (range_next k)
-    ∙ filter-append (may p) (range_with_len 0 k) (k ∷ [])
-    ∙ ap (λ ys. filter (may p) (range_with_len 0 k) ++ ys) none ∙ append-nil (filter (may p) (range_with_len 0 k)))
+use Rattle.cmwq_play.specs.Stands.{Stand, may, moved, movers_of}
+use Rattle.cmwq_explore.specs.Chances.{after_draw, chosen, chosen_by}
 
 -- ---- moves of which so many are to be made
 

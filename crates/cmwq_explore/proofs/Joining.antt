@@ -7,10 +7,10 @@ use Rattle.std.proofs.lemmas.List.{length-append, reverse-append}
 use Rattle.std.specs.List.{list_any}
 use Rattle.std.specs.Prelude.{All, Contains, IfSome, reverse, option_map}
 use Rattle.cmwq_explore.specs.declared.finding.Finding.{Finding}
-use Rattle.cmwq_explore.specs.declared.play.Standing.{Standing}
-use Rattle.cmwq_explore.specs.declared.play.Standing.TheVariants as standings
-use Rattle.cmwq_explore.specs.Stands.{Stand, IsDone, may, moved}
-use Rattle.cmwq_explore.specs.Searches.{AllEnd, AllEndAfter, GetsStuck, NoneStuck, NoneStuckAfter, Rests}
+use Rattle.cmwq_play.specs.declared.play.Standing.{Standing}
+use Rattle.cmwq_play.specs.declared.play.Standing.TheVariants as standings
+use Rattle.cmwq_play.specs.Stands.{Stand, IsDone, may, moved}
+use Rattle.cmwq_play.specs.Searches.{AllEnd, AllEndAfter, GetsStuck, NoneStuck, NoneStuckAfter, Rests}
 use Rattle.cmwq_explore.specs.Findings.{HasAtLeast, HasEnded, HasStuck, Joins, JoinsMove, Tells, TellsAfter, TellsAll}
 use Rattle.cmwq_explore.specs.Findings.{Way, is_shorter, longer_by, no_finding, shorter, sum, way_of}
 use Rattle.cmwq_explore.proofs.Searching.{all_known, all_tried, false_or}

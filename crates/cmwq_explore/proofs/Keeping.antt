@@ -8,16 +8,16 @@ use Rattle.std.specs.Str.{bytes_eq}
 use Rattle.std.specs.Prelude.{IfSome, reverse}
 use Rattle.cmwq_explore.specs.declared.finding.Finding.{Finding}
 use Rattle.cmwq_explore.specs.declared.seen.Seen.{Seen}
-use Rattle.cmwq_explore.specs.Alike.{AreAlike, IsStand}
+use Rattle.cmwq_key.specs.Alike.{AreAlike, IsStand}
 use Rattle.cmwq_explore.specs.declared.search.Search.{Search}
-use Rattle.cmwq_explore.specs.Findings.{IsReached, JoinsMove, Tells, Way, way_of}
-use Rattle.cmwq_explore.specs.Keys.{key_of}
-use Rattle.cmwq_explore.specs.Searches.{GetsStuck}
+use Rattle.cmwq_explore.specs.Findings.{JoinsMove, Tells, Way, way_of}
+use Rattle.cmwq_key.specs.Keys.{key_of}
+use Rattle.cmwq_play.specs.Searches.{IsReached, GetsStuck}
 use Rattle.cmwq_explore.specs.Seens.{IsSearch, JoinsSeen, Key, KnowsAll, KnowsOf, found_of, is_same_key}
-use Rattle.cmwq_explore.specs.Stands.{Stand, may, moved}
-use Rattle.cmwq_explore.proofs.AlikeSearches.{ends_alike, gets_stuck_alike, stuck_alike}
-use Rattle.cmwq_explore.proofs.SameKeys.{same_keys_are_alike}
-use Rattle.cmwq_explore.proofs.Searching.{path_push}
+use Rattle.cmwq_play.specs.Stands.{Stand, may, moved}
+use Rattle.cmwq_key.proofs.AlikeSearches.{ends_alike, gets_stuck_alike, stuck_alike}
+use Rattle.cmwq_key.proofs.SameKeys.{same_keys_are_alike}
+use Rattle.cmwq_play.proofs.Paths.{path_push}
 
 stuck_too : (p q : Stand) (way : Way) → AreAlike p q → IfSome way (λ w. GetsStuck p (reverse w))
     → IfSome way (λ w. GetsStuck q (reverse w))

@@ -5,12 +5,12 @@ use Rattle.std.proofs.lemmas.Bool.{leb-false, leb-true}
 use Rattle.std.specs.Prelude.{IfSome}
 use Rattle.cmwq_lemmas.proofs.Lists.{count_by-cons}
 use Rattle.cmwq_explore.specs.Chances.{IsPlay, chosen_by, played}
-use Rattle.cmwq_explore.specs.Searches.{Rests, after}
+use Rattle.cmwq_play.specs.Searches.{Rests, after}
 use Rattle.cmwq_explore.specs.Seeds.{EndsAs, IsShortest, StandsAs, TellsSeeds, goes_on, has_ended, is_stuck, ones}
 use Rattle.cmwq_explore.specs.Seeds.{shorter_of}
-use Rattle.cmwq_explore.specs.Stands.{IsDone, Stand}
-use Rattle.cmwq_explore.specs.declared.play.Standing.{Standing}
-use Rattle.cmwq_explore.specs.declared.play.Standing.TheVariants as standings
+use Rattle.cmwq_play.specs.Stands.{IsDone, Stand}
+use Rattle.cmwq_play.specs.declared.play.Standing.{Standing}
+use Rattle.cmwq_play.specs.declared.play.Standing.TheVariants as standings
 use Rattle.cmwq_explore.specs.declared.seeds.StuckSeed.{StuckSeed}
 use Rattle.cmwq_explore.specs.declared.seeds.Tally.{Tally}
 

@@ -1,10 +1,9 @@
 -- Whose move comes next, by a seed.
-use Rattle.std.specs.Prelude.{◌≡◌, ◌<◌, ◌≤◌, ◌+◌, ◌%◌, ◌==◌, ℕ, zero, suc, if◌then◌else◌, List, [], ◌∷◌, length, max}
+use Rattle.std.specs.Prelude.{◌≡◌, ◌<◌, ◌≤◌, ◌%◌, ◌==◌, ℕ, zero, suc, if◌then◌else◌, List, [], ◌∷◌, length, max}
 use Rattle.std.specs.Prelude.{slice_index}
-use Rattle.std.specs.List.{filter, range_with_len}
 use Rattle.rand_xoshiro.specs.SplitMix64.{mix_u64}
-use Rattle.cmwq_explore.specs.Searches.{IsPathTo, Rests, after}
-use Rattle.cmwq_explore.specs.Stands.{Stand, may, moved}
+use Rattle.cmwq_play.specs.Searches.{IsPathTo, Rests, after}
+use Rattle.cmwq_play.specs.Stands.{Stand, moved, movers_of}
 
 -- the number that a state of the generator draws, and the state after it
 unfoldable pub drawn : ℕ → ℕ
@@ -16,10 +15,6 @@ after_draw s = (mix_u64 s).1
 -- a number below this one, which isn't 0
 abbrev pub drawn_below : ℕ → ℕ → ℕ
 drawn_below limit s = drawn s % max limit 1
-
--- those who may move, in order
-abbrev pub movers_of : Stand → List ℕ
-movers_of p = filter (may p) (range_with_len 0 (length p.callers + length p.workers))
 
 -- the one of these whose move is next
 abbrev pub chosen : ℕ → List ℕ → ℕ

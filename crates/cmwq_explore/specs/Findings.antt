@@ -5,8 +5,8 @@ use Rattle.std.specs.Option.{option_map_or}
 use Rattle.std.specs.declared.alloc.Global.{Global}
 use Rattle.std.specs.declared.vec.Vec.{Vec}
 use Rattle.cmwq_explore.specs.declared.finding.Finding.{Finding}
-use Rattle.cmwq_explore.specs.Stands.{Stand, moved}
-use Rattle.cmwq_explore.specs.Searches.{AllEnd, AllEndAfter, GetsStuck, IsPathTo, NoneStuck, NoneStuckAfter}
+use Rattle.cmwq_play.specs.Stands.{Stand, moved}
+use Rattle.cmwq_play.specs.Searches.{AllEnd, AllEndAfter, GetsStuck, NoneStuck, NoneStuckAfter}
 
 -- a way through the moves of parties, the last first, if one is known
 abbrev pub Way : Type 0
@@ -100,7 +100,3 @@ pub record Joins (child : Finding) (party : ℕ) (old new : Finding) : Type 0 wh
 -- and it is true of that stand
 abbrev pub JoinsMove : ℕ → Stand → ℕ → Finding → Finding → Type 0
 JoinsMove depth p party old new = (child : Finding) × Tells depth child (moved p party) × Joins child party old new
-
--- a stand to which a schedule leads
-abbrev pub IsReached : Stand → Stand → Type 0
-IsReached start p = (schedule : List ℕ) × IsPathTo start schedule p

@@ -1,15 +1,4 @@
-pub mod Alike
 pub mod Chances
-pub mod Codes
 pub mod Findings
-pub mod Firsts
-pub mod Keys
-pub mod Machines
-pub mod Numbered
-pub mod SameKeys
-pub mod Searches
 pub mod Seeds
 pub mod Seens
-pub mod Stands
-pub mod Starts
-pub mod Waiting

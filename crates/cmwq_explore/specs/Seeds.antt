@@ -1,14 +1,14 @@
 -- How the schedules of many seeds end.
 use Rattle.std.specs.Prelude.{◌≡◌, ◌+◌, ◌<◌, ◌≤◌, ℕ, Bool, true, false, if◌then◌else◌, List, [], ◌∷◌, length, count_by}
 use Rattle.std.specs.Prelude.{nat_le, Option, Some, None, IfSome}
-use Rattle.cmwq_explore.specs.declared.play.Standing.{Standing}
-use Rattle.cmwq_explore.specs.declared.play.Standing.TheVariants as standings
+use Rattle.cmwq_play.specs.declared.play.Standing.{Standing}
+use Rattle.cmwq_play.specs.declared.play.Standing.TheVariants as standings
 use Rattle.cmwq_explore.specs.declared.seeds.Seeds.{Seeds}
 use Rattle.cmwq_explore.specs.declared.seeds.StuckSeed.{StuckSeed}
 use Rattle.cmwq_explore.specs.declared.seeds.Tally.{Tally}
 use Rattle.cmwq_explore.specs.Chances.{chosen_by, played}
-use Rattle.cmwq_explore.specs.Searches.{Rests}
-use Rattle.cmwq_explore.specs.Stands.{Stand, IsDone}
+use Rattle.cmwq_play.specs.Searches.{Rests}
+use Rattle.cmwq_play.specs.Stands.{Stand, IsDone}
 
 -- how a stand stands: nobody may move and nothing is left to do, or something is; or somebody may move
 abbrev pub StandsAs : Standing → Stand → Type 0

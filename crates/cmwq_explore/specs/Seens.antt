@@ -7,10 +7,11 @@ use Rattle.indexmap.specs.IndexMap.{get}
 use Rattle.cmwq_explore.specs.declared.finding.Finding.{Finding}
 use Rattle.cmwq_explore.specs.declared.seen.Seen.{Seen}
 use Rattle.cmwq_explore.specs.declared.search.Search.{Search}
-use Rattle.cmwq_explore.specs.Stands.{Stand}
-use Rattle.cmwq_explore.specs.Alike.{IsStand}
-use Rattle.cmwq_explore.specs.Findings.{IsReached, Joins, Tells}
-use Rattle.cmwq_explore.specs.Keys.{key_of}
+use Rattle.cmwq_play.specs.Searches.{IsReached}
+use Rattle.cmwq_play.specs.Stands.{Stand}
+use Rattle.cmwq_key.specs.Alike.{IsStand}
+use Rattle.cmwq_explore.specs.Findings.{Joins, Tells}
+use Rattle.cmwq_key.specs.Keys.{key_of}
 
 abbrev pub Key : Type 0
 Key = Vec ℕ Global

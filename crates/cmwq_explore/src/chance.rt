@@ -2,11 +2,10 @@
 
 ghost use Rattle.std.specs.Prelude.{◌≡◌, ◌<◌, [], length, max, IfOk};
 ghost use Rattle.cmwq_explore.specs.Chances.{IsPlay, after_draw, chosen_by, drawn_below};
-ghost use Rattle.cmwq_explore.specs.Starts.{start_of};
+ghost use Rattle.cmwq_play.specs.Starts.{start_of};
 ghost use Rattle.cmwq_explore.specs.declared.chance.Chooser.TheVariants as choosers;
 
-use crate::play::Play;
-use crate::setup::Setup;
+use cmwq_play::{Play, Setup};
 use rand_core::SeedableRng;
 use rand_core::utils::NextWord;
 use rand_xoshiro::SplitMix64;

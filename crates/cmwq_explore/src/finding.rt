@@ -3,10 +3,9 @@
 ghost use Rattle.std.specs.Prelude.{◌≡◌, ◌<◌, ◌+◌, ◌-◌, ◌^◌, max, IfOk};
 ghost use Rattle.cmwq_explore.specs.Findings.{HasEnded, HasStuck, Joins, is_shorter, longer_by, no_finding, shorter};
 ghost use Rattle.cmwq_explore.specs.Findings.{sum, way_of};
-ghost use Rattle.cmwq_explore.specs.declared.play.Standing.TheVariants as standings;
+ghost use Rattle.cmwq_play.specs.declared.play.Standing.TheVariants as standings;
 
-use crate::noted::Noted;
-use crate::play::Standing;
+use cmwq_play::{Noted, Standing};
 use std::alloc::{AllocError, Global};
 
 /// A way through the moves of these parties, the last first.

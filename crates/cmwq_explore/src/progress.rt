@@ -1,6 +1,6 @@
 //! How far a search, or the schedules of seeds, came. No contract reads it: it is shown, and changes nothing.
 
-use crate::play::{Play, Standing};
+use cmwq_play::{Play, Standing};
 
 /// After how many moves somebody looks.
 const MOVES_A_LOOK: u64 = 1_000_000;

@@ -1,10 +1,8 @@
 //! Whether a schedule comes to a state again: then it may go round for ever, if there is room for that.
 
 use crate::finding::copy_of;
-use crate::key::KeyWriter;
-use crate::play::Play;
-use crate::seen::Key;
-use crate::setup::Setup;
+use cmwq_key::{Key, KeyWriter};
+use cmwq_play::{Play, Setup};
 use indexmap::IndexMap;
 use std::alloc::{AllocError, Global};
 
@@ -49,6 +47,17 @@ impl<'a> Walk<'a> {
         self.states.insert(copy_of(alloc, key)?, moves)?;
         Ok(None)
     }
+
+    /// Walks along the path to the first state that comes again.
+    fn go_along(&mut self, alloc: Global, path: &[usize]) -> Result<Option<Return>, AllocError> {
+        for (again, party) in path.iter().enumerate() {
+            if let Some(first) = self.note(alloc, again)? {
+                return Ok(Some(Return { first, again }));
+            }
+            self.play.make_move(*party)?;
+        }
+        Ok(None)
+    }
 }
 
 /// The first state to which this path of a script comes again, if there is one.
@@ -61,13 +70,9 @@ pub fn first_return<'a>(
     path: &[usize],
 ) -> Result<Option<Return>, AllocError> {
     let mut walk = Walk::new(alloc, setup)?;
-    for (again, party) in path.iter().enumerate() {
-        if let Some(first) = walk.note(alloc, again)? {
-            return Ok(Some(Return { first, again }));
-        }
-        walk.play.make_move(*party)?;
-    }
-    Ok(None)
+    let found = walk.go_along(alloc, path);
+    drop(walk);
+    found
 }
 
 /// A key without the length of the history, which stands first in it: by one number, or by a mark and four.

@@ -4,21 +4,20 @@ ghost use Rattle.std.specs.Prelude.{◌≡◌, ◌<◌, ◌+◌, ◌-◌, ◌^�
 ghost use Rattle.std.specs.Prelude.{map};
 ghost use Rattle.std.specs.List.{list_any};
 ghost use Rattle.cmwq_json_script.specs.Scripts.{run_of};
-ghost use Rattle.cmwq_explore.specs.Stands as spec;
-ghost use Rattle.cmwq_explore.specs.Alike.{IsStand, names_ticket};
-ghost use Rattle.cmwq_explore.specs.Findings.{IsReached, JoinsMove, Tells, TellsAll};
-ghost use Rattle.cmwq_explore.specs.Searches.{AllEndOrOneIsStuck, Rests, StuckAreLong};
+ghost use Rattle.cmwq_play.specs.Stands as spec;
+ghost use Rattle.cmwq_key.specs.Alike.{IsStand, names_ticket};
+ghost use Rattle.cmwq_explore.specs.Findings.{JoinsMove, Tells, TellsAll};
+ghost use Rattle.cmwq_play.specs.Searches.{IsReached, AllEndOrOneIsStuck, Rests, StuckAreLong};
 ghost use Rattle.cmwq_explore.specs.Seens.{IsKeyed, IsSearch, JoinsSeen, KnowsOf};
-ghost use Rattle.cmwq_explore.specs.Starts.{first_stand, start_of};
+ghost use Rattle.cmwq_play.specs.Starts.{first_stand, start_of};
 
 use crate::finding::{Finding, Marks, copy_of};
-use crate::key::KeyWriter;
-use crate::play::Play;
 use crate::progress::{Progress, Watch};
-use crate::seen::{Key, Seen};
-use crate::setup::Setup;
+use crate::seen::Seen;
 use cmwq_json_script::{Action, Script};
+use cmwq_key::{Key, KeyWriter};
 use cmwq_model::Call;
+use cmwq_play::{Play, Setup};
 use std::alloc::{AllocError, Global};
 
 /// How many moves a schedule of a search has at most; a longer one is cut off.
@@ -100,17 +99,27 @@ impl<'a> Search<'a> {
         Finding::at_end(self.alloc, standing, play.holds_a_lock())
     }
 
+    /// Sees that there is a play that is not used.
+    fn have_spare(&mut self, setup: &'a Setup<'a>) -> Result<(), AllocError>
+        ensures same { (self.new.seen ≡ self.old.seen) × (self.new.merges ≡ self.old.merges) }
+        ensures some { IfOk result (λ _. 0 < length self.new.spare.items) }
+    {
+        if self.spare.is_empty() {
+            let play = Play::new(self.alloc, setup)?;
+            self.spare.push(play)?;
+        }
+        Ok(())
+    }
+
     /// A copy of this play.
     fn copy_of(&mut self, setup: &'a Setup<'a>, play: &Play<'a>) -> Result<Play<'a>, AllocError>
         ensures same { (self.new.seen ≡ self.old.seen) × (self.new.merges ≡ self.old.merges) }
         ensures copy { IfOk result (λ copy. copy ≡ play.now) }
     {
-        let mut copy = match self.spare.pop() {
-            Some(spare) => spare,
-            None => Play::new(self.alloc, setup)?,
-        };
-        copy.copy_from(play)?;
-        Ok(copy)
+        self.have_spare(setup)?;
+        let last = self.spare.len() - 1;
+        self.spare[last].copy_from(play)?;
+        Ok(self.spare.swap_remove(last))
     }
 
     /// Searches all schedules from the state at which the play stands.
@@ -202,9 +211,9 @@ impl<'a> Search<'a> {
             return self.go_on(setup, play, depth, party, finding, watch);
         }
         let mut next = self.copy_of(setup, play)?;
-        self.go_on(setup, &mut next, depth, party, finding, watch)?;
+        let went = self.go_on(setup, &mut next, depth, party, finding, watch);
         self.spare.push(next)?;
-        Ok(())
+        went
     }
 
     /// Makes the move of this party in the play, and adds all schedules that go on from there.
@@ -301,7 +310,9 @@ impl<'a> Search<'a> {
         ensures { IfOk result (λ finding. Tells MOST_MOVES finding (start_of setup.now)) }
     {
         let mut play = Play::new(self.alloc, setup)?;
-        self.visit(setup, &mut play, MOST_MOVES, watch)
+        let found = self.visit(setup, &mut play, MOST_MOVES, watch);
+        drop(play);
+        found
     }
 }
 
@@ -317,8 +328,10 @@ fn search_from<'a, W: Watch>(
     ensures { IfOk result (λ r. Tells MOST_MOVES r.0 (start_of setup.now)) }
 {
     let mut search = Search::new(alloc, limits, merges);
-    let finding = search.visit_all(setup, watch)?;
-    Ok((finding, search.progress))
+    let found = search.visit_all(setup, watch);
+    let progress = search.progress;
+    drop(search);
+    Ok((found?, progress))
 }
 
 /// Whether an action names a ticket, which in a script none does.
@@ -366,7 +379,9 @@ pub fn search_all<W: Watch>(
     ensures { IfOk result (λ r. Tells MOST_MOVES r.0 (first_stand (run_of script.now))) }
 {
     let setup = Setup::new(alloc, script)?;
-    search_from(alloc, &setup, limits, may_merge(script, limits), watch)
+    let found = search_from(alloc, &setup, limits, may_merge(script, limits), watch);
+    drop(setup);
+    found
 }
 
 /// Where every schedule ends, none gets stuck: so what `search_all` tells is never both.

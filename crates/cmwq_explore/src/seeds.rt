@@ -2,13 +2,12 @@
 
 ghost use Rattle.std.specs.Prelude.{◌≡◌, ◌≤◌, ◌<◌, ◌+◌, ◌-◌, ◌^◌, if◌then◌else◌, Some, None, IfOk};
 ghost use Rattle.cmwq_explore.specs.Seeds.{TellsSeeds, goes_on, has_ended, is_stuck, ones, shorter_of};
-ghost use Rattle.cmwq_explore.specs.Starts.{start_of};
+ghost use Rattle.cmwq_play.specs.Starts.{start_of};
 ghost use Rattle.cmwq_explore.specs.declared.chance.Chooser.TheVariants as choosers;
 
 use crate::chance::{Chooser, play_by};
-use crate::play::{Play, Standing};
 use crate::progress::{Progress, Watch};
-use crate::setup::Setup;
+use cmwq_play::{Play, Setup, Standing};
 use std::alloc::{AllocError, Global};
 
 /// Which schedules are played: those of the seeds from one up to another, without that one, each of so many moves at

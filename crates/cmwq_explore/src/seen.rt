@@ -5,11 +5,9 @@ ghost use Rattle.cmwq_explore.specs.Seens.{found_of, is_same_key};
 ghost use Rattle.cmwq_explore.specs.Seens.{Key as TheKey};
 
 use crate::finding::Finding;
+use cmwq_key::Key;
 use indexmap::IndexMap;
 use std::alloc::{AllocError, Global};
-
-/// The key of a state. States with the same key differ in nothing that matters to their schedules.
-pub(crate) type Key = Vec<u16>;
 
 /// What was found of states, by their keys.
 #[derive(Drop)]

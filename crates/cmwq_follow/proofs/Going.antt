@@ -7,13 +7,14 @@ use Rattle.std.proofs.lemmas.List.{length-append}
 use Rattle.std.proofs.Math.Nat.{le-max_left, le-max_right}
 use mathlib.Core.List.{IsPrefix}
 use Rattle.cmwq_model.specs.declared.entry.Entry.{Entry}
-use Rattle.cmwq_explore.specs.Searches.{IsSchedule, after}
-use Rattle.cmwq_explore.specs.Stands.{Stand, may, moved}
-use Rattle.cmwq_explore.specs.declared.setup.Setup.{Setup}
-unfoldable use Rattle.cmwq_explore.specs.Starts.{start_of}
-use Rattle.cmwq_explore.proofs.Moving.{may_within}
-use Rattle.cmwq_explore.proofs.Searching.{after_more, false_or, path_push}
-use Rattle.cmwq_explore.proofs.Staying.{schedules_add}
+use Rattle.cmwq_play.specs.Searches.{IsSchedule, after}
+use Rattle.cmwq_play.specs.Stands.{Stand, may, moved}
+use Rattle.cmwq_play.specs.declared.setup.Setup.{Setup}
+unfoldable use Rattle.cmwq_play.specs.Starts.{start_of}
+use Rattle.cmwq_play.proofs.Moving.{may_within}
+use Rattle.cmwq_explore.proofs.Searching.{false_or}
+use Rattle.cmwq_play.proofs.Paths.{after_more, path_push}
+use Rattle.cmwq_key.proofs.Staying.{schedules_add}
 use Rattle.cmwq_follow.proofs.Prefixes.{all_of, prefixes}
 use Rattle.cmwq_follow.specs.Followed.{LeaveAtMost, Leaves}
 use Rattle.cmwq_follow.specs.Ways.{IsDeadEnd, IsTrying, IsUnderWay, Leads, NoneLeft}

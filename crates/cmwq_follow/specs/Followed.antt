@@ -2,8 +2,8 @@
 use Rattle.std.specs.Prelude.{◌≡◌, ◌≤◌, ℕ, List, length}
 use mathlib.Core.List.{IsPrefix}
 use Rattle.cmwq_model.specs.declared.entry.Entry.{Entry}
-use Rattle.cmwq_explore.specs.Searches.{IsSchedule, after}
-use Rattle.cmwq_explore.specs.Stands.{Stand}
+use Rattle.cmwq_play.specs.Searches.{IsSchedule, after}
+use Rattle.cmwq_play.specs.Stands.{Stand}
 use Rattle.cmwq_follow.specs.declared.search.Followed.{Followed}
 use Rattle.cmwq_follow.specs.declared.search.Followed.TheVariants as followed
 

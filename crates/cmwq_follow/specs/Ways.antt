@@ -2,8 +2,8 @@
 use Rattle.std.specs.Prelude.{◌≡◌, ◌+◌, ◌++◌, ◌≤◌, ℕ, true, List, [], ◌∷◌, length, take}
 use mathlib.Core.List.{IsPrefix}
 use Rattle.cmwq_model.specs.declared.entry.Entry.{Entry}
-use Rattle.cmwq_explore.specs.Searches.{IsPathTo}
-use Rattle.cmwq_explore.specs.Stands.{Stand, may, moved}
+use Rattle.cmwq_play.specs.Searches.{IsPathTo}
+use Rattle.cmwq_play.specs.Stands.{Stand, may, moved}
 use Rattle.cmwq_follow.specs.declared.search.Trial.{Trial}
 use Rattle.cmwq_follow.specs.declared.search.Way.{Way}
 use Rattle.cmwq_follow.specs.declared.search.Tried.{Tried}

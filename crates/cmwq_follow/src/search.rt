@@ -3,17 +3,17 @@
 ghost use Rattle.std.specs.Prelude.{◌≡◌, ◌++◌, ◌∷◌, true, false, max, [], List, IfOk};
 ghost use mathlib.Core.List.{IsPrefix};
 ghost use Rattle.cmwq_model.specs.declared.entry.Entry.{Entry};
-ghost use Rattle.cmwq_explore.specs.Searches.{after};
-ghost use Rattle.cmwq_explore.specs.Stands.{Stand};
-ghost use Rattle.cmwq_explore.specs.Starts.{start_of};
+ghost use Rattle.cmwq_play.specs.Searches.{after};
+ghost use Rattle.cmwq_play.specs.Stands.{Stand};
+ghost use Rattle.cmwq_play.specs.Starts.{start_of};
 ghost use Rattle.cmwq_follow.specs.Followed.{IfBreaks, IfPath, LeaveAtMost, Leaves};
 ghost use Rattle.cmwq_follow.specs.Ways.{IsDeadEnd, IsKept, IsTrying, IsUnderWay};
 ghost use Rattle.cmwq_follow.specs.declared.search.Step.TheVariants as steps;
 ghost use Rattle.cmwq_follow.specs.declared.search.Tried.TheVariants as tried;
 
 use crate::same::is_same_entry;
-use cmwq_explore::{Doing, Play, Setup};
 use cmwq_model::{CallerId, Entry, Who};
+use cmwq_play::{Doing, Play, Setup};
 use std::alloc::{AllocError, Global};
 use std::mem;
 
@@ -308,7 +308,9 @@ fn go_with<'a>(
         (λ step. step ≡ steps.Exhausted → LeaveAtMost (start_of setup.now) history.now way.new.most) }
 {
     let mut play = Play::new(alloc, setup)?;
-    go(setup, &mut play, trial, way, history, moves)
+    let step = go(setup, &mut play, trial, way, history, moves);
+    drop(play);
+    step
 }
 
 /// The same, with a play for the tries too.
@@ -329,7 +331,9 @@ fn go_from_start<'a>(
         play: Play::new(alloc, setup)?,
         kept: 0,
     };
-    go_with(alloc, setup, &mut trial, way, history, moves)
+    let step = go_with(alloc, setup, &mut trial, way, history, moves);
+    drop(trial);
+    step
 }
 
 /// Finds the schedule of a script that left this history, by so many tries of a move at most.

@@ -28,13 +28,13 @@ use Rattle.cmwq_dispatch.specs.Resting.{IsRecorded, rests_in}
 use Rattle.cmwq_dispatch.specs.Sets.{has}
 use Rattle.cmwq_dispatch.specs.declared.resting.RestingWorkers.{RestingWorkers}
 use Rattle.cmwq_dispatch.proofs.Sets.{has_more, none_has}
-use Rattle.cmwq_explore.specs.Machines.{called, ends, replied, starts, stepped}
-use Rattle.cmwq_explore.specs.Searches.{IsSchedule, after}
-use Rattle.cmwq_explore.specs.Stands.{Stand, IsDone, caller_acted, caller_moved, may, moved}
-use Rattle.cmwq_explore.specs.declared.place.CallerAt.{CallerAt}
-use Rattle.cmwq_explore.specs.declared.place.Doing.TheVariants.{Acts, AtGate, AtLock, Waits}
-use Rattle.cmwq_explore.specs.declared.place.Doing.{Doing}
-use Rattle.cmwq_explore.specs.declared.place.WorkerAt.{WorkerAt}
+use Rattle.cmwq_play.specs.Machines.{called, ends, replied, starts, stepped}
+use Rattle.cmwq_play.specs.Searches.{IsSchedule, after}
+use Rattle.cmwq_play.specs.Stands.{Stand, IsDone, caller_acted, caller_moved, may, moved}
+use Rattle.cmwq_play.specs.declared.place.CallerAt.{CallerAt}
+use Rattle.cmwq_play.specs.declared.place.Doing.TheVariants.{Acts, AtGate, AtLock, Waits}
+use Rattle.cmwq_play.specs.declared.place.Doing.{Doing}
+use Rattle.cmwq_play.specs.declared.place.WorkerAt.{WorkerAt}
 use Rattle.cmwq_rest_laws.specs.Asleep.{AllSleep, CallerSleeps, SleepsFor, WorkerSleeps}
 use Rattle.cmwq_rest_laws.specs.Needed.{Holds, IsNeeded, Premise, PremisesAreNeeded, SleepForEver, SomeSleepForEver}
 use Rattle.cmwq_rest_laws.specs.Needed.{about_to, elsewhere, empty_hub, flushed, flusher, freezing, frozen, frozen_hub}

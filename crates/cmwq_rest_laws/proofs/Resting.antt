@@ -17,18 +17,18 @@ use Rattle.cmwq_core.specs.History.{IsThere}
 use Rattle.cmwq_state.proofs.Steps.{fits_there}
 use Rattle.cmwq_theory_wakes.proofs.Starting.{idle_start_alike}
 use Rattle.cmwq_dispatch.specs.Dispatched.{Dispatched, past_now}
-use Rattle.cmwq_explore.specs.Machines.{ends, starts}
-use Rattle.cmwq_explore.specs.Searches.{AllEnd, IsFine, IsSchedule, after}
-use Rattle.cmwq_explore.specs.Stands.{Stand, IsDone, has_run, is_free, is_open, may, may_act, may_call}
-use Rattle.cmwq_explore.specs.Stands.{may_do, may_work, moved, script_at}
-use Rattle.cmwq_explore.specs.declared.place.CallerAt.{CallerAt}
-use Rattle.cmwq_explore.specs.declared.place.Doing.{Doing}
-use Rattle.cmwq_explore.specs.declared.place.Doing.TheVariants.{Acts, AtGate, AtLock, Waits}
-use Rattle.cmwq_explore.specs.declared.place.RunAt.{RunAt}
-use Rattle.cmwq_explore.specs.declared.place.Ticketed.{Ticketed}
-use Rattle.cmwq_explore.specs.declared.place.WorkerAt.{WorkerAt}
-use Rattle.cmwq_explore.proofs.Ending.{never_ends}
-use Rattle.cmwq_explore.proofs.Starting.{starts_nothing as planned_starts_nothing, unfit_starts_nothing}
+use Rattle.cmwq_play.specs.Machines.{ends, starts}
+use Rattle.cmwq_play.specs.Searches.{AllEnd, IsFine, IsSchedule, after}
+use Rattle.cmwq_play.specs.Stands.{Stand, IsDone, has_run, is_free, is_open, may, may_act, may_call}
+use Rattle.cmwq_play.specs.Stands.{may_do, may_work, moved, script_at}
+use Rattle.cmwq_play.specs.declared.place.CallerAt.{CallerAt}
+use Rattle.cmwq_play.specs.declared.place.Doing.{Doing}
+use Rattle.cmwq_play.specs.declared.place.Doing.TheVariants.{Acts, AtGate, AtLock, Waits}
+use Rattle.cmwq_play.specs.declared.place.RunAt.{RunAt}
+use Rattle.cmwq_play.specs.declared.place.Ticketed.{Ticketed}
+use Rattle.cmwq_play.specs.declared.place.WorkerAt.{WorkerAt}
+use Rattle.cmwq_play.proofs.Ending.{never_ends}
+use Rattle.cmwq_play.proofs.Starting.{starts_nothing as planned_starts_nothing, unfit_starts_nothing}
 use Rattle.cmwq_rest_laws.specs.Asleep.{AllSleep, Blocks, CallerSleeps, IsHeld, IsShut, RunSleeps, SleepsFor}
 use Rattle.cmwq_rest_laws.specs.Asleep.{WorkerSleeps}
 use Rattle.cmwq_rest_laws.specs.Resting.{CallerWaits, NoCallerIsLeftAsleep, RunWaits, SleepersAreDone, SleepersAreStuck}

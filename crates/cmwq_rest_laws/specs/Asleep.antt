@@ -6,11 +6,11 @@ use Rattle.cmwq_json_script.specs.declared.action.Action.{Action}
 use Rattle.cmwq_json_script.specs.declared.action.Action.TheVariants as action
 use Rattle.cmwq_core.specs.History.{past_in}
 use Rattle.cmwq_dispatch.specs.Dispatched.{Dispatched, IdleWorkersRest, Stands, past_now}
-use Rattle.cmwq_explore.specs.Stands.{Stand, script_at}
-use Rattle.cmwq_explore.specs.declared.place.CallerAt.{CallerAt}
-use Rattle.cmwq_explore.specs.declared.place.Doing.{Doing}
-use Rattle.cmwq_explore.specs.declared.place.Doing.TheVariants.{Acts, AtGate, AtLock, Waits}
-use Rattle.cmwq_explore.specs.declared.place.WorkerAt.{WorkerAt}
+use Rattle.cmwq_play.specs.Stands.{Stand, script_at}
+use Rattle.cmwq_play.specs.declared.place.CallerAt.{CallerAt}
+use Rattle.cmwq_play.specs.declared.place.Doing.{Doing}
+use Rattle.cmwq_play.specs.declared.place.Doing.TheVariants.{Acts, AtGate, AtLock, Waits}
+use Rattle.cmwq_play.specs.declared.place.WorkerAt.{WorkerAt}
 
 -- ---- what the hub knows
 

@@ -15,14 +15,14 @@ use Rattle.cmwq_json_script.specs.declared.action.Holder.TheVariants as holders
 use Rattle.cmwq_core.specs.History.{History, past_in}
 use Rattle.cmwq_dispatch.specs.Dispatched.{Dispatched, Stands, dispatched_of, past_now}
 use Rattle.cmwq_dispatch.specs.declared.resting.RestingWorkers.{RestingWorkers}
-use Rattle.cmwq_explore.specs.Searches.{GetsStuck, after}
-use Rattle.cmwq_explore.specs.Stands.{Stand, may}
-use Rattle.cmwq_explore.specs.declared.place.CallerAt.{CallerAt}
-use Rattle.cmwq_explore.specs.declared.place.Doing.{Doing}
-use Rattle.cmwq_explore.specs.declared.place.Doing.TheVariants.{Acts, AtGate, AtLock, Waits}
-use Rattle.cmwq_explore.specs.declared.place.RunAt.{RunAt}
-use Rattle.cmwq_explore.specs.declared.place.Ticketed.{Ticketed}
-use Rattle.cmwq_explore.specs.declared.place.WorkerAt.{WorkerAt}
+use Rattle.cmwq_play.specs.Searches.{GetsStuck, after}
+use Rattle.cmwq_play.specs.Stands.{Stand, may}
+use Rattle.cmwq_play.specs.declared.place.CallerAt.{CallerAt}
+use Rattle.cmwq_play.specs.declared.place.Doing.{Doing}
+use Rattle.cmwq_play.specs.declared.place.Doing.TheVariants.{Acts, AtGate, AtLock, Waits}
+use Rattle.cmwq_play.specs.declared.place.RunAt.{RunAt}
+use Rattle.cmwq_play.specs.declared.place.Ticketed.{Ticketed}
+use Rattle.cmwq_play.specs.declared.place.WorkerAt.{WorkerAt}
 use Rattle.cmwq_dispatch.specs.Dispatched.{IdleWorkersRest}
 use Rattle.cmwq_rest_laws.specs.Asleep.{AllSleep, CallerSleeps, WorkerSleeps}
 

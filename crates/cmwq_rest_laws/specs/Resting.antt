@@ -2,13 +2,13 @@
 use Rattle.std.specs.Prelude.{◌≡◌, ◌⊎◌, ℕ, List, [], Some, Contains, slice_get}
 use Rattle.cmwq_model.specs.declared.record.Ticket.{Ticket}
 use Rattle.cmwq_dispatch.specs.Dispatched.{Dispatched}
-use Rattle.cmwq_explore.specs.Searches.{AllEnd, GetsStuck, IsSchedule, Rests, after}
-use Rattle.cmwq_explore.specs.Stands.{Stand, IsDone}
-use Rattle.cmwq_explore.specs.declared.place.CallerAt.{CallerAt}
-use Rattle.cmwq_explore.specs.declared.place.Doing.TheVariants.{Waits}
-use Rattle.cmwq_explore.specs.declared.place.RunAt.{RunAt}
-use Rattle.cmwq_explore.specs.declared.place.Ticketed.{Ticketed}
-use Rattle.cmwq_explore.specs.declared.place.WorkerAt.{WorkerAt}
+use Rattle.cmwq_play.specs.Searches.{AllEnd, GetsStuck, IsSchedule, Rests, after}
+use Rattle.cmwq_play.specs.Stands.{Stand, IsDone}
+use Rattle.cmwq_play.specs.declared.place.CallerAt.{CallerAt}
+use Rattle.cmwq_play.specs.declared.place.Doing.TheVariants.{Waits}
+use Rattle.cmwq_play.specs.declared.place.RunAt.{RunAt}
+use Rattle.cmwq_play.specs.declared.place.Ticketed.{Ticketed}
+use Rattle.cmwq_play.specs.declared.place.WorkerAt.{WorkerAt}
 use Rattle.cmwq_rest_laws.specs.Asleep.{AllSleep}
 
 -- Where all sleep, nobody may move.

@@ -30,13 +30,13 @@ use Rattle.cmwq_rt.specs.Waiting.{WasAllowed, is_wait}
 use Rattle.cmwq_rt.specs.declared.left_out.LeftOut.{LeftOut}
 use Rattle.cmwq_engine.specs.Conduct.{caller_numbered}
 use Rattle.cmwq_cmd_run.specs.Interpreted.{ActInTurn, plays}
-use Rattle.cmwq_explore.specs.Stands.{Stand}
-use Rattle.cmwq_explore.specs.declared.place.CallerAt.{CallerAt}
-use Rattle.cmwq_explore.specs.declared.place.Doing.{Doing}
-use Rattle.cmwq_explore.specs.declared.place.Doing.TheVariants.{Acts, AtGate, AtLock, Waits}
-use Rattle.cmwq_explore.specs.declared.place.RunAt.{RunAt}
-use Rattle.cmwq_explore.specs.declared.place.Ticketed.{Ticketed}
-use Rattle.cmwq_explore.specs.declared.place.WorkerAt.{WorkerAt}
+use Rattle.cmwq_play.specs.Stands.{Stand}
+use Rattle.cmwq_play.specs.declared.place.CallerAt.{CallerAt}
+use Rattle.cmwq_play.specs.declared.place.Doing.{Doing}
+use Rattle.cmwq_play.specs.declared.place.Doing.TheVariants.{Acts, AtGate, AtLock, Waits}
+use Rattle.cmwq_play.specs.declared.place.RunAt.{RunAt}
+use Rattle.cmwq_play.specs.declared.place.Ticketed.{Ticketed}
+use Rattle.cmwq_play.specs.declared.place.WorkerAt.{WorkerAt}
 use Rattle.cmwq_schedule_laws.proofs.Calling.{IsBegun}
 use Rattle.cmwq_schedule_laws.proofs.Keeping.{IsKept, IsUpToDate}
 

@@ -18,11 +18,11 @@ use Rattle.cmwq_rt.proofs.Lending.{new_waited}
 use Rattle.cmwq_rt.specs.Sums.{no_waits}
 use Rattle.cmwq_engine.specs.Conduct.{caller_numbered}
 use Rattle.cmwq_theory_steps.proofs.Owing.{nothing_owed}
-use Rattle.cmwq_explore.specs.Firsts.{caller_at, callers_from, lent_from, workers_from}
-unfoldable use Rattle.cmwq_explore.specs.Starts.{first_stand}
-use Rattle.cmwq_explore.specs.declared.place.CallerAt.{CallerAt}
-use Rattle.cmwq_explore.specs.declared.place.RunAt.{RunAt}
-use Rattle.cmwq_explore.specs.declared.place.WorkerAt.{WorkerAt}
+use Rattle.cmwq_play.specs.Firsts.{caller_at, callers_from, lent_from, workers_from}
+unfoldable use Rattle.cmwq_play.specs.Starts.{first_stand}
+use Rattle.cmwq_play.specs.declared.place.CallerAt.{CallerAt}
+use Rattle.cmwq_play.specs.declared.place.RunAt.{RunAt}
+use Rattle.cmwq_play.specs.declared.place.WorkerAt.{WorkerAt}
 use Rattle.cmwq_schedule_laws.proofs.Accounts.{CallerStands, HasRested}
 use Rattle.cmwq_schedule_laws.proofs.Accounts.{IsPlayable, Stands, WorkerStands, Works, actions_at, caller_of, lent_to}
 use Rattle.cmwq_schedule_laws.proofs.Keeping.{IsKept, IsUpToDate}

@@ -21,12 +21,12 @@ use Rattle.cmwq_monitor.proofs.Entering.{view_after}
 use Rattle.cmwq_monitor.proofs.Fired.{ends_extended, fired_all, fired_full, fired_last, fired_more, firing_begins}
 use Rattle.cmwq_monitor.proofs.Serials.{stand_next}
 use Rattle.cmwq_monitor.proofs.Whole.{ended_alone, ended_completes, ended_fired, tick_completes}
-use Rattle.cmwq_explore.specs.Machines.{AfterCall, after_reply, begun, is_made, replied}
-use Rattle.cmwq_explore.specs.Machines.{stepped}
-unfoldable use Rattle.cmwq_explore.specs.Machines.{called, ended, ends, fired}
-use Rattle.cmwq_explore.specs.declared.machine.Called.{Called}
-use Rattle.cmwq_explore.specs.declared.machine.Called.TheVariants.{NoRoom, Whole, Waits as Began}
-use Rattle.cmwq_explore.specs.declared.place.Ticketed.{Ticketed}
+use Rattle.cmwq_play.specs.Machines.{AfterCall, after_reply, begun, is_made, replied}
+use Rattle.cmwq_play.specs.Machines.{stepped}
+unfoldable use Rattle.cmwq_play.specs.Machines.{called, ended, ends, fired}
+use Rattle.cmwq_play.specs.declared.machine.Called.{Called}
+use Rattle.cmwq_play.specs.declared.machine.Called.TheVariants.{NoRoom, Whole, Waits as Began}
+use Rattle.cmwq_play.specs.declared.place.Ticketed.{Ticketed}
 use Rattle.cmwq_schedule_laws.proofs.Keeping.{IsKept, IsUpToDate, Makes, having_seen, kept_after, makes, refused}
 use Rattle.cmwq_schedule_laws.proofs.Keeping.{seen_up}
 use Rattle.cmwq_schedule_laws.proofs.Keeping.{unmade_replies}

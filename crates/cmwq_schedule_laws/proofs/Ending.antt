@@ -27,10 +27,10 @@ use Rattle.cmwq_engine.specs.Conduct.{caller_numbered}
 use Rattle.cmwq_engine.specs.Ended.{AllWorkedFrom, WaitedIn, WorkedIn}
 use Rattle.cmwq_rt_scripts.specs.Ended.{AllFollow, FollowsIn}
 use Rattle.cmwq_cmd_run.specs.Interpreted.{plays}
-use Rattle.cmwq_explore.specs.Stands.{Stand, IsDone, has_run, script_at}
-use Rattle.cmwq_explore.specs.declared.place.CallerAt.{CallerAt}
-use Rattle.cmwq_explore.specs.declared.place.RunAt.{RunAt}
-use Rattle.cmwq_explore.specs.declared.place.WorkerAt.{WorkerAt}
+use Rattle.cmwq_play.specs.Stands.{Stand, IsDone, has_run, script_at}
+use Rattle.cmwq_play.specs.declared.place.CallerAt.{CallerAt}
+use Rattle.cmwq_play.specs.declared.place.RunAt.{RunAt}
+use Rattle.cmwq_play.specs.declared.place.WorkerAt.{WorkerAt}
 use Rattle.cmwq_schedule_laws.specs.Leaving.{MayLeave}
 use Rattle.cmwq_schedule_laws.proofs.Accounts.{CallerStands, Holding, IsInWait, IsIdle, IsLendable, IsPlayable}
 use Rattle.cmwq_schedule_laws.proofs.Accounts.{LentStands, Stands, Works, actions_at, caller_of, lent_to}

@@ -19,12 +19,12 @@ use Rattle.cmwq_monitor.specs.Participants.{View, newcomer}
 use Rattle.cmwq_rt.specs.Scripts.{HasFollowed}
 use Rattle.cmwq_rt.proofs.Following.{followed_full, followed_more}
 use Rattle.cmwq_engine.specs.Conduct.{caller_numbered}
-use Rattle.cmwq_explore.specs.Machines.{called, ended, ends, is_made}
-use Rattle.cmwq_explore.specs.Stands.{next_place, wait_of}
-use Rattle.cmwq_explore.specs.declared.machine.Called.{Called}
-use Rattle.cmwq_explore.specs.declared.machine.Called.TheVariants.{NoRoom, Whole, Waits as Began}
-use Rattle.cmwq_explore.specs.declared.place.CallerAt.{CallerAt}
-use Rattle.cmwq_explore.specs.declared.place.Ticketed.{Ticketed}
+use Rattle.cmwq_play.specs.Machines.{called, ended, ends, is_made}
+use Rattle.cmwq_play.specs.Stands.{next_place, wait_of}
+use Rattle.cmwq_play.specs.declared.machine.Called.{Called}
+use Rattle.cmwq_play.specs.declared.machine.Called.TheVariants.{NoRoom, Whole, Waits as Began}
+use Rattle.cmwq_play.specs.declared.place.CallerAt.{CallerAt}
+use Rattle.cmwq_play.specs.declared.place.Ticketed.{Ticketed}
 use Rattle.cmwq_schedule_laws.proofs.Accounts.{CallerStands, IsInWait}
 use Rattle.cmwq_schedule_laws.proofs.Calling.{CameOf, wait_completes}
 use Rattle.cmwq_schedule_laws.proofs.Keeping.{IsKept, IsUpToDate, having_seen, seen_up}

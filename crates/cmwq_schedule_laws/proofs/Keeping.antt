@@ -18,8 +18,8 @@ use Rattle.cmwq_monitor.specs.Steps.{InStep}
 use Rattle.cmwq_monitor.specs.declared.fault.RunFault.TheVariants.{Full}
 use Rattle.cmwq_monitor.proofs.Beginnings.{prefix_of_prefix, prefix_self, prefix_trans}
 use Rattle.cmwq_monitor.proofs.Entering.{extends, gains_seen, serial_after, view_after}
-use Rattle.cmwq_explore.specs.Machines.{is_made}
-unfoldable use Rattle.cmwq_explore.specs.Machines.{replied, stepped}
+use Rattle.cmwq_play.specs.Machines.{is_made}
+unfoldable use Rattle.cmwq_play.specs.Machines.{replied, stepped}
 
 -- of this shape and with its room, legal, and within the room
 pub record IsKept (s : Layout) (h : History) : Type 0 where

@@ -4,9 +4,9 @@ use Rattle.cmwq_model.specs.Prelude.{is_layout}
 use Rattle.cmwq_json_script.specs.Runs.{Run}
 use Rattle.cmwq_json_script.specs.Scripts.{MayRun, run_of}
 use Rattle.cmwq_json_script.specs.declared.script.Script.{Script}
-use Rattle.cmwq_explore.specs.Searches.{IsSchedule, after}
-use Rattle.cmwq_explore.specs.Stands.{Stand, moved}
-use Rattle.cmwq_explore.specs.Starts.{first_stand}
+use Rattle.cmwq_play.specs.Searches.{IsSchedule, after}
+use Rattle.cmwq_play.specs.Stands.{Stand, moved}
+use Rattle.cmwq_play.specs.Starts.{first_stand}
 use Rattle.cmwq_schedule_laws.specs.Leaving.{SchedulesLeave, SchedulesLeaveHistories}
 use Rattle.cmwq_schedule_laws.proofs.Accounts.{IsPlayable, Stands}
 use Rattle.cmwq_schedule_laws.proofs.Beginning.{first_stands}

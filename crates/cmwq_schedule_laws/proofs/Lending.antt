@@ -28,15 +28,15 @@ use Rattle.cmwq_rt.proofs.Lending.{waited_more}
 use Rattle.cmwq_engine.specs.Conduct.{caller_numbered}
 use Rattle.cmwq_cmd_run.specs.Interpreted as interpreted
 use Rattle.cmwq_cmd_run.specs.Interpreted.{WaitsIfMay}
-use Rattle.cmwq_explore.specs.Machines.{called, ended, ends, has_wait_room, is_made, stepped}
-use Rattle.cmwq_explore.specs.Stands.{Stand, after_action, last_free, with_room}
-unfoldable use Rattle.cmwq_explore.specs.Stands.{lent_for}
-use Rattle.cmwq_explore.specs.Waiting.{is_refused, may_wait, waits_in}
-use Rattle.cmwq_explore.specs.declared.machine.Called.{Called}
-use Rattle.cmwq_explore.specs.declared.machine.Called.TheVariants.{NoRoom, Whole, Waits as Began}
-use Rattle.cmwq_explore.specs.declared.place.Doing.TheVariants.{Acts, Waits}
-use Rattle.cmwq_explore.specs.declared.place.RunAt.{RunAt}
-use Rattle.cmwq_explore.specs.declared.place.Ticketed.{Ticketed}
+use Rattle.cmwq_play.specs.Machines.{called, ended, ends, has_wait_room, is_made, stepped}
+use Rattle.cmwq_play.specs.Stands.{Stand, after_action, last_free, with_room}
+unfoldable use Rattle.cmwq_play.specs.Stands.{lent_for}
+use Rattle.cmwq_play.specs.Waiting.{is_refused, may_wait, waits_in}
+use Rattle.cmwq_play.specs.declared.machine.Called.{Called}
+use Rattle.cmwq_play.specs.declared.machine.Called.TheVariants.{NoRoom, Whole, Waits as Began}
+use Rattle.cmwq_play.specs.declared.place.Doing.TheVariants.{Acts, Waits}
+use Rattle.cmwq_play.specs.declared.place.RunAt.{RunAt}
+use Rattle.cmwq_play.specs.declared.place.Ticketed.{Ticketed}
 use Rattle.cmwq_schedule_laws.proofs.Accounts.{DoesNext, HasRested, IsItems, IsRunning, IsWaitingBy, actions_at}
 use Rattle.cmwq_schedule_laws.proofs.Accounts.{runs_on}
 use Rattle.cmwq_schedule_laws.proofs.Calling.{CameOf, wait_completes}

@@ -18,12 +18,12 @@ use Rattle.cmwq_core.specs.History.{History}
 use Rattle.cmwq_monitor.specs.Participants.{View}
 use Rattle.cmwq_rt.specs.Places.{worker_by_number}
 use Rattle.cmwq_engine.specs.Conduct.{caller_numbered}
-use Rattle.cmwq_explore.specs.Stands.{Stand}
-use Rattle.cmwq_explore.specs.declared.place.CallerAt.{CallerAt}
-use Rattle.cmwq_explore.specs.declared.place.Doing.{Doing}
-use Rattle.cmwq_explore.specs.declared.place.Doing.TheVariants.{Acts, AtGate, AtLock, Waits}
-use Rattle.cmwq_explore.specs.declared.place.RunAt.{RunAt}
-use Rattle.cmwq_explore.specs.declared.place.WorkerAt.{WorkerAt}
+use Rattle.cmwq_play.specs.Stands.{Stand}
+use Rattle.cmwq_play.specs.declared.place.CallerAt.{CallerAt}
+use Rattle.cmwq_play.specs.declared.place.Doing.{Doing}
+use Rattle.cmwq_play.specs.declared.place.Doing.TheVariants.{Acts, AtGate, AtLock, Waits}
+use Rattle.cmwq_play.specs.declared.place.RunAt.{RunAt}
+use Rattle.cmwq_play.specs.declared.place.WorkerAt.{WorkerAt}
 use Rattle.cmwq_schedule_laws.proofs.Accounts.{AreLent, CallerStands, DoesNext, HasBegun, HasRested, Holding}
 use Rattle.cmwq_schedule_laws.proofs.Accounts.{IsLendable, IsPlayable, LentStands, SleepsOrNot, Stands}
 use Rattle.cmwq_schedule_laws.proofs.Accounts.{WorkerStands, Works, actions_at, caller_of, lent_to, runs_on}

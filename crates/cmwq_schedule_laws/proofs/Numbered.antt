@@ -19,8 +19,8 @@ use Rattle.cmwq_monitor.specs.Calls.{Extends, own_entry}
 use Rattle.cmwq_monitor.specs.Faults.{Refused}
 use Rattle.cmwq_monitor.specs.Participants.{View}
 use Rattle.cmwq_monitor.specs.declared.fault.RunFault.TheVariants.{Full}
-use Rattle.cmwq_explore.specs.Machines.{called, ended, ends, is_made, replied, stepped}
-use Rattle.cmwq_explore.specs.declared.place.Ticketed.{Ticketed}
+use Rattle.cmwq_play.specs.Machines.{called, ended, ends, is_made, replied, stepped}
+use Rattle.cmwq_play.specs.declared.place.Ticketed.{Ticketed}
 use Rattle.cmwq_schedule_laws.proofs.Calling.{CameOf, EndLeaves, came_of, end_leaves}
 use Rattle.cmwq_schedule_laws.proofs.Keeping.{IsKept, IsUpToDate, having_seen, makes, refused}
 use Rattle.cmwq_monitor.proofs.Entering.{view_after}

@@ -10,8 +10,8 @@ use Rattle.cmwq_model.specs.Prelude.{Layout}
 use Rattle.cmwq_model.specs.declared.id.PoolId.{PoolId}
 use Rattle.cmwq_model.specs.declared.id.WorkerId.{WorkerId}
 use Rattle.cmwq_rt.specs.Places.{after_worker, first_worker, next_after, worker_by_number}
-use Rattle.cmwq_explore.specs.Firsts.{of_cpu, of_pool, pool_of, worker_at, workers_from}
-use Rattle.cmwq_explore.specs.declared.place.WorkerAt.{WorkerAt}
+use Rattle.cmwq_play.specs.Firsts.{of_cpu, of_pool, pool_of, worker_at, workers_from}
+use Rattle.cmwq_play.specs.declared.place.WorkerAt.{WorkerAt}
 
 -- ---- numbers
 

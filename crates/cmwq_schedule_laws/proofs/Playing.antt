@@ -22,22 +22,22 @@ use Rattle.cmwq_monitor.specs.Participants.{View}
 use Rattle.cmwq_engine.specs.Conduct.{caller_numbered}
 use Rattle.cmwq_cmd_run.specs.Interpreted as interpreted
 use Rattle.cmwq_cmd_run.specs.Interpreted.{SleepsOnce}
-use Rattle.cmwq_explore.specs.Machines.{called, ended, ends, replied, retires, starts, stepped}
-use Rattle.cmwq_explore.specs.Stands.{Stand, action_of, after_action, after_begin, did, first_of, holds, is_free}
-use Rattle.cmwq_explore.specs.Stands.{last_free}
-use Rattle.cmwq_explore.specs.Stands.{lent_for, locked, may_act, may_call, may_do, may_work, next_place, passed, rested}
-use Rattle.cmwq_explore.specs.Stands.{script_at, slept_at, went_on, with_history, with_run, woken}
-use Rattle.cmwq_explore.specs.Stands as stands
-unfoldable use Rattle.cmwq_explore.specs.Stands.{acted, begun_by, caller_acted, caller_moved, finished, may, moved}
-unfoldable use Rattle.cmwq_explore.specs.Stands.{run_moved, started, wait_ended, waited, worker_moved}
-use Rattle.cmwq_explore.specs.declared.machine.Called.{Called}
-use Rattle.cmwq_explore.specs.declared.machine.Called.TheVariants.{NoRoom, Whole, Waits as Began}
-use Rattle.cmwq_explore.specs.declared.place.CallerAt.{CallerAt}
-use Rattle.cmwq_explore.specs.declared.place.Doing.{Doing}
-use Rattle.cmwq_explore.specs.declared.place.Doing.TheVariants.{Acts, AtGate, AtLock, Waits}
-use Rattle.cmwq_explore.specs.declared.place.RunAt.{RunAt}
-use Rattle.cmwq_explore.specs.declared.place.Ticketed.{Ticketed}
-use Rattle.cmwq_explore.specs.declared.place.WorkerAt.{WorkerAt}
+use Rattle.cmwq_play.specs.Machines.{called, ended, ends, replied, retires, starts, stepped}
+use Rattle.cmwq_play.specs.Stands.{Stand, action_of, after_action, after_begin, did, first_of, holds, is_free}
+use Rattle.cmwq_play.specs.Stands.{last_free}
+use Rattle.cmwq_play.specs.Stands.{lent_for, locked, may_act, may_call, may_do, may_work, next_place, passed, rested}
+use Rattle.cmwq_play.specs.Stands.{script_at, slept_at, went_on, with_history, with_run, woken}
+use Rattle.cmwq_play.specs.Stands as stands
+unfoldable use Rattle.cmwq_play.specs.Stands.{acted, begun_by, caller_acted, caller_moved, finished, may, moved}
+unfoldable use Rattle.cmwq_play.specs.Stands.{run_moved, started, wait_ended, waited, worker_moved}
+use Rattle.cmwq_play.specs.declared.machine.Called.{Called}
+use Rattle.cmwq_play.specs.declared.machine.Called.TheVariants.{NoRoom, Whole, Waits as Began}
+use Rattle.cmwq_play.specs.declared.place.CallerAt.{CallerAt}
+use Rattle.cmwq_play.specs.declared.place.Doing.{Doing}
+use Rattle.cmwq_play.specs.declared.place.Doing.TheVariants.{Acts, AtGate, AtLock, Waits}
+use Rattle.cmwq_play.specs.declared.place.RunAt.{RunAt}
+use Rattle.cmwq_play.specs.declared.place.Ticketed.{Ticketed}
+use Rattle.cmwq_play.specs.declared.place.WorkerAt.{WorkerAt}
 use Rattle.cmwq_schedule_laws.proofs.Accounts.{CallerStands, DoesNext, HasRested, Holding, IsIdle, IsLendable}
 use Rattle.cmwq_schedule_laws.proofs.Accounts.{IsPlayable}
 use Rattle.cmwq_schedule_laws.proofs.Accounts.{IsRunning, LentStands, SleepsOrNot, Stands, WorkerStands, Works}

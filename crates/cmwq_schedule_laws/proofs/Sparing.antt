@@ -17,11 +17,11 @@ use Rattle.cmwq_model.specs.declared.reply.Reply.{Reply}
 use Rattle.cmwq_model.proofs.Growing.{one_more_is_newest}
 use Rattle.cmwq_core.specs.History.{History, next_entry, past_in, with_entry}
 use Rattle.cmwq_monitor.proofs.Beginnings.{prefix_of_prefix, prefix_self, prefix_trans}
-use Rattle.cmwq_explore.specs.Machines.{AfterCall, after_reply, begun, ends, is_made}
-use Rattle.cmwq_explore.specs.Machines.{replied}
-unfoldable use Rattle.cmwq_explore.specs.Machines.{called, ended, fired, stepped}
-use Rattle.cmwq_explore.specs.declared.machine.Called.TheVariants.{NoRoom, Whole, Waits as Began}
-use Rattle.cmwq_explore.specs.declared.place.Ticketed.{Ticketed}
+use Rattle.cmwq_play.specs.Machines.{AfterCall, after_reply, begun, ends, is_made}
+use Rattle.cmwq_play.specs.Machines.{replied}
+unfoldable use Rattle.cmwq_play.specs.Machines.{called, ended, fired, stepped}
+use Rattle.cmwq_play.specs.declared.machine.Called.TheVariants.{NoRoom, Whole, Waits as Began}
+use Rattle.cmwq_play.specs.declared.place.Ticketed.{Ticketed}
 use Rattle.cmwq_schedule_laws.proofs.Awake.{IsAsAwake, awake_further, awake_itself, other_entry}
 use Rattle.cmwq_schedule_laws.proofs.Keeping.{IsKept, kept_after, unmade_stays}
 

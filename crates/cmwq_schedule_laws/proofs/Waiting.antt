@@ -37,14 +37,14 @@ use Rattle.cmwq_rt.specs.declared.wait_fault.WaitFault.TheVariants as fault
 use Rattle.cmwq_board.specs.Asked as board
 use Rattle.cmwq_board.proofs.Slept.{needs_more}
 use Rattle.cmwq_cmd_run.specs.Interpreted.{IsRefused}
-use Rattle.cmwq_explore.specs.Machines.{is_made}
-use Rattle.cmwq_explore.specs.Waiting.{are_there, noted_doing}
-unfoldable use Rattle.cmwq_explore.specs.Machines.{has_wait_room}
-unfoldable use Rattle.cmwq_explore.specs.Waiting.{is_refused, noted, noted_at, waits_in}
-use Rattle.cmwq_explore.specs.declared.place.Doing.{Doing}
-use Rattle.cmwq_explore.specs.declared.place.Doing.TheVariants.{Acts, AtGate, AtLock, Waits}
-use Rattle.cmwq_explore.specs.declared.place.RunAt.{RunAt}
-use Rattle.cmwq_explore.specs.declared.place.WorkerAt.{WorkerAt}
+use Rattle.cmwq_play.specs.Machines.{is_made}
+use Rattle.cmwq_play.specs.Waiting.{are_there, noted_doing}
+unfoldable use Rattle.cmwq_play.specs.Machines.{has_wait_room}
+unfoldable use Rattle.cmwq_play.specs.Waiting.{is_refused, noted, noted_at, waits_in}
+use Rattle.cmwq_play.specs.declared.place.Doing.{Doing}
+use Rattle.cmwq_play.specs.declared.place.Doing.TheVariants.{Acts, AtGate, AtLock, Waits}
+use Rattle.cmwq_play.specs.declared.place.RunAt.{RunAt}
+use Rattle.cmwq_play.specs.declared.place.WorkerAt.{WorkerAt}
 use Rattle.cmwq_schedule_laws.proofs.Accounts.{IsItems}
 use Rattle.cmwq_schedule_laws.proofs.Awake.{slept_reply}
 use Rattle.cmwq_schedule_laws.proofs.Keeping.{IsKept, IsUpToDate, in_step}

@@ -33,13 +33,13 @@ use Rattle.cmwq_cmd_run.specs.Interpreted as interpreted
 use Rattle.cmwq_cmd_run.specs.Interpreted.{ActInTurn, MakesIfRoom, SleepsOnce, plays}
 use Rattle.cmwq_cmd_run.proofs.Interpreting.{act_next}
 use Rattle.cmwq_theory_steps.specs.RoomSteps.{is_promised}
-use Rattle.cmwq_explore.specs.Machines.{is_made, item_started, replied, stepped}
-unfoldable use Rattle.cmwq_explore.specs.Machines.{retires, starts}
-use Rattle.cmwq_explore.proofs.Gathering.{all_taken}
-use Rattle.cmwq_explore.specs.Stands.{after_action, first_of, rested}
-use Rattle.cmwq_explore.specs.declared.place.Doing.{Doing}
-use Rattle.cmwq_explore.specs.declared.place.Doing.TheVariants.{Acts}
-use Rattle.cmwq_explore.specs.declared.place.RunAt.{RunAt}
+use Rattle.cmwq_play.specs.Machines.{is_made, item_started, replied, stepped}
+unfoldable use Rattle.cmwq_play.specs.Machines.{retires, starts}
+use Rattle.cmwq_key.proofs.Gathering.{all_taken}
+use Rattle.cmwq_play.specs.Stands.{after_action, first_of, rested}
+use Rattle.cmwq_play.specs.declared.place.Doing.{Doing}
+use Rattle.cmwq_play.specs.declared.place.Doing.TheVariants.{Acts}
+use Rattle.cmwq_play.specs.declared.place.RunAt.{RunAt}
 use Rattle.cmwq_schedule_laws.proofs.Accounts.{DoesNext, IsIdle, IsItems, IsRunning, SleepsOrNot, actions_at, runs_on}
 use Rattle.cmwq_schedule_laws.proofs.Awake.{asleep_then, awake_then, finished_reply, is_own_call, own_call_then}
 use Rattle.cmwq_schedule_laws.proofs.Awake.{started_awake, woke_reply}

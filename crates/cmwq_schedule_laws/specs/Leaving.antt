@@ -3,9 +3,9 @@ use Rattle.std.specs.Prelude.{◌≡◌, ℕ, List}
 use Rattle.cmwq_model.specs.declared.entry.Entry.{Entry}
 use Rattle.cmwq_json_script.specs.Runs.{Run}
 use Rattle.cmwq_json_script.specs.Scripts.{IsRunWithin}
-use Rattle.cmwq_explore.specs.Searches.{IsSchedule, after}
-use Rattle.cmwq_explore.specs.Stands.{IsDone}
-use Rattle.cmwq_explore.specs.Starts.{first_stand}
+use Rattle.cmwq_play.specs.Searches.{IsSchedule, after}
+use Rattle.cmwq_play.specs.Stands.{IsDone}
+use Rattle.cmwq_play.specs.Starts.{first_stand}
 use Rattle.cmwq_rt.specs.declared.left_out.LeftOut.{LeftOut}
 use Rattle.cmwq_cmd_run.specs.Run.{RunLeaves}
 

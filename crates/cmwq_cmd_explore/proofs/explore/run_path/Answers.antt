@@ -1,4 +1,4 @@
-use Rattle.cmwq_explore.specs.Starts.{first_stand}
+use Rattle.cmwq_play.specs.Starts.{first_stand}
 use Rattle.cmwq_cmd_explore.specs.Verdicts.{SaysPath}
 use Rattle.cmwq_cmd_explore.proofs.Explored.{told_of}
 use Rattle.cmwq_cmd_explore.proofs.explore.run_path.Goals as goal

@@ -1,8 +1,9 @@
 use Rattle.std.proofs.Common.{◌≡◌, ◌<◌, ◌+◌, ◌∙◌, ◌∷◌, [], length, true, ap, sym, subst, arith}
 use Rattle.std.proofs.lemmas.List.{get_or_read, length-append}
 use Rattle.std.proofs.lemmas.List.Elements.{All-get_or}
-use Rattle.cmwq_explore.specs.Stands.{may}
-use Rattle.cmwq_explore.proofs.Searching.{is_none, none_of_none, path_push}
+use Rattle.cmwq_play.specs.Stands.{may}
+use Rattle.cmwq_explore.proofs.Searching.{is_none, none_of_none}
+use Rattle.cmwq_play.proofs.Paths.{path_push}
 use Rattle.cmwq_explore.proofs.chance.play_in_order.Goals as goal
 
 pub returns-then-is_empty : goal.returns-then-is_empty

@@ -1,5 +1,5 @@
 use Rattle.std.proofs.Common.{◌≡◌, length}
-use Rattle.cmwq_explore.specs.Searches.{IsPathTo}
+use Rattle.cmwq_play.specs.Searches.{IsPathTo}
 use Rattle.cmwq_explore.proofs.chance.play_in_order.Given as goal
 
 abbrev pub invariant-loop-number : goal.invariant-loop-number

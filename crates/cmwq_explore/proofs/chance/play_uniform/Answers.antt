@@ -3,9 +3,10 @@ use Rattle.std.proofs.Common.{arith}
 use Rattle.std.proofs.lemmas.List.{append_assoc, append-nil, get_or_read, length-append}
 use Rattle.std.proofs.lemmas.List.Elements.{All-get_or}
 use Rattle.cmwq_explore.specs.Chances.{chosen, chosen_by, drawn_below}
-use Rattle.cmwq_explore.specs.Stands.{may}
+use Rattle.cmwq_play.specs.Stands.{may}
 use Rattle.cmwq_explore.proofs.Chosen.{chosen_end, chosen_more, chosen_none}
-use Rattle.cmwq_explore.proofs.Searching.{is_none, is_some, none_of_none, path_push}
+use Rattle.cmwq_explore.proofs.Searching.{is_none, is_some, none_of_none}
+use Rattle.cmwq_play.proofs.Paths.{path_push}
 use Rattle.cmwq_explore.proofs.chance.play_uniform.Goals as goal
 
 pub returns-then-is_empty-clause-plays : goal.returns-then-is_empty-clause-plays

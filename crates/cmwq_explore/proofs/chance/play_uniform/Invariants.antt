@@ -1,6 +1,6 @@
 use Rattle.std.proofs.Common.{ℕ, ◌≡◌, ◌+◌, ◌++◌, length}
 use Rattle.cmwq_explore.specs.Chances.{chosen_by}
-use Rattle.cmwq_explore.specs.Searches.{IsPathTo}
+use Rattle.cmwq_play.specs.Searches.{IsPathTo}
 use Rattle.cmwq_explore.proofs.chance.play_uniform.Given as goal
 
 abbrev pub invariant-loop-number : goal.invariant-loop-number

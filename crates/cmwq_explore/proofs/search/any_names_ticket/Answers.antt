@@ -5,7 +5,7 @@ use Rattle.std.proofs.lemmas.Iterator.{YieldsList-from_slice}
 use Rattle.std.proofs.lemmas.Iterator.Search.{any_from_yields_List}
 use Rattle.std.specs.List.{list_any}
 use Rattle.cmwq_json_script.specs.declared.action.Action.{Action}
-use Rattle.cmwq_explore.specs.Alike.{names_ticket}
+use Rattle.cmwq_key.specs.Alike.{names_ticket}
 use Rattle.cmwq_explore.proofs.Joining.{any_unmapped}
 use Rattle.cmwq_explore.proofs.search.any_names_ticket.Goals as goal
 

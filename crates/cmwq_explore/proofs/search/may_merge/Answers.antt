@@ -4,8 +4,8 @@ use Rattle.std.specs.declared.alloc.Global.{Global}
 use Rattle.std.specs.declared.vec.Vec.{Vec}
 use Rattle.cmwq_json_script.specs.Scripts.{run_of}
 use Rattle.cmwq_json_script.specs.declared.action.Action.{Action}
-use Rattle.cmwq_explore.specs.Alike.{names_ticket}
-use Rattle.cmwq_explore.proofs.AlikeItself.{first_is_stand}
+use Rattle.cmwq_key.specs.Alike.{names_ticket}
+use Rattle.cmwq_key.proofs.AlikeItself.{first_is_stand}
 use Rattle.cmwq_explore.proofs.search.may_merge.Goals as goal
 
 false_of_not : (b : Bool) → not b ≡ true → b ≡ false

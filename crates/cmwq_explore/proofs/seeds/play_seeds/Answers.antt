@@ -1,7 +1,7 @@
 use Rattle.std.proofs.Common.{◌≡◌, ◌∙◌, ◌+◌, ◌-◌, ap, length, subst, sym, arith}
 use Rattle.cmwq_explore.specs.Chances.{chosen_by}
 use Rattle.cmwq_explore.specs.Seeds.{EndsAs, TellsSeeds}
-use Rattle.cmwq_explore.specs.Starts.{start_of}
+use Rattle.cmwq_play.specs.Starts.{start_of}
 use Rattle.cmwq_explore.proofs.Sowing.{ends_as, one_more, ones_of, stands_as}
 use Rattle.cmwq_explore.proofs.seeds.play_seeds.Goals as goal
 

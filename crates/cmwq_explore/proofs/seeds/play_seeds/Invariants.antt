@@ -1,6 +1,6 @@
 use Rattle.std.proofs.Common.{◌≡◌, ◌+◌, ◌-◌}
 use Rattle.cmwq_explore.specs.Seeds.{TellsSeeds}
-use Rattle.cmwq_explore.specs.Starts.{start_of}
+use Rattle.cmwq_play.specs.Starts.{start_of}
 use Rattle.cmwq_explore.specs.declared.chance.Chooser.TheVariants as choosers
 use Rattle.cmwq_explore.proofs.seeds.play_seeds.Given as goal
 

@@ -1,6 +1,6 @@
 use Rattle.std.proofs.Common.{◌∙◌, ◌≤◌, ◌++◌, Option, Some, ap, subst}
 use Rattle.std.specs.Prelude.{option_to_list}
-use Rattle.cmwq_explore.specs.Starts.{start_of}
+use Rattle.cmwq_play.specs.Starts.{start_of}
 use Rattle.cmwq_follow.specs.declared.search.Tried.{Tried}
 use Rattle.cmwq_follow.proofs.Going.{dead_end}
 use Rattle.cmwq_follow.proofs.search.advance.Goals as goal

@@ -1,5 +1,5 @@
 use Rattle.std.proofs.Common.{length, refl}
-use Rattle.cmwq_explore.specs.Starts.{start_of}
+use Rattle.cmwq_play.specs.Starts.{start_of}
 use Rattle.cmwq_explore.proofs.Searching.{is_none}
 use Rattle.cmwq_follow.proofs.Going.{fresh, leaves_nothing}
 use Rattle.cmwq_follow.proofs.search.follow.Goals as goal

@@ -1,4 +1,4 @@
-use Rattle.cmwq_explore.specs.Starts.{start_of}
+use Rattle.cmwq_play.specs.Starts.{start_of}
 use Rattle.cmwq_follow.specs.Ways.{IsKept, IsUnderWay}
 use Rattle.cmwq_follow.proofs.search.go.Given as goal
 

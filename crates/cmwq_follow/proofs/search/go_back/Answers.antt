@@ -1,6 +1,6 @@
 use Rattle.std.proofs.Common.{◌∙◌, ap, not}
-use Rattle.cmwq_explore.specs.Searches.{after}
-use Rattle.cmwq_explore.specs.Starts.{start_of}
+use Rattle.cmwq_play.specs.Searches.{after}
+use Rattle.cmwq_play.specs.Starts.{start_of}
 use Rattle.cmwq_follow.proofs.Going.{emptied, ends, goes_back, popped}
 use Rattle.cmwq_follow.proofs.search.go_back.Goals as goal
 

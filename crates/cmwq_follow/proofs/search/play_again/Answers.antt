@@ -1,5 +1,5 @@
-use Rattle.cmwq_explore.specs.Starts.{start_of}
-use Rattle.cmwq_explore.proofs.Searching.{after_turn}
+use Rattle.cmwq_play.specs.Starts.{start_of}
+use Rattle.cmwq_play.proofs.Paths.{after_turn}
 use Rattle.cmwq_follow.proofs.search.play_again.Goals as goal
 
 pub loop-party-preserved : goal.loop-party-preserved

@@ -1,6 +1,6 @@
 use Rattle.std.proofs.Common.{◌≡◌, take}
-use Rattle.cmwq_explore.specs.Searches.{after}
-use Rattle.cmwq_explore.specs.Starts.{start_of}
+use Rattle.cmwq_play.specs.Searches.{after}
+use Rattle.cmwq_play.specs.Starts.{start_of}
 use Rattle.cmwq_follow.proofs.search.play_again.Given as goal
 
 abbrev pub invariant-loop-party : goal.invariant-loop-party

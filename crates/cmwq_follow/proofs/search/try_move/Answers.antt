@@ -1,6 +1,6 @@
 use Rattle.std.proofs.Common.{◌≡◌, ◌∙◌, ◌≤◌, ap, arith, length, sym, subst, take}
 use mathlib.Core.List.{IsPrefix}
-use Rattle.cmwq_explore.specs.Stands.{Stand, may, moved}
+use Rattle.cmwq_play.specs.Stands.{Stand, may, moved}
 use Rattle.cmwq_explore.proofs.Searching.{false_or}
 use Rattle.cmwq_follow.proofs.Going.{left_all, move_adds, tried_in_vain, tried_on}
 use Rattle.cmwq_follow.proofs.Prefixes.{front_of, no_longer, same_front}

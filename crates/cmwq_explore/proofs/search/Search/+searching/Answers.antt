@@ -2,10 +2,11 @@ use Rattle.std.proofs.Common.{rules, ◌≡◌, ◌<◌, ◌∙◌, ◌+◌, ◌
 use Rattle.std.specs.Prelude.{All}
 use Rattle.std.proofs.lemmas.Bool.{ne_eqb}
 use Rattle.std.proofs.lemmas.List.Elements.{All-get_or}
-use Rattle.cmwq_explore.specs.Findings.{IsReached, JoinsMove, Tells, TellsAfter, TellsAll}
+use Rattle.cmwq_explore.specs.Findings.{JoinsMove, Tells, TellsAfter, TellsAll}
 use Rattle.cmwq_explore.specs.Seens.{Key, KnowsOf}
-use Rattle.cmwq_explore.specs.Stands.{may, moved}
-use Rattle.cmwq_explore.specs.Starts.{start_of}
+use Rattle.cmwq_play.specs.Searches.{IsReached}
+use Rattle.cmwq_play.specs.Stands.{may, moved}
+use Rattle.cmwq_play.specs.Starts.{start_of}
 use Rattle.cmwq_explore.proofs.Joining.{joined, none_found, tells_all}
 use Rattle.cmwq_explore.proofs.Keeping.{each_kept, joined_seen, known_of, reached_move, same_search}
 use Rattle.cmwq_explore.proofs.Searching.{is_none, is_some, none_of_none, nonzero, ok_so}
@@ -126,8 +127,8 @@ visit_after-loop-k-preserved g t c =
       tells = joined c.args.depth c.loop-k.finding c.visit_move.new.finding p movers k is was.tells joins;
     }
 
-pub visit_move-go_on-requires-2 : goal.visit_move-go_on-requires-2
-visit_move-go_on-requires-2 g t c κs within =
+pub visit_move-go_on-went-requires : goal.visit_move-go_on-went-requires
+visit_move-go_on-went-requires g t c κs within =
     let start = start_of c.args.setup.now in
     let same = c.copy_of.ensures.same in
     let kept = same_search start c.args.self.now c.copy_of.new.self same.0 same.1 c.requires.search in

@@ -1,7 +1,7 @@
 use Rattle.std.proofs.Common.{◌≡◌, ◌+◌, ◌*◌, ◌<◌, length}
 use Rattle.cmwq_explore.specs.Findings.{TellsAfter}
 use Rattle.cmwq_explore.specs.Seens.{IsSearch}
-use Rattle.cmwq_explore.specs.Starts.{start_of}
+use Rattle.cmwq_play.specs.Starts.{start_of}
 use Rattle.cmwq_explore.proofs.search.Search.+searching.Given as goal
 
 abbrev pub decreases-visit : goal.decreases-visit

@@ -1,6 +1,0 @@
-use Rattle.cmwq_explore.proofs.AlikeMoves.{moves_go_on, refusals_alike}
-use Rattle.cmwq_explore.proofs.AlikeStands.{done_alike, may_alike}
-use Rattle.cmwq_explore.proofs.alike.alike_stands_move_alike.Goals as goal
-
-pub returns : goal.returns
-returns c = assumption (may_alike, done_alike, refusals_alike, moves_go_on)

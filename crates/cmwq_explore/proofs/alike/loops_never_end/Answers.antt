@@ -1,5 +1,0 @@
-use Rattle.cmwq_explore.proofs.AlikeSearches.{loops_never_end}
-use Rattle.cmwq_explore.proofs.alike.loops_never_end.Goals as goal
-
-pub returns : goal.returns
-returns c = loops_never_end

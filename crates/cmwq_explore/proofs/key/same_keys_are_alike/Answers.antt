@@ -1,5 +1,0 @@
-use Rattle.cmwq_explore.proofs.SameKeys.{same_keys_are_alike}
-use Rattle.cmwq_explore.proofs.key.same_keys_are_alike.Goals as goal
-
-pub returns : goal.returns
-returns c = same_keys_are_alike

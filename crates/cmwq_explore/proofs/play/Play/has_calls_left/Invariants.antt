@@ -1,8 +1,0 @@
-use Rattle.std.proofs.Common.{ℕ, ◌≡◌, ◌<◌, false, Some, slice_get}
-use Rattle.cmwq_explore.specs.declared.place.CallerAt.{CallerAt}
-use Rattle.cmwq_explore.specs.Stands.{calls_left}
-use Rattle.cmwq_explore.proofs.play.Play.has_calls_left.Given as goal
-
-abbrev pub invariant-loop-k : goal.invariant-loop-k
-invariant-loop-k l = (j : ℕ) (at : CallerAt) → j < l.k → slice_get l.self.callers j ≡ Some at
-    → calls_left l.self j at ≡ false

@@ -1,7 +1,0 @@
-use Rattle.std.proofs.Common.{take}
-use Rattle.cmwq_explore.specs.Searches.{IsPathTo}
-use Rattle.cmwq_explore.specs.Starts.{start_of}
-use Rattle.cmwq_explore.proofs.play.Play.play_path.Given as goal
-
-abbrev pub invariant-loop-place : goal.invariant-loop-place
-invariant-loop-place l = IsPathTo (start_of l.setup) (take l.place l.path) l.self

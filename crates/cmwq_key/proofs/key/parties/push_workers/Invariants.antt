@@ -1,0 +1,12 @@
+use Rattle.std.proofs.Common.{◌≡◌, ◌∷◌, ◌++◌, length, take}
+use Rattle.std.specs.List.{flat_map}
+use Rattle.cmwq_model.specs.Prelude.{past_of}
+use Rattle.cmwq_key.specs.Keys.{told_worker}
+use Rattle.cmwq_key.specs.Codes.{codes}
+use Rattle.cmwq_key.proofs.key.parties.push_workers.Given as goal
+
+abbrev pub invariant-loop-at : goal.invariant-loop-at
+invariant-loop-at l = l.key.items
+    ≡ l.fn.key.items
+    ++ codes (length l.workers
+    ∷ flat_map (told_worker (past_of l.state.entries) l.numbered) (take l.at-index l.workers))

@@ -1,0 +1,9 @@
+use Rattle.cmwq_key.specs.Keys.{told_rank}
+use Rattle.cmwq_key.proofs.Coding.{list_goes_on}
+use Rattle.cmwq_key.proofs.key.pools.push_ranks.Goals as goal
+
+pub loop-queueing-preserved : goal.loop-queueing-preserved
+loop-queueing-preserved c =
+    list_goes_on (told_rank c.args.numbered.now) c.args.listed.now _ _ _ _ _ c.loop-queueing.queueing-index
+    c.loop-queueing-test.true c.loop-queueing.invariant
+    c.in_ok-push_rank.ensures
