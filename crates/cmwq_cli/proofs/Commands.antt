@@ -1,4 +1,4 @@
--- Commands of the program, from what is known of their parts.
+-- What is asked of the program, from what is known of its parts.
 use Rattle.std.proofs.Common.{◌≡◌, ◌||◌, ◌∙◌, Bool, false, List, Option, Some, None, Result, ap, ap₂, codes, subst, sym}
 use Rattle.std.proofs.Common.{refl}
 use Rattle.std.specs.Prelude.{IfOk, option_map}
@@ -7,14 +7,6 @@ use Rattle.clap.specs.declared.builder.command.Command.{Command}
 use Rattle.cmwq_cli.specs.declared.word.Word.{Word}
 use Rattle.cmwq_cli.specs.Word.{asked_found, with_command, word_found}
 use Rattle.cmwq_cli.specs.Explore.{followed_found, has_flag, other_found}
-
-pub neither : (a b : Bool) → a ≡ false → b ≡ false → (a || b) ≡ false
-neither a b h k = ap₂ (λ x y. x || y) h k
-
--- the program with a word more, where it is known what the word is
-pub of_word : {E : Type 0} {old new : App} (program : App) (result : Result Command E) → old ≡ new
-    → IfOk result (λ c. app_of c ≡ with_command program old) → IfOk result (λ c. app_of c ≡ with_command program new)
-of_word program result is h = subst (λ (a : App). IfOk result (λ c. app_of c ≡ with_command program a)) is h
 
 -- what is asked, of its parts
 pub asked : (name : Text) (rows : List Row) (w : Word) (e : Bool) (f o : Option Text)

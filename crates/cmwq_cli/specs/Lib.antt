@@ -1,2 +1,3 @@
 pub mod Explore
+pub mod Table
 pub mod Word

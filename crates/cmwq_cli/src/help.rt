@@ -1,5 +1,47 @@
 //! What the help of the program says.
 
+/// What the help of a subcommand shows below its usage, named by the subcommand.
+#[derive(Clone, Copy)]
+pub(crate) enum Page {
+    Step,
+    Check,
+    Upgrade,
+    Summary,
+    Open,
+    Chart,
+    Trace,
+    Page,
+    Replay,
+    Run,
+    Explore,
+}
+
+impl Page {
+    pub(crate) fn text(self) -> &'static str {
+        match self {
+            Page::Step => CALLS_HELP,
+            Page::Check => HISTORY_HELP,
+            Page::Upgrade => FORMER_HELP,
+            Page::Summary => FIGURES_HELP,
+            Page::Open => STANDING_HELP,
+            Page::Chart => PICTURE_HELP,
+            Page::Trace => TRACE_HELP,
+            Page::Page => PAGE_HELP,
+            Page::Replay => SCENARIO_HELP,
+            Page::Run => SCRIPT_HELP,
+            Page::Explore => EXPLORE_HELP,
+        }
+    }
+}
+
+/// What is told of an `explore` that says of no kind, or of several, which schedules are meant. That it is a function
+/// keeps the text out of its caller's proof.
+pub(crate) fn explore_use() -> &'static str {
+    "cmwq explore takes one of --seed N, --times N, --all, --path FILE and --follow FILE: --times also with \
+    --from N, --seed and --times with --pct D and --moves N, --all with --moves N and either --histories or \
+    --plain and --first, --follow with --moves N"
+}
+
 /// What the help of a subcommand says of its file.
 pub(crate) const FILE_HELP: &str = "The file to read; standard input if it is `-` or left out";
 
@@ -18,7 +60,7 @@ pub(crate) const NAMES_HELP: &str =
     "Shows the names of items, queues and callers that this script gives, in place of their numbers";
 
 /// What the help of `step` shows below its usage.
-pub(crate) const CALLS_HELP: &str =
+const CALLS_HELP: &str =
     r"The input is a line for the shape, one for each queue, and then calls, each with who makes it:
 
   shape 1 2 1 3 100
@@ -44,7 +86,7 @@ Calls of workers alone:
 With a first line `calls 3` the limits are those of histories of format 3, in which the answer is then.";
 
 /// What the help of `check` shows below its usage.
-pub(crate) const HISTORY_HELP: &str =
+const HISTORY_HELP: &str =
     r"A history is what `step` and `run` write: a line for its format, the shape, the queues, and a line for each
 entry, who made it, its serial, the call and the reply:
 
@@ -59,7 +101,7 @@ gives `legal 3`. One of format 3 begins with `history 3`, ends with `end 3` for 
 one without a first line is of format 1.";
 
 /// What the help of `upgrade` shows below its usage.
-pub(crate) const FORMER_HELP: &str = r"A history of format 1 has no line for its format:
+const FORMER_HELP: &str = r"A history of format 1 has no line for its format:
 
   shape 1 2 1 3 100
   wq 1 -
@@ -69,7 +111,7 @@ is written with the line `history 2` before it; one of format 2 or 3 as it is. O
 written, and the verdict goes to standard error.";
 
 /// What the help of `summary` shows below its usage.
-pub(crate) const FIGURES_HELP: &str =
+const FIGURES_HELP: &str =
     r"The input is a legal history of any format. Its figures are told line by line, and a line that has nothing to
 tell is left out:
 
@@ -88,7 +130,7 @@ worker's runs were awake or asleep, is counted in the entries that came meanwhil
 by; a mean is rounded down. Of an illegal history nothing is written, and the verdict goes to standard error.";
 
 /// What the help of `open` shows below its usage.
-pub(crate) const STANDING_HELP: &str =
+const STANDING_HELP: &str =
     r"The input is a legal history of any format, or with `--front` one whose writing was cut off. What is still going
 on at its end is told line by line:
 
@@ -106,7 +148,7 @@ wait that nothing holds up says `may end`. Of an illegal history nothing is writ
 error.";
 
 /// What the help of `chart` shows below its usage.
-pub(crate) const PICTURE_HELP: &str = r"A history of any format, as `step` and `run` write it:
+const PICTURE_HELP: &str = r"A history of any format, as `step` and `run` write it:
 
   history 2
   shape 1 2 1 3 100
@@ -123,7 +165,7 @@ are shown with `--all` only; `page` shows a million. Of an illegal history nothi
 standard error.";
 
 /// What the help of `trace` shows below its usage.
-pub(crate) const TRACE_HELP: &str = r"A history of any format, as `step` and `run` write it:
+const TRACE_HELP: &str = r"A history of any format, as `step` and `run` write it:
 
   history 2
   shape 1 2 1 3 100
@@ -138,7 +180,7 @@ how many are open and active, and of its width. The time is the number of the en
 written, and the verdict goes to standard error.";
 
 /// What the help of `page` shows below its usage.
-pub(crate) const PAGE_HELP: &str = r"A history of any format, as `step` and `run` write it:
+const PAGE_HELP: &str = r"A history of any format, as `step` and `run` write it:
 
   history 2
   shape 1 2 1 3 100
@@ -154,7 +196,7 @@ tables have the same for screen readers. A million entries make a file of about 
 written, and the verdict goes to standard error.";
 
 /// What the help of `replay` shows below its usage.
-pub(crate) const SCENARIO_HELP: &str =
+const SCENARIO_HELP: &str =
     r#"A scenario says which items are queued at 0 ms on one CPU, in this order, and of each how long it burns CPU,
 sleeps, burns CPU, .. in turn:
 
@@ -168,7 +210,7 @@ than 512 for 512. While an item of a queue that isn't CPU intensive burns or wai
 An item has 1 to 8 parts of 1 to 1000 ms."#;
 
 /// What the help of `run` shows below its usage.
-pub(crate) const SCRIPT_HELP: &str =
+const SCRIPT_HELP: &str =
     r#"A script says what each item does when it runs, and what each caller does, one after the other, in a thread of
 its own:
 
@@ -206,7 +248,7 @@ and callers, 1 to 65,535 items, and room for up to 4,611,686,018,427,387,904 ent
 as it is made too, and so many entries are kept at a time."#;
 
 /// What the help of `explore` shows below its usage.
-pub(crate) const EXPLORE_HELP: &str =
+const EXPLORE_HELP: &str =
     r#"The input is a script, as `run` reads one. Its schedules are played in one thread: a seed chooses who moves next,
 or all choices are tried. A move is an action of a caller, the end of a wait, or what a worker does next.
 

@@ -4,6 +4,7 @@
 mod command;
 mod help;
 mod options;
+mod table;
 mod word;
 
 pub use word::{Asked, Schedules, Word, word_of};

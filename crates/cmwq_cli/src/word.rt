@@ -1,10 +1,11 @@
 //! Which word a command line asks for.
-ghost use Rattle.std.specs.Prelude.{◌≡◌, true, IfOk, IfErr, IsSome, Some, option_map};
-ghost use Rattle.clap.specs.Words.{kind_of, found_of, rows_of};
+ghost use Rattle.std.specs.Prelude.{◌≡◌, true, IfOk, IfErr, IsSome, Some, option_and_then, option_map};
+ghost use Rattle.clap.specs.Words.{found_of, kind_of, rows_of, subcommand_rows_of};
 ghost use Rattle.cmwq_cli.specs.Word.{request, word_found, asked_found, texts, is_word_taken, word_matched};
 ghost use Rattle.cmwq_cli.specs.Explore.{followed_found, other_found};
 
 use crate::command::command;
+use crate::help::explore_use;
 use crate::options::{has_flag, number_found, options_found};
 use clap::error::ErrorKind;
 use clap::{ArgMatches, Error};
@@ -97,7 +98,7 @@ pub enum Schedules {
 }
 
 /// A subcommand, what it reads, and whether what it refuses is explained.
-#[derive(Clone, Copy, Debug, PartialEq, Eq)]
+#[derive(Clone, Copy)]
 pub struct Asked<'a> {
     pub word: Word,
     /// Whether a second line on standard error says where and why the input is refused.
@@ -180,6 +181,16 @@ fn asked_found<'a>(name: &str, matches: &ArgMatches<'a>) -> Option<Asked<'a>>
     }
 }
 
+/// What is asked by the word that these matches of a command line hold.
+fn asked_in<'a>(matches: &ArgMatches<'a>) -> Option<Asked<'a>>
+    ensures { option_map request result ≡ option_and_then asked_found (subcommand_rows_of matches.now) }
+{
+    match matches.subcommand() {
+        Some((name, found)) => asked_found(name, found),
+        None => None,
+    }
+}
+
 /// The word that clap's matches of the command line hold.
 #[tactic(auto, unfolding(crate::specs::Word::is_word_taken, crate::specs::Word::word_matched))]
 fn word_in<'a>(alloc: Global, words: &'a [&'a str]) -> Result<Option<Asked<'a>>, Error>
@@ -187,10 +198,7 @@ fn word_in<'a>(alloc: Global, words: &'a [&'a str]) -> Result<Option<Asked<'a>>,
     ensures err { IfErr result (λ e. is_word_taken (texts words.entry.now) ≡ true → kind_of e ≡ ErrorKind.OutOfMemory) }
 {
     let matches = command(alloc)?.try_get_matches_from(words)?;
-    match matches.subcommand() {
-        Some((name, found)) => Ok(asked_found(name, found)),
-        None => Ok(None),
-    }
+    Ok(asked_in(&matches))
 }
 
 /// Reads the command line, whose first word is the program's name. An error is clap's, to be printed as it says:
@@ -209,10 +217,5 @@ pub fn word_of<'a>(alloc: Global, words: &'a [&'a str]) -> Result<Asked<'a>, Err
 /// What is told of matches that ask for no word. Clap's own checks leave none but of `explore`.
 fn unclear(alloc: Global) -> Result<Error, AllocError> {
     let mut command = command(alloc)?;
-    command.error(
-        ErrorKind::MissingRequiredArgument,
-        "cmwq explore takes one of --seed N, --times N, --all, --path FILE and --follow FILE: --times also with \
-        --from N, --seed and --times with --pct D and --moves N, --all with --moves N and either --histories or \
-        --plain and --first, --follow with --moves N",
-    )
+    command.error(ErrorKind::MissingRequiredArgument, explore_use())
 }

@@ -1,7 +1,0 @@
-use Rattle.clap.specs.Words.{app_of}
-use Rattle.cmwq_cli.proofs.Commands.{of_word}
-use Rattle.cmwq_cli.proofs.command.with_named.Goals as goal
-
-pub returns : goal.returns
-returns c =
-    of_word (app_of c.args.program) c.with_command.result c.in_ok-word.ensures.shape c.with_command.ensures
