@@ -3,109 +3,29 @@
 use crate::world::{World, say_place};
 use cmwq_explain::{Text, say_count, say_limit, say_names};
 use cmwq_json::{Part, Refused, is_name};
-use cmwq_json_script::Actor;
+use cmwq_json_script::{Actor, Argument, WORDS, word_of};
 use serde_json::Value;
 use std::alloc::AllocError;
 
-/// What stands in an action after its word.
-#[derive(Clone, Copy, PartialEq, Eq)]
-pub enum Argument {
-    Item,
-    Queue,
-    Cpu,
-    Ticks,
-    MaxActive,
-    Gate,
-    Lock,
-}
-
-impl Argument {
-    /// What is expected where it should stand.
-    fn wanted(self) -> &'static str {
-        match self {
-            Argument::Item => "an item's name",
-            Argument::Queue => "a queue's name",
-            Argument::Cpu => "a CPU's number",
-            Argument::Ticks => "how many ticks",
-            Argument::MaxActive => "a max_active",
-            Argument::Gate => "a gate's name",
-            Argument::Lock => "a lock's name",
-        }
+/// What is expected where an argument should stand.
+fn wanted(argument: Argument) -> &'static str {
+    match argument {
+        Argument::Item => "an item's name",
+        Argument::Queue => "a queue's name",
+        Argument::Cpu => "a CPU's number",
+        Argument::Ticks => "how many ticks",
+        Argument::MaxActive => "a max_active",
+        Argument::Gate => "a gate's name",
+        Argument::Lock => "a lock's name",
     }
-}
-
-/// Who does something.
-#[derive(Clone, Copy)]
-enum Makers {
-    Both,
-    Callers,
-    Items,
-}
-
-/// Each action: its word, who does it, and its arguments.
-const ACTIONS: [(&str, Makers, &[Argument]); 19] = [
-    (
-        "queue",
-        Makers::Both,
-        &[Argument::Item, Argument::Queue, Argument::Cpu],
-    ),
-    (
-        "delay",
-        Makers::Both,
-        &[
-            Argument::Item,
-            Argument::Queue,
-            Argument::Cpu,
-            Argument::Ticks,
-        ],
-    ),
-    (
-        "modify",
-        Makers::Both,
-        &[
-            Argument::Item,
-            Argument::Queue,
-            Argument::Cpu,
-            Argument::Ticks,
-        ],
-    ),
-    ("cancel", Makers::Both, &[Argument::Item]),
-    ("cancel_sync", Makers::Both, &[Argument::Item]),
-    ("tick", Makers::Callers, &[Argument::Ticks]),
-    ("flush", Makers::Both, &[Argument::Queue]),
-    ("drain", Makers::Both, &[Argument::Queue]),
-    ("destroy", Makers::Callers, &[Argument::Queue]),
-    ("flush_item", Makers::Both, &[Argument::Item]),
-    ("flush_delayed", Makers::Both, &[Argument::Item]),
-    (
-        "set_max",
-        Makers::Callers,
-        &[Argument::Queue, Argument::MaxActive],
-    ),
-    ("freeze", Makers::Callers, &[]),
-    ("thaw", Makers::Callers, &[]),
-    ("open", Makers::Both, &[Argument::Gate]),
-    ("sleep_at", Makers::Items, &[Argument::Gate]),
-    ("wait", Makers::Callers, &[Argument::Gate]),
-    ("lock", Makers::Both, &[Argument::Lock]),
-    ("unlock", Makers::Both, &[Argument::Lock]),
-];
-
-/// The arguments of the action with this word.
-pub fn arguments_of(word: &str) -> Option<&'static [Argument]> {
-    let (_, _, arguments) = ACTIONS.iter().find(|(other, _, _)| *other == word)?;
-    Some(*arguments)
 }
 
 /// The words of the actions that this one does.
 fn words_of(world: World<'_>, actor: Actor) -> Result<Vec<&'static str>, AllocError> {
     let mut words = Vec::new(world.alloc);
-    for (word, makers, _) in ACTIONS.iter() {
-        if let (Makers::Both, _)
-        | (Makers::Callers, Actor::Caller)
-        | (Makers::Items, Actor::Item) = (*makers, actor)
-        {
-            words.push(*word)?;
+    for word in WORDS.iter() {
+        if word.is_done_by(actor) {
+            words.push(word.text())?;
         }
     }
     Ok(words)
@@ -179,12 +99,12 @@ fn tell_action(
         });
         return Ok(true);
     };
-    let words = words_of(world, site.actor)?;
-    match arguments_of(word.as_str()) {
-        Some(wanted) if words.as_slice().contains(&word.as_str()) => {
-            tell_arguments(text, world, site, wanted, arguments)
+    match word_of(word.as_str()) {
+        Some(known) if known.is_done_by(site.actor) => {
+            tell_arguments(text, world, site, known.arguments(), arguments)
         }
         _ => {
+            let words = words_of(world, site.actor)?;
             site.say(text);
             text.quoted(word.as_str().as_bytes());
             text.say(" is not an action");
@@ -199,11 +119,11 @@ fn tell_arguments(
     text: &mut Text,
     world: World<'_>,
     site: Site,
-    wanted: &[Argument],
+    expected: &[Argument],
     arguments: &[Value],
 ) -> Result<bool, AllocError> {
     for (index, argument) in arguments.iter().enumerate() {
-        let is_told = match wanted.get(index) {
+        let is_told = match expected.get(index) {
             Some(kind) => tell_argument(text, world, site, *kind, argument)?,
             None => {
                 site.say(text);
@@ -216,11 +136,11 @@ fn tell_arguments(
             return Ok(true);
         }
     }
-    match wanted.get(arguments.len()) {
+    match expected.get(arguments.len()) {
         Some(kind) => {
             site.say(text);
             text.say("the action ends here; expected ");
-            text.say(kind.wanted());
+            text.say(wanted(*kind));
             Ok(true)
         }
         None => Ok(false),

@@ -1,10 +1,9 @@
 //! The gates and the locks that items and callers name.
 
-use crate::actions::{Argument, arguments_of};
 use crate::world::{World, say_place};
 use cmwq_explain::Text;
 use cmwq_json::{Part, Refused};
-use cmwq_json_script::MOST_NAMES;
+use cmwq_json_script::{Argument, MOST_NAMES, word_of};
 use serde_json::Value;
 use std::alloc::AllocError;
 
@@ -67,9 +66,11 @@ fn add_names<'a>(
 
 /// The name of this kind that an action uses.
 fn name_in(kind: Argument, action: &Value) -> Option<&str> {
-    if arguments_of(action.get(0)?.as_str()?)?.first() == Some(&kind) {
-        action.get(1)?.as_str()
-    } else {
-        None
+    let word = word_of(action.get(0)?.as_str()?)?;
+    match (kind, word.arguments()) {
+        (Argument::Gate, [Argument::Gate]) | (Argument::Lock, [Argument::Lock]) => {
+            action.get(1)?.as_str()
+        }
+        _ => None,
     }
 }

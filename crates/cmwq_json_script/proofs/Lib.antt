@@ -1,4 +1,3 @@
-mod Lists
 mod Waiting
 mod Naming
 mod Numbers
@@ -6,4 +5,5 @@ mod Readings
 mod CallLimits
 mod ActionLimits
 mod PartLimits
+mod Grammar
 mod Within

@@ -1,7 +1,9 @@
 -- What holds of all that a reading gives.
 use Rattle.cmwq_json_script.specs.Common.{◌≡◌, ℕ, Bool, true, false, List, [], ◌∷◌, map, Option, Some, None, Result, Ok}
 use Rattle.cmwq_json_script.specs.Common.{Err, refl, subst, if◌then◌else◌, same_Some, option_and_then, IfSome}
-use Rattle.cmwq_json_script.specs.Common.{AllByRecursion, result_ok, Data, Items, no_items, item, in_turn, kept}
+use Rattle.cmwq_json_script.specs.Common.{AllByRecursion, result_ok, Data, Items, no_items, item, in_turn, kept, ap, ◌∙◌}
+use Rattle.cmwq_json_script.specs.Common.{nat_lt, ◌<◌, lt-ltb, Refused}
+use Rattle.cmwq_json_script.specs.Runs.{some_of}
 use Rattle.cmwq_json_script.specs.Lists.{has_no_item, part_in, whole, items_one, items_two, items_three, items_four}
 
 pub then_holds : {A B : Type 0} (Q : A → Type 0) (R : B → Type 0) (f : A → Option B) (o : Option A) → IfSome o Q
@@ -90,3 +92,15 @@ four_holds Q Q' Q'' Q''' R says_a says_b says_c says_d make each_a each_b each_c
     (part_holds Q says_a each_a ds)
     (λ a h. three_holds Q' Q'' Q''' R says_b says_c says_d (make a.0) each_b each_c each_d
     (λ b c d k l m. made a.0 b c d h k l m) a.1)
+
+-- ---- lists with at least one member
+
+pub none_are_read : {S : Type 0} (refused : ℕ → Refused) (count : S → ℕ) (r : Result S ℕ) (s : S) → r ≡ Ok s
+    → count s ≡ 0 → some_of refused count r ≡ Err (refused 0)
+none_are_read refused count r s is none =
+    ap (some_of refused count) is ∙ ap (λ n. if nat_lt 0 n then Ok s else Err (refused 0)) none
+
+pub some_are_read : {S : Type 0} (refused : ℕ → Refused) (count : S → ℕ) (r : Result S ℕ) (s : S) → r ≡ Ok s
+    → 0 < count s → some_of refused count r ≡ Ok s
+some_are_read refused count r s is some =
+    ap (some_of refused count) is ∙ ap (λ b. if b then Ok s else Err (refused 0)) (lt-ltb 0 (count s) some)

@@ -6,6 +6,10 @@ use Rattle.cmwq_json_script.specs.declared.word.Word.TheVariants as word
 use Rattle.cmwq_json_script.specs.Lists.{items_none, items_one, items_two, items_three, items_four}
 use Rattle.cmwq_json_script.specs.Known.{Known, item_known, queue_known, cpu_said}
 
+-- a number of 32 bits, so great at least
+abbrev pub number_from : ℕ → Data → Option ℕ
+number_from least = number_between least 4294967295
+
 abbrev pub ticks_said : Data → Option ℕ
 ticks_said = number_between 0 4294967295
 

@@ -6,6 +6,7 @@ pub mod Known
 pub mod Calls
 pub mod Numbering
 pub mod Used
+pub mod Arguments
 pub mod Actions
 pub mod Items
 pub mod Queues

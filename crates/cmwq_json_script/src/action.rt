@@ -3,13 +3,12 @@
 ghost use Rattle.std.specs.Prelude.{◌≡◌, IfOk, map, option_map, if◌then◌else◌, Some, None};
 ghost use Rattle.std.specs.List.{list_any};
 ghost use Rattle.serde_json.specs.View.{view, items_view};
-ghost use Rattle.cmwq_json_script.specs.Lists.{whole, first_item};
-ghost use Rattle.cmwq_json_script.specs.Used.{gate_said, lock_said};
+ghost use Rattle.cmwq_json_script.specs.Arguments.{action_of};
 ghost use Rattle.cmwq_json_script.specs.Actions as spec;
 
-use crate::call::{call_after, own_call_after};
+use crate::argument::{Given, read_arguments};
 use crate::names::Names;
-use crate::parts::{first_in, is_end, word_in};
+use crate::parts::word_in;
 use crate::used::Used;
 use crate::word::Word;
 use cmwq_model::{Call, CallerId, ItemId};
@@ -81,51 +80,55 @@ impl Actor {
             Actor::Caller => 1_000,
         }
     }
-
-    /// The call after its word, which is the last of the list.
-    fn read_call(self, names: &Names, word: Word, parts: &[Value]) -> Option<Call>
-        ensures { result ≡ whole (spec.call_after self names.now word (items_view parts.now)) }
-    {
-        let (call, parts) = match self {
-            Actor::Item => own_call_after(names, word, parts)?,
-            Actor::Caller => call_after(names, word, parts)?,
-        };
-        if is_end(parts) { Some(call) } else { None }
-    }
 }
 
-/// The only part.
-fn only(parts: &[Value]) -> Option<&Value>
-    ensures { option_map (λ v. view v.now) result ≡ whole (first_item (items_view parts.now)) }
+/// What is done by this word, with what its arguments say.
+#[tactic(auto, unfolding(crate::specs::Arguments::action_of))]
+fn action_of(word: Word, given: Given) -> Action
+    ensures { result ≡ action_of word given }
 {
-    let (first, rest) = first_in(parts)?;
-    if is_end(rest) { Some(first) } else { None }
-}
-
-/// The gate that the only part names.
-fn read_gate(alloc: Global, used: &mut Used, parts: &[Value]) -> Result<Option<u8>, AllocError>
-    ensures { IfOk result
-        (λ r. option_map (λ gate. (gate, used.new)) r ≡ spec.only_named gate_said used.old (items_view parts.now)) }
-{
-    match only(parts) {
-        Some(part) => used.read_gate(alloc, part),
-        None => Ok(None),
-    }
-}
-
-/// The lock that the only part names.
-fn read_lock(alloc: Global, used: &mut Used, parts: &[Value]) -> Result<Option<u8>, AllocError>
-    ensures { IfOk result
-        (λ r. option_map (λ lock. (lock, used.new)) r ≡ spec.only_named lock_said used.old (items_view parts.now)) }
-{
-    match only(parts) {
-        Some(part) => used.read_lock(alloc, part),
-        None => Ok(None),
+    let Given {
+        item,
+        queue,
+        cpu,
+        ticks,
+        max_active,
+        gate,
+        lock,
+    } = given;
+    match word {
+        Word::Queue => Action::Call(Call::Queue { item, queue, cpu }),
+        Word::Delay => Action::Call(Call::Delay {
+            item,
+            queue,
+            cpu,
+            ticks,
+        }),
+        Word::Modify => Action::Call(Call::Modify {
+            item,
+            queue,
+            cpu,
+            ticks,
+        }),
+        Word::Cancel => Action::Call(Call::Cancel { item }),
+        Word::CancelSync => Action::Call(Call::CancelSync { item }),
+        Word::Tick => Action::Call(Call::Tick { ticks }),
+        Word::Flush => Action::Call(Call::Flush { queue }),
+        Word::Drain => Action::Call(Call::Drain { queue }),
+        Word::Destroy => Action::Call(Call::Destroy { queue }),
+        Word::FlushItem => Action::Call(Call::FlushItem { item }),
+        Word::FlushDelayed => Action::Call(Call::FlushDelayed { item }),
+        Word::SetMax => Action::Call(Call::SetMax { queue, max_active }),
+        Word::Freeze => Action::Call(Call::Freeze),
+        Word::Thaw => Action::Call(Call::Thaw),
+        Word::Open => Action::Open { gate },
+        Word::SleepAt | Word::Wait => Action::SleepAt { gate },
+        Word::Lock => Action::Lock { lock },
+        Word::Unlock => Action::Unlock { lock },
     }
 }
 
 /// The action after its word.
-#[tactic(auto, unfolding(crate::specs::Actions::action_after))]
 fn action_after(
     alloc: Global,
     actor: Actor,
@@ -137,16 +140,15 @@ fn action_after(
     ensures { IfOk result (λ r. option_map (λ action. (action, used.new)) r
         ≡ spec.action_after actor names.now word used.old (items_view parts.now)) }
 {
-    let action = match (word, actor) {
-        (Word::Open, _) => read_gate(alloc, used, parts)?.map(|gate| Action::Open { gate }),
-        (Word::SleepAt, Actor::Item) | (Word::Wait, Actor::Caller) => {
-            read_gate(alloc, used, parts)?.map(|gate| Action::SleepAt { gate })
-        }
-        (Word::Lock, _) => read_lock(alloc, used, parts)?.map(|lock| Action::Lock { lock }),
-        (Word::Unlock, _) => read_lock(alloc, used, parts)?.map(|lock| Action::Unlock { lock }),
-        _ => actor.read_call(names, word, parts).map(Action::Call),
-    };
-    Ok(action)
+    if !word.is_done_by(actor) {
+        return Ok(None);
+    }
+    let mut given = Given::nothing();
+    if read_arguments(alloc, names, used, &mut given, word.arguments(), parts)? {
+        Ok(Some(action_of(word, given)))
+    } else {
+        Ok(None)
+    }
 }
 
 fn read_action(

@@ -1,6 +1,7 @@
 //! Callers: the lists of their actions.
 
-ghost use Rattle.std.specs.Prelude.{◌≡◌, IfOk, Some, None, if◌then◌else◌, length};
+ghost use Rattle.std.specs.Prelude.{◌≡◌, IfOk, Ok, Err, Some, None, if◌then◌else◌, length};
+ghost use Rattle.std.specs.Option.{option_map_or};
 ghost use Rattle.serde_json.specs.View.{view, items_view};
 ghost use Rattle.cmwq_json.specs.InTurn.{in_turn};
 ghost use Rattle.cmwq_json.specs.Parts as refused;
@@ -23,6 +24,18 @@ pub struct Callers {
     pub used: Used,
 }
 
+impl Callers {
+    /// No caller, after this is used.
+    fn new(alloc: Global, used: Used) -> Callers
+        ensures { crew_of result ≡ spec.no_crew used }
+    {
+        Callers {
+            scripts: Vec::new(alloc),
+            used,
+        }
+    }
+}
+
 /// Adds a caller, where there are fewer than `most`.
 fn add_caller(
     alloc: Global,
@@ -43,28 +56,35 @@ fn add_caller(
     }
 }
 
-/// The callers in turn, or the place of the first that is refused.
+/// Adds the callers, of whom there is at least one. Some: the first that is refused.
 fn add_callers(
     alloc: Global,
     most: usize,
     names: &Names,
-    used: Used,
+    callers: &mut Callers,
     values: &[Value],
-) -> Result<Result<Callers, usize>, AllocError>
+) -> Result<Option<Refused>, AllocError>
     ensures { IfOk result
-        (λ r. map_ok crew_of r
-        ≡ in_turn (spec.add_caller most names.now) 0 (spec.no_crew used) (items_view values.now)) }
+        (λ r. some_of refused.callers (λ c. length c.scripts)
+        (in_turn (spec.add_caller most names.now) 0 (crew_of callers.old) (items_view values.now))
+        ≡ option_map_or Err r (Ok (crew_of callers.new))) }
 {
-    let mut callers = Callers {
-        scripts: Vec::new(alloc),
-        used,
-    };
     for (index, value) in values.iter().enumerate() {
-        if !add_caller(alloc, most, names, &mut callers, value)? {
-            return Ok(Err(index));
+        if !add_caller(alloc, most, names, callers, value)? {
+            return Ok(Some(Refused {
+                part: Part::Callers,
+                index,
+            }));
         }
     }
-    Ok(Ok(callers))
+    if callers.scripts.is_empty() {
+        Ok(Some(Refused {
+            part: Part::Callers,
+            index: 0,
+        }))
+    } else {
+        Ok(None)
+    }
 }
 
 /// The callers, of whom there is at least one and `most` at most, or the first that is refused. Their gates and locks
@@ -81,13 +101,9 @@ pub fn read_callers(
         ≡ some_of refused.callers (λ c. length c.scripts)
         (in_turn (spec.add_caller most names.now) 0 (spec.no_crew used) (items_view values.now))) }
 {
-    let refuse = |index| Refused {
-        part: Part::Callers,
-        index,
-    };
-    match add_callers(alloc, most, names, used, values)? {
-        Ok(callers) if callers.scripts.is_empty() => Ok(Err(refuse(0))),
-        Ok(callers) => Ok(Ok(callers)),
-        Err(index) => Ok(Err(refuse(index))),
+    let mut callers = Callers::new(alloc, used);
+    match add_callers(alloc, most, names, &mut callers, values)? {
+        Some(refused) => Ok(Err(refused)),
+        None => Ok(Ok(callers)),
     }
 }

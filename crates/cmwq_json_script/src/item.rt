@@ -1,6 +1,7 @@
 //! Items: their names, and what each does.
 
-ghost use Rattle.std.specs.Prelude.{◌≡◌, IfOk, Some, None, option_map, if◌then◌else◌, length};
+ghost use Rattle.std.specs.Prelude.{◌≡◌, IfOk, Ok, Err, Some, None, option_map, if◌then◌else◌, length};
+ghost use Rattle.std.specs.Option.{option_map_or};
 ghost use Rattle.serde_json.specs.View.{view, items_view};
 ghost use Rattle.cmwq_json.specs.InTurn.{in_turn};
 ghost use Rattle.cmwq_json.specs.Parts as refused;
@@ -21,6 +22,18 @@ use std::alloc::{AllocError, Global};
 pub struct Items {
     pub members: Members<Vec<Action>>,
     pub used: Used,
+}
+
+impl Items {
+    /// No item.
+    fn new(alloc: Global) -> Items
+        ensures { work_of result ≡ spec.no_work }
+    {
+        Items {
+            members: Members::new(alloc),
+            used: Used::new(alloc),
+        }
+    }
 }
 
 /// An item: an object with a name, and what it does.
@@ -62,26 +75,35 @@ fn add_item(
     }
 }
 
-/// The items in turn, or the place of the first that is refused.
+/// Adds the items, of which there is at least one. Some: the first that is refused.
 fn add_items(
     alloc: Global,
     most: usize,
     names: &Names,
+    items: &mut Items,
     values: &[Value],
-) -> Result<Result<Items, usize>, AllocError>
+) -> Result<Option<Refused>, AllocError>
     ensures { IfOk result
-        (λ r. map_ok work_of r ≡ in_turn (spec.add_item most names.now) 0 spec.no_work (items_view values.now)) }
+        (λ r. some_of refused.items (λ w. length w.items.values)
+        (in_turn (spec.add_item most names.now) 0 (work_of items.old) (items_view values.now))
+        ≡ option_map_or Err r (Ok (work_of items.new))) }
 {
-    let mut items = Items {
-        members: Members::new(alloc),
-        used: Used::new(alloc),
-    };
     for (index, value) in values.iter().enumerate() {
-        if !add_item(alloc, most, names, &mut items, value)? {
-            return Ok(Err(index));
+        if !add_item(alloc, most, names, items, value)? {
+            return Ok(Some(Refused {
+                part: Part::Items,
+                index,
+            }));
         }
     }
-    Ok(Ok(items))
+    if items.members.values.is_empty() {
+        Ok(Some(Refused {
+            part: Part::Items,
+            index: 0,
+        }))
+    } else {
+        Ok(None)
+    }
 }
 
 /// The items, of which there is at least one and `most` at most, or the first that is refused.
@@ -96,13 +118,9 @@ pub fn read_items(
         ≡ some_of refused.items (λ w. length w.items.values)
         (in_turn (spec.add_item most names.now) 0 spec.no_work (items_view values.now))) }
 {
-    let refuse = |index| Refused {
-        part: Part::Items,
-        index,
-    };
-    match add_items(alloc, most, names, values)? {
-        Ok(items) if items.members.values.is_empty() => Ok(Err(refuse(0))),
-        Ok(items) => Ok(Ok(items)),
-        Err(index) => Ok(Err(refuse(index))),
+    let mut items = Items::new(alloc);
+    match add_items(alloc, most, names, &mut items, values)? {
+        Some(refused) => Ok(Err(refused)),
+        None => Ok(Ok(items)),
     }
 }

@@ -3,7 +3,7 @@
 #![tactic(auto)]
 
 mod action;
-mod call;
+mod argument;
 mod caller;
 mod item;
 mod limits;
@@ -21,3 +21,4 @@ pub use limits::{callers_in, cpus_in, most_waits, room_in, workers_in};
 pub use numbering::MOST_NAMES;
 pub use script::{Script, read_script};
 pub use top::MOST_KEPT;
+pub use word::{Argument, WORDS, Word, word_of};

@@ -13,13 +13,6 @@ fn read_word(value: &Value) -> Option<Word>
     word_of(value.as_str()?)
 }
 
-/// Whether no part is left.
-pub fn is_end(parts: &[Value]) -> bool
-    ensures { result ≡ spec.has_no_item (items_view parts.now) }
-{
-    parts.is_empty()
-}
-
 /// The first part, and those after it.
 pub fn first_in(parts: &[Value]) -> Option<(&Value, &[Value])>
     ensures { option_map (λ r. (view r.0.now, items_view r.1.now)) result ≡ spec.first_item (items_view parts.now) }

@@ -1,6 +1,7 @@
 //! Queues: their names, max_active and flags.
 
-ghost use Rattle.std.specs.Prelude.{◌≡◌, IfOk, Some, None, option_map, if◌then◌else◌, length};
+ghost use Rattle.std.specs.Prelude.{◌≡◌, IfOk, Ok, Err, Some, None, option_map, if◌then◌else◌, length};
+ghost use Rattle.std.specs.Option.{option_map_or};
 ghost use Rattle.serde_json.specs.View.{view, items_view};
 ghost use Rattle.cmwq_json.specs.InTurn.{in_turn};
 ghost use Rattle.cmwq_json.specs.Names.{nobody};
@@ -71,21 +72,34 @@ fn add_queue(
     }
 }
 
-/// The queues in turn, or the place of the first that is refused.
+/// Adds the queues, of which there is at least one. Some: the first that is refused.
 fn add_queues(
     alloc: Global,
     most: usize,
+    queues: &mut Members<QueueShape>,
     values: &[Value],
-) -> Result<Result<Members<QueueShape>, usize>, AllocError>
-    ensures { IfOk result (λ r. map_ok named_of r ≡ in_turn (spec.add_queue most) 0 nobody (items_view values.now)) }
+) -> Result<Option<Refused>, AllocError>
+    ensures { IfOk result
+        (λ r. some_of refused.queues (λ qs. length qs.values)
+        (in_turn (spec.add_queue most) 0 (named_of queues.old) (items_view values.now))
+        ≡ option_map_or Err r (Ok (named_of queues.new))) }
 {
-    let mut queues = Members::new(alloc);
     for (index, value) in values.iter().enumerate() {
-        if !add_queue(alloc, most, &mut queues, value)? {
-            return Ok(Err(index));
+        if !add_queue(alloc, most, queues, value)? {
+            return Ok(Some(Refused {
+                part: Part::Queues,
+                index,
+            }));
         }
     }
-    Ok(Ok(queues))
+    if queues.values.is_empty() {
+        Ok(Some(Refused {
+            part: Part::Queues,
+            index: 0,
+        }))
+    } else {
+        Ok(None)
+    }
 }
 
 /// The queues, of which there is at least one and `most` at most, or the first that is refused.
@@ -99,13 +113,9 @@ pub fn read_queues(
         ≡ some_of refused.queues (λ qs. length qs.values)
         (in_turn (spec.add_queue most) 0 nobody (items_view values.now))) }
 {
-    let refuse = |index| Refused {
-        part: Part::Queues,
-        index,
-    };
-    match add_queues(alloc, most, values)? {
-        Ok(queues) if queues.values.is_empty() => Ok(Err(refuse(0))),
-        Ok(queues) => Ok(Ok(queues)),
-        Err(index) => Ok(Err(refuse(index))),
+    let mut queues = Members::new(alloc);
+    match add_queues(alloc, most, &mut queues, values)? {
+        Some(refused) => Ok(Err(refused)),
+        None => Ok(Ok(queues)),
     }
 }
