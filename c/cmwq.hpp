@@ -11,15 +11,17 @@
 //
 // What is refused is thrown as a cmwq::failure, whose code() is a status of cmwq.h or cmwq_hub.h. In a work function
 // the same calls, by whatever handle, are the run's. Handles may outlive the workqueues: their calls are refused then.
+// Destructors take no memory and throw nothing.
 #ifndef CMWQ_HPP
 #define CMWQ_HPP
 #include "cmwq_hub.h"
 #include <algorithm>
+#include <atomic>
 #include <chrono>
 #include <exception>
 #include <functional>
 #include <memory>
-#include <mutex>
+#include <mutex> // not needed here any more, nor <thread>, but programs may count on them
 #include <ostream>
 #include <stdexcept>
 #include <string>
@@ -54,7 +56,8 @@ struct queue_options {
     queue_options freezable() const { auto made = *this; made.of.freezable = 1; return made; }
 };
 
-inline queue_options max_active(uint16_t most) { return {{most, 0, 0, 0}}; }
+// What is no number of 16 bits is refused with all else that is above the limit.
+inline queue_options max_active(uint64_t most) { return {{uint16_t(std::min<uint64_t>(most, UINT16_MAX)), 0, 0, 0}}; }
 
 struct shape {
     cmwq_options of{};
@@ -70,10 +73,18 @@ struct shape {
     shape &keep(unsigned n) { of.keep = n; return *this; }
     shape &room(uint64_t n) { of.room = n; return *this; }
     shape &spins(unsigned n) { of.spins = n; return *this; }
-    shape &tick(nanoseconds n) { of.tick_ns = uint64_t(n.count()); return *this; }
+    shape &tick(nanoseconds n)
+    {
+        if (n.count() < 0) throw failure(CMWQ_REFUSED);
+        of.tick_ns = uint64_t(n.count());
+        return *this;
+    }
     shape &history(std::ostream &out) { to = &out; return *this; } // it outlives the workqueues
     shape &queue(std::string name, queue_options options)
     {
+        if (std::find(names.begin(), names.end(), name) != names.end())
+            throw std::invalid_argument("cmwq: two queues have the name " + name);
+        queues.reserve(queues.size() + 1); // both get it or none
         names.push_back(std::move(name));
         queues.push_back(options.of);
         return *this;
@@ -110,29 +121,78 @@ namespace detail {
 struct hub;
 
 // A number for an item, with its function.
-struct slot { hub *of; work function; unsigned queue, cpu; };
+struct slot {
+    hub *of;
+    unsigned number, queue, cpu;
+    std::atomic<unsigned> handles;
+    work function;
+    slot *next;  // of the free ones
+    bool orphan; // no handle is left, but it is pending or runs
+};
 
+// A hub holds the memory for all that its handles do later, so that these take none. The lock of the hub in C is that of
+// all that follows, so that a child of a fork does not find it held. No function is called or dropped under it.
 struct hub {
     cmwq_hub of{};
-    std::mutex lock; // of what follows; no function is called or dropped under it
-    std::vector<slot> slots;
-    std::vector<unsigned> free_slots, orphans;
+    std::unique_ptr<slot[]> slots;
+    unsigned items = 0;
+    slot *free = nullptr;
     std::exception_ptr thrown; // the first of a work function
     uint64_t tick = 1000000;
     std::ostream *to = nullptr;
+    std::shared_ptr<hub> self; // until the clock's thread has closed it
 
-    ~hub() { end(); }
+    struct hold {
+        cmwq_hub *of;
+        explicit hold(hub &all) : of(&all.of) { pthread_mutex_lock(&of->lock); }
+        ~hold() { cmwq_hub_unlock_(of); }
+        hold(const hold &) = delete;
+    };
 
-    // Lets what is queued end, joins, and drops the functions, which may have handles of their own.
+    ~hub()
+    {
+        cmwq_hub_close(&of);
+        if (of.forked) slots.release(); // a function may have been in the middle of its run
+    }
+
+    void make_slots(unsigned many)
+    {
+        slots.reset(new slot[many]());
+        items = many;
+        for (unsigned k = many; k-- > 0;) {
+            slots[k].of = this;
+            slots[k].number = k;
+            slots[k].next = std::exchange(free, &slots[k]);
+        }
+    }
+
+    // Lets what is queued end, joins, and drops the functions, which may have handles of their own. Where another thread
+    // closes it, that one drops them.
     int end()
     {
         int result = cmwq_hub_close(&of);
-        std::vector<work> gone;
-        if (result != -CMWQ_NOT_NOW) {
-            std::lock_guard<std::mutex> held(lock);
-            for (slot &own : slots) gone.push_back(std::exchange(own.function, nullptr));
-        }
+        if (result == CMWQ_OK || result == -CMWQ_NO_JOURNAL)
+            for (unsigned k = 0; k < items; k++) work().swap(slots[k].function);
         return result;
+    }
+
+    // Waits until the thread that closes it has joined all others.
+    void wait_for_end()
+    {
+        hold now(*this);
+        while (of.state == CMWQ_CLOSING_) pthread_cond_wait(&of.changed, &of.lock);
+    }
+
+    // Leaves it to the clock's thread to close it, which needs no memory and no other thread.
+    static void leave(const std::shared_ptr<hub> &all)
+    {
+        all->self = all;
+        if (!cmwq_hub_leave_(&all->of, finish, all.get())) all->self = nullptr;
+    }
+    static void finish(void *at)
+    {
+        std::shared_ptr<hub> self = std::move(static_cast<hub *>(at)->self);
+        self->end();
     }
 
     static bool write(void *at, const char *text, size_t len)
@@ -148,25 +208,62 @@ struct hub {
             run of(now, own.queue, own.cpu, own.of->tick);
             own.function(of);
         } catch (...) {
-            std::lock_guard<std::mutex> held(own.of->lock);
+            hold its(*own.of);
             if (!own.of->thrown) own.of->thrown = std::current_exception();
         }
     }
 
-    // The functions of items that nobody has a handle of, and that neither are pending nor run.
-    std::vector<work> sweep()
+    // Gives a function a number.
+    slot *add(work &function, unsigned queue, unsigned cpu)
     {
-        std::vector<work> gone;
-        std::lock_guard<std::mutex> held(lock);
-        for (size_t k = orphans.size(); k-- > 0;) {
-            unsigned item = orphans[k];
-            if (cmwq_work_busy(&of, item) > 0) continue;
-            gone.push_back(std::exchange(slots[item].function, nullptr));
-            free_slots.push_back(item);
-            orphans[k] = orphans.back();
-            orphans.pop_back();
+        int status = CMWQ_OK;
+        slot *own = nullptr;
+        {
+            hold its(*this);
+            if (of.state != CMWQ_OPEN_) status = of.state == CMWQ_NONE_ ? CMWQ_CLOSED : CMWQ_STOPPED;
+            else if ((own = free)) {
+                free = own->next;
+                own->queue = queue;
+                own->cpu = cpu;
+                own->function.swap(function);
+                own->handles.store(1, std::memory_order_relaxed);
+            }
         }
-        return gone;
+        if (status != CMWQ_OK) throw failure(status);
+        if (!own) throw std::length_error("cmwq: no item is left: shape::items");
+        return own;
+    }
+
+    // Of an item without a handle: takes its number back, and its function, if it neither is pending nor runs. The
+    // board is asked under the lock, so that this is so or a run will end.
+    bool take_back(slot &own, work &function)
+    {
+        cmwq_item state;
+        own.orphan = cmwq_board_item(&of.board, uint16_t(own.number), &state) != CMWQ_OK ||
+                     state.pending != CMWQ_NOT_PENDING || state.runs;
+        if (own.orphan) return false;
+        function.swap(own.function);
+        own.next = std::exchange(free, &own);
+        return true;
+    }
+
+    // The last handle is dropped. Of a closed hub the functions are left to whoever closed it.
+    void release(slot &own)
+    {
+        work gone;
+        hold its(*this);
+        if (of.state != CMWQ_NONE_) take_back(own, gone);
+    } // the lock is let go before the function is dropped
+
+    // A run has ended; the lock is held.
+    static void ended(cmwq_hub *of, unsigned item)
+    {
+        slot &own = *static_cast<slot *>(of->works[item].data);
+        work gone;
+        if (!own.orphan || !own.of->take_back(own, gone)) return;
+        cmwq_hub_unlock_(of);
+        gone = nullptr;
+        pthread_mutex_lock(&of->lock);
     }
 
     uint64_t ticks(nanoseconds delay) const
@@ -183,58 +280,70 @@ inline unsigned timeout_of(milliseconds timeout)
 // Whether a wait has ended in time.
 inline bool in_time(int result) { return result == -CMWQ_TIMED_OUT ? false : (done(result), true); }
 
-// Gives a number back with the last handle.
-struct own {
-    std::shared_ptr<hub> of;
-    unsigned number, queue, cpu;
-    own(std::shared_ptr<hub> hub, unsigned item, unsigned on, unsigned at)
-        : of(std::move(hub)), number(item), queue(on), cpu(at) {}
-    own(const own &) = delete;
-    ~own()
-    {
-        { std::lock_guard<std::mutex> held(of->lock); of->orphans.push_back(number); }
-        of->sweep();
-    }
-};
-
 } // namespace detail
 
-// A handle of an item. What is queued runs also once no handle is left.
+// A handle of an item. What is queued runs also once no handle is left. It is empty if it was moved from: then it is
+// false, and its calls throw a std::logic_error.
 class item {
-    std::shared_ptr<detail::own> own_;
+    std::shared_ptr<detail::hub> hub_;
+    detail::slot *slot_ = nullptr;
     friend class queue;
-    explicit item(std::shared_ptr<detail::own> own) : own_(std::move(own)) {}
-    cmwq_hub *hub() const { return &own_->of->of; }
+    item(std::shared_ptr<detail::hub> hub, detail::slot *slot) noexcept : hub_(std::move(hub)), slot_(slot) {}
+    const detail::slot &own() const
+    {
+        if (!slot_) throw std::logic_error("cmwq: the item is empty: it was moved from, or never made");
+        return *slot_;
+    }
+    cmwq_hub *hub() const { return &own().of->of; }
+    uint64_t ticks(nanoseconds delay) const { return own().of->ticks(delay); }
 
 public:
-    bool queue() const { return done(cmwq_queue_work_on(hub(), own_->cpu, own_->queue, own_->number)); }
+    item() noexcept = default;
+    item(const item &from) noexcept : hub_(from.hub_), slot_(from.slot_)
+    {
+        if (slot_) slot_->handles.fetch_add(1, std::memory_order_relaxed);
+    }
+    item(item &&from) noexcept : hub_(std::move(from.hub_)), slot_(std::exchange(from.slot_, nullptr)) {}
+    item &operator=(item from) noexcept
+    {
+        hub_.swap(from.hub_);
+        std::swap(slot_, from.slot_);
+        return *this;
+    }
+    ~item()
+    {
+        if (slot_ && slot_->handles.fetch_sub(1, std::memory_order_acq_rel) == 1) hub_->release(*slot_);
+    }
+    explicit operator bool() const noexcept { return slot_; }
+
+    bool queue() const { return done(cmwq_queue_work_on(hub(), own().cpu, own().queue, own().number)); }
     bool queue_delayed(nanoseconds delay) const
     {
-        return done(cmwq_queue_delayed_work_on(hub(), own_->cpu, own_->queue, own_->number, own_->of->ticks(delay)));
+        return done(cmwq_queue_delayed_work_on(hub(), own().cpu, own().queue, own().number, ticks(delay)));
     }
     bool modify(nanoseconds delay) const
     {
-        return done(cmwq_mod_delayed_work_on(hub(), own_->cpu, own_->queue, own_->number, own_->of->ticks(delay)));
+        return done(cmwq_mod_delayed_work_on(hub(), own().cpu, own().queue, own().number, ticks(delay)));
     }
-    bool cancel() const { return done(cmwq_cancel_work(hub(), own_->number)); }
-    bool cancel_sync() const { return done(cmwq_cancel_work_sync(hub(), own_->number, CMWQ_FOREVER)); }
-    bool flush() const { return done(cmwq_flush_work(hub(), own_->number, CMWQ_FOREVER)); }
-    bool flush_delayed() const { return done(cmwq_flush_delayed_work(hub(), own_->number, CMWQ_FOREVER)); }
+    bool cancel() const { return done(cmwq_cancel_work(hub(), own().number)); }
+    bool cancel_sync() const { return done(cmwq_cancel_work_sync(hub(), own().number, CMWQ_FOREVER)); }
+    bool flush() const { return done(cmwq_flush_work(hub(), own().number, CMWQ_FOREVER)); }
+    bool flush_delayed() const { return done(cmwq_flush_delayed_work(hub(), own().number, CMWQ_FOREVER)); }
     // The same with a timeout: whether it has ended in time. Not in a work function.
     bool cancel_sync_for(milliseconds time) const
     {
-        return detail::in_time(cmwq_cancel_work_sync(hub(), own_->number, detail::timeout_of(time)));
+        return detail::in_time(cmwq_cancel_work_sync(hub(), own().number, detail::timeout_of(time)));
     }
     bool flush_for(milliseconds time) const
     {
-        return detail::in_time(cmwq_flush_work(hub(), own_->number, detail::timeout_of(time)));
+        return detail::in_time(cmwq_flush_work(hub(), own().number, detail::timeout_of(time)));
     }
     bool flush_delayed_for(milliseconds time) const
     {
-        return detail::in_time(cmwq_flush_delayed_work(hub(), own_->number, detail::timeout_of(time)));
+        return detail::in_time(cmwq_flush_delayed_work(hub(), own().number, detail::timeout_of(time)));
     }
-    bool is_pending() const { return done(cmwq_work_busy(hub(), own_->number)) & 1; }
-    bool is_running() const { return done(cmwq_work_busy(hub(), own_->number)) & 2; }
+    bool is_pending() const { return done(cmwq_work_busy(hub(), own().number)) & 1; }
+    bool is_running() const { return done(cmwq_work_busy(hub(), own().number)) & 2; }
 };
 
 class queue {
@@ -244,20 +353,15 @@ class queue {
     queue(std::shared_ptr<detail::hub> hub, unsigned number) : hub_(std::move(hub)), number_(number) {}
 
 public:
+    // it is copied where others are moved, so that it is never empty
+    queue(const queue &) = default;
+    queue &operator=(const queue &) = default;
+
     // An item of this queue, on this CPU.
     item make(work function, unsigned cpu = 0) const
     {
-        unsigned number;
         if (cpu >= hub_->of.is.cpus) throw failure(CMWQ_REFUSED);
-        hub_->sweep();
-        {
-            std::lock_guard<std::mutex> held(hub_->lock);
-            if (hub_->free_slots.empty()) throw std::length_error("cmwq: no item is left: shape::items");
-            number = hub_->free_slots.back();
-            hub_->free_slots.pop_back();
-            hub_->slots[number] = {hub_.get(), std::move(function), number_, cpu};
-        }
-        return item(std::make_shared<detail::own>(hub_, number, number_, cpu));
+        return item(hub_, hub_->add(function, number_, cpu));
     }
     void flush() const { done(cmwq_flush_workqueue(&hub_->of, number_, CMWQ_FOREVER)); }
     void drain() const { done(cmwq_drain_workqueue(&hub_->of, number_, CMWQ_FOREVER)); }
@@ -284,12 +388,10 @@ public:
     explicit workqueues(const shape &from) : names_(from.names)
     {
         cmwq_options options = from.of;
+        if (options.items > UINT16_MAX) throw failure(CMWQ_REFUSED);
         std::vector<cmwq_work> works(options.items);
-        hub_->slots.resize(options.items);
-        for (unsigned k = options.items; k-- > 0;) {
-            works[k] = {detail::hub::call, &hub_->slots[k]};
-            hub_->free_slots.push_back(k);
-        }
+        hub_->make_slots(options.items);
+        for (unsigned k = 0; k < options.items; k++) works[k] = {detail::hub::call, &hub_->slots[k]};
         hub_->tick = options.tick_ns ? options.tick_ns : hub_->tick;
         hub_->to = from.to;
         options.works = works.data();
@@ -297,21 +399,30 @@ public:
         options.queue_count = from.queues.size();
         options.journal = from.to ? detail::hub::write : nullptr;
         options.journal_data = hub_.get();
+        options.ended_ = detail::hub::ended;
         done(cmwq_hub_open(&hub_->of, &options));
     }
     workqueues(const workqueues &) = delete;
     workqueues &operator=(const workqueues &) = delete;
     ~workqueues()
     {
-        // in a work function of its own another thread closes it
-        if (hub_->end() == -CMWQ_NOT_NOW) std::thread([hub = hub_] { hub->end(); }).detach();
+        // not in a work function or a journal of its own
+        if (hub_->end() == -CMWQ_NOT_NOW) detail::hub::leave(hub_);
     }
 
-    // Lets what is queued end, joins, and throws what a work function has thrown.
+    // Lets what is queued end, joins, and throws what a work function has thrown. Where another thread does so, or did,
+    // it waits for that.
     void shutdown()
     {
         int result = hub_->end();
-        if (auto thrown = std::exchange(hub_->thrown, nullptr)) std::rethrow_exception(thrown);
+        if (result == -CMWQ_NOT_NOW) throw failure(CMWQ_NOT_NOW);
+        if (result == -CMWQ_CLOSED) hub_->wait_for_end();
+        std::exception_ptr thrown;
+        {
+            detail::hub::hold its(*hub_);
+            thrown = std::exchange(hub_->thrown, nullptr);
+        }
+        if (thrown) std::rethrow_exception(thrown);
         if (result != -CMWQ_CLOSED) done(result);
     }
     cmwq::queue queue(const std::string &name) const

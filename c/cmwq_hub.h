@@ -67,8 +67,9 @@ struct cmwq_options {                                       /* in brackets: what
     unsigned keep; uint64_t room;                           /* entries kept at a time [1,024], and in all [2^62] */
     uint64_t tick_ns; unsigned spins;                       /* [1,000,000]; looks before a thread sleeps [1,000] */
     /* Gets the text of whole lines within 100 ms, from one thread at a time and without the lock [nobody does].
-       False: it wants no more. It makes no call of the hub. */
+       False: it wants no more. Its calls of the hub are refused. */
     bool (*journal)(void *data, const char *text, size_t len); void *journal_data;
+    void (*ended_)(struct cmwq_hub *hub, unsigned item); /* for cmwq.hpp: a run has ended; under the lock */
 };
 
 struct cmwq_hub;
@@ -82,20 +83,22 @@ static inline int cmwq_hub_do_(struct cmwq_hub *hub, uint8_t kind, unsigned cpu,
     bool waits = (kind >= CMWQ_FLUSH && kind <= CMWQ_CANCEL_SYNC) || kind == CMWQ_DESTROY;
     bool sleeps = kind == CMWQ_SLEEP || kind == CMWQ_WAKE;
     struct cmwq_reply reply = {0, 0, 0, 0};
+    struct cmwq_here_ *here = NULL;
     struct cmwq_run *run = NULL;
     uint32_t status;
 
     pthread_mutex_lock(&hub->lock);
     hub->inside++;
     if (hub->state != CMWQ_NONE_) {
-        run = (struct cmwq_run *)pthread_getspecific(hub->key);
-        if (!run || run->hub) cmwq_hub_space_(hub, hub->is.keep);
+        here = cmwq_hub_here_(hub);
+        run = here ? here->run : NULL;
+        if (!here || run) cmwq_hub_space_(hub, hub->is.keep);
     }
     if (run && (waits || sleeps || (kind <= CMWQ_CANCEL && !run->asleep))) call.who = run->who;
     if (hub->state == CMWQ_NONE_)
         status = CMWQ_CLOSED;
-    else if (run && !run->hub)
-        status = CMWQ_NOT_NOW;
+    else if (here && !run)
+        status = CMWQ_NOT_NOW; /* in the journal */
     else if (call.cpu != cpu || call.queue != queue || call.item != item || call.number != number)
         status = CMWQ_REFUSED;
     else
@@ -150,11 +153,16 @@ static inline int cmwq_worker_running(struct cmwq_hub *hub) { return cmwq_hub_do
 /* Whether an item is pending (1), or runs (2), or both. */
 static inline int cmwq_work_busy(struct cmwq_hub *hub, unsigned item)
 {
+    struct cmwq_here_ *here;
     struct cmwq_item state;
-    uint32_t status = CMWQ_REFUSED;
+    uint32_t status = CMWQ_CLOSED;
 
     pthread_mutex_lock(&hub->lock);
-    if (item <= UINT16_MAX) status = cmwq_board_item(&hub->board, (uint16_t)item, &state);
+    if (hub->state != CMWQ_NONE_) {
+        here = cmwq_hub_here_(hub);
+        status = here && !here->run ? CMWQ_NOT_NOW : item > UINT16_MAX ? CMWQ_REFUSED : CMWQ_OK;
+    }
+    if (status == CMWQ_OK) status = cmwq_board_item(&hub->board, (uint16_t)item, &state);
     cmwq_hub_unlock_(hub);
     return status == CMWQ_OK ? (state.pending != CMWQ_NOT_PENDING) + 2 * (state.runs != 0) : -(int)status;
 }
@@ -162,13 +170,16 @@ static inline int cmwq_work_busy(struct cmwq_hub *hub, unsigned item)
 /* Lets what is queued end, and gives all up. Calls that wait return -CMWQ_STOPPED. Not in a work function. */
 static inline int cmwq_hub_close(struct cmwq_hub *hub)
 {
+    struct cmwq_here_ here = {NULL, NULL, NULL, false};
     char last[32];
     int status;
 
     pthread_mutex_lock(&hub->lock);
-    status = hub->state != CMWQ_OPEN_ ? CMWQ_CLOSED : pthread_getspecific(hub->key) ? CMWQ_NOT_NOW : CMWQ_OK;
+    status = hub->state == CMWQ_NONE_ ? CMWQ_CLOSED : cmwq_hub_here_(hub) ? CMWQ_NOT_NOW
+             : hub->state != CMWQ_OPEN_ ? CMWQ_CLOSED : CMWQ_OK;
     if (status == CMWQ_OK) cmwq_hub_stop_(hub);
     cmwq_hub_unlock_(hub);
+    if (status == CMWQ_CLOSED && hub->forked) return cmwq_hub_free_(hub, -CMWQ_CLOSED);
     if (status != CMWQ_OK) return -status;
     for (struct cmwq_party_ *party = hub->parties; party <= hub->clock; party++)
         if (party->started) pthread_join(party->thread, NULL);
@@ -180,20 +191,22 @@ static inline int cmwq_hub_close(struct cmwq_hub *hub)
     cmwq_hub_name_(hub, hub->journal);
     cmwq_hub_unlock_(hub);
     if (hub->journal->started) pthread_join(hub->journal->thread, NULL);
-    if (hub->is.journal && !hub->deaf)
-        hub->deaf = !hub->is.journal(hub->is.journal_data, last, (size_t)status);
+    if (hub->is.journal && !hub->deaf) hub->deaf = !cmwq_hub_tell_(hub, &here, last, (size_t)status);
+    if (here.forked) return cmwq_hub_free_(hub, -CMWQ_CLOSED);
     pthread_mutex_lock(&hub->lock);
     while (hub->inside) pthread_cond_wait(&hub->changed, &hub->lock);
-    while (__atomic_load_n(&hub->signalling, __ATOMIC_ACQUIRE)) sched_yield();
-    status = cmwq_hub_free_(hub, hub->deaf ? -CMWQ_NO_JOURNAL : CMWQ_OK);
+    hub->state = CMWQ_NONE_;
+    pthread_cond_broadcast(&hub->changed);
     pthread_mutex_unlock(&hub->lock);
-    return status;
+    while (__atomic_load_n(&hub->signalling, __ATOMIC_ACQUIRE)) sched_yield();
+    return cmwq_hub_free_(hub, hub->deaf ? -CMWQ_NO_JOURNAL : CMWQ_OK);
 }
 
 /* Opens a hub, which is all zeros or was closed, and starts its threads. At less than 0 there is nothing to close. */
 static inline int cmwq_hub_open(struct cmwq_hub *hub, const struct cmwq_options *options)
 {
     struct cmwq_options is = *options;
+    struct cmwq_here_ here = {NULL, NULL, NULL, false};
     uint8_t head[1 << 13];
     size_t len = 0;
     bool is_high = false;
@@ -213,8 +226,10 @@ static inline int cmwq_hub_open(struct cmwq_hub *hub, const struct cmwq_options 
     is.spins = is.spins ? is.spins : 1000;
     if (is.items > UINT16_MAX || is.cpus > 64 || is.workers > 64 || is.waits > 254 || is.keep > 1u << 30)
         return -CMWQ_REFUSED;
+    if (hub->forked) cmwq_hub_free_(hub, CMWQ_OK);
     memset(hub, 0, sizeof *hub);
     hub->is = is;
+    hub->here = cmwq_top_;
     /* one hold makes at most so many entries: those of time, of the call, and of the waits that were left */
     hub->shape.keep = is.keep + 3 * is.items + is.waits + 16;
     hub->shape.room = is.room;
@@ -225,21 +240,23 @@ static inline int cmwq_hub_open(struct cmwq_hub *hub, const struct cmwq_options 
     hub->workers = 2 * is.cpus * is.workers;
     hub->due = UINT64_MAX;
     hub->wakes.workers[0].kind = hub->wakes.callers[0] = CMWQ_NOBODY;
+    pthread_mutex_init(&hub->lock, NULL);
+    pthread_cond_init(&hub->changed, NULL);
     status = cmwq_board_open(&hub->board, &hub->shape, is.queues, is.queue_count, (uint8_t)is.waits);
     if (status == CMWQ_OK) status = cmwq_lines_open(&hub->lines, &hub->board);
     hub->works = (struct cmwq_work *)calloc(is.items, sizeof *hub->works);
     hub->parties = (struct cmwq_party_ *)calloc(hub->workers + is.waits + 2, sizeof *hub->parties);
-    if (status == CMWQ_OK && (!hub->works || !hub->parties || pthread_key_create(&hub->key, NULL)))
-        status = CMWQ_NO_MEMORY;
+    if (status == CMWQ_OK) status = cmwq_head(&hub->shape, is.queues, is.queue_count, head, sizeof head, &len);
+    if (status == CMWQ_OK && (!hub->works || !hub->parties || !cmwq_hub_list_(hub))) status = CMWQ_NO_MEMORY;
     if (status != CMWQ_OK) return cmwq_hub_free_(hub, -(int)status);
     hub->clock = hub->parties + hub->workers + is.waits;
     hub->journal = hub->clock + 1;
     for (unsigned n = 0; n < is.items && is.works; n++) hub->works[n] = is.works[n];
     for (size_t n = 0; n < is.queue_count; n++) is_high = is_high || is.queues[n].high;
-    status = cmwq_head(&hub->shape, is.queues, is.queue_count, head, sizeof head, &len);
-    hub->deaf = is.journal && !is.journal(is.journal_data, (const char *)head, len);
     hub->begun = cmwq_hub_now_(hub);
     hub->state = CMWQ_OPEN_;
+    hub->deaf = is.journal && !cmwq_hub_tell_(hub, &here, head, len);
+    if (here.forked) return cmwq_hub_free_(hub, -CMWQ_CLOSED);
     if (cmwq_hub_start_(hub, is_high)) return CMWQ_OK;
     cmwq_hub_close(hub);
     return -CMWQ_NO_THREAD;

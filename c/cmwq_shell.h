@@ -4,6 +4,12 @@
  * and wakes them. No proof covers it; c/tests has its tests.
  */
 
+/*
+ * Where a thread is: in a run of a hub, or in its journal, which has no run. It may be in several: a run of one hub may
+ * close another, whose journal is called then. @forked: of a child, which has the thread but not the hub
+ */
+struct cmwq_here_ { struct cmwq_hub *hub; struct cmwq_run *run; struct cmwq_here_ *outer; bool forked; };
+
 /* A thread that sleeps until it is named: a worker, a call that waits, the clock or the journal. */
 struct cmwq_party_ {
     pthread_cond_t wakes; pthread_t thread; struct cmwq_hub *hub; struct cmwq_who who; bool named, started;
@@ -11,14 +17,93 @@ struct cmwq_party_ {
 };
 enum cmwq_hub_state_ { CMWQ_NONE_, CMWQ_OPEN_, CMWQ_CLOSING_ };
 struct cmwq_hub {                           /* all zeros: none. It is never copied */
-    pthread_mutex_t lock; pthread_cond_t changed; pthread_key_t key; enum cmwq_hub_state_ state;
+    pthread_mutex_t lock; pthread_cond_t changed; enum cmwq_hub_state_ state;
+    struct cmwq_here_ **(*here)(void);      /* where the calling thread is, as the file that opened the hub knows it */
+    struct cmwq_opened_ *among; struct cmwq_hub *next, **before;
     struct cmwq_board board; struct cmwq_lines lines; struct cmwq_shape shape; struct cmwq_options is;
     struct cmwq_work *works; struct cmwq_party_ *parties, *clock, *journal; /* workers, lent callers, clock, journal */
     struct cmwq_wakes wakes; struct cmwq_party_ *named[64]; unsigned names; /* who is woken when the lock is let go */
     unsigned workers, inside, signalling;   /* calls that hold the lock or sleep; threads that wake others without it */
     uint64_t begun, handed, due;            /* the clock at tick 0; entries handed out; the tick the clock sleeps for */
     bool frozen, left, busy, deaf, over;    /* left: a drain was; busy: the journal has lines; deaf: it wants no more */
+    bool forked, torn;                      /* of a child: it was open before; and a thread was about to change it */
+    void (*then)(void *data); void *data;   /* the clock's thread is to close it, and to call this */
 };
+
+/*
+ * What a source file that opens hubs has of its own: where the calling thread is, and the hubs that are open. So the
+ * system's keys for threads are not used up, and a file need not find those of another one, as of a shared object.
+ */
+struct cmwq_opened_ { pthread_mutex_t lock; struct cmwq_hub *first; bool told; };
+static inline struct cmwq_opened_ *cmwq_opened_here_(void)
+{
+    static struct cmwq_opened_ opened = {PTHREAD_MUTEX_INITIALIZER, NULL, false};
+
+    return &opened;
+}
+static inline struct cmwq_here_ **cmwq_top_(void)
+{
+#ifdef __cplusplus
+    static thread_local struct cmwq_here_ *top;
+#else
+    static _Thread_local struct cmwq_here_ *top;
+#endif
+
+    return &top;
+}
+
+/* The run or the journal of this hub in which the calling thread is, or NULL. */
+static inline struct cmwq_here_ *cmwq_hub_here_(struct cmwq_hub *hub)
+{
+    struct cmwq_here_ *here = *hub->here();
+
+    while (here && (here->hub != hub || here->forked)) here = here->outer;
+    return here;
+}
+
+static inline void cmwq_before_fork_(void) { pthread_mutex_lock(&cmwq_opened_here_()->lock); }
+static inline void cmwq_after_fork_(void) { pthread_mutex_unlock(&cmwq_opened_here_()->lock); }
+
+/* Closes all hubs in a child, which has none of their threads. What they have is given up later, by a close or an open:
+   here other locks than these may still be held. */
+static inline void cmwq_in_child_(void)
+{
+    struct cmwq_opened_ *opened = cmwq_opened_here_();
+    struct cmwq_hub *next;
+
+    for (struct cmwq_here_ *here = *cmwq_top_(); here; here = here->outer) {
+        if (!here->forked && !here->run) here->hub->busy = false; /* it is the journal that forks: no lines change */
+        here->forked = true;
+    }
+    for (struct cmwq_hub *hub = opened->first; hub; hub = next) {
+        next = hub->next;
+        hub->forked = true;
+        hub->torn = pthread_mutex_trylock(&hub->lock) != 0;
+        hub->state = CMWQ_NONE_;
+        hub->among = NULL;
+        pthread_mutex_init(&hub->lock, NULL);
+    }
+    opened->first = NULL;
+    pthread_mutex_unlock(&opened->lock);
+}
+
+/* Adds the hub to those that are open, or takes it from them. Return: whether there was memory */
+static inline bool cmwq_hub_list_(struct cmwq_hub *hub)
+{
+    struct cmwq_opened_ *opened = cmwq_opened_here_();
+
+    pthread_mutex_lock(&opened->lock);
+    opened->told = opened->told || pthread_atfork(cmwq_before_fork_, cmwq_after_fork_, cmwq_in_child_) == 0;
+    if (opened->told) {
+        hub->among = opened;
+        hub->before = &opened->first;
+        hub->next = opened->first;
+        if (hub->next) hub->next->before = &hub->next;
+        opened->first = hub;
+    }
+    pthread_mutex_unlock(&opened->lock);
+    return hub->among != NULL;
+}
 
 static inline uint64_t cmwq_hub_now_(const struct cmwq_hub *hub)
 {
@@ -172,11 +257,12 @@ static inline void *cmwq_hub_work_(void *at)
     struct cmwq_party_ *me = (struct cmwq_party_ *)at;
     struct cmwq_hub *hub = me->hub;
     struct cmwq_run run = {hub, 0, 0, me->who, false};
+    struct cmwq_here_ here = {hub, &run, NULL, false}, **top = hub->here();
     struct cmwq_call wake = {0, 0, 0, CMWQ_WAKE, 0, 0, me->who};
     struct cmwq_reply reply;
     uint32_t status;
 
-    while (pthread_setspecific(hub->key, &run)) sched_yield(); /* until there is memory */
+    *top = &here;
     pthread_mutex_lock(&hub->lock);
     do {
         cmwq_hub_space_(hub, hub->is.keep);
@@ -187,36 +273,66 @@ static inline void *cmwq_hub_work_(void *at)
 
             cmwq_hub_unlock_(hub);
             if (work.run) work.run(&run, work.data);
+            if (here.forked) break;
             pthread_mutex_lock(&hub->lock);
             cmwq_hub_space_(hub, hub->is.keep);
             if (run.asleep) cmwq_hub_call_(hub, &run, &wake, &reply);
             cmwq_hub_note_(hub, cmwq_board_finish(&hub->board, &me->who, &hub->wakes));
+            run.asleep = true; /* what is dropped now may call the hub: not as the run, which has ended */
+            if (hub->is.ended_) hub->is.ended_(hub, run.item);
+            run.asleep = false;
         }
     } while (status == CMWQ_OK || status == CMWQ_RESTS);
-    cmwq_hub_unlock_(hub);
+    if (!here.forked) cmwq_hub_unlock_(hub);
+    *top = NULL;
     return NULL;
 }
 
-/* The clock's thread: sleeps until a timer is due. */
+/* The clock's thread: sleeps until a timer is due; and closes the hub if it is told so. */
 static inline void *cmwq_hub_tick_(void *at)
 {
     struct cmwq_party_ *me = (struct cmwq_party_ *)at;
     struct cmwq_hub *hub = me->hub;
     uint64_t now, then, tick = hub->is.tick_ns;
     uint32_t status = CMWQ_OK;
+    void (*closes)(void *data);
+    void *data;
 
     pthread_mutex_lock(&hub->lock);
-    while (hub->state == CMWQ_OPEN_ && status == CMWQ_OK) {
+    while (hub->state == CMWQ_OPEN_ && !hub->then) {
         now = cmwq_hub_now_(hub);
         hub->due = cmwq_board_due(&hub->board);
         then = hub->due < UINT64_MAX / 2 / tick ? hub->due * tick : UINT64_MAX;
         if (hub->left && then > now + 100000000)
             then = now + 100000000; /* the end of a drain that was left isn't told */
-        if (hub->due > now / tick) cmwq_hub_sleep_(hub, me, then);
+        if (status != CMWQ_OK) cmwq_hub_sleep_(hub, me, UINT64_MAX); /* no room for the time: nothing fires any more */
+        else if (hub->due > now / tick) cmwq_hub_sleep_(hub, me, then);
         else status = cmwq_hub_advance_(hub, now / tick);
     }
+    closes = hub->state == CMWQ_OPEN_ ? hub->then : NULL;
+    data = hub->data;
+    if (closes) {
+        pthread_detach(pthread_self());
+        me->started = false; /* nobody joins it */
+    }
     cmwq_hub_unlock_(hub);
+    if (closes) closes(data);
     return NULL;
+}
+
+/* Gives the journal some text. Return: whether it takes more. Nothing may be done with the hub if @here is forked. */
+static inline bool cmwq_hub_tell_(struct cmwq_hub *hub, struct cmwq_here_ *here, const void *text, size_t len)
+{
+    struct cmwq_here_ **top = hub->here();
+    bool takes;
+
+    here->hub = hub;
+    here->run = NULL; /* so the journal's calls of the hub are refused */
+    here->outer = *top;
+    *top = here;
+    takes = hub->is.journal(hub->is.journal_data, (const char *)text, len);
+    *top = here->outer;
+    return takes;
 }
 
 /* The journal's thread. */
@@ -224,11 +340,10 @@ static inline void *cmwq_hub_write_(void *at)
 {
     struct cmwq_party_ *me = (struct cmwq_party_ *)at;
     struct cmwq_hub *hub = me->hub;
-    struct cmwq_run nobody = {NULL, 0, 0, me->who, false}; /* its calls of the hub are refused */
+    struct cmwq_here_ here = {NULL, NULL, NULL, false};
     uint8_t text[1 << 14];
     size_t len;
 
-    while (pthread_setspecific(hub->key, &nobody)) sched_yield();
     pthread_mutex_lock(&hub->lock);
     while (!hub->over || cmwq_board_len(&hub->board) > hub->handed || hub->busy) {
         if (!hub->busy && !hub->over) cmwq_hub_sleep_(hub, me, cmwq_hub_now_(hub) + 100000000);
@@ -237,8 +352,10 @@ static inline void *cmwq_hub_write_(void *at)
             bool takes = true;
 
             cmwq_hub_unlock_(hub);
-            while (cmwq_lines_write(&hub->lines, text, sizeof text, &len) == CMWQ_OK && len > 0)
-                takes = takes && hub->is.journal(hub->is.journal_data, (const char *)text, len);
+            while (cmwq_lines_write(&hub->lines, text, sizeof text, &len) == CMWQ_OK && len > 0) {
+                takes = takes && cmwq_hub_tell_(hub, &here, text, len);
+                if (here.forked) return NULL;
+            }
             pthread_mutex_lock(&hub->lock);
             hub->busy = false;
             hub->deaf = !takes;
@@ -256,8 +373,6 @@ static inline bool cmwq_hub_start_(struct cmwq_hub *hub, bool is_high)
 
     pthread_condattr_init(&monotonic);
     pthread_condattr_setclock(&monotonic, CLOCK_MONOTONIC);
-    pthread_mutex_init(&hub->lock, NULL);
-    pthread_cond_init(&hub->changed, NULL);
     for (struct cmwq_party_ *party = hub->parties; party <= hub->journal; party++) {
         unsigned k = (unsigned)(party - hub->parties), pool = k / hub->shape.workers;
 
@@ -267,7 +382,6 @@ static inline bool cmwq_hub_start_(struct cmwq_hub *hub, bool is_high)
         party->who.index = (uint8_t)(k % hub->shape.workers);
         party->who.cpu = (uint8_t)(pool / 2);
     }
-    hub->state = CMWQ_OPEN_;
     for (struct cmwq_party_ *party = hub->parties; party <= hub->journal; party++) {
         bool works = party < hub->parties + hub->workers, ticks = party == hub->clock;
         bool writes = party == hub->journal && hub->is.journal;
@@ -280,17 +394,29 @@ static inline bool cmwq_hub_start_(struct cmwq_hub *hub, bool is_high)
     return true;
 }
 
-/* Gives up what there is of a hub, which nobody is in. Its lock stays, so that later calls are refused. */
+/* Gives up what there is of a hub, which nobody is in, and which is no longer open. Its lock stays, so that later calls
+   are refused. In a child nothing is given up that a thread may have been about to change. */
 static inline int cmwq_hub_free_(struct cmwq_hub *hub, int result)
 {
-    for (struct cmwq_party_ *party = hub->parties; hub->journal && party <= hub->journal; party++)
+    struct cmwq_opened_ *opened = hub->among;
+
+    if (opened) { /* no fork sees a half of it */
+        pthread_mutex_lock(&opened->lock);
+        *hub->before = hub->next;
+        if (hub->next) hub->next->before = hub->before;
+        hub->among = NULL;
+    }
+    for (struct cmwq_party_ *party = hub->parties; !hub->forked && hub->journal && party <= hub->journal; party++)
         pthread_cond_destroy(&party->wakes);
-    if (hub->journal) pthread_key_delete(hub->key);
-    cmwq_board_close(&hub->board);
-    cmwq_lines_close(&hub->lines);
-    free(hub->parties);
-    free(hub->works);
-    hub->state = CMWQ_NONE_;
+    if (!hub->torn) {
+        cmwq_board_close(&hub->board);
+        if (!hub->forked || !hub->busy) cmwq_lines_close(&hub->lines);
+        free(hub->parties);
+        free(hub->works);
+        hub->parties = NULL;
+        hub->works = NULL;
+    }
+    if (opened) pthread_mutex_unlock(&opened->lock);
     return result;
 }
 
@@ -313,4 +439,20 @@ static inline void cmwq_hub_stop_(struct cmwq_hub *hub)
         cmwq_hub_note_(hub, cmwq_board_fail(&hub->board, &hub->wakes)); /* no room: what is frozen would never start */
     cmwq_hub_note_(hub, cmwq_board_stop(&hub->board, &hub->wakes));
     cmwq_hub_name_(hub, hub->clock);
+}
+
+/* Leaves it to the clock's thread to call this, which closes the hub. It may be made in a run. Return: whether it will */
+static inline bool cmwq_hub_leave_(struct cmwq_hub *hub, void (*then)(void *data), void *data)
+{
+    bool will;
+
+    pthread_mutex_lock(&hub->lock);
+    will = hub->state == CMWQ_OPEN_ && !hub->then;
+    if (will) {
+        hub->then = then;
+        hub->data = data;
+        cmwq_hub_name_(hub, hub->clock);
+    }
+    cmwq_hub_unlock_(hub);
+    return will;
 }

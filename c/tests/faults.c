@@ -1,12 +1,47 @@
 /* What a hub must survive: numbers out of bounds, no memory and no threads, two closes, no room, no space, a frozen queue, waits that can't end. */
 #define _GNU_SOURCE
 #include <pthread.h>
+#include <stdbool.h>
 #include <stdlib.h>
 #include <unistd.h>
 
-/* Each of these may fail, or is counted. */
+/* Each of these may fail, or is counted; also what the library asks of the heap. */
 static unsigned allocations_left = ~0u, threads_left = ~0u, signals;
-static void *calloc_or_not(size_t many, size_t size) { return allocations_left-- ? calloc(many, size) : NULL; }
+static int blocks;
+struct block { bool ok; void *at; };
+struct block rattle_alloc(size_t size, size_t align);
+struct block rattle_realloc(void *old, size_t kept, size_t size, size_t align);
+void rattle_dealloc(void *at);
+static void *calloc_or_not(size_t many, size_t size)
+{
+    void *at = allocations_left-- ? calloc(many, size) : NULL;
+
+    blocks += at != NULL;
+    return at;
+}
+static void free_and_count(void *at)
+{
+    blocks -= at != NULL;
+    free(at);
+}
+struct block rattle_alloc(size_t size, size_t align)
+{
+    void *at = calloc_or_not(1, size ? size : align);
+
+    return (struct block){at != NULL, at};
+}
+struct block rattle_realloc(void *old, size_t kept, size_t size, size_t align)
+{
+    void *at = allocations_left-- ? realloc(old, size ? size : align) : NULL;
+
+    (void)kept;
+    return (struct block){at != NULL, at ? at : old};
+}
+void rattle_dealloc(void *at) { free_and_count(at); }
+static int atfork_or_not(void (*before)(void), void (*after)(void), void (*child)(void))
+{
+    return allocations_left-- ? pthread_atfork(before, after, child) : 12;
+}
 static int create_or_not(pthread_t *thread, const pthread_attr_t *attr, void *(*body)(void *), void *at)
 {
     return threads_left-- ? pthread_create(thread, attr, body, at) : 11;
@@ -24,6 +59,8 @@ static int lock_slowly(pthread_mutex_t *lock)
     return pthread_mutex_lock(lock);
 }
 #define calloc calloc_or_not
+#define free free_and_count
+#define pthread_atfork atfork_or_not
 #define pthread_mutex_lock lock_slowly
 #define pthread_create create_or_not
 #define pthread_cond_signal count_signal
@@ -41,14 +78,18 @@ static char text[TEXT];
 static size_t written;
 static bool gate_open, takes = true;
 static unsigned slow_us;
-static pthread_t main_thread;
 
+/* At its head, at entries and at its end the journal makes no call of its hub: else it might wait for itself. */
 static bool keep(void *data, const char *part, size_t len)
 {
+    struct cmwq_options options = {.items = 1};
+
     (void)data;
     CHECK(written + len <= TEXT && part[len - 1] == '\n');
-    if (!pthread_equal(pthread_self(), main_thread)) /* it makes no call of its hub, or else it might wait for itself */
-        CHECK(cmwq_queue_work_on(&hub, 0, 0, 0) == -CMWQ_NOT_NOW && cmwq_flush_work(&hub, 0, CMWQ_FOREVER) == -CMWQ_NOT_NOW);
+    CHECK(cmwq_queue_work_on(&hub, 0, 0, 0) == -CMWQ_NOT_NOW && cmwq_flush_work(&hub, 0, CMWQ_FOREVER) == -CMWQ_NOT_NOW);
+    CHECK(cmwq_cancel_work(&hub, 0) == -CMWQ_NOT_NOW && cmwq_work_busy(&hub, 0) == -CMWQ_NOT_NOW && cmwq_work_busy(&hub, ITEMS) == -CMWQ_NOT_NOW);
+    CHECK(cmwq_freeze_workqueues(&hub) == -CMWQ_NOT_NOW && cmwq_worker_sleeping(&hub) == -CMWQ_NOT_NOW);
+    CHECK(cmwq_hub_close(&hub) == -CMWQ_NOT_NOW && cmwq_hub_open(&hub, &options) == -CMWQ_NOT_NOW);
     usleep(slow_us);
     memcpy(text + written, part, len);
     __atomic_store_n(&written, written + len, __ATOMIC_RELEASE);
@@ -158,14 +199,26 @@ static void test_nothing_left(void)
     struct cmwq_options options = made(count);
 
     options.journal = keep;
-    for (unsigned k = 0; k < 2; k++) {
+    for (unsigned k = 0;; k++) {
+        int result;
+
+        written = 0;
         allocations_left = k;
-        CHECK(cmwq_hub_open(&hub, &options) == -CMWQ_NO_MEMORY && cmwq_hub_close(&hub) == -CMWQ_CLOSED);
+        result = cmwq_hub_open(&hub, &options);
+        if (result == CMWQ_OK) { /* later calls take no memory */
+            allocations_left = 0;
+            CHECK(k > 6 && cmwq_queue_work_on(&hub, 0, 0, 0) == 1 && cmwq_queue_delayed_work_on(&hub, 0, 1, 1, 1) == 1);
+            CHECK(cmwq_flush_work(&hub, 0, CMWQ_FOREVER) >= 0 && cmwq_drain_workqueue(&hub, 1, CMWQ_FOREVER) == 1);
+            CHECK(cmwq_hub_close(&hub) == CMWQ_OK && blocks == 0 && allocations_left == 0);
+            break;
+        }
+        CHECK(result == -CMWQ_NO_MEMORY && cmwq_hub_close(&hub) == -CMWQ_CLOSED && written == 0 && blocks == 0);
     }
     allocations_left = ~0u;
     for (unsigned k = 0; k < 6; k++) {
+        written = 0;
         threads_left = k;
-        CHECK(cmwq_hub_open(&hub, &options) == -CMWQ_NO_THREAD && cmwq_hub_close(&hub) == -CMWQ_CLOSED);
+        CHECK(cmwq_hub_open(&hub, &options) == -CMWQ_NO_THREAD && cmwq_hub_close(&hub) == -CMWQ_CLOSED && blocks == 0);
     }
     threads_left = 6; /* two workers in each pool, the clock and the journal */
     written = 0;
@@ -327,6 +380,49 @@ static void test_delays(void)
     judge();
 }
 
+/* A process may have many hubs: none of them takes a key for threads, of which a process has some 1,000. */
+static void test_many_hubs(void)
+{
+    static struct cmwq_hub many[64];
+    static pthread_key_t keys[PTHREAD_KEYS_MAX];
+    struct cmwq_options options = made(count);
+    unsigned taken = 0;
+
+    options.workers = 1;
+    while (taken < PTHREAD_KEYS_MAX && pthread_key_create(&keys[taken], NULL) == 0)
+        taken++;
+    for (unsigned k = 0; k < 64; k++)
+        CHECK(cmwq_hub_open(&many[k], &options) == CMWQ_OK && cmwq_queue_work_on(&many[k], 0, 0, k % ITEMS) == 1);
+    /* in whatever order they are closed */
+    for (unsigned k = 0; k < 64; k++)
+        CHECK(cmwq_hub_close(&many[k * 37 % 64]) == CMWQ_OK);
+    CHECK(ran == 64);
+    while (taken-- > 0)
+        CHECK(pthread_key_delete(keys[taken]) == 0);
+}
+
+/* A journal that calls another hub is called in a run of that one: it is the run there. */
+static bool call_hub(void *data, const char *part, size_t len)
+{
+    (void)data;
+    (void)len;
+    results[2] = cmwq_flush_work(&hub, 0, CMWQ_FOREVER);
+    results[3] = cmwq_queue_work_on(&other, 0, 0, 0);
+    results[4] += strncmp(part, "history", 7) == 0 || strncmp(part, "end", 3) == 0;
+    return true;
+}
+
+static void open_other(struct cmwq_run *run, void *data)
+{
+    struct cmwq_options options = {.queues = queues, .queue_count = 1, .items = 1, .journal = call_hub};
+
+    CHECK(cmwq_hub_open(&other, &options) == CMWQ_OK);
+    CHECK(results[2] == -CMWQ_ITSELF && results[3] == -CMWQ_NOT_NOW && cmwq_queue_work_on(&other, 0, 0, 0) == 1);
+    CHECK(cmwq_hub_close(run->hub) == -CMWQ_NOT_NOW && cmwq_hub_close(&other) == CMWQ_OK);
+    CHECK(results[2] == -CMWQ_ITSELF && results[3] == -CMWQ_NOT_NOW);
+    count(run, data);
+}
+
 static void call_other(struct cmwq_run *run, void *data)
 {
     /* an outsider there: it may wait with a timeout, and for an item of this number */
@@ -345,6 +441,11 @@ static void test_two_hubs(void)
     open_hub(options);
     CHECK(cmwq_queue_work_on(&hub, 0, 0, 0) == 1 && cmwq_flush_work(&hub, 0, CMWQ_FOREVER) >= 0);
     CHECK(results[0] >= 0 && results[1] == CMWQ_OK && cmwq_hub_close(&hub) == CMWQ_OK);
+
+    options = made(open_other);
+    results[4] = 0;
+    open_hub(options);
+    CHECK(cmwq_queue_work_on(&hub, 0, 0, 0) == 1 && cmwq_hub_close(&hub) == CMWQ_OK && ran == 1 && results[4] == 2);
 }
 
 /* One queueing wakes one worker. */
@@ -433,15 +534,15 @@ static void test_waiters(void)
 int main(void)
 {
     alarm(240);
-    main_thread = pthread_self();
+    test_nothing_left(); /* first, as the file asks once in a process to be told of forks */
     test_numbers();
-    test_nothing_left();
     test_frozen();
     test_room();
     test_journal();
     test_timeouts();
     test_delays();
     test_two_hubs();
+    test_many_hubs();
     test_waiters();
     test_signals();
     test_items();

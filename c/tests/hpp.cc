@@ -1,14 +1,82 @@
-// cmwq.hpp: callers, runs that wait, delays; everything ends, and each history is legal. hpp [ROUNDS]
-#include "cmwq.hpp"
+// cmwq.hpp: callers, runs that wait, delays; everything ends, and each history is legal. Then the ends of items and of
+// workqueues, also where memory is refused. hpp [ROUNDS]
+#include "cmwq.h"
 #include <atomic>
+#include <cerrno>
 #include <cstdio>
 #include <cstdlib>
+#include <new>
+#include <pthread.h>
 #include <random>
 #include <sstream>
+#include <stdlib.h>
+#include <sys/wait.h>
+#include <thread>
 #include <unistd.h>
 
+// Each allocation, of C++, of the shell and of the library, and each thread may be refused, and is counted.
+static std::atomic<long> allocations_left{-1}, threads_left{-1}, blocks{0}, looks{0};
+static bool is_refused(std::atomic<long> &left) { return left >= 0 && left-- == 0; }
+__attribute__((noinline)) static void *allocate(size_t size) noexcept
+{
+    void *at = is_refused(allocations_left) ? nullptr : std::malloc(size ? size : 1);
+    blocks += at != nullptr;
+    return at;
+}
+__attribute__((noinline)) static void give_back(void *at) noexcept
+{
+    blocks -= at != nullptr;
+    std::free(at);
+}
+static void *calloc_or_not(size_t many, size_t size)
+{
+    void *at = is_refused(allocations_left) ? nullptr : std::calloc(many, size);
+    blocks += at != nullptr;
+    return at;
+}
+static int create_or_not(pthread_t *thread, const pthread_attr_t *attr, void *(*body)(void *), void *at)
+{
+    return is_refused(threads_left) ? EAGAIN : pthread_create(thread, attr, body, at);
+}
+void *operator new(size_t size)
+{
+    if (void *at = allocate(size)) return at;
+    throw std::bad_alloc();
+}
+void operator delete(void *at) noexcept { give_back(at); }
+void operator delete(void *at, size_t) noexcept { give_back(at); }
+extern "C" {
+struct block { bool ok; void *at; };
+block rattle_alloc(size_t size, size_t) { void *at = allocate(size); return {at != nullptr, at}; }
+block rattle_realloc(void *old, size_t, size_t size, size_t)
+{
+    void *at = is_refused(allocations_left) ? nullptr : std::realloc(old, size);
+    return {at != nullptr, at ? at : old};
+}
+void rattle_dealloc(void *at) { give_back(at); }
+}
+static uint32_t count_looks(cmwq_board *board, uint16_t item, cmwq_item *state)
+{
+    looks++;
+    return cmwq_board_item(board, item, state);
+}
+#define calloc calloc_or_not
+#define free give_back
+#define pthread_create create_or_not
+#define cmwq_board_item count_looks
+#include "cmwq_hub.h"
+#undef calloc
+#undef free
+#undef pthread_create
+#include "cmwq.hpp"
+
 #define CHECK(holds) do { if (!(holds)) { std::fprintf(stderr, "%d: %s\n", __LINE__, #holds); std::abort(); } } while (0)
+#define REFUSED(call, kind) do { try { call; CHECK(!#call); } catch (const kind &) {} } while (0)
+#define REFUSED_AS(call, status) \
+    do { try { call; CHECK(!#call); } catch (const cmwq::failure &failure) { CHECK(failure.code() == status); } } while (0)
 using namespace std::chrono_literals;
+
+template <class Holds> static void wait_until(Holds holds) { while (!holds()) std::this_thread::sleep_for(1ms); }
 
 static size_t trial(unsigned seed)
 {
@@ -137,6 +205,273 @@ static void dropped_in_a_run()
     while (!dropped) std::this_thread::sleep_for(1ms);
 }
 
+// In a run of theirs, where no thread can be started any more.
+static void dropped_without_threads()
+{
+    std::atomic<bool> dropped{false};
+    auto all = std::make_unique<cmwq::workqueues>(cmwq::shape{}.queue("a", cmwq::max_active(1)));
+    cmwq::queue queue = all->queue("a");
+    std::shared_ptr<int> guard(new int, [&dropped](int *at) { delete at; dropped = true; });
+    cmwq::item item = queue.make([&all, guard](cmwq::run &) {
+        threads_left = 0;
+        allocations_left = 0;
+        all.reset();
+        allocations_left = -1;
+    });
+    guard.reset();
+    item.queue();
+    wait_until([&] { return dropped.load(); });
+    threads_left = -1;
+    REFUSED_AS(item.queue(), CMWQ_CLOSED);
+    REFUSED_AS(queue.make([](cmwq::run &) {}), CMWQ_CLOSED);
+}
+
+// Two threads call shutdown() while a function runs: it is not dropped meanwhile, and both wait for it.
+static void shut_down_twice()
+{
+    auto all = std::make_unique<cmwq::workqueues>(cmwq::shape{}.queue("a", cmwq::max_active(2)));
+    auto big = std::make_shared<std::vector<int>>(1000, 7);
+    std::weak_ptr<std::vector<int>> seen = big;
+    std::atomic<unsigned> runs{0}, ended{0};
+    cmwq::item slow = all->queue("a").make([big, seen, &runs, &ended](cmwq::run &) {
+        runs++;
+        std::this_thread::sleep_for(50ms);
+        CHECK(!seen.expired() && (*big)[999] == 7);
+        ended++;
+    });
+    cmwq::item quick = all->queue("a").make([&runs](cmwq::run &) { runs++; });
+    big.reset();
+    slow.queue();
+    quick.queue();
+    wait_until([&] { return runs > 0; });
+    std::vector<std::thread> callers;
+    for (int c = 0; c < 2; c++) callers.emplace_back([&] { all->shutdown(); CHECK(ended == 1 && runs == 2); });
+    for (auto &caller : callers) caller.join();
+    CHECK(seen.expired());
+}
+
+// A run calls shutdown() while its owner does: it is refused there, and goes on.
+static void shut_down_in_a_run()
+{
+    for (bool owner_first : {true, false}) {
+        cmwq::workqueues all(cmwq::shape{}.queue("a", cmwq::max_active(1)));
+        std::atomic<int> code{0}, in{0};
+        cmwq::item item = all.queue("a").make([&, text = std::string(100, 'x')](cmwq::run &) {
+            in = 1;
+            if (owner_first) std::this_thread::sleep_for(30ms);
+            try { all.shutdown(); } catch (const cmwq::failure &failure) { code = failure.code(); }
+            CHECK(text == std::string(100, 'x'));
+        });
+        item.queue();
+        wait_until([&] { return in == 1; });
+        if (!owner_first) item.flush();
+        all.shutdown();
+        CHECK(code == CMWQ_NOT_NOW);
+    }
+}
+
+// An item that was moved from is empty, and says so; a queue never is.
+static void moved()
+{
+    cmwq::workqueues all(cmwq::shape{}.items(2).queue("a", cmwq::max_active(1)));
+    cmwq::queue a = all.queue("a"), b = std::move(a);
+    cmwq::item one = a.make([](cmwq::run &) {}), two = std::move(one), none, three = one;
+    CHECK(!one && two && !none && !three && two.queue() && two.flush_for(10s));
+    REFUSED(one.queue(), std::logic_error);
+    REFUSED(none.flush(), std::logic_error);
+    REFUSED(three.cancel_sync_for(1ms), std::logic_error);
+    REFUSED(one.queue_delayed(1ms), std::logic_error);
+    REFUSED(one.is_pending(), std::logic_error);
+    one = two;
+    two = std::move(one);
+    two = *&two;
+    CHECK(two && !one && two.queue());
+    two.flush();
+    three = a.make([](cmwq::run &) {});
+    REFUSED(b.make([](cmwq::run &) {}), std::length_error);
+    three = two;
+    CHECK(b.make([](cmwq::run &) {}));
+    std::vector<cmwq::item> many(1, two);
+    many.insert(many.begin(), b.make([](cmwq::run &) {}));
+    CHECK(many[0].queue() && many[1] && many[0].flush_for(10s));
+}
+
+static void limits()
+{
+    auto with = [](uint64_t most) { cmwq::workqueues all(cmwq::shape{}.items(1).queue("a", cmwq::max_active(most))); };
+    with(1);
+    with(512);
+    for (uint64_t most : {uint64_t(0), uint64_t(513), uint64_t(65535), uint64_t(65537), uint64_t(65536 + 512), uint64_t(1) << 32 | 1, ~uint64_t(0)})
+        REFUSED_AS(with(most), CMWQ_REFUSED);
+    REFUSED(cmwq::shape{}.queue("a", cmwq::max_active(1)).queue("b", cmwq::max_active(1)).queue("a", cmwq::max_active(2)), std::invalid_argument);
+    REFUSED_AS(cmwq::shape{}.tick(-1ns), CMWQ_REFUSED);
+    for (unsigned items : {0u, 65536u, 65537u, ~0u}) {
+        cmwq::shape shape;
+        shape.items(items).queue("a", cmwq::max_active(1));
+        REFUSED_AS(cmwq::workqueues(std::move(shape)), CMWQ_REFUSED);
+    }
+}
+
+// A handle that is dropped costs the same with many open items, and a function is dropped when its last run ends. The
+// cost is counted in how often the board is asked for an item.
+static void dropped_handles()
+{
+    for (unsigned many : {10u, 3000u}) {
+        auto held = std::make_shared<int>(0);
+        std::atomic<bool> open{false};
+        std::atomic<unsigned> runs{0};
+        cmwq::workqueues all(cmwq::shape{}.items(many + 1).workers(2).queue("a", cmwq::max_active(512)));
+        cmwq::queue queue = all.queue("a");
+        cmwq::item gate = queue.make([&open](cmwq::run &) { wait_until([&] { return open.load(); }); });
+        gate.queue();
+        looks = 0;
+        for (unsigned k = 0; k < many; k++) {
+            cmwq::item item = queue.make([&runs, held](cmwq::run &) { runs++; });
+            item.queue();
+        }
+        CHECK(looks <= 2 * many && held.use_count() == long(many) + 1 && runs == 0);
+        REFUSED(queue.make([](cmwq::run &) {}), std::length_error);
+        CHECK(looks <= 2 * many);
+        open = true;
+        queue.flush(); // all numbers are free then
+        CHECK(runs == many && looks <= 3 * many + 2);
+        for (unsigned k = 0; k < many; k++) queue.make([](cmwq::run &) {});
+        wait_until([&] { return held.use_count() == 1; });
+    }
+}
+
+// A number comes back when the run has ended, whatever became of its handles.
+static void numbers_come_back()
+{
+    std::atomic<bool> open{false};
+    std::atomic<unsigned> runs{0};
+    cmwq::workqueues all(cmwq::shape{}.items(1).queue("a", cmwq::max_active(1)).queue("b", cmwq::max_active(1)));
+    cmwq::queue a = all.queue("a"), b = all.queue("b");
+    auto slow = [&](cmwq::run &) { runs++; wait_until([&] { return open.load(); }); };
+    {
+        cmwq::item item = a.make(slow); // dropped while it runs, and a cancel_sync that was left waits for it
+        item.queue();
+        wait_until([&] { return item.is_running(); });
+        CHECK(!item.cancel_sync_for(0ms));
+    }
+    REFUSED(b.make([](cmwq::run &) {}), std::length_error);
+    open = true;
+    a.flush();
+    cmwq::item item = b.make([&](cmwq::run &run) { if (runs++ == 1) run.requeue_after(1ms); });
+    CHECK(item.queue());
+    item = cmwq::item(); // its run is not the last
+    b.flush();
+    REFUSED(a.make([](cmwq::run &) {}), std::length_error);
+    wait_until([&] { return runs == 3; });
+    b.flush();
+    item = a.make([&](cmwq::run &) { item = cmwq::item(); runs++; }); // the last handle is dropped in its run
+    item.queue();
+    a.flush();
+    CHECK(runs == 4 && a.make([](cmwq::run &) {}));
+    item = a.make([&](cmwq::run &) { runs++; }); // a timer that is taken back at the end
+    item.queue_delayed(1h);
+    item = cmwq::item();
+    all.shutdown();
+    CHECK(runs == 4);
+}
+
+// What a function drops at its end may have handles, and calls the hub.
+static void dropped_functions_call()
+{
+    std::atomic<unsigned> runs{0};
+    std::atomic<int> code{-1};
+    cmwq::workqueues all(cmwq::shape{}.queue("a", cmwq::max_active(1)));
+    cmwq::queue queue = all.queue("a");
+    cmwq::item next = queue.make([&](cmwq::run &) { runs++; });
+    struct calls {
+        cmwq::item next;
+        std::atomic<int> *code;
+        ~calls()
+        {
+            next.queue();
+            try { next.flush(); *code = CMWQ_OK; } catch (const cmwq::failure &failure) { *code = failure.code(); }
+        }
+    };
+    std::shared_ptr<calls> last(new calls{next, &code});
+    cmwq::work work = [&runs, last](cmwq::run &) { runs++; };
+    last.reset();
+    queue.make(std::move(work)).queue(); // so the hub alone has it
+    wait_until([&] { return code != -1; });
+    queue.flush();
+    CHECK(code == CMWQ_NOT_NOW && runs == 2); // the thread of a worker waits for nothing there
+}
+
+// In a child of a fork all is closed, and no function is dropped.
+[[maybe_unused]] static void forked()
+{
+    std::atomic<bool> open{false}, dropped{false};
+    std::unique_ptr<cmwq::workqueues> all(new cmwq::workqueues(cmwq::shape{}.queue("a", cmwq::max_active(1))));
+    std::unique_ptr<cmwq::queue> queue(new cmwq::queue(all->queue("a")));
+    std::shared_ptr<int> guard(new int, [&dropped](int *at) { delete at; dropped = true; });
+    cmwq::item item = queue->make([&open, guard](cmwq::run &) { wait_until([&] { return open.load(); }); });
+    cmwq::item other = queue->make([guard](cmwq::run &) {});
+    guard.reset();
+    item.queue();
+    wait_until([&] { return item.is_running(); });
+    std::fflush(nullptr);
+    pid_t child = fork();
+    CHECK(child >= 0);
+    if (child == 0) {
+        alarm(60);
+        REFUSED_AS(item.queue(), CMWQ_CLOSED);
+        REFUSED_AS(queue->flush(), CMWQ_CLOSED);
+        REFUSED_AS(queue->make([](cmwq::run &) {}), CMWQ_CLOSED);
+        other = cmwq::item();
+        all->shutdown();
+        all.reset();
+        queue.reset();
+        item = cmwq::item();
+        _exit(dropped ? 1 : 7);
+    }
+    int how;
+    CHECK(waitpid(child, &how, 0) == child && WIFEXITED(how) && WEXITSTATUS(how) == 7);
+    open = true;
+    CHECK(item.flush_for(10s) && other.queue());
+    all->shutdown();
+    CHECK(dropped);
+}
+
+// A small service. What it throws is of this library, or a lack of memory.
+static void serve()
+{
+    std::atomic<unsigned> runs{0};
+    cmwq::workqueues all(cmwq::shape{}.items(4).workers(2).queue("a", cmwq::max_active(2)).queue("b", cmwq::max_active(1).high()));
+    cmwq::queue a = all.queue("a"), b = all.queue("b");
+    for (unsigned k = 0; k < 6; k++) {
+        cmwq::item item = a.make([&runs, k, text = std::string(50, 'x')](cmwq::run &run) { run.block([&] { runs += k; }); });
+        item.queue();
+        item.flush();
+    }
+    {
+        cmwq::item one = b.make([](cmwq::run &) {}), two = a.make([](cmwq::run &) { throw std::runtime_error("on purpose"); });
+        one.queue_delayed(1ms);
+        two.queue();
+        one.cancel_sync();
+        two.flush();
+    }
+    try { all.shutdown(); CHECK(runs == 99); } catch (const std::runtime_error &) { CHECK(runs == 15); }
+}
+
+// Each allocation and each thread refused in turn: the service ends, or throws; it ends no process, and leaves nothing.
+static long refuse(std::atomic<long> &left)
+{
+    for (long many = 0;; many++) {
+        long before = blocks;
+        bool thrown = false;
+        left = many;
+        try { serve(); } catch (const std::bad_alloc &) { thrown = true; } catch (const cmwq::failure &) { thrown = true; }
+        bool ended = left >= 0;
+        left = -1;
+        CHECK(blocks == before && !(ended && thrown));
+        if (ended) return many;
+    }
+}
+
 int main(int argc, char **argv)
 {
     unsigned rounds = argc > 1 ? unsigned(std::atoi(argv[1])) : 100;
@@ -157,5 +492,17 @@ int main(int argc, char **argv)
     items_come_and_go();
     waits_with_timeouts();
     dropped_in_a_run();
+    dropped_without_threads();
+    shut_down_twice();
+    shut_down_in_a_run();
+    moved();
+    limits();
+    dropped_handles();
+    numbers_come_back();
+    dropped_functions_call();
+#if !defined __SANITIZE_ADDRESS__ && !defined __SANITIZE_THREAD__
+    forked(); // another thread may hold a lock of a sanitizer's own at a fork: the child hangs then
+#endif
+    CHECK(refuse(allocations_left) > 20 && refuse(threads_left) > 4);
     std::printf("%u trials, %zu refused as circles\n", rounds, circles);
 }

@@ -1,9 +1,10 @@
 #!/usr/bin/env python3
-"""Wrong shells, each of which a test must find: wrong.py LIBRARY [--quick | NAME..]
+"""Wrong shells, each of which a test must find: c/tests/wrong.py LIBRARY [--quick | NAME..]
 
-A wrong shell is an edit of cmwq_shell.h or cmwq_hub.h. Each is built with the tests `stress`, `faults` and `ends`, in
-a folder of its own. The first that fails, or does not end in time, has found it. With --quick a few are tried. CC
-names the compiler. The last line is `N passed, M failed`.
+A wrong shell is an edit of cmwq_shell.h, cmwq_hub.h or cmwq.hpp. Each is built with the tests `stress`, `faults`,
+`ends` and `forks`, or with `hpp`, in a folder of its own. The first that fails, or does not end in time, has found it.
+With --quick a few are tried, and the shell as it is is not, as tools/c tries it. CC and CXX name the compilers; what
+is skipped has a line `skipped: WHAT: WHY`. The last line is `N passed, M failed`.
 """
 import concurrent.futures
 import os
@@ -18,7 +19,12 @@ C = os.path.join(os.path.dirname(os.path.realpath(__file__)), "..")
 AT_ONCE, SECONDS = 2, 60
 
 # The tests, with their arguments: 200 rounds, from the first on, of at most 5 seconds each.
-TESTS = (("stress", ["200", "0", "5"]), ("faults", []), ("ends", []))
+TESTS = (("stress.c", ["200", "0", "5"]), ("faults.c", []), ("ends.c", []), ("forks.c", []))
+TESTS_OF_HPP = (("hpp.cc", ["10"]),)
+
+HEADERS = {"shell": "cmwq_shell.h", "hub": "cmwq_hub.h", "hpp": "cmwq.hpp"}
+
+COMPILERS = {".c": (os.environ.get("CC", "cc"), "-std=gnu11"), ".cc": (os.environ.get("CXX", "c++"), "-std=c++17")}
 
 # Those that are tried by --quick.
 QUICK = ("a wake is dropped", "the wakes of a call are noted in a second hold",
@@ -92,7 +98,7 @@ EDITS = (
     (
         "a run is an outsider",
         "hub",
-        "run = (struct cmwq_run *)pthread_getspecific(hub->key);",
+        "run = here ? here->run : NULL;",
         "run = NULL;",
     ),
     (
@@ -137,11 +143,9 @@ EDITS = (
     (
         "the journal's end is counted without the lock",
         "hub",
-        "    if (hub->is.journal && !hub->deaf)\n"
-        "        hub->deaf =",
+        "    if (hub->is.journal && !hub->deaf) hub->deaf =",
         "    status = snprintf(last, sizeof last, \"end %llu\\n\", (unsigned long long)cmwq_board_len(&hub->board));\n"
-        "    if (hub->is.journal && !hub->deaf)\n"
-        "        hub->deaf =",
+        "    if (hub->is.journal && !hub->deaf) hub->deaf =",
     ),
     (
         "the hub is freed under who is in it",
@@ -168,15 +172,21 @@ EDITS = (
     (
         "a journal that calls the hub",
         "hub",
-        "else if (run && !run->hub)\n"
-        "        status = CMWQ_NOT_NOW;\n"
+        "else if (here && !run)\n"
+        "        status = CMWQ_NOT_NOW; /* in the journal */\n"
         "    ",
         "",
     ),
     (
+        "the head of a journal calls the hub",
+        "hub",
+        "hub->deaf = is.journal && !cmwq_hub_tell_(hub, &here, head, len);",
+        "hub->deaf = is.journal && !is.journal(is.journal_data, (const char *)head, len);",
+    ),
+    (
         "space is not looked for",
         "hub",
-        "if (!run || run->hub) cmwq_hub_space_(hub, hub->is.keep);",
+        "if (!here || run) cmwq_hub_space_(hub, hub->is.keep);",
         "",
     ),
     (
@@ -188,14 +198,15 @@ EDITS = (
     (
         "a hub is closed in a run",
         "hub",
-        "pthread_getspecific(hub->key) ? CMWQ_NOT_NOW : CMWQ_OK",
-        "CMWQ_OK",
+        "cmwq_hub_here_(hub) ? CMWQ_NOT_NOW\n"
+        "             :",
+        "",
     ),
     (
         "a hub is closed twice",
         "hub",
-        "hub->state != CMWQ_OPEN_ ? CMWQ_CLOSED :",
-        "hub->state == CMWQ_CLOSING_ ? CMWQ_CLOSED :",
+        "status = hub->state == CMWQ_NONE_ ? CMWQ_CLOSED :",
+        "status = 0 ? CMWQ_CLOSED :",
     ),
     (
         "threads are left where one does not start",
@@ -204,6 +215,95 @@ EDITS = (
         "    return -CMWQ_NO_THREAD;",
         "    return cmwq_hub_free_(hub, -CMWQ_NO_THREAD);",
         "-fsanitize=address",
+    ),
+    (
+        "a hub stays open in a child",
+        "shell",
+        "        hub->state = CMWQ_NONE_;\n"
+        "        hub->among = NULL;\n",
+        "        hub->among = NULL;\n",
+    ),
+    (
+        "the lock of a hub is still held in a child",
+        "shell",
+        "        pthread_mutex_init(&hub->lock, NULL);\n",
+        "",
+    ),
+    (
+        "a run goes on in a child",
+        "shell",
+        "if (here.forked) break;",
+        "",
+    ),
+    (
+        "a hub that was closed is still in the list",
+        "shell",
+        "        *hub->before = hub->next;\n",
+        "",
+        "-fsanitize=address",
+    ),
+    (
+        "a child frees nothing",
+        "shell",
+        "hub->torn = pthread_mutex_trylock(&hub->lock) != 0;",
+        "hub->torn = true;",
+        "-fsanitize=address",
+    ),
+    (
+        "a second shutdown drops the functions",
+        "hpp",
+        "if (result == CMWQ_OK || result == -CMWQ_NO_JOURNAL)",
+        "if (result != -CMWQ_NOT_NOW)",
+    ),
+    (
+        "a second shutdown does not wait",
+        "hpp",
+        "if (result == -CMWQ_CLOSED) hub_->wait_for_end();",
+        "",
+    ),
+    (
+        "a number comes back while the item is pending",
+        "hpp",
+        "state.pending != CMWQ_NOT_PENDING || state.runs",
+        "state.runs",
+    ),
+    (
+        "a number comes back while the item runs",
+        "hpp",
+        "state.pending != CMWQ_NOT_PENDING || state.runs",
+        "state.pending != CMWQ_NOT_PENDING",
+    ),
+    (
+        "numbers do not come back after a run",
+        "hpp",
+        "        options.ended_ = detail::hub::ended;\n",
+        "",
+    ),
+    (
+        "a function is dropped under the lock",
+        "hpp",
+        "        cmwq_hub_unlock_(of);\n"
+        "        gone = nullptr;\n"
+        "        pthread_mutex_lock(&of->lock);\n",
+        "        gone = nullptr;\n",
+    ),
+    (
+        "a child drops the functions",
+        "hpp",
+        "if (of.forked) slots.release();",
+        "",
+    ),
+    (
+        "another thread closes what is dropped in a run",
+        "hpp",
+        "detail::hub::leave(hub_);",
+        "std::thread([hub = hub_] { hub->end(); }).detach();",
+    ),
+    (
+        "an item that was moved from has its number",
+        "hpp",
+        "slot_(std::exchange(from.slot_, nullptr))",
+        "slot_(from.slot_)",
     ),
 )
 
@@ -219,32 +319,41 @@ def fails(program, words):
 def found_by(library, name, header, old, new, sanitizer=None):
     """The test that finds it, or None."""
     with tempfile.TemporaryDirectory() as folder:
-        for it in ("cmwq.h", "cmwq_hub.h", "cmwq_shell.h"):
+        for it in ("cmwq.h", *HEADERS.values()):
             shutil.copy(f"{C}/{it}", folder)
-        path = f"{folder}/cmwq_{header}.h"
+        path = f"{folder}/{HEADERS[header]}"
         with open(path, encoding="utf-8") as it:
             text = it.read()
         if old not in text:
             sys.exit(f"{name}: the edit does not apply")
         with open(path, "w", encoding="utf-8") as it:
             it.write(text.replace(old, new))
-        for test, words in TESTS:
-            flags = ["-std=gnu11", "-O1", "-w", *([sanitizer] if sanitizer else []), f"-I{folder}", f"-I{C}/tests"]
-            sources = [f"{C}/tests/{test}.c", library, "-lpthread"]
-            subprocess.run([os.environ.get("CC", "cc"), *flags, *sources, "-o", f"{folder}/{test}"], check=True)
-            if fails(f"{folder}/{test}", words):
+        for test, words in TESTS_OF_HPP if header == "hpp" else TESTS:
+            flags = ["-O1" if sanitizer is None else "-O0", "-w", *([sanitizer] if sanitizer else [])]
+            sources = [f"-I{folder}", f"-I{C}/tests", f"{C}/tests/{test}", library, "-lpthread"]
+            program = f"{folder}/program"
+            subprocess.run([*COMPILERS[os.path.splitext(test)[1]], *flags, *sources, "-o", program], check=True)
+            if fails(program, words):
                 return test
     return None
 
 
 def main():
+    if not sys.argv[1:] or sys.argv[1].startswith("-"):
+        print(__doc__.strip())
+        sys.exit(0 if sys.argv[1:] == ["--help"] else 2)
     library, names, failed = sys.argv[1], sys.argv[2:], 0
-    names = QUICK if names == ["--quick"] else names
+    is_quick = names == ["--quick"]
+    names = QUICK if is_quick else names
     edits = [it for it in EDITS if not names or it[0] in names]
-    test = found_by(library, "no edit", "shell", "", "")
-    if test:
-        print(f"the shell as it is fails {test}\n0 passed, 1 failed")
-        sys.exit(1)
+    if not shutil.which(COMPILERS[".cc"][0]):
+        edits = [it for it in edits if it[1] != "hpp"]
+        print(f"skipped: wrong shells in C++: there is no {COMPILERS['.cc'][0]}")
+    for header in sorted({"shell" if it[1] == "hub" else it[1] for it in edits}) if not is_quick else ():
+        test = found_by(library, "no edit", header, "", "")
+        if test:
+            print(f"the shell as it is fails {test}\n0 passed, 1 failed")
+            sys.exit(1)
     with concurrent.futures.ThreadPoolExecutor(AT_ONCE) as pool:
         for edit, test in zip(edits, pool.map(lambda it: found_by(library, *it), edits)):
             failed += not test
