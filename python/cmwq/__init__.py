@@ -13,15 +13,19 @@ is CPU intensive, if they are on several CPUs, or if runs sleep, which they do i
         item.cancel_sync()                          # neither pending nor running
 
 Calls in a work function are calls of its run, by whatever handle. A run that waits sleeps meanwhile. A wait of a run
-that could never end raises Itself or Deadlock. Every exception of this package is an Error.
+that could never end raises Itself or Deadlock. Every exception of this package is an Error, but an argument of the
+wrong type raises TypeError. What work functions raise is logged by the logger "cmwq".
 """
 from ._book import Book, Refused, Shape, check
 from ._errors import (Closed, Deadlock, Draining, Error, Foreign, Full, Gone, HistoryError, Invalid, Itself, NoItem,
-                      NoMemory, NotAHistory, TimedOut, TimeoutInRun, Timers, TooManyWaits, VersionMismatch, WorkError)
-from ._hub import Block, Hub, Item, Queue, QueueOptions, Run, max_active
+                      NoMemory, NotAHistory, NotRun, NoThread, RunEnded, TimedOut, TimeoutInRun, Timers, TooManyWaits,
+                      VersionMismatch, WorkError)
+from ._hub import Hub, Item, Queue
 from ._library import VERSION as __version__
+from ._options import QueueOptions, max_active
+from ._run import Block, Run
 
 __all__ = ["Block", "Book", "Closed", "Deadlock", "Draining", "Error", "Foreign", "Full", "Gone", "HistoryError", "Hub",
-           "Invalid", "Item", "Itself", "NoItem", "NoMemory", "NotAHistory", "Queue", "QueueOptions", "Refused", "Run",
-           "Shape", "TimedOut", "TimeoutInRun", "Timers", "TooManyWaits", "VersionMismatch", "WorkError", "__version__",
-           "check", "max_active"]
+           "Invalid", "Item", "Itself", "NoItem", "NoMemory", "NoThread", "NotAHistory", "NotRun", "Queue",
+           "QueueOptions", "Refused", "Run", "RunEnded", "Shape", "TimedOut", "TimeoutInRun", "Timers", "TooManyWaits",
+           "VersionMismatch", "WorkError", "__version__", "check", "max_active"]

@@ -1,4 +1,5 @@
 """The exceptions."""
+from typing import Any, Sequence
 
 
 class Error(Exception):
@@ -18,12 +19,20 @@ class NoMemory(Error, MemoryError):
     """There is no memory."""
 
 
+class NoThread(Error, RuntimeError):
+    """A thread could not be started."""
+
+
 class NoItem(Error):
     """All items of the hub are in use."""
 
 
 class Closed(Error):
-    """The hub is shut down."""
+    """The hub is shut down. In a process that was forked it is closed from the beginning."""
+
+
+class RunEnded(Error):
+    """The run has ended, so it makes no calls any more."""
 
 
 class Full(Error):
@@ -67,12 +76,25 @@ class TimeoutInRun(Error):
     """A call in a work function can't have a time limit."""
 
 
+class NotRun(Error):
+    """Items were queued that did not run, since the hub has failed. `items` has them. Raised by `Hub.shutdown` and the
+    end of `with`."""
+
+    def __init__(self, text: str, items: Sequence[Any] = ()) -> None:
+        super().__init__(text)
+        self.items = tuple(items)
+
+
 class WorkError(Error):
-    """Work functions have raised. The first exception is its cause. Raised by `Hub.shutdown` and the end of `with`."""
+    """Work functions have raised. The first exception is its cause, and `errors` has all. Raised as `NotRun` is."""
+
+    def __init__(self, text: str, errors: Sequence[BaseException] = ()) -> None:
+        super().__init__(text)
+        self.errors = tuple(errors)
 
 
 class HistoryError(Error):
-    """The history could not be written, and ends where that happened. Raised as `WorkError` is."""
+    """The history could not be written, and ends where that happened. Raised as `NotRun` is."""
 
 
 class NotAHistory(Error, ValueError):

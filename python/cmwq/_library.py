@@ -2,7 +2,11 @@
 import ctypes
 import os
 import struct
-from typing import Any, Tuple
+import sys
+import threading
+from itertools import starmap
+from types import SimpleNamespace
+from typing import Any, Callable, Tuple
 
 from . import _errors as errors
 
@@ -19,8 +23,19 @@ ITSELF, DEADLOCK, NO_CALLER, WAITS, RESTS, OVER, LOOK_AGAIN = range(11, 18)
 CALLER, WORKER, HIGH_WORKER = range(3)
 PENDING_TIMER, NOBODY, LINE, NEVER = 1, 255, 256, 2 ** 64 - 1
 
-FAULTS = {FULL: errors.Full, NO_MEMORY: errors.NoMemory, STOPPED: errors.Closed, FAILED: errors.Closed,
-          OVER: errors.Closed, ITSELF: errors.Itself, DEADLOCK: errors.Deadlock, NO_CALLER: errors.TooManyWaits}
+# The kind of the reply to a call that was not made.
+NONE = 255
+
+# A status of the shell: the time limit has passed.
+TIMED_OUT = 32
+
+FAULTS = {CLOSED: errors.Closed, FULL: errors.Full, NO_MEMORY: errors.NoMemory, STOPPED: errors.Closed,
+          FAILED: errors.Closed, OVER: errors.Closed, ITSELF: errors.Itself, DEADLOCK: errors.Deadlock,
+          NO_CALLER: errors.TooManyWaits, TIMED_OUT: errors.TimedOut}
+
+# What is said in place of what the exception says. A board is closed only in a process that was forked.
+FORKED = "the hub is closed in this process, which was forked from the one that opened it"
+ASLEEP = "a run that sleeps makes no calls but waits"
 
 REFUSALS = {FOREIGN: errors.Foreign, DRAINING: errors.Draining, GONE: errors.Gone, TIMERS: errors.Timers,
             CROWD: errors.TooManyWaits, MISUSE: errors.Invalid}
@@ -48,34 +63,16 @@ class ItemState(ctypes.Structure):
                 ("worker", ctypes.c_uint8 * 3)]
 
 
-class Buffer:
-    """A struct of C, by its format."""
+# A call, and NONE as the kind of the reply after it: ticket, number, item, kind, queue, cpu, and who: kind, index, cpu.
+CALL = struct.Struct("<QIHBBBBBB4x18xB")
 
-    def __init__(self, form: str, size: int) -> None:
-        self.bytes = ctypes.create_string_buffer(b"\xff" * size, size)
-        self.at = ctypes.addressof(self.bytes)
-        self._struct = struct.Struct(form)
+# number, other, item, kind
+REPLY = struct.Struct("<QQHB")
 
-    def set(self, *values: int) -> int:
-        self._struct.pack_into(self.bytes, 0, *values)
-        return self.at
-
-    def get(self) -> Tuple[Any, ...]:
-        return self._struct.unpack_from(self.bytes, 0)
-
-
-def call_buffer() -> Buffer:
-    """ticket, number, item, kind, queue, cpu, and who: kind, index, cpu"""
-    return Buffer("<QIHBBBBBBxxxx", 24)
-
-
-def reply_buffer() -> Buffer:
-    """number, other, item, kind"""
-    return Buffer("<QQHB", 24)
-
-
-def wakes_buffer() -> Buffer:
-    return Buffer("<34B", 34)
+# What a call of a board reads and writes, and where in it that is. WHO is a part of the call.
+Buffer = ctypes.c_char * 104
+WHO_AT, REPLY_AT, WAKES_AT, ITEM_AT, NUMBER_AT, PARTY_AT = 17, 24, 48, 84, 88, 96
+WAKES = slice(WAKES_AT, WAKES_AT + 34)
 
 
 def _path() -> str:
@@ -121,6 +118,30 @@ judging.cmwq_check.restype = ctypes.c_uint32
 judging.cmwq_check.argtypes = [ctypes.c_char_p, _SIZE, _AT, _SIZE, _AT]
 
 
+def step(notes: Any, call: Callable[..., Any], arguments: Tuple[Any, ...], whose: Any = None) -> None:
+    """Makes a call of C, and notes its result at the end of a list or deque, with whose it is. Both are one step: no
+    other thread and no signal handler comes between."""
+    notes += zip(starmap(call, (arguments,)), (whose,))
+
+
+if not getattr(sys, "_is_gil_enabled", lambda: True)():
+    # An interpreter without a lock. One of our own is held in each call of the library, and no longer.
+    _lock, _step, _calls = threading.RLock(), step, lib
+
+    def _locked(call: Callable[..., Any]) -> Callable[..., Any]:
+        def made(*arguments: Any) -> Any:
+            with _lock:
+                return call(*arguments)
+        made.call = call  # type: ignore[attr-defined]
+        return made
+
+    def step(notes: Any, call: Callable[..., Any], arguments: Tuple[Any, ...], whose: Any = None) -> None:
+        with _lock:
+            _step(notes, getattr(call, "call", call), arguments, whose)
+
+    lib = SimpleNamespace(**{f"cmwq_{name}": _locked(getattr(_calls, f"cmwq_{name}")) for name in _CALLS})
+
+
 def check_version() -> None:
     """Raises unless the library is that of this package."""
     major, minor, patch = map(int, VERSION.split("."))
@@ -133,17 +154,16 @@ def check_version() -> None:
 def done(status: int) -> None:
     """Raises the exception of a status."""
     if status:
-        raise FAULTS.get(status, errors.Invalid)(_text(FAULTS.get(status)))
+        kind = FAULTS.get(status, errors.Invalid)
+        raise kind(FORKED if status == CLOSED else _text(kind))
 
 
 def told(kind: int) -> int:
     """Raises the exception of a reply that says that nothing was done."""
     if kind in REFUSALS:
-        raise REFUSALS[kind](_text(REFUSALS[kind]))
+        raise REFUSALS[kind](ASLEEP if kind == MISUSE else _text(REFUSALS[kind]))
     return kind
 
 
 def _text(kind: Any) -> str:
-    if kind is None or kind is errors.Invalid:
-        return "an argument is outside its limits"
     return " ".join((kind.__doc__ or "").split()).split(". ")[0].rstrip(".")

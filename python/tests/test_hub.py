@@ -1,56 +1,15 @@
-"""python -m unittest discover python/tests. CMWQ_SEEDS says how many random trials there are."""
+"""python -m unittest discover python/tests"""
 import faulthandler
 import glob
 import io
 import os
 import random
 import signal
-import sys
 import threading
 import time
 import unittest
 
-HERE = os.path.dirname(os.path.abspath(__file__))
-sys.path.insert(0, os.environ.get("CMWQ_PACKAGE", os.path.dirname(HERE)))
-
-import cmwq  # noqa: E402
-
-REPOSITORY = os.path.dirname(os.path.dirname(HERE))
-
-SEEDS = int(os.environ.get("CMWQ_SEEDS", "40"))
-
-SECONDS = float(os.environ.get("CMWQ_SECONDS", "60"))
-
-
-def judged(text):
-    """How many entries a history has, which is legal."""
-    legal, line = cmwq.check(text.getvalue())
-    assert legal, f"{line}\n{text.getvalue()[:3000]}"
-    return int(line.split()[1])
-
-
-class Case(unittest.TestCase):
-    def setUp(self):
-        faulthandler.dump_traceback_later(SECONDS, exit=True)
-
-    def tearDown(self):
-        faulthandler.cancel_dump_traceback_later()
-
-    def hub(self, **more):
-        self.text = io.StringIO()
-        return cmwq.Hub(history=self.text, **more)
-
-
-class Gate:
-    """A work function that runs until it is let go."""
-
-    def __init__(self):
-        self.go, self.runs = threading.Semaphore(0), 0
-
-    def __call__(self, run):
-        with run.block():
-            self.go.acquire()
-        self.runs += 1
+from common import REPOSITORY, SECONDS, SEEDS, Case, Gate, cmwq, judged
 
 
 class Hubs(Case):
@@ -79,13 +38,13 @@ class Hubs(Case):
         queues = {"disk": cmwq.max_active(2), "all": cmwq.max_active(9, cpu_intensive=True, high_priority=True),
                   "cold": cmwq.max_active(1, freezable=True)}
         with self.hub(cpus=2, workers=3, queues=queues) as hub:
-            barrier, colds = threading.Barrier(3), []
+            barrier, colds, queue = threading.Barrier(3), [], hub.queue("cold")
             items = [hub.queue("all").item(lambda run: barrier.wait(10), cpu=1) for _ in range(3)]
             for item in items:
                 item.queue()
             hub.queue("all").flush(timeout=10)  # all three ran at once
 
-            @hub.queue("cold").item
+            @queue.item
             def cold(run):
                 colds.append(1)
                 if len(colds) < 3:

@@ -1,0 +1,273 @@
+"""What the threads of a hub do: the workers, the clock and the journal."""
+import ctypes
+import logging
+import queue
+import threading
+import time
+from typing import Any, Iterable, Iterator, Optional, Tuple
+
+from . import _errors as errors
+from . import _library as library
+from ._library import OK, lib, step
+from ._run import Run
+from ._shell import ABORT, LOOK, MADE, MOST_FULL, NOBODY, Bell, Call, Lines, Record, Shell, here, open_shells, ring
+
+# How long entries are kept at most before they are written, and how often the clock looks at the timers after a drain
+# was left, since nobody is told when that drain ends. In seconds.
+QUIET, LOOKS = 0.05, 0.01
+
+log = logging.getLogger("cmwq")
+
+
+class Worker:
+    """A thread that runs work functions."""
+
+    def __init__(self, shell: Shell, who: Tuple[int, int, int]) -> None:
+        self._shell, self._who, self._place = shell, who, shell.place_of(who)
+        self._start, self._finish = Call(library.TAKE, who), Call(library.FINISH, who)
+        self._run: Optional[Run] = None
+
+    def work(self) -> None:
+        shell = self._shell
+        here.owner, here.shell, here.worker, here.sleeps, here.wait = shell, None, self._who, False, None
+        try:
+            while not self._is_over():
+                pass
+        finally:
+            shell.workers.discard(self._who)
+            ring(shell.clock)
+
+    def _is_over(self) -> bool:
+        try:
+            if self._start.status() == OK:
+                self._go_on()
+            self._work_on()
+            return True
+        except BaseException:  # thrown into this thread, but not into a work function
+            log.exception("the thread %s goes on after an exception", threading.current_thread().name)
+            self._shell.look_after(self._finish)
+            return False
+
+    def _work_on(self) -> None:
+        shell, start = self._shell, self._start
+        words = (shell.board, start.at + library.WHO_AT, start.at + library.ITEM_AT, start.at + library.NUMBER_AT,
+                 start.at + library.WAKES_AT)
+        while True:
+            start.log.clear()
+            step(start.log, lib.cmwq_board_start, words)
+            status = start.log[0][0]
+            if status == library.CROWDED:
+                shell.hand_out()
+                continue
+            if status in MADE:
+                wakes = start.buffer[library.WAKES]
+                if wakes != NOBODY or not shell.armed:
+                    shell.wake(wakes)
+            if status == OK:
+                self._go_on()
+            elif status == library.RESTS:
+                shell.sleep(self._place)
+            else:
+                return
+
+    def _go_on(self) -> None:
+        """The run that has started goes on from where it is."""
+        shell, finish, who = self._shell, self._finish, self._start.at + library.WHO_AT
+        finish.number = int.from_bytes(self._start.buffer[library.ITEM_AT:library.ITEM_AT + 2], "little")
+        if self._run is None:
+            self._run = Run(shell, self._who, shell.puts[finish.number][0][1].item)
+            self._run_item(self._run)
+        if not finish.log:
+            self._end_run(self._run)
+            if len(shell.full) >= MOST_FULL:
+                shell.keep_up()
+            if shell.make(finish, lib.cmwq_board_finish, who) == library.NOT_NOW:  # an exception has kept it asleep
+                shell.one(library.WAKE)
+                shell.make(finish, lib.cmwq_board_finish, who)
+        shell.drop(finish, finish.number)
+        self._start.log.clear()
+        self._run = None
+        finish.log.clear()
+        finish.dropped.clear()
+
+    def _run_item(self, run: Run) -> None:
+        item: Any = run._item
+        here.shell = self._shell
+        try:
+            item._work(run)
+            item._error = None
+        except BaseException as why:
+            why.__traceback__ = why.__traceback__ and why.__traceback__.tb_next
+            item._error = why
+            item._queue._hub._note(item, why)
+
+    def _end_run(self, run: Run) -> None:
+        run._item = None
+        if here.wait is not None:
+            self._shell.go_on(here.wait)
+        if here.sleeps:
+            here.sleeps = False
+            self._shell.one(library.WAKE)
+        here.shell = here.wait = None
+
+
+class Clock:
+    """The thread that fires timers. It also does the rest of calls that exceptions have cut off, and ends the hub."""
+
+    def __init__(self, shell: Shell) -> None:
+        self._shell, self._has_room, self._is_stopped, self._is_aborted = shell, True, False, False
+
+    def keep_time(self) -> None:
+        shell = self._shell
+        here.owner = shell
+        while not self._is_over():
+            try:
+                self._heed(shell.clock.get(timeout=self._left()))
+            except queue.Empty:
+                self._look()
+            if shell.closing:
+                self._stop()
+        self._finish()
+
+    def _is_over(self) -> bool:
+        shell = self._shell
+        return (self._is_stopped and (self._is_aborted or not shell.workers)
+                and all(call.is_left for call in [*shell.waits]))
+
+    def _look(self) -> None:
+        """The next timer is looked for. Meanwhile whoever sets one tells of it."""
+        shell = self._shell
+        shell.due = library.NEVER
+        if shell.has_timers:
+            shell.due = lib.cmwq_board_due(shell.board)
+
+    def _left(self) -> Optional[float]:
+        """Fires what is due. Returns how long nothing will be."""
+        shell = self._shell
+        while not shell.closing and self._has_room:
+            left = shell.begun + shell.due * shell.tick - time.monotonic()
+            if shell.due != library.NEVER and left <= 0:
+                try:
+                    shell.advance(max(shell.ticks(0)[0], shell.due))
+                except errors.Full:
+                    self._has_room = False
+                self._look()
+            elif shell.left_drain:
+                return min(left, LOOKS)
+            else:
+                return None if shell.due == library.NEVER else min(left, threading.TIMEOUT_MAX)
+        return None
+
+    def _heed(self, told: Any) -> None:
+        if isinstance(told, int):
+            self._shell.due = min(self._shell.due, told)
+        elif isinstance(told, Record):
+            try:
+                told.complete(self._shell)
+            except BaseException:
+                log.exception("a call that was cut off can't be completed")
+            self._look()
+        elif isinstance(told, Bell):
+            told.put(None)
+        elif told == LOOK:
+            self._look()
+        elif told is not None:  # END, ABORT, or the reference to a hub that is gone
+            self._shell.closing = True
+            self._is_aborted |= told == ABORT
+
+    def _stop(self) -> None:
+        """Takes no more work, lets frozen queues go on, and takes back what is delayed. The waits of threads that a
+        signal handler keeps until the hub has ended are left."""
+        shell = self._shell
+        for call in [*shell.waits]:
+            if call.thread in shell.enders and not call.is_left and call.is_open():
+                call.is_left = True
+                shell.leave(call)
+        if self._is_stopped or any(it.thread not in shell.enders for it in [*shell.before]):
+            return
+        self._is_stopped = True
+        delayed = [number for number, puts in enumerate(shell.puts)
+                   if puts and shell.state_of(number).pending == library.PENDING_TIMER]
+        for kind, number in [*((library.CANCEL, number) for number in delayed), (library.THAW, 0)]:
+            try:
+                shell.one(kind, number)
+            except errors.Error:  # the hub has failed
+                pass
+        shell.make(Call(library.TICK), lib.cmwq_board_stop)
+
+    def _finish(self) -> None:
+        """Nobody makes an entry any more."""
+        shell = self._shell
+        shell.make(Call(library.TICK), lib.cmwq_board_fail)
+        shell.wake_all()
+        shell.hand_out()
+        shell.is_over = True
+        ring(shell.journal)
+        for thread in shell.threads:
+            if thread is not threading.current_thread() and thread.ident is not None:
+                thread.join()
+        shell.unrun = [puts[0][1].item for puts in shell.puts if puts]
+        for puts in shell.puts:
+            puts.clear()
+        shell.ended = True
+        open_shells.discard(shell)
+        shell.end.ring()
+
+
+class Journal:
+    """The thread that writes the history."""
+
+    def __init__(self, shell: Shell, head: str) -> None:
+        self._shell, self._head = shell, head
+
+    def keep(self) -> None:
+        shell = self._shell
+        here.owner, here.shell, here.worker, here.sleeps = shell, shell, None, False
+        try:
+            self._write_all(shell.history)
+        except BaseException as why:  # told by shutdown
+            shell.fault = why
+            log.error("the history could not be written", exc_info=why)
+        shell.history, shell.armed = None, True
+        shell.full.clear()
+        shell.space.ring()
+
+    def _write_all(self, out: Any) -> None:
+        shell = self._shell
+        self._write(out, [self._head])
+        while self._wait():
+            _, lines = shell.full.popleft()
+            self._write(out, self._texts(lines))
+            shell.spare.append(lines)
+            shell.space.ring()
+        self._write(out, [f"end {lib.cmwq_board_len(shell.board)}\n"])
+
+    def _wait(self) -> bool:
+        """Waits until there are entries. Returns False if there won't be any."""
+        shell = self._shell
+        while not shell.full and not shell.is_over:
+            try:
+                shell.journal.get(timeout=QUIET if shell.armed else None)
+            except queue.Empty:
+                shell.armed = False
+                shell.hand_out()
+        return bool(shell.full)
+
+    def _texts(self, lines: Lines) -> Iterator[str]:
+        text, written = ctypes.create_string_buffer(1 << 16), ctypes.c_size_t()
+        while True:
+            library.done(lib.cmwq_lines_write(lines.at, text, len(text), ctypes.byref(written)))
+            if not written.value:
+                return
+            yield text.raw[:written.value].decode()
+
+    def _write(self, out: Any, texts: Iterable[str]) -> None:
+        """A fork waits for it, so that its process has no part of the text to write once more."""
+        is_held = self._shell.lock.acquire(timeout=5)
+        try:
+            for text in texts:
+                out.write(text)
+            out.flush()
+        finally:
+            if is_held:
+                self._shell.lock.release()

@@ -1,0 +1,249 @@
+"""What work functions raise, what calls raise, and how handles are shown."""
+import decimal
+import fractions
+import io
+import math
+import tempfile
+import threading
+import time
+
+from common import Case, Gate, cmwq, judged, until
+
+
+class Errors(Case):
+    def test_errors_are_told_when_they_happen(self):
+        told, happened = [], threading.Event()
+
+        def hook(item, why):
+            told.append((item, why))
+            happened.set()
+
+        hub = self.hub(on_error=hook)
+        item = hub.item(lambda run: 1 // 0)
+        item.queue()
+        self.assertTrue(happened.wait(20))
+        item.flush()
+        self.assertEqual((told[0][0], type(told[0][1])), (item, ZeroDivisionError))
+        record = self.logged[0]
+        self.assertEqual((record.name, record.levelname), ("cmwq", "ERROR"))
+        self.assertRegex(record.getMessage(), r"^<cmwq.Item 0 of 'default': .*<lambda>.* has raised$")
+        self.assertIs(record.exc_info[1], told[0][1])
+        other = hub.item(lambda run: {}["a"])
+        other.queue()
+        other.flush()
+        self.assertEqual(list(map(type, hub.errors)), [ZeroDivisionError, KeyError])
+        with self.assertRaises(cmwq.WorkError) as raised:
+            hub.shutdown()
+        self.assertEqual(raised.exception.errors, tuple(hub.errors))
+        self.assertIs(raised.exception.__cause__, hub.errors[0])
+        self.assertRegex(str(raised.exception), "^work functions have raised: 2, the first ZeroDivisionError")
+        judged(self.text)
+
+    def test_a_hook_that_raises(self):
+        def hook(item, why):
+            raise ValueError("the hook")
+
+        hub = self.hub(on_error=hook)
+        item = hub.item(lambda run: 1 // 0)
+        for _ in range(3):
+            item.queue()
+            item.flush(timeout=10)
+        self.assertEqual(len(hub.errors), 3)
+        self.assertIn("the hook", str(self.logged[1].exc_info[1]))
+        hub.errors.clear()
+        hub.shutdown()
+
+    def test_calls_of_a_hook_are_of_the_run(self):
+        told = []
+
+        def hook(item, why):
+            try:
+                item.flush()
+            except cmwq.Itself as itself:
+                told.append(itself)
+
+        hub = self.hub(on_error=hook)
+        hub.item(lambda run: 1 // 0).queue()
+        hub.flush(timeout=10)
+        self.assertEqual(len(told), 1)
+        self.assertRaises(cmwq.WorkError, hub.shutdown)
+        judged(self.text)
+
+    def test_a_flush_raises_what_the_run_has_raised(self):
+        hub, outcomes = self.hub(), [ValueError("one"), SystemExit(2), None]
+
+        @hub.item
+        def item(run):
+            why = outcomes.pop(0)
+            if why:
+                raise why
+
+        item.queue()
+        with self.assertRaisesRegex(ValueError, "^one$"):
+            item.flush(raise_errors=True)
+        with self.assertRaises(ValueError):  # it is idle, and its last run is the same
+            item.flush_delayed(raise_errors=True)
+        self.assertFalse(item.flush())
+        item.queue()
+        with self.assertRaises(SystemExit):
+            item.flush(timeout=10, raise_errors=True)
+        item.queue()
+        hub.flush()
+        self.assertFalse(item.flush(raise_errors=True))
+        self.assertEqual(len(hub.errors), 2)
+        self.assertRaises(cmwq.WorkError, hub.shutdown)
+        judged(self.text)
+
+    def test_a_run_that_has_ended(self):
+        kept, ran = [], []
+        with self.hub(items=1) as hub:
+            item = hub.item(lambda run: kept.extend((run, run.block())))
+            item.queue()
+            hub.flush()
+            del item
+            self.assertTrue(until(lambda: not any(hub._shell.puts)))
+            item = hub.item(ran.append)
+            run, block = kept
+            for call in (run.requeue, lambda: run.requeue_after(1), run.block, block.__enter__):
+                self.assertRaisesRegex(cmwq.RunEnded, "^the run has ended$", call)
+            self.assertEqual(repr(run), "<cmwq.Run: ended>")
+            hub.flush()
+        self.assertEqual(ran, [])
+
+    def test_arguments(self):
+        queues = {"a": cmwq.max_active(1)}
+        with cmwq.Hub(queues=queues, tick=0.01, items=4) as hub, cmwq.Hub() as other:
+            item, queue = hub.item(print), hub.queue("a")
+            for call, text in (
+                    (lambda: hub.item(3), "work=3 can't be called"),
+                    (lambda: queue.item(None), "work=None can't be called"),
+                    (lambda: hub.item(print, cpu="0"), "cpu='0' is not an int"),
+                    (lambda: item.queue_on("a", 0), "queue='a' is not a Queue"),
+                    (lambda: item.queue_on(queue, 0.0), "cpu=0.0 is not an int"),
+                    (lambda: item.queue_delayed("1"), "seconds='1' is not a number"),
+                    (lambda: item.modify(None), "seconds=None is not a number"),
+                    (lambda: item.flush("soon"), "timeout='soon' is not a number"),
+                    (lambda: queue.set_max_active(2.5), "limit=2.5 is not an int"),
+                    (lambda: cmwq.Hub(workers="4"), "workers='4' is not an int"),
+                    (lambda: cmwq.Hub(tick=None), "tick=None is not a number"),
+                    (lambda: cmwq.Hub(queues={"a": 5}), "queues['a']=5 is not a QueueOptions"),
+                    (lambda: cmwq.Hub(queues={"a": cmwq.max_active("x")}), "queues['a'].max_active='x' is not an int"),
+                    (lambda: cmwq.Hub(on_error=1), "on_error=1 can't be called"),
+                    (lambda: cmwq.Hub(history="it"), "history='it' is not a text file"),
+                    (lambda: cmwq.Hub(history=io.BytesIO()), "is not a text file"),
+                    (lambda: cmwq.Book((1, 1, 1, 1, 1, 1), [cmwq.max_active(1)]), "is not a Shape"),
+                    (lambda: cmwq.check(5), "history=5 is neither a str nor bytes")):
+                with self.assertRaises(TypeError) as raised:
+                    call()
+                self.assertIn(text, str(raised.exception))
+            for call, text in (
+                    (lambda: hub.item(print, cpu=1), "cpu=1 is not from 0 to 0"),
+                    (lambda: hub.queue("b"), "name='b' is not that of a queue: 'a'"),
+                    (lambda: item.queue_on(other.queue("default"), 0), "is of another hub than"),
+                    (lambda: item.queue_on(queue, -1), "cpu=-1 is not from 0 to 0"),
+                    (lambda: item.queue_delayed(-0.5), "seconds=-0.5 is not from 0 to 42949672.94"),
+                    (lambda: item.queue_delayed(math.nan), "seconds=nan is not from"),
+                    (lambda: item.modify(math.inf), "seconds=inf is not from"),
+                    (lambda: item.modify(10 ** 400), "is not from 0 to"),
+                    (lambda: item.flush(math.nan), "timeout=nan is not from"),
+                    (lambda: queue.set_max_active(0), "limit=0 is not from 1 to"),
+                    (lambda: cmwq.Hub(workers=65), "workers=65 is not from 1 to 64"),
+                    (lambda: cmwq.Hub(cpus=0), "cpus=0 is not from 1 to 64"),
+                    (lambda: cmwq.Hub(items=65536), "items=65536 is not from 1 to 65535"),
+                    (lambda: cmwq.Hub(waits=255), "waits=255 is not from 1 to 254"),
+                    (lambda: cmwq.Hub(keep=0), "keep=0 is not from 1 to"),
+                    (lambda: cmwq.Hub(room=2 ** 62 + 1), "is not from 1 to 4611686018427387904"),
+                    (lambda: cmwq.Hub(tick=1e-300), "tick=1e-300 is not from 1e-06 to"),
+                    (lambda: cmwq.Hub(tick=math.inf), "tick=inf is not from"),
+                    (lambda: cmwq.Hub(queues={}), "len(queues)=0 is not from 1 to 255"),
+                    (lambda: cmwq.Hub(queues={"a": cmwq.max_active(513)}),
+                     "queues['a'].max_active=513 is not from 1 to 512"),
+                    (lambda: cmwq.Book(cmwq.Shape(1, 1, 70000, 1, 1, 1), [cmwq.max_active(1)]),
+                     "shape.items=70000 is not from 1 to 65535"),
+                    (lambda: cmwq.Book(cmwq.Shape(1, 1, 1, 1, 1, 1), []), "len(queues)=0 is not from 1 to 255"),
+                    (lambda: cmwq.check("\udc80"), "not a history")):
+                with self.assertRaises(ValueError) as raised:
+                    call()
+                self.assertIsInstance(raised.exception, cmwq.Error)
+                self.assertIn(text, str(raised.exception))
+            # other numbers are numbers too
+            self.assertTrue(item.queue_delayed(fractions.Fraction(3600)))
+            self.assertTrue(item.modify(decimal.Decimal("3600.5")))
+            self.assertTrue(item.cancel())
+            self.assertFalse(any(hub._shell.puts))
+
+    def test_time_limits(self):
+        with self.hub() as hub:
+            gate = Gate()
+            item = hub.item(gate)
+            item.queue()
+            for past in (0, -1, -math.inf, 1e-9):
+                self.assertRaises(cmwq.TimedOut, item.flush, past)
+            threading.Timer(0.05, gate.go.release).start()
+            self.assertTrue(item.flush(math.inf))
+            item.queue()
+            threading.Timer(0.05, gate.go.release).start()
+            self.assertTrue(item.flush(1e300))
+            item.queue()
+            threading.Timer(0.05, gate.go.release).start()
+            hub.flush(timeout=math.inf)
+            told = []
+
+            @hub.item
+            def inside(run):
+                told.append(item.flush(math.inf))
+                try:
+                    item.flush(5)
+                except cmwq.TimeoutInRun as why:
+                    told.append(str(why))
+
+            inside.queue()
+            inside.flush()
+            self.assertEqual(told[0], False)
+            self.assertIn("timeout=5", told[1])
+        judged(self.text)
+
+    def test_handles_are_shown(self):
+        with tempfile.TemporaryFile("w+") as history:
+            hub = cmwq.Hub(queues={"disk": cmwq.max_active(2), "net": cmwq.max_active(1)}, cpus=2, history=history)
+            gate, shown = Gate(), []
+            item = hub.queue("net").item(gate)
+            self.assertRegex(repr(item), r"^<cmwq.Item 0 of 'net': <.*Gate object.*>, idle>$")
+            self.assertEqual(repr(hub.queue("disk")), "<cmwq.Queue 'disk'>")
+            self.assertIs(hub.queue("disk"), hub.queue("disk"))
+            self.assertEqual(repr(hub), "<cmwq.Hub 'disk', 'net': CPUs 2, workers 4, items pending or running 0>")
+            item.queue_delayed(60)
+            self.assertIn(", delayed>", repr(item))
+            item.modify(0)
+            self.assertTrue(until(lambda: item.running))
+            item.queue()
+            self.assertIn(", queued and running>", repr(item))
+            self.assertIn("items pending or running 1>", repr(hub))
+            gate.go.release()
+            gate.go.release()
+            own = hub.item(lambda run: shown.extend((repr(run), repr(run.block()))))
+            own.queue()
+            hub.flush()
+            self.assertRegex(shown[0], "^<cmwq.Run of <cmwq.Item . of 'disk': Errors.test_handles_are_.*running>>$")
+            self.assertEqual(shown[1], f"<cmwq.Block of {shown[0]}>")
+            hub.shutdown()
+            self.assertIn("<cmwq.Hub (shut down) 'disk'", repr(hub))
+
+    def test_items_after_the_end(self):
+        hub, told = self.hub(), []
+        gate = threading.Event()
+
+        def work(run):
+            gate.wait(20)
+            while not hub._shell.closing:
+                time.sleep(0.001)
+            told.append(hub.item(lambda run: told.append("ran")).queue())  # of a run: it runs too
+
+        hub.item(work).queue()
+        ends = threading.Thread(target=hub.shutdown)
+        ends.start()
+        gate.set()
+        ends.join()
+        self.assertEqual(told, [True, "ran"])
+        self.assertRaisesRegex(cmwq.Closed, "^the hub is shut down$", hub.item, print)
+        judged(self.text)
