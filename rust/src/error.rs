@@ -47,6 +47,9 @@ pub enum Error {
     TimeoutInRun,
     /// The item's work function has panicked.
     Poisoned,
+    /// So many items were queued and did not run, since the workqueues have failed.
+    /// [`Workqueues::shutdown`](crate::Workqueues::shutdown) returns it.
+    NotRun(usize),
     /// So many work functions have panicked. [`Workqueues::shutdown`](crate::Workqueues::shutdown) returns it.
     Panicked(usize),
     /// The history could not be written, and ends where that happened.
@@ -82,6 +85,7 @@ impl fmt::Display for Error {
             Error::TimedOut => f.write_str("the time limit has passed"),
             Error::TimeoutInRun => f.write_str("a wait in a work function can't have a time limit"),
             Error::Poisoned => f.write_str("the item's work function has panicked"),
+            Error::NotRun(count) => write!(f, "queued items did not run: {count}"),
             Error::Panicked(count) => write!(f, "work functions have panicked: {count}"),
             Error::History(why) => write!(f, "the history could not be written: {why}"),
             Error::NoHistory => f.write_str("the text is not a history"),

@@ -43,6 +43,7 @@ pub(crate) struct State {
     has_timers: bool,
     left_drain: bool,
     closing: bool,
+    ended: bool,
     /// How many calls wait.
     waits: usize,
     panics: usize,
@@ -194,9 +195,19 @@ impl<'a> Hold<'a> {
     }
 }
 
-/// Drops what users made, which may panic. The lock is not held.
+/// How many panics of drops are dropped in turn. What panics whenever it is dropped is never dropped then.
+const MOST_DROPS: usize = 16;
+
+/// Drops what users made, which may panic with what may panic itself when it is dropped. The lock is not held.
 pub(crate) fn discard<T>(value: T) {
-    let _ = catch_unwind(AssertUnwindSafe(|| drop(value)));
+    let mut left = catch_unwind(AssertUnwindSafe(|| drop(value))).err();
+    for _ in 0..MOST_DROPS {
+        let Some(payload) = left else {
+            return;
+        };
+        left = catch_unwind(AssertUnwindSafe(|| drop(payload))).err();
+    }
+    std::mem::forget(left);
 }
 
 impl Hub {
@@ -210,6 +221,7 @@ impl Hub {
             has_timers: false,
             left_drain: false,
             closing: false,
+            ended: false,
             waits: 0,
             panics: 0,
             journal: Journal::new(writes, most),
@@ -344,9 +356,9 @@ impl Hub {
         let mut run = crate::Run::new(self, worker, item, queue);
         let panic = catch_unwind(AssertUnwindSafe(|| work(&mut run))).err();
         RUN.set(None);
-        let panicked = panic.is_some();
-        if panicked {
-            discard((panic, work));
+        if let Some(payload) = panic {
+            discard(payload);
+            discard(work);
             return (None, true);
         }
         (Some(work), false)
@@ -410,9 +422,8 @@ impl Hub {
         let _ = hold.make(Board::stop);
     }
 
-    /// Nobody makes an entry any more, once all workers have ended. Returns the work functions, and how many have
-    /// panicked.
-    pub(crate) fn end(&self) -> (Vec<Work>, usize) {
+    /// Nobody makes an entry any more, once all workers have ended.
+    pub(crate) fn end(&self) -> Left {
         let mut state = self.hold().state;
         while state.waits > 0 {
             state = self.space.wait(state).unwrap_or_else(PoisonError::into_inner);
@@ -422,7 +433,40 @@ impl Hub {
         hold.state.hand_out();
         hold.state.journal.over = true;
         hold.woken.journal = true;
-        let works = hold.state.slots.iter_mut().filter_map(|slot| slot.work.take()).collect();
-        (works, hold.state.panics)
+        hold.state.ended = true;
+        let state = &mut *hold.state;
+        Left {
+            works: state.slots.iter_mut().filter_map(|slot| slot.work.take()).collect(),
+            not_run: (0..self.shape.items).filter(|item| state.board.item(*item).pending != 0).count(),
+            panics: state.panics,
+        }
+    }
+}
+
+/// What there is at the end.
+pub(crate) struct Left {
+    pub(crate) works: Vec<Work>,
+    /// How many items are still pending.
+    pub(crate) not_run: usize,
+    /// How many work functions have panicked.
+    pub(crate) panics: usize,
+}
+
+#[cfg(test)]
+mod tests {
+    use crate::{max_active, Error, Workqueues};
+
+    #[test]
+    fn the_end_tells_what_did_not_run() -> crate::Result<()> {
+        let all = Workqueues::builder().queue("a", max_active(2).freezable()).build()?;
+        let queue = all.queue("a")?;
+        let items = [queue.item(|_| unreachable!())?, queue.item(|_| ())?, queue.item(|_| unreachable!())?];
+        all.freeze()?;
+        items[0].queue()?;
+        items[2].queue_delayed(std::time::Duration::from_secs(3600))?;
+        all.hub.hold().make(super::Board::fail)?;
+        assert!(matches!(all.shutdown(), Err(Error::NotRun(2))));
+        assert!(items[0].is_pending() && !items[1].is_pending());
+        Ok(())
     }
 }

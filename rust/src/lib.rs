@@ -33,7 +33,7 @@
 //! The machine behind this crate is proved: each reply, whom each call wakes, and which waits are refused. This crate
 //! is tested. It must hold its lock at each call, wake those who are named, and run a work function once for each
 //! start.
-#![deny(unsafe_code, unsafe_op_in_unsafe_fn, missing_docs)]
+#![deny(unsafe_code, unsafe_op_in_unsafe_fn, missing_docs, missing_debug_implementations)]
 
 #[cfg(not(all(target_os = "linux", target_arch = "x86_64", target_env = "gnu")))]
 compile_error!("cmwq runs on x86_64-unknown-linux-gnu only: its proved library is built for that target");
@@ -274,6 +274,24 @@ impl Builder {
     }
 }
 
+impl fmt::Debug for Builder {
+    fn fmt(&self, f: &mut fmt::Formatter<'_>) -> fmt::Result {
+        let queues: Vec<_> = self.names.iter().zip(&self.queues).collect();
+        f.debug_struct("Builder")
+            .field("cpus", &self.shape.cpus)
+            .field("workers", &self.shape.workers)
+            .field("items", &self.shape.items)
+            .field("waits", &self.waits)
+            .field("queues", &queues)
+            .field("tick", &self.tick)
+            .field("history", &self.history.is_some())
+            .field("room", &self.shape.room)
+            .field("keep", &self.shape.keep)
+            .field("spins", &self.spins)
+            .finish()
+    }
+}
+
 fn spawn<T: Send + 'static>(name: &str, body: impl FnOnce() -> T + Send + 'static) -> Result<JoinHandle<T>> {
     thread::Builder::new().name(name.to_owned()).spawn(body).map_err(Error::Thread)
 }
@@ -327,8 +345,8 @@ impl Workqueues {
     /// work functions. What a run queues is run too. What it delays is refused.
     ///
     /// # Errors
-    /// [`Error::Panicked`], [`Error::History`]. In a work function [`Error::Itself`]: it can't join its own thread, so
-    /// another thread shuts down.
+    /// [`Error::History`], [`Error::NotRun`] or [`Error::Panicked`], the first of these. In a work function
+    /// [`Error::Itself`]: it can't join its own thread, so another thread shuts down.
     pub fn shutdown(mut self) -> Result<()> {
         if self.hub.is_own_thread() {
             return Err(Error::Itself);
@@ -344,14 +362,15 @@ impl Workqueues {
         if let Some(clock) = self.clock.take() {
             let _ = clock.join();
         }
-        let (works, panics) = self.hub.end();
-        works.into_iter().for_each(discard);
+        let left = self.hub.end();
+        left.works.into_iter().for_each(discard);
         if let Some(Ok(Err(why))) = self.journal.take().map(JoinHandle::join) {
             return Err(Error::History(why));
         }
-        match panics {
-            0 => Ok(()),
-            count => Err(Error::Panicked(count)),
+        match (left.not_run, left.panics) {
+            (0, 0) => Ok(()),
+            (0, panics) => Err(Error::Panicked(panics)),
+            (not_run, _) => Err(Error::NotRun(not_run)),
         }
     }
 }
@@ -396,7 +415,8 @@ impl Queue {
     /// a time. The item is gone once its last handle is dropped and it is neither pending nor running.
     ///
     /// # Errors
-    /// [`Error::NoItem`].
+    /// [`Error::NoItem`], and [`Error::Closed`] from the beginning of the shutdown on. Work functions make items until
+    /// they have ended.
     pub fn item(&self, work: impl FnMut(&mut Run<'_>) + Send + 'static) -> Result<Item> {
         self.add(None, Box::new(work))
     }
@@ -404,7 +424,7 @@ impl Queue {
     /// Makes an item of this queue on this CPU.
     ///
     /// # Errors
-    /// [`Error::NoItem`], [`Error::Invalid`].
+    /// As [`item`](Queue::item), and [`Error::Invalid`].
     pub fn item_on(&self, cpu: u8, work: impl FnMut(&mut Run<'_>) + Send + 'static) -> Result<Item> {
         if cpu >= self.hub.shape.cpus {
             return Err(Error::Invalid("the CPU"));
@@ -413,9 +433,10 @@ impl Queue {
     }
 
     fn add(&self, cpu: Option<u8>, work: Work) -> Result<Item> {
+        let in_run = self.hub.who(false).kind != CALLER;
         // a work function that is not taken is dropped without the lock
-        let added = self.hub.hold().add(self.number, work);
-        let number = added.map_err(|_work| Error::NoItem)?;
+        let added = self.hub.hold().add(self.number, work, in_run);
+        let number = added.map_err(|(why, _work)| why)?;
         let cpu = cpu.unwrap_or((number % u16::from(self.hub.shape.cpus)) as u8);
         Ok(Item(Arc::new(Own { hub: self.hub.clone(), number, queue: self.number, cpu })))
     }
@@ -709,6 +730,13 @@ impl<'a> Run<'a> {
     /// ```
     pub fn block<T>(&mut self, blocks: impl FnOnce() -> T) -> T {
         self.hub.block(self.worker, blocks)
+    }
+}
+
+impl fmt::Debug for Run<'_> {
+    fn fmt(&self, f: &mut fmt::Formatter<'_>) -> fmt::Result {
+        let Run { worker, item, queue, .. } = self;
+        f.debug_struct("Run").field("item", item).field("queue", queue).field("worker", worker).finish()
     }
 }
 

@@ -1,6 +1,7 @@
 //! Schedules of the board in one thread: parties move in an order that follows from a seed, each for one hold of the
 //! lock. After each move each entry is the one that a Book makes of its call, and nobody sleeps who could go on. In the
-//! end everything has ended, and the history is legal. CMWQ_SEEDS says how many seeds there are, CMWQ_FIRST the first.
+//! end everything has ended, and the history is legal. There are 10,000 seeds with the feature `schedules`, and a few
+//! without it. CMWQ_SEEDS says how many there are, CMWQ_FIRST the first.
 use crate::ffi::{call, reply, status, Call, Fault, Lines, QueueShape, RawBook, Reply, Shape, Wakes, Who};
 use crate::ffi::{Begun, Board, Ended, Start, HIGH_WORKER, PENDING_TIMER, WORKER};
 
@@ -464,7 +465,8 @@ fn play(seeds: impl Iterator<Item = u64>) -> [u64; 4] {
 
 #[test]
 fn nobody_is_forgotten_in_any_order() {
-    let (first, seeds) = (number("CMWQ_FIRST", 0), number("CMWQ_SEEDS", 10_000));
+    let seeds = if cfg!(feature = "schedules") { 10_000 } else { 200 };
+    let (first, seeds) = (number("CMWQ_FIRST", 0), number("CMWQ_SEEDS", seeds));
     let threads = std::thread::available_parallelism().map_or(1, |count| count.get());
     let mut sums = [0; 4];
     std::thread::scope(|scope| {

@@ -3,6 +3,7 @@ mod common;
 use cmwq::{check, max_active, Error, Result, Verdict, Workqueues};
 use common::{watchdog, Text};
 use std::io::{self, Write};
+use std::panic::panic_any;
 use std::sync::atomic::{AtomicBool, AtomicUsize, Ordering::SeqCst};
 use std::sync::{mpsc, Arc, Barrier, Mutex};
 use std::thread;
@@ -543,6 +544,164 @@ fn a_run_of_other_workqueues_is_a_caller() -> Result<()> {
     receive.recv().unwrap()?;
     one.shutdown()?;
     other.shutdown()
+}
+
+/// What panics when it is dropped, with one that does so less often.
+struct Bomb(u32);
+
+impl Drop for Bomb {
+    fn drop(&mut self) {
+        if self.0 > 0 {
+            panic_any(Bomb(self.0 - 1));
+        }
+    }
+}
+
+#[test]
+fn panics_of_panics_kill_no_worker() -> Result<()> {
+    let _dog = watchdog();
+    for depth in [0, 1, 2, 3, 10, u32::MAX] {
+        let text = Text::default();
+        let all = Workqueues::builder().workers(1).queue("a", max_active(4)).history(text.clone()).build()?;
+        let queue = all.queue("a")?;
+        let ran = Arc::new(AtomicUsize::new(0));
+        let (bad, own) = (queue.item(move |_| panic_any(Bomb(depth)))?, ran.clone());
+        bad.queue()?;
+        queue.flush()?;
+        assert!(!bad.is_running());
+        assert!(matches!(bad.queue(), Err(Error::Poisoned)));
+        // a work function that panics when it is dropped: by a worker, beside what it has panicked with, and at the end
+        let ((go, work), captured) = (gate(), Bomb(depth));
+        let holds = queue.item(work)?;
+        holds.queue()?;
+        queue.item(move |_| _ = &captured)?.queue()?;
+        let captured = Bomb(depth);
+        let worse = queue.item(move |_| {
+            let _ = &captured;
+            panic_any(Bomb(depth));
+        })?;
+        worse.queue()?;
+        go.send(()).unwrap();
+        queue.flush()?;
+        let captured = Bomb(depth);
+        let _kept = queue.item(move |_| _ = &captured)?;
+        queue.item(move |_| _ = own.fetch_add(1, SeqCst))?.queue()?;
+        queue.flush()?;
+        assert_eq!(ran.load(SeqCst), 1);
+        assert!(matches!(all.shutdown(), Err(Error::Panicked(2))));
+        text.judge();
+    }
+    Ok(())
+}
+
+#[test]
+fn a_writer_that_panics_with_a_bomb() -> Result<()> {
+    let _dog = watchdog();
+    struct Bad;
+    impl Write for Bad {
+        fn write(&mut self, _: &[u8]) -> io::Result<usize> {
+            panic_any(Bomb(3))
+        }
+        fn flush(&mut self) -> io::Result<()> {
+            Ok(())
+        }
+    }
+    let all = Workqueues::builder().queue("a", max_active(1)).history(Bad).build()?;
+    all.queue("a")?.item(|_| ())?.queue()?;
+    assert!(matches!(all.shutdown(), Err(Error::History(_))));
+    Ok(())
+}
+
+#[test]
+fn items_after_the_end() -> Result<()> {
+    let _dog = watchdog();
+    struct Noisy(Arc<AtomicUsize>);
+    impl Drop for Noisy {
+        fn drop(&mut self) {
+            self.0.fetch_add(1, SeqCst);
+        }
+    }
+    let dropped = Arc::new(AtomicUsize::new(0));
+    let all = Workqueues::builder().queue("a", max_active(2)).build()?;
+    let queue = all.queue("a")?;
+    let ((go, goes), (send, receive)) = (mpsc::channel(), mpsc::channel());
+    let own = queue.clone();
+    let first = queue.item(move |_| {
+        goes.recv().unwrap();
+        let send = send.clone();
+        // of a run: it runs too
+        own.item(move |_| send.send(()).unwrap()).unwrap().queue().unwrap();
+    })?;
+    first.queue()?;
+    let ends = thread::spawn(move || all.shutdown());
+    let noisy = || Noisy(dropped.clone());
+    let mut made = 0;
+    loop {
+        let own = noisy();
+        made += 1;
+        match queue.item(move |_| _ = &own) {
+            Ok(_) => thread::yield_now(),
+            Err(why) => break assert!(matches!(why, Error::Closed)),
+        }
+    }
+    go.send(()).unwrap();
+    receive.recv().unwrap();
+    ends.join().unwrap()?;
+    let own = noisy();
+    assert!(matches!(queue.item_on(0, move |_| _ = &own), Err(Error::Closed)));
+    assert_eq!(dropped.load(SeqCst), made + 1);
+    Ok(())
+}
+
+#[test]
+fn frozen_items_run_without_room() -> Result<()> {
+    let _dog = watchdog();
+    for room in 20..60 {
+        let text = Text::default();
+        let all = Workqueues::builder()
+            .items(4)
+            .workers(2)
+            .room(room)
+            .queue("cold", max_active(2).freezable())
+            .queue("a", max_active(2))
+            .history(text.clone())
+            .build()?;
+        let (cold, queue) = (all.queue("cold")?, all.queue("a")?);
+        let (send, receive) = mpsc::channel();
+        let (frozen, other, late) =
+            (cold.item(move |_| send.send(()).unwrap())?, queue.item(|_| ())?, queue.item(|_| ())?);
+        all.freeze()?;
+        frozen.queue()?;
+        late.queue_delayed(Duration::from_secs(3600))?;
+        while other.queue().and_then(|_| queue.flush()).is_ok() {}
+        while other.cancel().is_ok() {}
+        all.shutdown()?; // a freeze keeps room for its thaw, and a queueing for its run
+        receive.try_recv().unwrap();
+        assert!(!frozen.is_pending() && !late.is_pending());
+        text.judge();
+    }
+    Ok(())
+}
+
+#[test]
+fn everything_is_shown() -> Result<()> {
+    let builder = Workqueues::builder().queue("disk", max_active(2).high_priority());
+    let shown = format!("{builder:?}");
+    assert!(shown.starts_with("Builder { cpus: 1, workers: 4, items: 256, waits: 63, queues: [(\"disk\", "), "{shown}");
+    let all = builder.build()?;
+    let queue = all.queue("disk")?;
+    let (send, receive) = mpsc::channel();
+    let item = queue.item(move |run| send.send(format!("{run:?}")).unwrap())?;
+    assert_eq!(format!("{all:?} {queue:?} {item:?}"), "Workqueues { queues: [\"disk\"], .. } Queue(0) Item(0)");
+    item.queue()?;
+    let shown = receive.recv().unwrap();
+    assert!(shown.starts_with("Run { item: 0, queue: 0, worker: Who { kind: 2, index: "), "{shown}");
+    let book = cmwq::book::Book::open(
+        &cmwq::book::Shape { room: 9, keep: 9, items: 1, cpus: 1, workers: 1, callers: 1 },
+        &[max_active(1)],
+    );
+    assert!(format!("{:?}", book.unwrap()).starts_with("Book"));
+    all.shutdown()
 }
 
 #[test]

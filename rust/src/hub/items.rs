@@ -51,10 +51,14 @@ impl Hold<'_> {
         told(reply)
     }
 
-    /// An item with this work function. Returns the work function if there is no number for it.
-    pub(crate) fn add(&mut self, queue: u8, work: Work) -> std::result::Result<u16, Work> {
+    /// An item with this work function, which is returned with the error if there is none. Runs add items as long as
+    /// they go on.
+    pub(crate) fn add(&mut self, queue: u8, work: Work, in_run: bool) -> std::result::Result<u16, (Error, Work)> {
+        if self.state.ended || (self.state.closing && !in_run) {
+            return Err((Error::Closed, work));
+        }
         let Some(item) = self.state.free.pop() else {
-            return Err(work);
+            return Err((Error::NoItem, work));
         };
         self.state.slots[usize::from(item)] = Slot { work: Some(work), queue, ..Slot::default() };
         Ok(item)

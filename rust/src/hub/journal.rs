@@ -1,5 +1,5 @@
 //! The history: entries are handed out in buffers, and a thread writes them.
-use super::{Hub, State};
+use super::{discard, Hub, State};
 use crate::ffi::Lines;
 use std::collections::VecDeque;
 use std::io::{self, Write};
@@ -66,7 +66,11 @@ impl Hub {
         state.journal.armed = true;
         state.journal.full.clear();
         self.space.notify_all();
-        written.unwrap_or_else(|_| Err(io::Error::other("the writer has panicked")))
+        drop(state);
+        written.unwrap_or_else(|payload| {
+            discard(payload);
+            Err(io::Error::other("the writer has panicked"))
+        })
     }
 
     fn write_all(&self, head: &[u8], writer: &mut dyn Write) -> io::Result<()> {
