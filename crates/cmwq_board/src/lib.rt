@@ -10,8 +10,6 @@ mod fault;
 mod firing;
 mod item_state;
 mod lending;
-#[cfg(test)]
-mod tests;
 
 pub use board::{Begun, Board, Ended, Finish, Start};
 pub use fault::{BoardFault, WaitFault};

@@ -7,9 +7,6 @@
 //! The program prints what holds of each run, in any order of the threads: all pages reached their devices.
 #![tactic(auto)]
 
-#[cfg(test)]
-mod tests;
-
 use anyhow::Result;
 use cmwq_service::{
     Client, Context, CpuId, Fault, ItemId, PLAIN, QueueId, QueueShape, Service, Shape,

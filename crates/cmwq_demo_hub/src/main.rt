@@ -105,6 +105,13 @@ impl<N: HubName> Service<N> {
     fn gather<'x, R: Wait>(&'x self, rt: &'x R, caller: Caller<N>) -> Result<(), RunFault> {
         let hub = &self.hub;
         let mut writer = HubCaller { rt, hub, caller };
+        let gathered = self.gather_by(&mut writer);
+        drop(writer);
+        gathered
+    }
+
+    /// The lines of one writer.
+    fn gather_by<'x, R: Wait>(&self, writer: &mut HubCaller<'x, N, R>) -> Result<(), RunFault> {
         for line in 1..=LINES {
             self.log.waiting.fetch_add(1, Ordering::SeqCst);
             writer.modify(WRITE, WRITING, CPU, QUIET)?;
@@ -121,6 +128,13 @@ impl<N: HubName> Service<N> {
     fn shut_down<R: Wait>(&self, rt: &R, caller: Caller<N>) -> Result<(), RunFault> {
         let hub = &self.hub;
         let mut keeper = HubCaller { rt, hub, caller };
+        let ended = self.end_by(&mut keeper);
+        drop(keeper);
+        ended
+    }
+
+    /// The last calls of the keeper.
+    fn end_by<'x, R: Wait>(&self, keeper: &mut HubCaller<'x, N, R>) -> Result<(), RunFault> {
         keeper.tick(QUIET)?;
         keeper.flush(WRITING)?;
         keeper.queue(ROTATE, ROTATING, CPU)?;
@@ -137,7 +151,7 @@ fn run_threads<'s, E, N: HubName + Send + Sync + 's, R: Threads + Wait + Sync>(
     scope: &Scope<'s, E>,
     rt: &'s R,
     service: &'s Service<N>,
-    mut participants: Participants<N>,
+    participants: &mut Participants<N>,
 ) -> Result<(), RunFault> {
     for _ in 0..2 * COUNTS.workers {
         let mut worker = participants.worker()?;
@@ -155,10 +169,10 @@ fn run_threads<'s, E, N: HubName + Send + Sync + 's, R: Threads + Wait + Sync>(
 fn run<'x, N: HubName + Send + Sync + 'static, R: Threads + Wait + Sync>(
     rt: &'x R,
     service: &'x Service<N>,
-    participants: Participants<N>,
+    mut participants: Participants<N>,
 ) -> Result<(), RunFault> {
     thread::scope(thread::scope_env(), rt, |scope| -> Result<(), RunFault> {
-        let ended = run_threads(scope, rt, service, participants);
+        let ended = run_threads(scope, rt, service, &mut participants);
         service.hub.close(rt);
         ended
     })
@@ -184,6 +198,18 @@ fn serve<N: HubName + Send + Sync + 'static, R: Threads + Wait + Sync>(
     ended.map(|()| (log, rest.entries))
 }
 
+/// Prints what holds of each run.
+fn tell(rt: &HostRuntime, shape: &Shape, log: &Log, entries: &[Entry]) -> Result<()> {
+    let is_whole = entries.len() <= 1_000_000 && all_fit(shape, entries);
+    let is_legal = is_whole && check(rt.alloc(), shape, entries)?.is_ok();
+    ensure!(is_legal, "an illegal history");
+    let (gathered, closed) = (2 * LINES, log.closed.load(Ordering::SeqCst));
+    println!(rt; "lines gathered: {gathered}")?;
+    println!(rt; "lines in closed files: {closed}")?;
+    println!(rt; "the history is legal")?;
+    Ok(())
+}
+
 /// A fault is told on standard error, with status 1. What the name `Brand` stands for, the parts of this hub, is said
 /// to the proof alone.
 fn main(rt: HostRuntime) -> Result<()> {
@@ -193,13 +219,5 @@ fn main(rt: HostRuntime) -> Result<()> {
     let shape = Shape::new(COUNTS, queues).context("a shape outside the limits")?;
     let parts = HubParts::new(&rt, alloc, &shape)?;
     let (log, history) = serve::<Brand, HostRuntime>(&rt, parts)?;
-    let entries = history.as_slice();
-    let is_whole = entries.len() <= 1_000_000 && all_fit(&shape, entries);
-    let is_legal = is_whole && check(alloc, &shape, entries)?.is_ok();
-    ensure!(is_legal, "an illegal history");
-    let (gathered, closed) = (2 * LINES, log.closed.load(Ordering::SeqCst));
-    println!(rt; "lines gathered: {gathered}")?;
-    println!(rt; "lines in closed files: {closed}")?;
-    println!(rt; "the history is legal")?;
-    Ok(())
+    tell(&rt, &shape, &log, history.as_slice())
 }

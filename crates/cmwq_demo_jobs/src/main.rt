@@ -6,9 +6,6 @@
 //! up.
 #![tactic(auto)]
 
-#[cfg(test)]
-mod tests;
-
 use anyhow::Result;
 use cmwq_service::{
     Client, Completion, Context, CpuId, Fault, ItemId, PLAIN, QueueId, QueueShape, Service, Shape,

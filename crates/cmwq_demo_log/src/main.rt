@@ -6,9 +6,6 @@
 //! destroyed. Printed is what holds of each run, whatever the threads' order: all lines went through both items.
 #![tactic(auto)]
 
-#[cfg(test)]
-mod tests;
-
 use anyhow::{Result, ensure};
 use cmwq_service::{
     Client, Context, CpuId, Fault, ItemId, PLAIN, QueueId, QueueShape, Service, Shape,
