@@ -1,12 +1,25 @@
-/* Refuses the allocation with the number REFUSE_AT, counted from 1, of the program into which it is loaded (LD_PRELOAD), and where REFUSE_REST is
- * set all that follow. A thread is counted as an allocation too, since its stack is one: where it is refused pthread_create answers EAGAIN. For each
- * refusal a byte goes to the file descriptor REFUSE_MARKS. Used by tools/memory/refuse. */
+/* Refuses an allocation of the program into which it is loaded (LD_PRELOAD), which then runs anew for each order. Used
+ * by tools/memory/refuse.
+ *
+ * Before the program begins, it reads orders from the file descriptor REFUSE_ORDERS, a socket: which allocation is
+ * refused, counted from 1, and whether all that follow are (struct order). For each it makes a copy of the process, in
+ * which the program runs from its beginning, with REFUSE_INPUT as its input, and with REFUSE_OUTPUT and REFUSE_ERRORS,
+ * which are emptied, for what it writes. It answers with how that ended, how many allocations were refused, and how
+ * many were made before the input was read for the first time (struct answer). A copy that runs for more than
+ * REFUSE_SECONDS ends by SIGALRM.
+ *
+ * A thread is counted as an allocation too, since its stack is one: where it is refused, pthread_create returns
+ * EAGAIN. */
 #define _GNU_SOURCE
 #include <dlfcn.h>
 #include <errno.h>
 #include <pthread.h>
 #include <stdatomic.h>
+#include <stdint.h>
 #include <stdlib.h>
+#include <sys/mman.h>
+#include <sys/syscall.h>
+#include <sys/wait.h>
 #include <unistd.h>
 
 extern void *__libc_malloc(size_t);
@@ -16,20 +29,77 @@ extern void *__libc_memalign(size_t, size_t);
 
 typedef int create(pthread_t *, const pthread_attr_t *, void *(*)(void *), void *);
 
+struct order {
+  int64_t at;
+  int64_t rest;
+};
+
+struct answer {
+  int64_t status;
+  int64_t refused;
+  int64_t before;
+};
+
+/* what the process that took the order reads too; before is less than 0 where the input was not read */
+static struct {
+  atomic_long refused;
+  atomic_long before;
+} *shared;
+
 static atomic_long made;
 static long refused_at;
-static int refuses_rest;
-static int marks;
+static long refuses_rest;
 static create *next_create;
 
-/* What the loader takes before is not counted: nothing is refused while refused_at is 0. */
+static int number_in(const char *name) {
+  const char *text = getenv(name);
+  if (text == NULL)
+    _exit(99);
+  return atoi(text);
+}
+
+static void empty(int file, int as) {
+  if (ftruncate(file, 0) != 0 || lseek(file, 0, SEEK_SET) != 0 || dup2(file, as) != as)
+    _exit(99);
+}
+
+/* Takes orders, and returns in each copy. What the loader allocates before is not counted: nothing is refused while
+ * refused_at is 0. */
 __attribute__((constructor)) static void begin(void) {
-  const char *at = getenv("REFUSE_AT");
   next_create = (create *)dlsym(RTLD_NEXT, "pthread_create");
-  const char *to = getenv("REFUSE_MARKS");
-  marks = to ? atoi(to) : 2;
-  refuses_rest = getenv("REFUSE_REST") != NULL;
-  refused_at = at ? atol(at) : 0;
+  shared = mmap(NULL, sizeof *shared, PROT_READ | PROT_WRITE, MAP_SHARED | MAP_ANONYMOUS, -1, 0);
+  int orders = number_in("REFUSE_ORDERS"), input = number_in("REFUSE_INPUT");
+  int output = number_in("REFUSE_OUTPUT"), errors = number_in("REFUSE_ERRORS");
+  int seconds = number_in("REFUSE_SECONDS");
+  struct order order;
+  if (shared == MAP_FAILED)
+    _exit(99);
+  while (read(orders, &order, sizeof order) == sizeof order) {
+    atomic_store(&shared->refused, 0);
+    atomic_store(&shared->before, -1);
+    pid_t copy = fork();
+    if (copy < 0)
+      _exit(99);
+    if (copy == 0) {
+      if (lseek(input, 0, SEEK_SET) != 0 || dup2(input, 0) != 0)
+        _exit(99);
+      empty(output, 1);
+      empty(errors, 2);
+      close(orders);
+      alarm(seconds);
+      refuses_rest = order.rest;
+      refused_at = order.at;
+      return;
+    }
+    int status;
+    if (waitpid(copy, &status, 0) != copy)
+      _exit(99);
+    struct answer answer = {WIFEXITED(status) ? WEXITSTATUS(status) : -WTERMSIG(status), shared->refused,
+                            shared->before};
+    if (write(orders, &answer, sizeof answer) != sizeof answer)
+      _exit(99);
+  }
+  _exit(0);
 }
 
 static int is_refused(void) {
@@ -38,8 +108,7 @@ static int is_refused(void) {
   long number = atomic_fetch_add(&made, 1) + 1;
   if (number != refused_at && !(refuses_rest && number > refused_at))
     return 0;
-  if (write(marks, "x", 1) != 1)
-    _exit(99);
+  atomic_fetch_add(&shared->refused, 1);
   return 1;
 }
 
@@ -70,4 +139,11 @@ int posix_memalign(void **to, size_t align, size_t size) {
 
 int pthread_create(pthread_t *thread, const pthread_attr_t *how, void *(*start)(void *), void *given) {
   return is_refused() ? EAGAIN : next_create(thread, how, start, given);
+}
+
+ssize_t read(int file, void *to, size_t size) {
+  long none_yet = -1;
+  if (file == 0 && refused_at != 0)
+    atomic_compare_exchange_strong(&shared->before, &none_yet, atomic_load(&made));
+  return syscall(SYS_read, file, to, size);
 }
