@@ -3,7 +3,6 @@ they use, and how they end where they lack what they need."""
 import argparse
 import importlib.machinery
 import importlib.util
-import multiprocessing
 import os
 import shutil
 import signal
@@ -90,6 +89,7 @@ def end_at_interrupts():
 
 def pool():
     """Processes that share what this one has loaded."""
+    import multiprocessing  # few scripts use it, and it takes a third of the time in which one tells its help
     return multiprocessing.get_context("fork").Pool(processes(), end_at_interrupts)
 
 
