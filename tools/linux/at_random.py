@@ -10,14 +10,22 @@ import scenarios
 
 STEPS = 30
 
-# How many waits may be unended at once: 16 flushes of a queue are more than are served.
-MOST_WAITS = 10
+# How many waits may be unended at once. A scenario in four has more than 15 flushes of a queue, of which the others are
+# in overflow: it has more steps, of which most begin a flush.
+MOST_WAITS, MANY_WAITS = 10, 24
+
+SERVED = 15
 
 FLAGS = ("-", "-", "-", "h", "i", "hi", "f", "hf", "if")
 
 # How often which kind of call is chosen.
 OFTEN = {"end": 30, "wake": 8, "queue": 28, "delay": 7, "modify": 7, "cancel": 5, "tick": 5, "wait": 14, "set_max": 3,
          "freeze": 3}
+
+OFTEN_OF_MANY = {**OFTEN, "end": 12, "wait": 70, "tick": 1, "set_max": 1, "freeze": 1}
+
+# The scenarios of examples/linux after which known ways are called.
+WAYS = ("again_at_once", "cancel_wakes_nobody", "modify_wakes_nobody", "cancel_sync_wakes_nobody", "flush_in_overflow")
 
 TAKES_BACK = ("cancel", "modify", "cancel_sync")
 
@@ -49,6 +57,7 @@ class Maker:
         self.cpus, self.items = chance.randint(1, 3), chance.randint(2, 6)
         head = queues(chance)
         self.queues = len(head)
+        self.many = chance.random() < 0.25
         self.talk = scenarios.Talk(program, [f"shape {self.cpus} 8 1 {self.items} 100000", *head])
         self.is_frozen = False
         # most items stay on one queue, so that they often run where they are queued again
@@ -56,8 +65,8 @@ class Maker:
         self.roams = chance.random() < 0.3
 
     def make(self):
-        tries = 0
-        while self.talk.steps < STEPS and tries < 20 * STEPS:
+        tries, steps = 0, 3 * STEPS if self.many else STEPS
+        while self.talk.steps < steps and tries < 20 * steps:
             tries += 1
             line = self.line()
             if line and self.is_fit(line.split()):
@@ -80,7 +89,7 @@ class Maker:
         item = chance.randrange(self.items)
         queue = chance.randrange(self.queues) if self.roams else self.home[item]
         cpu = chance.randrange(self.cpus)
-        kind = chance.choices([*OFTEN], OFTEN.values())[0]
+        kind = chance.choices([*OFTEN], (OFTEN_OF_MANY if self.many else OFTEN).values())[0]
         if kind == "end":
             return f"{chance.choice(('sleep', 'finish', 'finish'))} {chance.choice(awake)}" if awake else ""
         if kind == "wake":
@@ -88,7 +97,8 @@ class Maker:
         if kind == "tick":
             return f"tick {chance.randint(1, 2)}"
         if kind == "wait":
-            word = chance.choices(scenarios.WAITS, (4, 2, 1, 4, 3, 4))[0]
+            word = chance.choices(scenarios.WAITS, (40, 1, 0, 2, 1, 1) if self.many else (4, 2, 1, 4, 3, 4))[0]
+            queue = 0 if self.many else queue
             return f"{word} {queue if word in ('flush', 'drain', 'destroy') else item}"
         if kind == "set_max":
             return f"set_max {queue} {chance.choice((1, 1, 2, 3, 4))}"
@@ -109,7 +119,7 @@ class Maker:
             by, words = words[1], words[2:]
         word, *numbers = words
         draining = state.draining()
-        if word in scenarios.WAITS and len(state.waits) >= MOST_WAITS:
+        if word in scenarios.WAITS and len(state.waits) >= (MANY_WAITS if self.many else MOST_WAITS):
             return False
         if word in ("flush", "drain", "destroy", "set_max"):
             destroyed = state.gone | {call[1] for call in state.waits.values() if call[0] == "destroy"}
@@ -144,15 +154,44 @@ def known_way(played, recorded, is_pending_in_cancel):
     """The scenario of examples/linux that shows the first difference, or None."""
     difference, _ = scenarios.first_difference(played, recorded, is_pending_in_cancel)
     number = int(difference.split()[0])
-    ours = next(it for it in played.steps if it.number == number)
-    theirs = next(it for it in recorded.steps if it.number == number)
-    if ": started " not in difference:
+    ours = next((it for it in played.steps if it.number == number), None)
+    theirs = next((it for it in recorded.steps if it.number == number), None)
+    if not ours or not theirs:
         return None
-    who, word, *_ = ours.call.split()
+    if ": started " in difference:
+        return way_of_starts(ours, theirs)
+    return "flush_in_overflow" if ": done " in difference and is_of_overflow(played, ours, theirs) else None
+
+
+def way_of_starts(ours, theirs):
+    """The same of a step after which other runs start. There may be several of them."""
+    word = ours.call.split()[1]
     more = [it for it in theirs.started if it not in ours.started]
     less = [it for it in ours.started if it not in theirs.started]
-    if word == "finish" and not less and [item for item, _ in more] == ours.ended:
-        return "again_at_once"
+    if word == "finish" and any([item] == ours.ended for item, _ in more):
+        # the item that ended has its worker again, before another that would have started there, or beside it
+        pool = next(pool for item, pool in more if [item] == ours.ended)
+        if all(it[1] == pool for it in more + less):
+            return "again_at_once"
     if word in TAKES_BACK and less and not more:
         return f"{word}_wakes_nobody"
     return None
+
+
+def is_of_overflow(played, ours, theirs):
+    """Whether a kernel ends more flushes of a queue than the program does, all of which were in overflow: more than are
+    served began before them, and were unended."""
+    ended = [it[0] for it in theirs.done if it not in ours.done]
+    if not ended or not set(ours.done) <= set(theirs.done):
+        return False
+    calls = {str(it.number): it.call.split()[1:] for it in played.steps}
+    return all(calls.get(it, [""])[0] == "flush" and in_overflow(played, it, calls) for it in ended)
+
+
+def in_overflow(played, ticket, calls):
+    """Whether a flush had to wait for older ones of its queue before it was served."""
+    done = {}
+    for step in played.steps:
+        done.update((number, step.number) for number, *_ in step.done)
+    older = [it for it, call in calls.items() if call == calls[ticket] and int(it) < int(ticket)]
+    return sum(done.get(it, int(ticket) + 1) > int(ticket) for it in older) >= SERVED

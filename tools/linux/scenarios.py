@@ -256,6 +256,9 @@ class Played:
                 yield f"{call[0]} {by}" if by and len(call) == 1 else f"{f'by {by} ' * bool(by)}{' '.join(call)}"
             state.enter(number, who, call, reply)
 
+    def items(self):
+        return int(next(line.split()[4] for line in self.head if line.startswith("shape ")))
+
     def queues(self):
         return sum(line.startswith("wq ") for line in self.head)
 
@@ -373,7 +376,7 @@ class Recorded:
     """What a kernel was seen to do: its release, the facts of each step, and why they are none, if they are."""
 
     def __init__(self, release, steps):
-        self.release, self.steps, self.fault = release, steps, "the kernel ended in it"
+        self.release, self.steps, self.fault, self.is_cut_off = release, steps, "the kernel ended in it", True
 
     def text(self):
         return "\n".join([f"linux {self.release}", *(it.line() for it in self.steps), ""])
@@ -390,6 +393,13 @@ def read_recorded(path):
             raise Broken(f"not a step: {line}")
         steps.append(Facts(int(found[1]), found[2]).read(found[3]))
     return Recorded(lines[0][len("linux "):], steps)
+
+
+def last_of(lines):
+    """Why a kernel ended before the end of its script: the line of its panic, or else the last of its log."""
+    said = [re.sub(r"^\[ *[0-9.]+\] *", "", line).strip() for line in lines]
+    panic = next((it for it in said if it.startswith("Kernel panic")), None)
+    return panic or next((it for it in reversed(said) if it), "its log is empty")
 
 
 def read_log(lines, played):
@@ -410,7 +420,7 @@ def read_log(lines, played):
             calls = {it.number: it.call for it in played[name].steps}
             found[name] = Recorded(release, [])
         elif word == "end" and name:
-            found[name].fault, name = unquiet.pop(name, ""), None
+            found[name].fault, found[name].is_cut_off, name = unquiet.pop(name, ""), False, None
         elif word in ("noisy:", "stuck") and name:
             unquiet[name] = f"the kernel did not become quiet: {told[1]}"
         elif word == "step" and name:
