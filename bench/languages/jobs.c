@@ -1,6 +1,7 @@
 /*
- * The loads of bench/pools on cmwq_hub.h: jobs LOAD ROUNDS WORKERS ITEMS [journal|intensive]
- * Prints how many runs there were in a second of the clock. Each of four callers has ITEMS items.
+ * The loads of bench/pools on cmwq_hub.h: jobs LOAD ROUNDS WORKERS ITEMS [journal|intensive [MICROSECONDS]]
+ * Prints how many runs there were in a second of the clock. Each of four callers has ITEMS items, and each run works
+ * for so many microseconds (none: 0).
  */
 #include "cmwq_hub.h"
 
@@ -10,12 +11,24 @@ static struct cmwq_hub hub;
 static unsigned long runs, rounds;
 static unsigned each;
 static bool fanout, itself;
+static double busy;
+
+static double now(void)
+{
+    struct timespec at;
+
+    clock_gettime(CLOCK_MONOTONIC, &at);
+    return (double)at.tv_sec + (double)at.tv_nsec * 1e-9;
+}
 
 static void work(struct cmwq_run *run, void *data)
 {
     unsigned long before = __atomic_fetch_add(&runs, 1, __ATOMIC_RELAXED);
 
     (void)data;
+    if (busy > 0)
+        for (double end = now() + busy; now() < end;)
+            ;
     if (itself) {
         if (before + 1 < rounds)
             cmwq_queue_work_on(&hub, 0, 0, run->item);
@@ -43,14 +56,6 @@ static bool forget(void *data, const char *text, size_t len)
     return fwrite(text, 1, len, (FILE *)data) == len;
 }
 
-static double now(void)
-{
-    struct timespec at;
-
-    clock_gettime(CLOCK_MONOTONIC, &at);
-    return (double)at.tv_sec + (double)at.tv_nsec * 1e-9;
-}
-
 int main(int argc, char **argv)
 {
     struct cmwq_queue queues[CALLERS];
@@ -66,6 +71,7 @@ int main(int argc, char **argv)
     rounds = strtoul(argv[2], NULL, 10);
     options.workers = (unsigned)atoi(argv[3]);
     each = argc > 4 ? (unsigned)atoi(argv[4]) : 64;
+    busy = argc > 6 ? atof(argv[6]) * 1e-6 : 0;
     options.items = CALLERS * each;
     for (unsigned k = 0; k < CALLERS; k++)
         queues[k] = (struct cmwq_queue){.max_active = 512, .intensive = argc > 5 && !strcmp(argv[5], "intensive")};

@@ -6,11 +6,16 @@
 //! - `stream`: four callers, each of which queues 64 items and flushes its queue, in each round.
 //!
 //! With fewer than 256 items the callers have fewer each, and with more each round has the next ones. The words are
-//! `intensive`, `batch`, `spins=N` and `history=FILE`.
+//! `intensive`, `batch`, `spins=N`, `work=N` and `history=FILE`. By `work` each run works for N microseconds.
 use cmwq::{max_active, Item, Queue, Result, Workqueues};
 use std::sync::atomic::{AtomicU64, Ordering::Relaxed};
 use std::sync::{Arc, OnceLock};
-use std::time::Instant;
+use std::time::{Duration, Instant};
+
+fn work(lasts: Duration) {
+    let begun = Instant::now();
+    while begun.elapsed() < lasts {}
+}
 
 fn main() -> Result<()> {
     let words: Vec<String> = std::env::args().skip(1).collect();
@@ -18,6 +23,7 @@ fn main() -> Result<()> {
     let load = words.first().map_or("self", String::as_str);
     let (rounds, workers, count) = (number(1, 100_000), number(2, 1) as u8, number(3, 256) as u16);
     let value = |name: &str| words.iter().find_map(|word| word.strip_prefix(name)?.strip_prefix('='));
+    let lasts = value("work").map(|work| Duration::from_micros(work.parse().expect("a number")));
     let is_batch = words.iter().any(|word| word == "batch");
     let options = max_active(512);
     let options = if words.iter().any(|word| word == "intensive") { options.cpu_intensive() } else { options };
@@ -55,6 +61,7 @@ fn main() -> Result<()> {
                 let is_root = load == "fanout" && at % each % block == 0;
                 queues[at / each].item_on(0, move |_| {
                     own.fetch_add(1, Relaxed);
+                    lasts.map(work);
                     if is_root {
                         let others = &known.get().unwrap()[at + 1..at + block];
                         if is_batch {

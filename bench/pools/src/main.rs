@@ -4,11 +4,12 @@
 //! `pools POOL LOAD ROUNDS WORKERS ITEMS` prints how many runs there are in a second. POOL is `hand`, a queue under a lock; built with the
 //! feature `crates` also `threadpool`, `crossbeam`, `rayon` and `tokio`. LOAD is `self`, an item that queues itself, ROUNDS times;
 //! `fanout`, four callers, each of which queues its first item, which queues its others, and waits for all, ROUNDS times; or `stream`, four
-//! callers, each of which queues all its items and waits for them, ROUNDS times. Each caller has ITEMS items.
+//! callers, each of which queues all its items and waits for them, ROUNDS times. Each caller has ITEMS items. By a sixth word each run
+//! works for so many microseconds.
 use std::collections::VecDeque;
 use std::sync::atomic::{AtomicU32, AtomicU64, Ordering::SeqCst};
 use std::sync::{Arc, Condvar, Mutex};
-use std::time::Instant;
+use std::time::{Duration, Instant};
 
 const CALLERS: usize = 4;
 
@@ -36,6 +37,7 @@ struct World {
     groups: Vec<Group>,
     runs: AtomicU64,
     left: AtomicU64,
+    lasts: Option<Duration>,
     pool: Pool,
 }
 
@@ -168,6 +170,10 @@ fn run(world: &Arc<World>, number: usize) {
     let item = &world.items[number];
     item.state.store(RUNNING, SeqCst);
     world.runs.fetch_add(1, SeqCst);
+    if let Some(lasts) = world.lasts {
+        let begun = Instant::now();
+        while begun.elapsed() < lasts {}
+    }
     for other in item.others.clone() {
         queue(world, other);
     }
@@ -222,6 +228,7 @@ fn main() {
         groups: groups.collect(),
         runs: AtomicU64::new(0),
         left: AtomicU64::new(if is_self { rounds - 1 } else { 0 }),
+        lasts: words.get(6).map(|word| Duration::from_micros(word.parse().expect("a number"))),
         pool,
     });
     let begin = Instant::now();
