@@ -1,5 +1,5 @@
 #!/usr/bin/env python3
-"""The load `fanout` of bench/pools in Python: jobs.py hub|hand ROUNDS WORKERS ITEMS [MICROSECONDS]
+"""The load `fanout` of bench/pools in Python: bench/languages/jobs.py hub|hand ROUNDS WORKERS ITEMS [MICROSECONDS]
 
 Four callers, each of which queues an item, which queues ITEMS - 1 others, and waits for all of them, ROUNDS times. A
 run works for so many microseconds (none: 0). `hub` is the package in python/, and `hand` a queue of jobs with threads,
