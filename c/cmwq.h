@@ -3,7 +3,7 @@
  * value is proved to be the one of the definitions (docs/SEMANTICS.md; docs/C.md says what is proved for a C caller,
  * and what a caller must keep to).
  *
- * Link libcmwq_c.a. It takes memory by malloc, and only in cmwq_open(), cmwq_check(), cmwq_board_open(),
+ * Link libcmwq_c.a, or libcmwq.so. It takes memory by malloc, and only in cmwq_open(), cmwq_check(), cmwq_board_open(),
  * cmwq_lines_open() and cmwq_head(). It has no thread, lock, clock or state of its own.
  */
 #ifndef CMWQ_H

@@ -380,6 +380,7 @@ static void dropped_functions_call()
 {
     std::atomic<unsigned> runs{0};
     std::atomic<int> code{-1};
+    std::atomic<bool> alone{false};
     cmwq::workqueues all(cmwq::shape{}.queue("a", cmwq::max_active(1)));
     cmwq::queue queue = all.queue("a");
     cmwq::item next = queue.make([&](cmwq::run &) { runs++; });
@@ -393,9 +394,10 @@ static void dropped_functions_call()
         }
     };
     std::shared_ptr<calls> last(new calls{next, &code});
-    cmwq::work work = [&runs, last](cmwq::run &) { runs++; };
+    cmwq::work work = [&runs, &alone, last](cmwq::run &) { wait_until([&] { return alone.load(); }); runs++; };
     last.reset();
-    queue.make(std::move(work)).queue(); // so the hub alone has it
+    queue.make(std::move(work)).queue();
+    alone = true; // the hub has it, and nobody else
     wait_until([&] { return code != -1; });
     queue.flush();
     CHECK(code == CMWQ_NOT_NOW && runs == 2); // the thread of a worker waits for nothing there
