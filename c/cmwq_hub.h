@@ -212,7 +212,7 @@ static inline int cmwq_hub_open(struct cmwq_hub *hub, const struct cmwq_options 
     bool is_high = false;
     uint32_t status;
 
-    if (hub->state != CMWQ_NONE_) return -CMWQ_NOT_NOW;
+    if (__atomic_load_n(&hub->state, __ATOMIC_RELAXED) != CMWQ_NONE_) return -CMWQ_NOT_NOW;
     if (cmwq_version() != CMWQ_VERSION) {
         fprintf(stderr, "cmwq: cmwq_hub.h has version %u, and the library %u\n", CMWQ_VERSION, cmwq_version());
         return -CMWQ_OTHER_VERSION;

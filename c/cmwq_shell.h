@@ -427,7 +427,7 @@ static inline void cmwq_hub_stop_(struct cmwq_hub *hub)
     struct cmwq_reply reply;
     struct cmwq_item item;
 
-    hub->state = CMWQ_CLOSING_;
+    __atomic_store_n(&hub->state, CMWQ_CLOSING_, __ATOMIC_RELAXED); /* an open in a journal reads it without the lock */
     for (unsigned n = 0; n < hub->shape.items; n++) {
         call.item = (uint16_t)n;
         cmwq_hub_space_(hub, hub->is.keep);
