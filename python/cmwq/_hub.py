@@ -13,9 +13,10 @@ from . import _errors as errors
 from . import _library as library
 from ._library import lib, step
 from ._options import QueueOptions, shapes_of
+from ._report import report
 from ._run import Run
 from ._shell import ABORT, END, Shell, here, open_shells
-from ._threads import Clock, Journal, Worker, log
+from ._threads import Clock, Journal, Worker
 
 
 class Item:
@@ -24,7 +25,7 @@ class Item:
 
     def __init__(self, queue: "Queue", work: Callable[[Run], Any], cpu: Optional[int]) -> None:
         self._shell, self._queue, self._work = queue._shell, queue, work
-        self._error: Optional[BaseException] = None
+        self._error: Optional[Tuple[BaseException, Any]] = None  # with its traceback in the work function
         self._number = self._shell.add(self)
         self._cpu = self._number % self._shell.shape.cpus if cpu is None else cpu
 
@@ -60,7 +61,11 @@ class Item:
     def _wait(self, kind: int, timeout: Optional[float], raise_errors: bool = False) -> bool:
         reply = self._shell.wait(kind, self._number, 0, timeout)
         if raise_errors and self._error is not None:
-            raise self._error
+            why, traceback = self._error
+            try:
+                raise why.with_traceback(traceback)
+            finally:
+                del self, why, traceback  # the exception has this frame, and is kept
         return reply not in (library.TICKET_NO, library.IDLE)
 
     def cancel_sync(self, timeout: Optional[float] = None) -> bool:
@@ -72,11 +77,17 @@ class Item:
         """Waits until the item has ended, if it is queued or running. Returns False if it is neither. (flush_work())
 
         raise_errors: if the last run of the item that has ended has raised, then this raises the same exception."""
-        return self._wait(library.FLUSH_ITEM, timeout, raise_errors)
+        try:
+            return self._wait(library.FLUSH_ITEM, timeout, raise_errors)
+        finally:
+            del self
 
     def flush_delayed(self, timeout: Optional[float] = None, *, raise_errors: bool = False) -> bool:
         """Queues the item at once if it is delayed, and waits as `flush` does. (flush_delayed_work())"""
-        return self._wait(library.FLUSH_DELAYED, timeout, raise_errors)
+        try:
+            return self._wait(library.FLUSH_DELAYED, timeout, raise_errors)
+        finally:
+            del self
 
     @property
     def pending(self) -> bool:
@@ -231,19 +242,19 @@ class Hub:
 
     @property
     def errors(self) -> List[BaseException]:
-        """The exceptions of work functions, from the first on. Each has its traceback, so a program that runs for long
-        clears the list."""
+        """The exceptions of work functions, from the first on. Each has its traceback, without the locals. A program
+        that runs for long clears the list."""
         return self._errors
 
     def _note(self, item: Item, why: BaseException) -> None:
         """Tells of the exception of a work function."""
         self._errors.append(why)
-        log.error("%r has raised", item, exc_info=why)
+        report("%s has raised", item, why)
         if self._on_error is not None:
             try:
                 self._on_error(item, why)
-            except BaseException:
-                log.exception("on_error of %r has raised", self)
+            except BaseException as other:
+                report("on_error of %s has raised", self, other)
 
     def _each(self, call: Callable[[Queue, Optional[float]], None], timeout: Optional[float]) -> None:
         deadline = arguments.deadline(timeout)

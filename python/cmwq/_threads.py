@@ -1,6 +1,5 @@
 """What the threads of a hub do: the workers, the clock and the journal."""
 import ctypes
-import logging
 import queue
 import threading
 import time
@@ -9,6 +8,7 @@ from typing import Any, Iterable, Iterator, Optional, Tuple
 from . import _errors as errors
 from . import _library as library
 from ._library import OK, lib, step
+from ._report import let_go, report
 from ._run import Run
 from ._shell import ABORT, LOOK, MADE, MOST_FULL, NOBODY, Bell, Call, Lines, Record, Shell, here, open_shells, ring
 
@@ -16,26 +16,26 @@ from ._shell import ABORT, LOOK, MADE, MOST_FULL, NOBODY, Bell, Call, Lines, Rec
 # was left, since nobody is told when that drain ends. In seconds.
 QUIET, LOOKS = 0.05, 0.01
 
-log = logging.getLogger("cmwq")
-
 
 class Worker:
-    """A thread that runs work functions."""
+    """A thread that runs work functions.
+
+    An exception that is kept has a traceback, whose frames lead to those below them: to the frames of this thread. So
+    the frames below a work function hold nothing but this object, which has nothing once the thread has ended."""
 
     def __init__(self, shell: Shell, who: Tuple[int, int, int]) -> None:
         self._shell, self._who, self._place = shell, who, shell.place_of(who)
         self._start, self._finish = Call(library.TAKE, who), Call(library.FINISH, who)
-        self._run: Optional[Run] = None
 
     def work(self) -> None:
-        shell = self._shell
-        here.owner, here.shell, here.worker, here.sleeps, here.wait = shell, None, self._who, False, None
+        here.owner, here.shell, here.worker, here.sleeps, here.wait = self._shell, None, self._who, False, None
         try:
             while not self._is_over():
                 pass
         finally:
-            shell.workers.discard(self._who)
-            ring(shell.clock)
+            self._shell.workers.discard(self._who)
+            ring(self._shell.clock)
+            del self._shell
 
     def _is_over(self) -> bool:
         try:
@@ -43,65 +43,75 @@ class Worker:
                 self._go_on()
             self._work_on()
             return True
-        except BaseException:  # thrown into this thread, but not into a work function
-            log.exception("the thread %s goes on after an exception", threading.current_thread().name)
+        except BaseException as why:  # thrown into this thread, but not into a work function
+            report("the thread %s goes on after an exception", threading.current_thread(), why)
             self._shell.look_after(self._finish)
             return False
 
     def _work_on(self) -> None:
-        shell, start = self._shell, self._start
-        words = (shell.board, start.at + library.WHO_AT, start.at + library.ITEM_AT, start.at + library.NUMBER_AT,
-                 start.at + library.WAKES_AT)
+        start = self._start
+        words = (self._shell.board, start.at + library.WHO_AT, start.at + library.ITEM_AT,
+                 start.at + library.NUMBER_AT, start.at + library.WAKES_AT)
         while True:
             start.log.clear()
-            step(start.log, lib.cmwq_board_start, words)
+            step(start.log, lib.cmwq_board_start, words, [])
             status = start.log[0][0]
             if status == library.CROWDED:
-                shell.hand_out()
+                self._shell.hand_out()
                 continue
             if status in MADE:
                 wakes = start.buffer[library.WAKES]
-                if wakes != NOBODY or not shell.armed:
-                    shell.wake(wakes)
+                if wakes != NOBODY or not self._shell.armed:
+                    self._shell.wake(wakes)
             if status == OK:
                 self._go_on()
             elif status == library.RESTS:
-                shell.sleep(self._place)
+                self._shell.sleep(self._place)
             else:
                 return
 
     def _go_on(self) -> None:
-        """The run that has started goes on from where it is."""
-        shell, finish, who = self._shell, self._finish, self._start.at + library.WHO_AT
-        finish.number = int.from_bytes(self._start.buffer[library.ITEM_AT:library.ITEM_AT + 2], "little")
-        if self._run is None:
-            self._run = Run(shell, self._who, shell.puts[finish.number][0][1].item)
-            self._run_item(self._run)
-        if not finish.log:
-            self._end_run(self._run)
-            if len(shell.full) >= MOST_FULL:
-                shell.keep_up()
-            if shell.make(finish, lib.cmwq_board_finish, who) == library.NOT_NOW:  # an exception has kept it asleep
-                shell.one(library.WAKE)
-                shell.make(finish, lib.cmwq_board_finish, who)
-        shell.drop(finish, finish.number)
-        self._start.log.clear()
-        self._run = None
-        finish.log.clear()
-        finish.dropped.clear()
+        """The run that has started goes on from where it is. The note of its start has the run, once that is there."""
+        if not self._start.log[0][1]:
+            self._finish.number = int.from_bytes(self._start.buffer[library.ITEM_AT:library.ITEM_AT + 2], "little")
+            self._finish.log.clear()
+            self._finish.dropped.clear()
+            item = self._shell.puts[self._finish.number][0][1].item
+            self._start.log[0][1].append(Run(self._who, item))
+            del item
+            self._run_item()
+        self._end_run(self._start.log[0][1][0])
 
-    def _run_item(self, run: Run) -> None:
-        item: Any = run._item
+    def _run_item(self) -> None:
+        run: Any = self._start.log[0][1][0]
         here.shell = self._shell
         try:
-            item._work(run)
-            item._error = None
+            run._item._work(run)
+            run._item._error = None
         except BaseException as why:
-            why.__traceback__ = why.__traceback__ and why.__traceback__.tb_next
-            item._error = why
-            item._queue._hub._note(item, why)
+            self._keep(run._item, why)
+
+    def _keep(self, item: Any, why: BaseException) -> None:
+        """Tells of the exception of a work function, and keeps it without the locals of its frames."""
+        why.__traceback__ = why.__traceback__ and why.__traceback__.tb_next
+        item._error = why, why.__traceback__
+        item._queue._hub._note(item, why)
+        let_go(why)
 
     def _end_run(self, run: Run) -> None:
+        shell, finish = self._shell, self._finish
+        while finish.status() in (None, library.NOT_NOW):
+            self._leave_run(run)
+            if len(shell.full) >= MOST_FULL:
+                shell.keep_up()
+            if shell.make(finish, lib.cmwq_board_finish, self._start.at + library.WHO_AT) == library.NOT_NOW:
+                # an exception has kept it asleep
+                wake = Call(library.WAKE, self._who)
+                shell.make(wake, lib.cmwq_board_call, wake.at, wake.at + library.REPLY_AT)
+        shell.drop(finish, finish.number)
+        self._start.log.clear()
+
+    def _leave_run(self, run: Run) -> None:
         run._item = None
         if here.wait is not None:
             self._shell.go_on(here.wait)
@@ -164,8 +174,8 @@ class Clock:
         elif isinstance(told, Record):
             try:
                 told.complete(self._shell)
-            except BaseException:
-                log.exception("a call that was cut off can't be completed")
+            except BaseException as why:
+                report("a call that was cut off can't be completed: %s", told, why)
             self._look()
         elif isinstance(told, Bell):
             told.put(None)
@@ -221,16 +231,17 @@ class Journal:
         self._shell, self._head = shell, head
 
     def keep(self) -> None:
-        shell = self._shell
-        here.owner, here.shell, here.worker, here.sleeps = shell, shell, None, False
+        here.owner, here.shell, here.worker, here.sleeps = self._shell, self._shell, None, False
         try:
-            self._write_all(shell.history)
+            self._write_all(self._shell.history)
         except BaseException as why:  # told by shutdown
-            shell.fault = why
-            log.error("the history could not be written", exc_info=why)
-        shell.history, shell.armed = None, True
-        shell.full.clear()
-        shell.space.ring()
+            report("the history of %s could not be written", self._shell.history, why)
+            let_go(why)
+            self._shell.fault = why
+        self._shell.history, self._shell.armed = None, True
+        self._shell.full.clear()
+        self._shell.space.ring()
+        del self._shell
 
     def _write_all(self, out: Any) -> None:
         shell = self._shell

@@ -1,11 +1,16 @@
 """What work functions raise, what calls raise, and how handles are shown."""
+import contextlib
 import decimal
 import fractions
+import gc
 import io
+import logging
 import math
 import tempfile
 import threading
 import time
+import traceback
+import weakref
 
 from common import Case, Gate, cmwq, judged, until
 
@@ -94,6 +99,117 @@ class Errors(Case):
         self.assertRaises(cmwq.WorkError, hub.shutdown)
         judged(self.text)
 
+    def test_an_error_that_is_kept_holds_nothing_else(self):
+        """Its traceback tells where it was, but has no locals, no item, no hub and no board of the library any more."""
+        class Thing:
+            pass
+
+        gone, kept, locals_seen = [], [], []
+
+        def deeper():
+            inner = Thing()
+            gone.append(weakref.ref(inner))
+            return {}["a"]
+
+        def work(run):
+            thing = Thing()
+            gone.append(weakref.ref(thing))
+            try:
+                deeper()
+            except KeyError:
+                raise ValueError("one")
+
+        def hook(item, why):
+            locals_seen.append("thing" in why.__traceback__.tb_frame.f_locals)
+            kept.append(why)
+
+        hub = self.hub(on_error=hook)
+        item = hub.item(work)
+        gone += [weakref.ref(it) for it in (hub, item, hub._shell)]
+        gc.collect()
+        gc.disable()
+        self.addCleanup(gc.enable)
+        item.queue()
+        item.flush()
+        with self.assertRaises(cmwq.WorkError) as raised:
+            hub.shutdown()
+        self.assertEqual((raised.exception.errors, locals_seen), (tuple(kept), [True]))
+        del item, hub, raised
+        self.assertTrue(until(lambda: not any(it() for it in gone), 5), [it() for it in gone])
+        self.assertEqual(len(self.logged), 1)  # a record of the log keeps nothing either
+        text = "".join(traceback.format_exception(type(kept[0]), kept[0], kept[0].__traceback__))
+        self.assertRegex(text, r'(?s)in deeper\n.*KeyError: .a.\n.*During handling.*in work\n.*ValueError: one\n$')
+
+    def test_an_error_that_is_raised_again_has_one_traceback(self):
+        """That of the work function, and of the call that raises it now, which keeps no handle."""
+        def work(run):
+            raise ValueError("one")
+
+        def flushed():
+            try:
+                handles.pop().flush(raise_errors=True)
+            except ValueError as why:
+                return [frame.name for frame in traceback.extract_tb(why.__traceback__)]
+
+        hub, told = self.hub(), []
+        item = hub.item(work)
+        item.queue()
+        for _ in range(3):
+            handles = [item]
+            told.append(flushed())
+        self.assertEqual((told[0][0], told[0][-1]), ("flushed", "work"))
+        self.assertEqual(told, 3 * told[:1])
+        gc.collect()
+        gc.disable()
+        self.addCleanup(gc.enable)
+        gone = weakref.ref(item)
+        self.assertRaises(cmwq.WorkError, hub.shutdown)
+        del item
+        self.assertIsNone(gone())
+
+    def test_a_history_that_failed_keeps_no_hub(self):
+        class Bad(io.StringIO):
+            def write(self, text):
+                raise OSError("full")
+
+        gc.collect()
+        gc.disable()
+        self.addCleanup(gc.enable)
+        hub = cmwq.Hub(history=Bad())
+        gone, shell = weakref.ref(hub), weakref.ref(hub._shell)
+        with self.assertRaises(cmwq.HistoryError) as raised:
+            hub.shutdown()
+        why = raised.exception.__cause__
+        del hub, raised
+        self.assertTrue(until(lambda: gone() is None and shell() is None, 5))
+        self.assertEqual(traceback.extract_tb(why.__traceback__)[-1].name, "write")
+
+    def test_handlers_of_the_log_that_raise(self):
+        """They end no thread, and the error is told by the hook all the same."""
+        class Unlucky:
+            def __call__(self, run):
+                raise ValueError("one")
+
+            def __repr__(self):
+                raise KeyError("repr")
+
+        def emit(record):
+            raise OSError("log")
+
+        told, printed = [], io.StringIO()
+        hub = self.hub(workers=1, on_error=lambda item, why: told.append(why))
+        self.logger.handlers[0].emit = emit
+        with contextlib.redirect_stderr(printed):
+            for work in (Unlucky(), lambda run: 1 // 0):
+                item = hub.item(work)
+                for _ in range(2):
+                    item.queue()
+                    item.flush(timeout=10)
+        self.assertEqual(told, hub.errors)
+        self.assertEqual((len(told), printed.getvalue().count("OSError: log\n")), (4, 4))
+        self.assertRaises(cmwq.WorkError, hub.shutdown)
+        judged(self.text)
+
     def test_a_run_that_has_ended(self):
         kept, ran = [], []
         with self.hub(items=1) as hub:
@@ -109,6 +225,37 @@ class Errors(Case):
             self.assertEqual(repr(run), "<cmwq.Run: ended>")
             hub.flush()
         self.assertEqual(ran, [])
+
+    def test_blocks_that_outlive_their_run(self):
+        """They change nothing of another run, and a run that an exception has kept asleep ends."""
+        kept, told = [], []
+        with self.hub(workers=1) as hub:
+            @hub.item
+            def work(run):
+                block = run.block()
+                block.__enter__()
+                kept.append((run, block))
+
+            @hub.item
+            def cut_off(run):
+                run.block().__enter__()
+                cmwq._shell.here.sleeps = False  # as an exception in the exit of the block may leave it
+
+            @hub.item
+            def other(run):
+                kept[0][1].__exit__(None, None, None)
+                with run.block():
+                    kept[0][1].__exit__(None, None, None)
+                    told.append(item.queue())
+                told.append(repr(kept[0]))
+
+            item = hub.item(lambda run: None)
+            for one in (work, cut_off, other):
+                one.queue()
+                one.flush(timeout=10)
+            kept[0][1].__exit__(None, None, None)
+            self.assertEqual(told, [True, "(<cmwq.Run: ended>, <cmwq.Block of <cmwq.Run: ended>>)"])
+        judged(self.text)
 
     def test_arguments(self):
         queues = {"a": cmwq.max_active(1)}
