@@ -275,7 +275,7 @@ class Hub:
     def freeze(self) -> bool:
         """Stops the freezable queues: runs go on, and nothing else of them starts. Returns False if they are stopped
         already. (freeze_workqueues_begin())"""
-        return self._shell.before_end(self._shell.one, library.FREEZE)[0] == library.FROZEN
+        return self._shell.freeze() == library.FROZEN
 
     def thaw(self) -> bool:
         """Lets the freezable queues go on. Returns False if they are not stopped. (thaw_workqueues())"""

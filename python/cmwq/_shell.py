@@ -62,6 +62,13 @@ def ring(bell: "Bell[Any]") -> None:
         bell.put(None)
 
 
+def outcome(reply: int) -> int:
+    """Raises the exception of a reply that says that nothing was done, or of a status, which is given as minus it."""
+    if reply < 0:
+        library.done(-reply)
+    return library.told(reply) if reply in library.REFUSALS else reply
+
+
 class Gong:
     """What threads sleep by until a condition holds. Unlike a threading.Condition it has no lock that an exception
     could leave behind."""
@@ -402,27 +409,27 @@ class Shell:
         value = taking.value()
         self.numbers[value] = Number(taking.item, self.free.appendleft, value)
 
-    def put(self, kind: int, item: Any, queue: int, cpu: int, ticks: int = 0) -> int:
+    def put(self, kind: int, item: Any, queue: int, cpu: int) -> int:
         """A call that may make an item pending. Returns the kind of its reply."""
+        return outcome(self.try_put(kind, item, queue, cpu))
+
+    def try_put(self, kind: int, item: Any, queue: int, cpu: int, ticks: int = 0) -> int:
+        """As put(), but returns minus the status if that is not OK, and a reply that says that nothing was done."""
         put, number = Put(item, queue), item._number
         _pack(put.buffer, 0, 0, ticks, number, kind, queue, cpu, *self.who(False), NONE)
         if len(self.full) >= MOST_FULL:
             self.keep_up()
         try:
             try:
-                reply = self._put(put, self.puts[number])
+                return self._put(put, self.puts[number])
             except BaseException:
                 self.rescue(put)
                 raise
         except BaseException:  # as in whole()
             self.rescue(put)
             raise
-        if reply < 0:
-            library.done(-reply)
-        return library.told(reply) if reply in library.REFUSALS else reply
 
     def _put(self, put: Put, puts: List[Tuple[int, Put]]) -> int:
-        """Returns the kind of the reply, or minus the status."""
         # no wait ends because of it, so that it needs no more space than the board says
         at = put.at
         words = (self.board, at, at + library.REPLY_AT, at + library.WAKES_AT)
@@ -478,15 +485,17 @@ class Shell:
                 pass
 
     def before_end(self, doing: Callable[..., Any], *words: Any) -> Any:
-        """Does something that the end of the hub takes back."""
-        return self.whole(self._before_end, Before(), doing, *words)
+        """Does something that the end of the hub takes back. It doesn't raise because the library refuses it: what
+        raises is completed by the clock."""
+        done = self.whole(self._before_end, Before(), doing, *words)
+        if done is None:
+            raise self.closed()
+        return done
 
     def _before_end(self, before: Before, doing: Callable[..., Any], *words: Any) -> Any:
         self.before.add(before)
         try:
-            if self.closing:
-                raise self.closed()
-            return doing(*words)
+            return None if self.closing else doing(*words)
         finally:
             self.before.discard(before)
             if self.closing:
@@ -499,35 +508,47 @@ class Shell:
             return self.put(kind, item, queue, cpu)
         if self.closing:
             raise self.closed()
-        return self.before_end(self._delay, seconds, kind, item, queue, cpu)
+        return outcome(self.before_end(self._delay, seconds, kind, item, queue, cpu))
 
     def _delay(self, seconds: float, *words: Any) -> int:
         now, due = self.ticks(seconds)
         if now > lib.cmwq_board_time(self.board):
-            self.advance(now)
-        return self.put(*words, min(max(due - lib.cmwq_board_time(self.board), 1), 2 ** 32 - 1))
+            status = self.advance(now)
+            if status:
+                return -status
+        return self.try_put(*words, min(max(due - lib.cmwq_board_time(self.board), 1), 2 ** 32 - 1))
 
     def ticks(self, later: float) -> Tuple[int, int]:
         """The tick that has begun last, and the first that begins after this time."""
         now = time.monotonic() - self.begun
         return int(now / self.tick), int(-(-(now + later) // self.tick))
 
-    def advance(self, now: int) -> None:
-        """Brings the board's time up to this tick, and fires what is due."""
+    def advance(self, now: int) -> int:
+        """Brings the board's time up to this tick, and fires what is due. Returns the status."""
         ticks = min(max(now - lib.cmwq_board_time(self.board), 0), 2 ** 32 - 1)
         call = Call(library.TICK)
-        library.done(self.whole(self.make, call, lib.cmwq_board_advance, 0, ticks, call.at + library.NUMBER_AT))
+        return self.whole(self.make, call, lib.cmwq_board_advance, 0, ticks, call.at + library.NUMBER_AT)
+
+    def freeze(self) -> int:
+        """Returns the kind of the reply."""
+        return self._reply(*self.before_end(self._try_one, library.FREEZE))[0]
 
     # ---- other calls ----
 
     def one(self, kind: int, number: int = 0, queue: int = 0, ticks: int = 0) -> Tuple[int, int]:
         """A call of one entry, which makes no item pending. Returns the kind and the number of its reply."""
+        return self._reply(*self._try_one(kind, number, queue, ticks))
+
+    def _reply(self, status: int, call: Call) -> Tuple[int, int]:
+        library.done(status)
+        reply = call.reply()
+        return library.told(reply[3]), reply[0]
+
+    def _try_one(self, kind: int, number: int = 0, queue: int = 0, ticks: int = 0) -> Tuple[int, Call]:
         call = Call(kind, self.who(False), number, queue, ticks)
         if len(self.full) >= MOST_FULL:
             self.keep_up()
-        library.done(self.whole(self._one, call))
-        reply = call.reply()
-        return library.told(reply[3]), reply[0]
+        return self.whole(self._one, call), call
 
     def _one(self, call: Call) -> int:
         status = self.make(call, lib.cmwq_board_call, call.at, call.at + library.REPLY_AT)

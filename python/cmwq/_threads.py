@@ -157,10 +157,7 @@ class Clock:
         while not shell.closing and self._has_room:
             left = shell.begun + shell.due * shell.tick - time.monotonic()
             if shell.due != library.NEVER and left <= 0:
-                try:
-                    shell.advance(max(shell.ticks(0)[0], shell.due))
-                except errors.Full:
-                    self._has_room = False
+                self._has_room = not shell.advance(max(shell.ticks(0)[0], shell.due))
                 self._look()
             elif shell.left_drain:
                 return min(left, LOOKS)

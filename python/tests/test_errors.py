@@ -319,6 +319,51 @@ class Errors(Case):
             self.assertTrue(item.cancel())
             self.assertFalse(any(hub._shell.puts))
 
+    def test_calls_that_are_refused_tell_the_clock_nothing(self):
+        class Told:
+            """What the clock is told, which it is told all the same."""
+
+            def __init__(self, bell):
+                self.bell, self.log, self.empty, self.get = bell, [], bell.empty, bell.get
+
+            def put(self, it):
+                self.log.append(it)
+                self.bell.put(it)
+
+        queues = {"a": cmwq.max_active(2), "b": cmwq.max_active(2), "gone": cmwq.max_active(1)}
+        with self.hub(queues=queues, room=300, keep=4) as hub:
+            shell, gate = hub._shell, Gate()
+            shell.clock = Told(shell.clock)
+            shell.rescue = shell.clock.put
+            running, idle, gone = hub.item(gate), hub.item(print), hub.queue("gone").item(print)
+            hub.queue("gone").destroy()
+            running.queue()
+            self.assertTrue(until(lambda: running.running))
+            foreign = cmwq.Item(hub.queue("b"), print, 0)
+            foreign._number = running._number
+            drain = threading.Thread(target=hub.queue("a").drain)
+            drain.start()
+            self.assertTrue(until(lambda: shell.waits))
+            shell.clock.log.clear()
+            refused = [(gone, cmwq.Gone), (idle, cmwq.Draining), (foreign, cmwq.Foreign)]
+            for seconds in (0, 0.02, 60):
+                for item, kind in refused:
+                    self.assertRaises(kind, item.queue_delayed, seconds)
+                    self.assertRaises(kind, item.modify, seconds)
+            self.assertRaises(cmwq.Invalid, idle.modify, -1)
+            self.assertRaises(TypeError, idle.modify, "1")
+            self.assertEqual(shell.clock.log, [])
+            gate.go.release()
+            drain.join()
+            shell.clock.log.clear()
+            with self.assertRaises(cmwq.Full):
+                while True:
+                    idle.cancel()
+            for call in (lambda: idle.queue_delayed(60), lambda: idle.modify(0), hub.freeze, idle.cancel):
+                self.assertRaises(cmwq.Full, call)
+            self.assertEqual((shell.clock.log, shell.has_timers, shell.due), ([], False, cmwq._library.NEVER))
+        judged(self.text)
+
     def test_time_limits(self):
         with self.hub() as hub:
             gate = Gate()
