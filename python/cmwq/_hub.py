@@ -2,7 +2,6 @@
 import atexit
 import ctypes
 import io
-import os
 import threading
 import time
 import weakref
@@ -10,8 +9,9 @@ from typing import Any, Callable, Dict, List, Optional, TextIO, Tuple
 
 from . import _arguments as arguments
 from . import _errors as errors
+from . import _fork  # noqa: F401 (it is told of forks)
 from . import _library as library
-from ._library import lib, step
+from ._library import lib
 from ._options import QueueOptions, shapes_of
 from ._report import report
 from ._run import Run
@@ -328,9 +328,6 @@ class Hub:
                 f"{shell.shape.workers}, items pending or running {busy}>")
 
 
-_held: List[Tuple[bool, Any]] = []
-
-
 @atexit.register
 def _shut_down_all() -> None:
     ending = [shell for shell in list(open_shells) if shell.threads and shell.threads[0].ident is not None]
@@ -338,27 +335,3 @@ def _shut_down_all() -> None:
         shell.clock.put(END)
     for shell in ending:
         shell.end.wait(lambda: shell.ended)
-
-
-def _before_fork() -> None:
-    for shell in list(open_shells):
-        step(_held, shell.lock.acquire, (True, 5), shell.lock)
-
-
-def _after_fork() -> None:
-    while _held:
-        is_held, lock = _held[-1]
-        if is_held and lock.locked():
-            lock.release()
-        _held.pop()
-
-
-def _after_fork_in_child() -> None:
-    """The new process has none of the threads of the hubs. They are closed there."""
-    _after_fork()
-    for shell in list(open_shells):
-        shell.close_in_child()
-    open_shells.clear()
-
-
-os.register_at_fork(before=_before_fork, after_in_parent=_after_fork, after_in_child=_after_fork_in_child)

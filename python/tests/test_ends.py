@@ -219,6 +219,57 @@ with Slow(open(sys.argv[1], "wb", buffering=1 << 20)) as text, cmwq.Hub(workers=
             self.assertEqual(said, "")
             self.assertGreater(judged_by_program(f"{folder}/it"), 30)
 
+    def test_a_fork_while_writers_are_stuck(self):
+        """It waits at most a second for all of them. The new process ends, and writes nothing of what is kept back,
+        whether it closes the files or leaves that to its end."""
+        said = run_program(self.BEGIN + """
+import fcntl, io, tempfile
+KINDS = (lambda to: os.fdopen(to, "w"),
+         lambda to: tempfile._TemporaryFileWrapper(os.fdopen(to, "w"), "it", False),
+         lambda to: os.fdopen(to, "w", buffering=1, newline="\\n", errors="replace"),
+         lambda to: io.TextIOWrapper(io.FileIO(to, "w"), write_through=True))
+def stuck(kind):
+    \"\"\"A hub whose writer waits for the reader of a pipe, which doesn't read.\"\"\"
+    taken, to = os.pipe()
+    fcntl.fcntl(to, 1031, 4096)  # F_SETPIPE_SZ
+    file = kind(to)
+    hub = cmwq.Hub(workers=1, keep=8, history=file)
+    item = hub.item(lambda run: None)
+    def work():
+        for _ in range(300):
+            item.queue()
+            item.flush()
+    busy = threading.Thread(target=work)
+    busy.start()
+    while len(hub._shell.full) < 4:
+        time.sleep(0.001)
+    return taken, file, hub, busy
+hubs = [stuck(kind) for kind in KINDS]
+for closes in (True, False):
+    begun = time.monotonic()
+    child = os.fork()
+    if not child:
+        for _, file, _, _ in hubs if closes else ():
+            file.close()
+        print("child", flush=True)
+        sys.exit(0)
+    took = time.monotonic() - begun
+    print(wait(child), 0.5 < took < 2 or took, flush=True)
+for taken, file, hub, busy in hubs:
+    texts = []
+    def read():
+        with os.fdopen(taken) as it:
+            texts.append(it.read())
+    reader = threading.Thread(target=read)
+    reader.start()
+    busy.join()
+    hub.shutdown()
+    file.close()
+    reader.join()
+    print(cmwq.check(texts[0])[0])
+""")
+        self.assertEqual(said.split(), ["child", "0", "True"] * 2 + ["True"] * 4)
+
     def test_pools_of_processes(self):
         said = run_program("""
 import cmwq, multiprocessing
