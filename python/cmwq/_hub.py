@@ -185,11 +185,10 @@ class Hub:
                             head.raw[:written.value].decode())
         except BaseException as why:
             self._shell.clock.put(ABORT)
-            if isinstance(why, errors.NoThread):
-                if self._shell.threads[0].ident is None:  # nothing has started
-                    open_shells.discard(self._shell)
-                else:
-                    self._join()
+            if not any(thread.ident for thread in self._shell.threads[:1]):  # nothing has started
+                open_shells.discard(self._shell)
+            elif isinstance(why, errors.NoThread):
+                self._join()
             raise
 
     def _start_all(self, is_high: bool, head: str) -> None:
@@ -298,16 +297,20 @@ class Hub:
             raise errors.Itself("a thread of the hub can't join itself: the hub ends without it")
         self._join()
         shell.enders.discard(own)
-        if self._is_told:
-            return
-        self._is_told = True
-        unrun, shell.unrun = shell.unrun, []
+        try:
+            if not self._is_told:
+                self._tell()
+        except errors.Error:
+            self._is_told = True
+            raise
+
+    def _tell(self) -> None:
+        shell, raised = self._shell, [*self._errors]
         if shell.fault is not None:
             raise errors.HistoryError(f"the history could not be written: {shell.fault}") from shell.fault
-        if unrun:
-            raise errors.NotRun(f"items that were queued did not run: {unrun}", unrun)
-        if self._errors:
-            raised = [*self._errors]
+        if shell.unrun:
+            raise errors.NotRun(f"items that were queued did not run: {shell.unrun}", shell.unrun)
+        if raised:
             text = f"work functions have raised: {len(raised)}, the first {raised[0]!r}"
             raise errors.WorkError(text, raised) from raised[0]
 

@@ -142,7 +142,7 @@ class Clock:
     def _is_over(self) -> bool:
         shell = self._shell
         return (self._is_stopped and (self._is_aborted or not shell.workers)
-                and all(call.is_left for call in [*shell.waits]))
+                and all(call.is_left or not call.is_open() and call.thread in shell.enders for call in [*shell.waits]))
 
     def _look(self) -> None:
         """The next timer is looked for. Meanwhile whoever sets one tells of it."""
@@ -184,7 +184,7 @@ class Clock:
 
     def _stop(self) -> None:
         """Takes no more work, lets frozen queues go on, and takes back what is delayed. The waits of threads that a
-        signal handler keeps until the hub has ended are left."""
+        signal handler keeps until the hub has ended are left. Those of them that have not begun find it ended."""
         shell = self._shell
         for call in [*shell.waits]:
             if call.thread in shell.enders and not call.is_left and call.is_open():
@@ -213,7 +213,8 @@ class Clock:
         for thread in shell.threads:
             if thread is not threading.current_thread() and thread.ident is not None:
                 thread.join()
-        shell.unrun = [puts[0][1].item for puts in shell.puts if puts]
+        shell.unrun = [puts[0][1].item for number, puts in enumerate(shell.puts)
+                       if puts and shell.state_of(number).pending]
         for puts in shell.puts:
             puts.clear()
         shell.ended = True

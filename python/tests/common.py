@@ -49,7 +49,7 @@ def until(is_so, seconds=20):
     """Waits until this is so, and returns whether it is."""
     end = time.monotonic() + seconds
     while not is_so() and time.monotonic() < end:
-        time.sleep(0.001)
+        time.sleep(2e-4)
     return is_so()
 
 
