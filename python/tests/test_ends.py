@@ -206,29 +206,26 @@ with cmwq.Hub(workers=1) as hub:
         with tempfile.TemporaryDirectory() as folder:
             said = run_program(self.BEGIN + """
 import io
+writes = threading.Event()
 class Slow(io.TextIOWrapper):
     def write(self, text):
         super().write(text)
-        time.sleep(0.002)
+        writes.set()
+        time.sleep(0.05)
 with Slow(open(sys.argv[1], "wb", buffering=1 << 20)) as text, cmwq.Hub(workers=2, keep=8, history=text) as hub:
-    item, is_over = hub.item(lambda run: None), []
-    def work():
-        while not is_over:
-            item.queue()
-            item.flush()
-            time.sleep(1e-4)
-    busy = threading.Thread(target=work)
-    busy.start()
-    for _ in range(8):
+    item = hub.item(lambda run: None)
+    for _ in range(4):
+        writes.clear()
+        item.queue()
+        item.flush()
+        assert writes.wait(20)
         child = os.fork()
         if not child:
             sys.exit(0)
         assert wait(child) == 0
-    is_over.append(1)
-    busy.join()
 """, f"{folder}/it")
             self.assertEqual(said, "")
-            self.assertGreater(judged_by_program(f"{folder}/it"), 30)
+            self.assertGreater(judged_by_program(f"{folder}/it"), 10)
 
     def test_a_fork_while_writers_are_stuck(self):
         """It waits at most a second for all of them. The new process ends, and writes nothing of what is kept back,
