@@ -41,10 +41,14 @@ class Book:
 
     def __init__(self, shape: Shape, queues: Sequence[QueueOptions]) -> None:
         if not isinstance(shape, Shape):
-            raise TypeError(f"shape={shape!r} is not a Shape")
+            raise TypeError(f"shape={arguments.shown(shape)} is not a Shape")
         counts = [arguments.integer(f"shape.{name}", value, least, most)
                   for name, value, least, most in zip(Shape._fields, shape, _LEAST, _MOST)]
-        shapes = shapes_of([(f"queues[{number}]", options) for number, options in enumerate(queues)])
+        try:
+            named = [(f"queues[{number}]", options) for number, options in enumerate(queues)]
+        except TypeError:
+            raise TypeError(f"queues={arguments.shown(queues)} is not a sequence of QueueOptions") from None
+        shapes = shapes_of(named)
         self._handle = library.Handle()
         self._at = ctypes.addressof(self._handle)
         _done(lib.cmwq_open(self._at, ctypes.byref(library.Shape(*counts)), shapes, len(shapes)))
@@ -65,10 +69,8 @@ class Book:
 
     def step(self, call: str) -> str:
         """Makes the call of a line, such as "c0 queue 0 0 0", and returns the line of its entry."""
-        if not isinstance(call, str):
-            raise TypeError(f"call={call!r} is not a str")
         out, written = ctypes.create_string_buffer(library.LINE), ctypes.c_size_t()
-        text = call.encode(errors="surrogatepass")
+        text = arguments.text("call", call).encode(errors="surrogatepass")
         _done(lib.cmwq_step_line(self._at, text, len(text), out, library.LINE, ctypes.byref(written)))
         return out.raw[:written.value].decode()
 
@@ -83,12 +85,15 @@ class Book:
     def __len__(self) -> int:
         return lib.cmwq_len(self._at)
 
+    def __repr__(self) -> str:
+        return f"<cmwq.Book of {len(self)} entries{'' if self._handle.live else ', closed'}>"
+
 
 def check(history: Union[str, bytes]) -> Tuple[bool, str]:
     """Judges a whole history, of any format, as `cmwq check` does. Returns whether it is legal, and the line that says
     so or which entry is wrong. Raises NotAHistory."""
     if not isinstance(history, (str, bytes, bytearray, memoryview)):
-        raise TypeError(f"history={history!r} is neither a str nor bytes")
+        raise TypeError(f"history={arguments.shown(history)} is neither a str nor bytes")
     text = history.encode(errors="surrogatepass") if isinstance(history, str) else bytes(history)
     out, written = ctypes.create_string_buffer(library.LINE), ctypes.c_size_t()
     status = library.judging.cmwq_check(text, len(text), out, library.LINE, ctypes.byref(written))

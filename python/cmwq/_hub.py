@@ -1,7 +1,6 @@
 """Hubs, and the handles of their queues and items."""
 import atexit
 import ctypes
-import io
 import threading
 import time
 import weakref
@@ -36,7 +35,7 @@ class Item:
     def queue_on(self, queue: "Queue", cpu: int) -> bool:
         """Queues the item on any queue and CPU of the hub. Returns False if it was pending. (queue_work_on())"""
         if not isinstance(queue, Queue):
-            raise TypeError(f"queue={queue!r} is not a Queue")
+            raise TypeError(f"queue={arguments.shown(queue)} is not a Queue")
         if queue._shell is not self._shell:
             raise errors.Invalid(f"queue={queue!r} is of another hub than {self!r}")
         cpu = arguments.integer("cpu", cpu, 0, self._shell.shape.cpus - 1)
@@ -103,7 +102,7 @@ class Item:
         state = self._shell.state_of(self._number)
         states = ["delayed" if state.pending == library.PENDING_TIMER else "queued"] * bool(state.pending)
         states += ["running"] * bool(state.runs)
-        work = getattr(self._work, "__qualname__", None) or repr(self._work)
+        work = getattr(self._work, "__qualname__", None) or arguments.shown(self._work)
         return f"<cmwq.Item {self._number} of {self._queue._name!r}: {work}, {' and '.join(states) or 'idle'}>"
 
 
@@ -161,8 +160,11 @@ class Hub:
                  on_error: Optional[Callable[[Item, BaseException], Any]] = None, room: int = 2 ** 62,
                  keep: int = 1024) -> None:
         library.check_version()
-        queues = {"default": QueueOptions()} if queues is None else dict(queues)
-        names = list(queues)
+        try:
+            queues = {"default": QueueOptions()} if queues is None else dict(queues)
+        except (TypeError, ValueError):
+            raise TypeError(f"queues={arguments.shown(queues)} is not a dict") from None
+        names = [arguments.text("a name in queues", name) for name in queues]
         shapes = shapes_of([(f"queues[{name!r}]", options) for name, options in queues.items()])
         shape = library.Shape(
             arguments.integer("room", room, 1, 2 ** 62), 1, arguments.integer("items", items, 1, 65535),
@@ -170,9 +172,8 @@ class Hub:
             1 + arguments.integer("waits", waits, 1, 254))
         keep = arguments.integer("keep", keep, 1, 2 ** 31)
         tick = arguments.seconds("tick", tick, 1e-6, 1e9)
-        if history is not None and (not callable(getattr(history, "write", None)) or
-                                    isinstance(history, (io.RawIOBase, io.BufferedIOBase))):
-            raise TypeError(f"history={history!r} is not a text file")
+        if history is not None:
+            arguments.text_file("history", history)
         self._on_error = on_error if on_error is None else arguments.function("on_error", on_error)
         head, written = ctypes.create_string_buffer(64 * (2 + len(names))), ctypes.c_size_t()
         library.done(lib.cmwq_head(ctypes.byref(shape), shapes, len(names), head, len(head), ctypes.byref(written)))
@@ -227,9 +228,9 @@ class Hub:
 
     def queue(self, name: str) -> Queue:
         """Returns the queue of this name."""
-        if name not in self._names:
+        if arguments.text("name", name) not in self._names:
             known = ", ".join(map(repr, self._names))
-            raise errors.Invalid(f"name={name!r} is not that of a queue: {known}")
+            raise errors.Invalid(f"name={arguments.shown(name)} is not that of a queue: {known}")
         found = self._handles.get(name)
         if found is None:
             found = self._handles.setdefault(name, Queue(self, name, self._names.index(name)))
@@ -311,7 +312,7 @@ class Hub:
         if shell.unrun:
             raise errors.NotRun(f"items that were queued did not run: {shell.unrun}", shell.unrun)
         if raised:
-            text = f"work functions have raised: {len(raised)}, the first {raised[0]!r}"
+            text = f"work functions have raised: {len(raised)}, the first {arguments.shown(raised[0])}"
             raise errors.WorkError(text, raised) from raised[0]
 
     def _join(self) -> None:

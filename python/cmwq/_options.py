@@ -28,7 +28,7 @@ def shapes_of(queues: Sequence[Tuple[str, Any]]) -> Any:
     shapes = (library.QueueShape * len(queues))()
     for shape, (name, options) in zip(shapes, queues):
         if not isinstance(options, QueueOptions):
-            raise TypeError(f"{name}={options!r} is not a QueueOptions, as max_active(8) returns one")
+            raise TypeError(f"{name}={arguments.shown(options)} is not a QueueOptions, as max_active(8) returns one")
         shape.max_active = arguments.integer(f"{name}.max_active", options.max_active, 1, 512)
         shape.high, shape.intensive, shape.freezable = (bool(it) for it in options[1:])
     return shapes

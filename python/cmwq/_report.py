@@ -4,6 +4,8 @@ import logging
 import traceback
 from typing import Any, List, Optional, Set
 
+from . import _arguments as arguments
+
 log = logging.getLogger("cmwq")
 
 _GROUP: Any = getattr(builtins, "BaseExceptionGroup", ())
@@ -13,11 +15,7 @@ def report(text: str, about: Any, why: BaseException) -> None:
     """Logs an exception. A record that is kept has only the text, and a handler of the log that raises ends no thread
     of a hub."""
     try:
-        try:
-            shown = repr(about)
-        except BaseException:
-            shown = object.__repr__(about)
-        log.error(text, shown, exc_info=why)
+        log.error(text, arguments.shown(about), exc_info=why)
     except BaseException:
         try:
             traceback.print_exc()

@@ -437,7 +437,7 @@ class Shell:
         step(puts, lib.cmwq_board_call, words, put)
         number, _, _, kind = put.reply()
         while kind == NONE:
-            status = next(status for status, whose in reversed([*puts]) if whose is put)
+            status = next((status for status, whose in reversed([*puts]) if whose is put), library.STOPPED)
             self.settle_put(put, puts, kind)
             if status != library.CROWDED:
                 self.owed.discard(put)
@@ -464,7 +464,10 @@ class Shell:
         elif kind not in PENDING:
             for entry in [*puts]:
                 if entry[1] is put:
-                    puts.remove(entry)
+                    try:
+                        puts.remove(entry)
+                    except ValueError:  # the end of the hub has come between
+                        pass
 
     def drop(self, record: Any, number: int) -> None:
         """An item is pending or running once less, and held once less. What the record itself has put goes last, since

@@ -331,6 +331,32 @@ class TooLittle(Own):
             self.assertFalse(cold.pending or late.pending)
             judged(self.text)
 
+    def test_many_threads_shut_down(self):
+        """Each call returns once the hub has ended, and at least one tells of the errors."""
+        for _ in range(10):
+            hub, gate, told = self.hub(workers=2), Gate(), []
+            slow, bad = hub.item(gate), hub.item(lambda run: 1 // 0)
+            for item in (slow, bad):
+                item.queue()
+
+            def shutdown():
+                try:
+                    hub.shutdown()  # noqa: B023
+                except cmwq.WorkError as why:
+                    told.append(why)  # noqa: B023
+                self.assertFalse(slow.running or bad.pending)  # noqa: B023
+
+            threads = [threading.Thread(target=shutdown) for _ in range(6)]
+            for thread in threads:
+                thread.start()
+            self.assertTrue(until(lambda: hub._shell.closing))  # noqa: B023
+            gate.go.release()
+            for thread in threads:
+                thread.join()
+            self.assertTrue(told)
+            hub.shutdown()
+            judged(self.text)
+
     def test_a_hub_that_fails(self):
         """The end says which items did not run."""
         hub = self.hub(queues={"cold": cmwq.max_active(2, freezable=True)})

@@ -6,6 +6,7 @@ import gc
 import io
 import logging
 import math
+import os
 import tempfile
 import threading
 import time
@@ -258,6 +259,16 @@ class Errors(Case):
         judged(self.text)
 
     def test_arguments(self):
+        class Writes:
+            def write(self, text):
+                pass
+
+        class Unlucky:
+            def __repr__(self):
+                raise RuntimeError
+
+        closed = open(os.devnull, "w", encoding="utf-8")
+        closed.close()
         queues = {"a": cmwq.max_active(1)}
         with cmwq.Hub(queues=queues, tick=0.01, items=4) as hub, cmwq.Hub() as other:
             item, queue = hub.item(print), hub.queue("a")
@@ -279,6 +290,13 @@ class Errors(Case):
                     (lambda: cmwq.Hub(history="it"), "history='it' is not a text file"),
                     (lambda: cmwq.Hub(history=io.BytesIO()), "is not a text file"),
                     (lambda: cmwq.Book((1, 1, 1, 1, 1, 1), [cmwq.max_active(1)]), "is not a Shape"),
+                    (lambda: cmwq.Hub(queues="ab"), "queues='ab' is not a dict"),
+                    (lambda: cmwq.Hub(queues=3), "queues=3 is not a dict"),
+                    (lambda: cmwq.Hub(queues={3: cmwq.max_active(1)}), "a name in queues=3 is not a str"),
+                    (lambda: hub.queue([]), "name=[] is not a str"),
+                    (lambda: cmwq.Hub(history=Writes()), "is not a text file"),
+                    (lambda: item.flush(Unlucky()), "timeout=<test_errors."),
+                    (lambda: cmwq.Book(cmwq.Shape(1, 1, 1, 1, 1, 1), None), "queues=None is not a sequence of"),
                     (lambda: cmwq.check(5), "history=5 is neither a str nor bytes")):
                 with self.assertRaises(TypeError) as raised:
                     call()
@@ -291,7 +309,13 @@ class Errors(Case):
                     (lambda: item.queue_delayed(-0.5), "seconds=-0.5 is not from 0 to 42949672.94"),
                     (lambda: item.queue_delayed(math.nan), "seconds=nan is not from"),
                     (lambda: item.modify(math.inf), "seconds=inf is not from"),
-                    (lambda: item.modify(10 ** 400), "is not from 0 to"),
+                    (lambda: item.modify(10 ** 400), "...00000000000000000000 is not from 0 to"),
+                    (lambda: item.modify(10 ** 5000), "is not from 0 to"),
+                    (lambda: hub.item(print, cpu=-10 ** 5000), "is not from 0 to 0"),
+                    (lambda: item.modify(decimal.Decimal("sNaN")), "seconds=Decimal('sNaN') is not from 0 to"),
+                    (lambda: item.flush(decimal.Decimal("NaN")), "timeout=Decimal('NaN') is not from"),
+                    (lambda: cmwq.Hub(history=closed), "is not open for writing"),
+                    (lambda: cmwq.Hub(history=open(__file__, encoding="utf-8")), "is not open for writing"),
                     (lambda: item.flush(math.nan), "timeout=nan is not from"),
                     (lambda: queue.set_max_active(0), "limit=0 is not from 1 to"),
                     (lambda: cmwq.Hub(workers=65), "workers=65 is not from 1 to 64"),

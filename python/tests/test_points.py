@@ -3,8 +3,12 @@ that it has interrupted, and one that shuts the hub down. A point is before a li
 import io
 import itertools
 import os
+import signal
 import sys
 import threading
+import time
+import traceback
+import warnings
 
 from common import PACKAGE, Case, Gate, cmwq, judged, until
 
@@ -48,6 +52,18 @@ def interrupted(point, call):
         return None
     except Interrupt as why:
         return why.with_traceback(None)
+
+
+def status_of(process):
+    """How a process has ended, or None if it hangs."""
+    end = time.monotonic() + 20
+    while time.monotonic() < end:
+        ended, status = os.waitpid(process, os.WNOHANG)
+        if ended:
+            return status
+        time.sleep(2e-4)
+    os.kill(process, signal.SIGKILL)
+    return None
 
 
 class Scene:
@@ -203,18 +219,24 @@ class Points(Case):
     def test_a_handler_shuts_down(self):
         """The call ends, or raises Closed."""
         closed = ended = 0
-        for name in ("queue", "modify", "cancel_sync", "flush", "flush_delayed", "drain", "item that is queued",
-                     "freeze", "set_max_active"):
+        for name in ("queue", "queue again", "modify", "cancel_sync", "flush", "flush_delayed", "drain",
+                     "item that is queued", "freeze", "set_max_active"):
             for point in itertools.count():
                 scene = Scene(self)
                 before, call = scene.calls()[name]
+
+                def handler():
+                    scene.go.set()  # noqa: B023
+                    scene.hub.shutdown()  # noqa: B023
+
                 before()
                 try:
-                    came = comes_in(point, call, scene.hub.shutdown)
+                    came = comes_in(point, call, handler)
                     ended += 1
                 except cmwq.Closed:
                     came = True
                     closed += 1
+                scene.go.set()
                 scene.hub.shutdown()
                 self.assertFalse(scene.item.pending or scene.item.running or scene.later.pending)
                 judged(self.text)
@@ -222,6 +244,54 @@ class Points(Case):
                     break
         self.assertGreater(closed, 100)
         self.assertGreater(ended, 100)
+
+    def test_a_fork_comes_in(self):
+        """In the new process the call ends, or raises Closed, and so do all others. The old one goes on."""
+        warnings.simplefilter("ignore")  # of forks while there are threads
+        forks = 0
+        for name in ("queue again", "modify", "item", "flush"):
+            scene = Scene(self)
+            before, call = scene.calls()[name]
+            child = []
+
+            def handler():
+                child.append(os.fork())  # noqa: B023
+
+            def ends(raised):
+                """What the new process does."""
+                try:
+                    if not isinstance(raised, (cmwq.Closed, type(None))):
+                        raise raised
+                    for other in (scene.hub.freeze, scene.item.queue, scene.item.flush, scene.hub.drain):  # noqa: B023
+                        self.assertRaises(cmwq.Closed, other)
+                    assert "forked" in repr(scene.hub) and not scene.item.pending  # noqa: B023
+                    scene.hub.shutdown()  # noqa: B023
+                    os._exit(0)
+                except BaseException:
+                    traceback.print_exc()
+                finally:
+                    os._exit(1)
+
+            for point in itertools.count():
+                before()
+                child.clear()
+                try:
+                    came = comes_in(point, call, handler)
+                except BaseException as why:
+                    if child != [0]:
+                        raise
+                    ends(why)
+                if child == [0]:
+                    ends(None)
+                for process in child:
+                    forks += 1
+                    self.assertEqual(status_of(process), 0, f"{name}, point {point}")
+                scene.settle()
+                if not came:
+                    break
+            scene.hub.shutdown()
+            judged(self.text)
+        self.assertGreater(forks, 100)
 
     def test_an_interrupted_start(self):
         """The threads that have started end."""
