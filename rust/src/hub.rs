@@ -198,16 +198,19 @@ impl<'a> Hold<'a> {
 /// How many panics of drops are dropped in turn. What panics whenever it is dropped is never dropped then.
 const MOST_DROPS: usize = 16;
 
-/// Drops what users made, which may panic with what may panic itself when it is dropped. The lock is not held.
-pub(crate) fn discard<T>(value: T) {
+/// Drops what users made, which may panic with what may panic itself when it is dropped. The lock is not held. Returns
+/// whether it has panicked.
+pub(crate) fn discard<T>(value: T) -> bool {
     let mut left = catch_unwind(AssertUnwindSafe(|| drop(value))).err();
+    let panicked = left.is_some();
     for _ in 0..MOST_DROPS {
         let Some(payload) = left else {
-            return;
+            return panicked;
         };
         left = catch_unwind(AssertUnwindSafe(|| drop(payload))).err();
     }
     std::mem::forget(left);
+    panicked
 }
 
 impl Hub {

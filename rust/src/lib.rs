@@ -246,11 +246,11 @@ impl Builder {
         let board = Board::open(&self.shape, &self.queues, self.waits).map_err(invalid)?;
         let hub = Arc::new(Hub::new(board, self.shape, most, self.history.is_some(), self.tick, self.spins));
         let mut made = Workqueues { hub, names: self.names, workers: Vec::new(), clock: None, journal: None };
-        if let Some(mut writer) = self.history {
+        if let Some(writer) = self.history {
             let hub = made.hub.clone();
             let journal = move || {
                 hub.enter();
-                hub.keep_journal(&head, &mut *writer)
+                hub.keep_journal(&head, writer)
             };
             made.journal = Some(spawn("cmwq journal", journal)?);
         }
@@ -363,7 +363,7 @@ impl Workqueues {
             let _ = clock.join();
         }
         let left = self.hub.end();
-        left.works.into_iter().for_each(discard);
+        left.works.into_iter().for_each(|work| _ = discard(work));
         if let Some(Ok(Err(why))) = self.journal.take().map(JoinHandle::join) {
             return Err(Error::History(why));
         }

@@ -613,6 +613,32 @@ fn a_writer_that_panics_with_a_bomb() -> Result<()> {
 }
 
 #[test]
+fn a_writer_that_panics_when_it_is_dropped() -> Result<()> {
+    let _dog = watchdog();
+    struct Bad(Text);
+    impl Write for Bad {
+        fn write(&mut self, text: &[u8]) -> io::Result<usize> {
+            self.0.write(text)
+        }
+        fn flush(&mut self) -> io::Result<()> {
+            Ok(())
+        }
+    }
+    impl Drop for Bad {
+        fn drop(&mut self) {
+            panic_any(Bomb(3));
+        }
+    }
+    let text = Text::default();
+    let all = Workqueues::builder().queue("a", max_active(1)).history(Bad(text.clone())).build()?;
+    all.queue("a")?.item(|_| ())?.queue()?;
+    let ended = all.shutdown();
+    assert!(matches!(&ended, Err(Error::History(why)) if why.to_string().ends_with("when it was dropped")), "{ended:?}");
+    text.judge();
+    Ok(())
+}
+
+#[test]
 fn items_after_the_end() -> Result<()> {
     let _dog = watchdog();
     struct Noisy(Arc<AtomicUsize>);

@@ -9,11 +9,17 @@ use std::time::Duration;
 const LOOKS: Duration = Duration::from_millis(10);
 
 impl Hold<'_> {
-    /// Brings the board's time up to this tick, and fires what is due.
+    /// Brings the board's time up to this tick, and fires what is due. A call of the board goes on for 2^32 - 1 ticks
+    /// at most.
     fn advance(&mut self, now: u64) -> Result<u64> {
-        let ticks = now.saturating_sub(self.state.board.time());
-        let ticks = u32::try_from(ticks).unwrap_or(u32::MAX);
-        self.make(|board, wakes| board.advance(0, ticks, wakes))
+        loop {
+            let ticks = now.saturating_sub(self.state.board.time());
+            let ticks = u32::try_from(ticks).unwrap_or(u32::MAX);
+            let time = self.make(|board, wakes| board.advance(0, ticks, wakes))?;
+            if time >= now {
+                return Ok(time);
+            }
+        }
     }
 
     /// The clock looks at the timers now.
@@ -63,7 +69,8 @@ impl Hub {
                 hold.state.due = hold.state.board.due();
             }
             let (due, looks) = (hold.state.due, hold.state.left_drain);
-            let at = Duration::from_nanos(u64::try_from(u128::from(due) * self.tick.as_nanos()).unwrap_or(u64::MAX));
+            let at = u128::from(due).saturating_mul(self.tick.as_nanos());
+            let at = Duration::from_nanos(u64::try_from(at).unwrap_or(u64::MAX));
             let left = at.saturating_sub(self.begun.elapsed());
             if left.is_zero() {
                 hold.state.due = 0;
@@ -83,5 +90,34 @@ impl Hub {
                 state.due = if looks { 0 } else { state.due };
             }
         }
+    }
+}
+
+#[cfg(test)]
+mod tests {
+    use crate::{max_active, Workqueues};
+    use std::time::Duration;
+
+    #[test]
+    fn the_clock_goes_on_with_ticks_of_any_length() -> crate::Result<()> {
+        for tick in [Duration::MAX, Duration::from_secs(1 << 40), Duration::from_nanos(1)] {
+            let all = Workqueues::builder().queue("a", max_active(1)).tick(tick).build()?;
+            let item = all.queue("a")?.item(|_| ())?;
+            std::thread::sleep(Duration::from_millis(50)); // the clock knows of no timer
+            assert!(item.queue_delayed(Duration::from_secs(1))?);
+            assert!(item.is_pending() && !all.clock.as_ref().unwrap().is_finished());
+            assert!(item.modify(Duration::ZERO)?);
+            item.flush_timeout(Duration::MAX)?;
+            all.shutdown()?;
+        }
+        Ok(())
+    }
+
+    /// As after a long time in which no timer was set.
+    #[test]
+    fn time_is_brought_up_at_once() -> crate::Result<()> {
+        let all = Workqueues::builder().tick(Duration::from_nanos(1)).queue("a", max_active(1)).build()?;
+        assert_eq!(all.hub.hold().advance(5 << 32)?, 5 << 32);
+        all.shutdown()
     }
 }

@@ -59,18 +59,23 @@ impl State {
 
 impl Hub {
     /// What the journal's thread does. After a fault of the writer the history is dropped.
-    pub(crate) fn keep_journal(&self, head: &[u8], writer: &mut dyn Write) -> io::Result<()> {
-        let written = catch_unwind(AssertUnwindSafe(|| self.write_all(head, writer)));
+    pub(crate) fn keep_journal(&self, head: &[u8], mut writer: Box<dyn Write + Send>) -> io::Result<()> {
+        let written = catch_unwind(AssertUnwindSafe(|| self.write_all(head, &mut *writer)));
         let mut state = self.lock();
         state.journal.writes = false;
         state.journal.armed = true;
         state.journal.full.clear();
         self.space.notify_all();
         drop(state);
-        written.unwrap_or_else(|payload| {
-            discard(payload);
-            Err(io::Error::other("the writer has panicked"))
-        })
+        let dropped = discard(writer);
+        match written {
+            Ok(written) if !dropped || written.is_err() => written,
+            Ok(_) => Err(io::Error::other("the writer has panicked when it was dropped")),
+            Err(payload) => {
+                discard(payload);
+                Err(io::Error::other("the writer has panicked"))
+            }
+        }
     }
 
     fn write_all(&self, head: &[u8], writer: &mut dyn Write) -> io::Result<()> {
