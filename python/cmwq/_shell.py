@@ -527,10 +527,14 @@ class Shell:
         return int(now / self.tick), int(-(-(now + later) // self.tick))
 
     def advance(self, now: int) -> int:
-        """Brings the board's time up to this tick, and fires what is due. Returns the status."""
-        ticks = min(max(now - lib.cmwq_board_time(self.board), 0), 2 ** 32 - 1)
-        call = Call(library.TICK)
-        return self.whole(self.make, call, lib.cmwq_board_advance, 0, ticks, call.at + library.NUMBER_AT)
+        """Brings the board's time up to this tick, and fires what is due. A call of the board goes on for 2^32 - 1 ticks
+        at most. Returns the status."""
+        while True:
+            ticks = min(max(now - lib.cmwq_board_time(self.board), 0), 2 ** 32 - 1)
+            call = Call(library.TICK)
+            status = self.whole(self.make, call, lib.cmwq_board_advance, 0, ticks, call.at + library.NUMBER_AT)
+            if status or lib.cmwq_board_time(self.board) >= now:
+                return status
 
     def freeze(self) -> int:
         """Returns the kind of the reply."""

@@ -79,6 +79,17 @@ class Hubs(Case):
             self.assertGreaterEqual(end - begun, 0.01 + 0.003 * number)
         judged(self.text)
 
+    def test_delays_after_a_long_time_without_timers(self):
+        with self.hub(tick=1e-6) as hub:
+            hub._shell.begun -= 20000  # more ticks than a call of the board goes on for
+            ends, begun = [], time.monotonic()
+            item = hub.item(lambda run: ends.append(time.monotonic()))
+            item.queue_delayed(0.05)
+            while not ends:
+                time.sleep(0.001)
+            self.assertGreaterEqual(ends[0] - begun, 0.05)
+        judged(self.text)
+
     def test_timers_go_on_after_a_drain(self):
         with self.hub(queues={"a": cmwq.max_active(4), "b": cmwq.max_active(4)}) as hub:
             gate, told = Gate(), []
