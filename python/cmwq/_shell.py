@@ -527,8 +527,8 @@ class Shell:
         return int(now / self.tick), int(-(-(now + later) // self.tick))
 
     def advance(self, now: int) -> int:
-        """Brings the board's time up to this tick, and fires what is due. A call of the board goes on for 2^32 - 1 ticks
-        at most. Returns the status."""
+        """Brings the board's time up to this tick, and fires what is due. A call of the board goes on for 2^32 - 1
+        ticks at most. Returns the status."""
         while True:
             ticks = min(max(now - lib.cmwq_board_time(self.board), 0), 2 ** 32 - 1)
             call = Call(library.TICK)
@@ -571,6 +571,8 @@ class Shell:
         in_run = call.who is not CALLER_0
         if in_run and deadline is not None:
             raise errors.TimeoutInRun(f"timeout={timeout!r} is given in a work function, whose waits can't be left")
+        if not in_run and getattr(here, "owner", None) is self:  # in a finalizer, for one
+            raise errors.Itself("a thread of the hub, whose help a wait may need, waits in its runs only")
         if len(self.full) >= MOST_FULL:
             self.keep_up()
         try:

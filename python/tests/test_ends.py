@@ -116,6 +116,34 @@ cmwq.Hub()
         self.assertEqual(ended, [1])
         judged(self.text)
 
+    def test_finalizers_wait_for_nothing_in_threads_of_the_hub(self):
+        """A work function is dropped by the only worker, which would wait for what it runs next."""
+        told, ran = [], []
+
+        class Noisy:
+            def __del__(self):
+                for call in (hub.flush, later.flush, later.cancel_sync, hub.drain, hub.shutdown):
+                    try:
+                        call()
+                    except cmwq.Itself as why:
+                        told.append(str(why))
+                ran.append(later.cancel())
+
+        hub = self.hub(workers=1)
+        gate = Gate()
+        slow, later = hub.item(gate), hub.item(lambda run: ran.append("later"))
+        slow.queue()
+        hub.item(lambda run, noisy=Noisy(): None).queue()
+        hub.queue("default").set_max_active(1)
+        later.queue_delayed(3600)
+        gate.go.release()
+        self.assertTrue(until(lambda: ran, 10))
+        self.assertEqual((len(told), ran), (5, [True]))
+        self.assertEqual(set(told[:4]), {"a thread of the hub, whose help a wait may need, waits in its runs only"})
+        del later
+        hub.shutdown()
+        judged(self.text)
+
     def test_items_that_are_dropped(self):
         """The price of an item whose handle is dropped once it is queued is the same with however many others."""
         with cmwq.Hub(workers=1, items=7000) as hub:

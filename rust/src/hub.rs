@@ -296,8 +296,12 @@ impl Hub {
     /// A call that waits. Returns the reply with which it began.
     pub(crate) fn wait(&self, kind: u8, item: u16, queue: u8, timeout: Option<Duration>) -> Result<Reply> {
         let call = Call { kind, item, queue, who: self.who(true), ..Call::default() };
-        if timeout.is_some() && call.who.kind != CALLER {
-            return Err(Error::TimeoutInRun);
+        if call.who.kind != CALLER {
+            if timeout.is_some() {
+                return Err(Error::TimeoutInRun);
+            }
+        } else if self.is_own_thread() {
+            return Err(Error::Itself); // what a work function has captured waits when a worker drops it
         }
         let deadline = timeout.and_then(|timeout| Instant::now().checked_add(timeout));
         let mut hold = self.hold();

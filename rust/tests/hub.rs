@@ -612,6 +612,39 @@ fn a_writer_that_panics_with_a_bomb() -> Result<()> {
     Ok(())
 }
 
+/// A work function is dropped by the only worker, which would wait for what it runs next.
+#[test]
+fn drops_wait_for_nothing_in_threads_of_the_workqueues() -> Result<()> {
+    let _dog = watchdog();
+    struct Waits(cmwq::Queue, cmwq::Item, mpsc::Sender<Vec<Error>>);
+    impl Drop for Waits {
+        fn drop(&mut self) {
+            let Waits(queue, later, send) = self;
+            let long = Duration::from_secs(3600);
+            let waits = [
+                queue.flush(),
+                queue.drain_timeout(long),
+                later.flush().map(drop),
+                later.cancel_sync_timeout(long).map(drop),
+            ];
+            send.send(waits.into_iter().filter_map(Result::err).collect()).unwrap();
+        }
+    }
+    let all = Workqueues::builder().workers(1).queue("a", max_active(4)).build()?;
+    let queue = all.queue("a")?;
+    let ((go, work), (send, receive)) = (gate(), mpsc::channel());
+    let (slow, later) = (queue.item(work)?, queue.item(|_| ())?);
+    slow.queue()?;
+    let waits = Waits(queue.clone(), later.clone(), send);
+    queue.item(move |_| _ = &waits)?.queue()?;
+    later.queue()?;
+    go.send(()).unwrap();
+    let told = receive.recv().unwrap();
+    assert!(told.len() == 4 && told.iter().all(|why| matches!(why, Error::Itself)), "{told:?}");
+    later.flush()?;
+    all.shutdown()
+}
+
 #[test]
 fn a_writer_that_panics_when_it_is_dropped() -> Result<()> {
     let _dog = watchdog();
