@@ -666,7 +666,10 @@ fn a_writer_that_panics_when_it_is_dropped() -> Result<()> {
     let all = Workqueues::builder().queue("a", max_active(1)).history(Bad(text.clone())).build()?;
     all.queue("a")?.item(|_| ())?.queue()?;
     let ended = all.shutdown();
-    assert!(matches!(&ended, Err(Error::History(why)) if why.to_string().ends_with("when it was dropped")), "{ended:?}");
+    assert!(
+        matches!(&ended, Err(Error::History(why)) if why.to_string().ends_with("when it was dropped")),
+        "{ended:?}"
+    );
     text.judge();
     Ok(())
 }
