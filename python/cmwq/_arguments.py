@@ -74,3 +74,10 @@ def text_file(name: str, value: Any) -> Any:
     if isinstance(value, io.IOBase) and (value.closed or not value.writable()):
         raise errors.Invalid(f"{name}={shown(value)} is not open for writing")
     return value
+
+
+class Single:
+    """What can't be copied: a copy would go on without knowing when its original has gone."""
+
+    def __reduce__(self) -> Any:
+        raise TypeError(f"{self!r} can't be copied or pickled")

@@ -35,7 +35,7 @@ def _done(status: int) -> None:
         raise Refused(_STATUSES[status])
 
 
-class Book:
+class Book(arguments.Single):
     """A workqueue runtime of one thread, for simulators. It has no threads, locks or clock. Each call makes one entry
     of a history, and returns a reply that is proved to be the right one. `with` closes it."""
 

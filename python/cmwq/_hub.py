@@ -18,7 +18,7 @@ from ._shell import ABORT, END, Shell, here, open_shells
 from ._threads import Clock, Journal, Worker
 
 
-class Item:
+class Item(arguments.Single):
     """A handle of an item of work: a work_struct with its function. It is gone once it has no handle and is neither
     pending nor running. An item without a handle that is pending runs."""
 
@@ -106,7 +106,7 @@ class Item:
         return f"<cmwq.Item {self._number} of {self._queue._name!r}: {work}, {' and '.join(states) or 'idle'}>"
 
 
-class Queue:
+class Queue(arguments.Single):
     """A handle of a queue."""
 
     def __init__(self, hub: "Hub", name: str, number: int) -> None:
@@ -143,7 +143,7 @@ class Queue:
         return f"<cmwq.Queue {self._name!r}>"
 
 
-class Hub:
+class Hub(arguments.Single):
     """Queues with their threads. The end of `with` shuts it down, and so does the program's end. It is also shut down
     once it and all handles of its queues and items are gone, and nothing is pending or running.
 

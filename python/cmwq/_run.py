@@ -1,12 +1,13 @@
 """What a work function is given."""
 from typing import Any, Tuple
 
+from . import _arguments as arguments
 from . import _errors as errors
 from . import _library as library
 from ._shell import PENDING, Shell, here
 
 
-class Run:
+class Run(arguments.Single):
     """A run of a work function, to which it is given. Calls in a work function are calls of its run, by whatever
     handle. Once the run has ended, the calls below raise RunEnded."""
 
@@ -49,7 +50,7 @@ class Run:
         return "<cmwq.Run: ended>" if item is None else f"<cmwq.Run of {item!r}>"
 
 
-class Block:
+class Block(arguments.Single):
     """What `Run.block` returns."""
 
     def __init__(self, run: Run) -> None:

@@ -1,5 +1,6 @@
 """What work functions raise, what calls raise, and how handles are shown."""
 import contextlib
+import copy
 import decimal
 import fractions
 import gc
@@ -7,6 +8,7 @@ import io
 import logging
 import math
 import os
+import pickle
 import tempfile
 import threading
 import time
@@ -257,6 +259,18 @@ class Errors(Case):
             kept[0][1].__exit__(None, None, None)
             self.assertEqual(told, [True, "(<cmwq.Run: ended>, <cmwq.Block of <cmwq.Run: ended>>)"])
         judged(self.text)
+
+    def test_handles_are_not_copied(self):
+        kept = []
+        with self.hub() as hub, cmwq.Book(cmwq.Shape(1, 1, 1, 1, 1, 1), [cmwq.max_active(1)]) as book:
+            item = hub.item(lambda run: kept.extend((run, run.block())))
+            item.queue()
+            hub.flush()
+            for one in (hub, item, hub.queue("default"), book, *kept):
+                for copies in (copy.copy, copy.deepcopy, pickle.dumps):
+                    with self.assertRaises(TypeError) as raised:
+                        copies(one)
+                    self.assertEqual(str(raised.exception), f"{one!r} can't be copied or pickled")
 
     def test_arguments(self):
         class Writes:

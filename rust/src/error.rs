@@ -48,7 +48,8 @@ pub enum Error {
     /// The item's work function has panicked.
     Poisoned,
     /// So many items were queued and did not run, since the workqueues have failed.
-    /// [`Workqueues::shutdown`](crate::Workqueues::shutdown) returns it.
+    /// [`Workqueues::shutdown`](crate::Workqueues::shutdown) returns it. They are still
+    /// [pending](crate::Item::is_pending).
     NotRun(usize),
     /// So many work functions have panicked. [`Workqueues::shutdown`](crate::Workqueues::shutdown) returns it.
     Panicked(usize),
