@@ -1,5 +1,6 @@
 """What comes into a call at each of its points in turn: a signal handler that raises, one that waits for the very thing
 that it has interrupted, and one that shuts the hub down. A point is before a line of the package."""
+import faulthandler
 import io
 import itertools
 import os
@@ -10,7 +11,7 @@ import time
 import traceback
 import warnings
 
-from common import PACKAGE, Case, Gate, cmwq, judged, until
+from common import PACKAGE, SECONDS, Case, cmwq, judged, until
 
 FILES = os.path.join(PACKAGE, "cmwq", "")
 
@@ -70,6 +71,7 @@ class Scene:
     """A hub with an item that runs for a short time, or until it is told to end, and a delayed one."""
 
     def __init__(self, test, waits=6):
+        faulthandler.dump_traceback_later(SECONDS, exit=True)
         queues = {"a": cmwq.max_active(2, freezable=True), "b": cmwq.max_active(1)}
         self.test, self.hub = test, test.hub(workers=2, items=6, waits=waits, keep=16, queues=queues)
         self.go, self.seconds, self.timer, self.runs = threading.Event(), 0, None, 0
