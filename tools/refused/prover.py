@@ -64,7 +64,7 @@ class Kit:
     """The kit that `rt` on the PATH belongs to, and the libraries that are found."""
 
     def __init__(self, places):
-        self.rtlib = common.load("tools/stamped").kit().rtlib
+        self.rtlib = common.kit().rtlib
         self.crates = {it.name: it for it in self.rtlib.crates_below(ROOT)}
         for crate in self.crates.values():
             found = [library_at(it, crate.name) for it in [f"{ROOT}/crates", *places]]
