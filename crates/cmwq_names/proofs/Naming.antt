@@ -1,6 +1,6 @@
 -- A text that is named number by number, and a number that is read digit by digit.
 use Rattle.std.proofs.Common.{◌≡◌, ◌∙◌, ℕ, zero, suc, ◌+◌, ◌-◌, ◌<◌, ◌≤◌, Bool, true, false, List, [], ◌∷◌, ◌++◌, length}
-use Rattle.std.proofs.Common.{add-one, ap, append-nil, append_assoc, arith, drop, drop-cons, eqb, get_or, refl, sym, subst, take}
+use Rattle.std.proofs.Common.{add-one, ap, append-nil, append_assoc, arith, drop, drop-cons, get_or, refl, sym}
 use Rattle.std.proofs.Common.{take-append-drop}
 use Rattle.std.proofs.lemmas.List.{drop_all, length-drop}
 use Rattle.std.specs.Prelude.{◌==◌}

@@ -1,8 +1,12 @@
-use Rattle.std.proofs.Common.{◌≡◌, ◌++◌, take}
-use Rattle.std.specs.Prelude.{flat_map}
-use Rattle.cmwq_names.specs.Escapes.{escaped_byte}
+use Rattle.std.proofs.Common.{◌≡◌, ◌++◌, length}
+use Rattle.cmwq_names.specs.Escapes.{escaped}
+unfoldable use Rattle.cmwq_names.specs.Escapes.{escaped_behind}
 use Rattle.cmwq_names.proofs.escape.push_escaped.Given as goal
 
--- the bytes so far are added
-abbrev pub invariant-loop-byte : goal.invariant-loop-byte
-invariant-loop-byte l = l.out.items ≡ l.fn.out.items ++ flat_map (escaped_byte l.form) (take l.byte-index l.name)
+-- what was added, with what is left, is the whole
+abbrev pub invariant-loop-rest : goal.invariant-loop-rest
+invariant-loop-rest l =
+    l.out.items ++ escaped_behind l.more l.form l.rest ≡ l.fn.out.items ++ escaped l.form l.name
+
+abbrev pub decreases-loop-rest : goal.decreases-loop-rest
+decreases-loop-rest l = length l.rest

@@ -1,6 +1,6 @@
-use Rattle.std.proofs.Common.{◌≡◌, ◌∙◌, ◌++◌, ◌<◌, ap, arith, length, subst}
+use Rattle.std.proofs.Common.{◌≡◌, ◌∙◌, ◌++◌, ◌<◌, ap, arith, length}
 use Rattle.serde_json.specs.View.{view}
-use Rattle.cmwq_names.specs.Named.{after_digits, digits_at, from_digits, named, shown, words_before}
+use Rattle.cmwq_names.specs.Named.{words_before}
 use Rattle.cmwq_names.proofs.Naming.{none_left, some_left}
 use Rattle.cmwq_names.proofs.texts.push_first.Goals as goal
 
