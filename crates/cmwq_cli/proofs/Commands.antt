@@ -1,11 +1,10 @@
 -- What is asked of the program, from what is known of its parts.
-use Rattle.std.proofs.Common.{◌≡◌, ◌||◌, ◌∙◌, Bool, false, List, Option, Some, None, Result, ap, ap₂, codes, subst, sym}
+use Rattle.std.proofs.Common.{◌≡◌, ◌∙◌, Bool, List, Option, Some, None, ap, codes, sym}
 use Rattle.std.proofs.Common.{refl}
-use Rattle.std.specs.Prelude.{IfOk, option_map}
-use Rattle.clap.specs.Words.{App, Row, Text, app_of, first_of}
-use Rattle.clap.specs.declared.builder.command.Command.{Command}
+use Rattle.std.specs.Prelude.{option_map}
+use Rattle.clap.specs.Words.{Row, Text, first_of}
 use Rattle.cmwq_cli.specs.declared.word.Word.{Word}
-use Rattle.cmwq_cli.specs.Word.{asked_found, with_command, word_found}
+use Rattle.cmwq_cli.specs.Word.{asked_found, word_found}
 use Rattle.cmwq_cli.specs.Explore.{followed_found, has_flag, other_found}
 
 -- what is asked, of its parts

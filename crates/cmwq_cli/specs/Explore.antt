@@ -1,6 +1,6 @@
 -- The options of `explore`: which schedules they ask for.
-use Rattle.std.specs.Prelude.{ℕ, ◌+◌, ◌-◌, ◌^◌, ◌==◌, ◌||◌, Bool, true, false, List, Option, Some, None, is_some, not}
-use Rattle.std.specs.Prelude.{option_and_then, codes, if◌then◌else◌}
+use Rattle.std.specs.Prelude.{ℕ, ◌+◌, ◌-◌, ◌^◌, ◌==◌, ◌||◌, Bool, false, List, Option, Some, None, is_some, not}
+use Rattle.std.specs.Prelude.{nat_lt, option_and_then, codes, if◌then◌else◌}
 use Rattle.std.specs.Option.{option_map_or, unwrap_or}
 use Rattle.std.specs.Str.{bytes_eq}
 use Rattle.std.specs.Str.Parse.{digits_value, without_leading_plus}
@@ -63,11 +63,24 @@ has_seeding o = is_some o.pct || is_some o.from
 abbrev pub has_searching : Options → Bool
 has_searching o = o.histories || (o.plain || o.first)
 
+-- there are no priorities by which the next to move is chosen
+abbrev pub has_no_priority : Options → Bool
+has_no_priority o = option_map_or (λ pct. pct == 0) o.pct false
+
+-- there are so many seeds from one on: the one behind them has a number too
+abbrev pub has_seeds : ℕ → ℕ → Bool
+has_seeds from times = nat_lt (from + times) (2 ^ 64)
+
+abbrev pub of_times : Options → ℕ → Option Schedules
+of_times o times =
+    let from = unwrap_or o.from 0 in
+    if has_seeds from times then Some (schedules.OfSeeds from times o.pct o.moves) else None
+
 -- a first seed is for many seeds alone
 abbrev pub of_seeds : Options → Option Schedules
 of_seeds o =
     option_map_or (λ seed. if is_some o.from then None else Some (schedules.OfSeed seed o.pct o.moves)) o.seed
-    (option_map_or (λ times. Some (schedules.OfSeeds (unwrap_or o.from 0) times o.pct o.moves)) o.times None)
+    (option_map_or (of_times o) o.times None)
 
 -- histories are those of all schedules, each by itself
 abbrev pub of_all : Options → Option Schedules
@@ -89,5 +102,5 @@ schedules_of o =
     else if o.path then of_path o
     else if o.follow then of_history o
     else if o.all then (if has_seeding o then None else of_all o)
-    else if has_searching o then None
+    else if has_searching o || has_no_priority o then None
     else of_seeds o

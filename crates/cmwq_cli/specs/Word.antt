@@ -1,6 +1,7 @@
 -- The command line: which words there are, and which one clap's matches hold.
-use Rattle.std.specs.Prelude.{ℕ, ◌-◌, ◌^◌, Bool, true, false, List, [], map, Option, Some, None}
+use Rattle.std.specs.Prelude.{ℕ, ◌-◌, ◌^◌, Bool, true, List, [], map, nat_le, Option, Some, None}
 use Rattle.std.specs.Prelude.{option_map, option_and_then, codes, if◌then◌else◌}
+use Rattle.std.specs.Option.{option_map_or}
 use Rattle.std.specs.Str.{bytes_eq}
 use Rattle.std.specs.Borrow.{Bor}
 use Rattle.clap.specs.Words.{App, Text, Row, Rule, new_app, new_rule, with_rule, with_subcommand, Shape, subcommand_of}
@@ -12,6 +13,24 @@ use Rattle.cmwq_cli.specs.declared.word.Word.{Word}
 use Rattle.cmwq_cli.specs.declared.word.Word.TheVariants as word
 use Rattle.cmwq_cli.specs.Explore.{has_flag, number_found, options_found, schedules_of, other_found}
 
+-- from where a window goes, and up to where
+abbrev pub window_found : List Row → Option ℕ × Option ℕ
+window_found rows = (number_found (codes "from") rows, number_found (codes "to") rows)
+
+-- a window does not end before it begins
+abbrev pub is_window : Option ℕ → Option ℕ → Bool
+is_window from to = option_map_or (λ first. option_map_or (λ end. nat_le first end) to true) from true
+
+abbrev pub chart_found : List Row → Option Word
+chart_found rows =
+    let window = window_found rows in
+    if is_window window.0 window.1 then Some (word.Chart window.0 window.1 (has_flag (codes "all") rows)) else None
+
+abbrev pub page_found : List Row → Option Word
+page_found rows =
+    let window = window_found rows in
+    if is_window window.0 window.1 then Some (word.Page window.0 window.1) else None
+
 -- the word with this name and these matches
 abbrev pub word_found : Text × List Row → Option Word
 word_found found =
@@ -21,12 +40,10 @@ word_found found =
     else if bytes_eq found.0 (codes "summary") then Some word.Summary
     else if bytes_eq found.0 (codes "open") then Some (word.Open (has_flag (codes "front") found.1))
     else if bytes_eq found.0 (codes "chart")
-    then Some
-    (word.Chart (number_found (codes "from") found.1) (number_found (codes "to") found.1)
-    (has_flag (codes "all") found.1))
+    then chart_found found.1
     else if bytes_eq found.0 (codes "trace") then Some word.Trace
     else if bytes_eq found.0 (codes "page")
-    then Some (word.Page (number_found (codes "from") found.1) (number_found (codes "to") found.1))
+    then page_found found.1
     else if bytes_eq found.0 (codes "replay") then Some word.Replay
     else if bytes_eq found.0 (codes "run") then Some word.Run
     else if bytes_eq found.0 (codes "explore") then option_map word.Explore (schedules_of (options_found found.1))

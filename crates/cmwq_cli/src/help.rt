@@ -34,14 +34,6 @@ impl Page {
     }
 }
 
-/// What is told of an `explore` that says of no kind, or of several, which schedules are meant. That it is a function
-/// keeps the text out of its caller's proof.
-pub(crate) fn explore_use() -> &'static str {
-    "cmwq explore takes one of --seed N, --times N, --all, --path FILE and --follow FILE: --times also with \
-    --from N, --seed and --times with --pct D and --moves N, --all with --moves N and either --histories or \
-    --plain and --first, --follow with --moves N"
-}
-
 /// What the help of a subcommand says of its file.
 pub(crate) const FILE_HELP: &str = "The file to read; standard input if it is `-` or left out";
 

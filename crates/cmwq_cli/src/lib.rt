@@ -5,6 +5,7 @@ mod command;
 mod help;
 mod options;
 mod table;
+mod unclear;
 mod word;
 
 pub use word::{Asked, Schedules, Word, word_of};

@@ -1,15 +1,16 @@
 //! Which word a command line asks for.
 ghost use Rattle.std.specs.Prelude.{◌≡◌, true, IfOk, IfErr, IsSome, Some, option_and_then, option_map};
 ghost use Rattle.clap.specs.Words.{found_of, kind_of, rows_of, subcommand_rows_of};
-ghost use Rattle.cmwq_cli.specs.Word.{request, word_found, asked_found, texts, is_word_taken, word_matched};
+ghost use Rattle.cmwq_cli.specs.Word.{asked_found, chart_found, is_window, page_found, request, texts, word_found};
+ghost use Rattle.cmwq_cli.specs.Word.{is_word_taken, window_found, word_matched};
 ghost use Rattle.cmwq_cli.specs.Explore.{followed_found, other_found};
 
 use crate::command::command;
-use crate::help::explore_use;
 use crate::options::{has_flag, number_found, options_found};
+use crate::unclear::Unclear;
 use clap::error::ErrorKind;
 use clap::{ArgMatches, Error};
-use std::alloc::{AllocError, Global};
+use std::alloc::Global;
 
 /// What the program is asked to do.
 #[derive(Clone, Copy, Debug, PartialEq, Eq)]
@@ -109,6 +110,48 @@ pub struct Asked<'a> {
     pub other: Option<&'a str>,
 }
 
+/// The window that the matches of a word ask for: from where, and up to where.
+fn window_found(matches: &ArgMatches) -> (Option<u64>, Option<u64>)
+    ensures { result ≡ window_found (rows_of (found_of matches.now)) }
+{
+    (number_found(matches, "from"), number_found(matches, "to"))
+}
+
+/// Whether a window does not end before it begins.
+fn is_window(from: Option<u64>, to: Option<u64>) -> bool
+    ensures { result ≡ is_window from to }
+{
+    match (from, to) {
+        (Some(from), Some(to)) => from <= to,
+        _ => true,
+    }
+}
+
+/// The word `chart` with these matches, if they have a window.
+fn chart_found(matches: &ArgMatches) -> Option<Word>
+    ensures { result ≡ chart_found (rows_of (found_of matches.now)) }
+{
+    let (from, to) = window_found(matches);
+    if is_window(from, to) {
+        let all = has_flag(matches, "all");
+        Some(Word::Chart { from, to, all })
+    } else {
+        None
+    }
+}
+
+/// The word `page` with these matches, if they have a window.
+fn page_found(matches: &ArgMatches) -> Option<Word>
+    ensures { result ≡ page_found (rows_of (found_of matches.now)) }
+{
+    let (from, to) = window_found(matches);
+    if is_window(from, to) {
+        Some(Word::Page { from, to })
+    } else {
+        None
+    }
+}
+
 /// The word with this name and these matches.
 fn word_found(name: &str, matches: &ArgMatches) -> Option<Word>
     ensures { result ≡ word_found (name.now, rows_of (found_of matches.now)) }
@@ -125,17 +168,9 @@ fn word_found(name: &str, matches: &ArgMatches) -> Option<Word>
         "open" => Some(Word::Open {
             front: has_flag(matches, "front"),
         }),
-        "chart" => Some(Word::Chart {
-            from: number_found(matches, "from"),
-            to: number_found(matches, "to"),
-            all: has_flag(matches, "all"),
-        }),
+        "chart" => chart_found(matches),
         "trace" => Some(Word::Trace),
-        "page" => {
-            let from = number_found(matches, "from");
-            let to = number_found(matches, "to");
-            Some(Word::Page { from, to })
-        }
+        "page" => page_found(matches),
         "replay" => Some(Word::Replay),
         "run" => Some(Word::Run),
         "explore" => match options_found(matches).schedules() {
@@ -210,12 +245,29 @@ pub fn word_of<'a>(alloc: Global, words: &'a [&'a str]) -> Result<Asked<'a>, Err
 {
     match word_in(alloc, words)? {
         Some(asked) => Ok(asked),
-        None => Err(unclear(alloc)?),
+        None => Err(unclear(alloc, words)?),
     }
 }
 
-/// What is told of matches that ask for no word. Clap's own checks leave none but of `explore`.
-fn unclear(alloc: Global) -> Result<Error, AllocError> {
-    let mut command = command(alloc)?;
-    command.error(ErrorKind::MissingRequiredArgument, explore_use())
+/// What is wrong with the options of a subcommand that asks for nothing.
+fn unclear_in(matches: &ArgMatches) -> Unclear {
+    match matches.subcommand() {
+        Some(("explore", found)) => options_found(found).unclear(),
+        Some((_, found)) => {
+            let (from, to) = window_found(found);
+            Unclear::NoWindow {
+                from: from.unwrap_or(0),
+                to: to.unwrap_or(0),
+            }
+        }
+        None => Unclear::NoSchedules,
+    }
+}
+
+/// What is told of a command line that clap takes, and that asks for nothing.
+fn unclear<'a>(alloc: Global, words: &'a [&'a str]) -> Result<Error, Error> {
+    let matches = command(alloc)?.try_get_matches_from(words)?;
+    let unclear = unclear_in(&matches);
+    let text = format!(in alloc; "{unclear}")?;
+    Ok(command(alloc)?.error(unclear.kind(), text.as_str())?)
 }

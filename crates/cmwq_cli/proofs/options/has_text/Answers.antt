@@ -1,4 +1,4 @@
-use Rattle.std.proofs.Common.{◌∙◌, ap, List, Option, Some, None, ℕ, refl, ◌≡◌}
+use Rattle.std.proofs.Common.{◌∙◌, ap, Option, Some, None, refl, ◌≡◌}
 use Rattle.std.specs.Borrow.{Bor}
 use Rattle.std.specs.Prelude.{is_some, option_map}
 use Rattle.clap.specs.Words.{Text, found_of}
