@@ -276,12 +276,13 @@ uint32_t cmwq_check(const uint8_t *text, size_t len, uint8_t *out, size_t out_le
  * @callers: lent callers that wait, by their numbers; the first CMWQ_NOBODY ends them
  * @all_workers: not 0: all workers, in place of those
  * @all_callers: not 0: all lent callers, in place of those
+ * @clock: not 0: whoever keeps the time. A drain has ended, so a timer may fire earlier: see cmwq_board_due()
  * Each call writes the whole of it where it is done, and leaves it as it was at any other status.
  */
 struct cmwq_wakes {
     struct cmwq_who workers[CMWQ_NAMED];
     uint8_t callers[CMWQ_NAMED];
-    uint8_t all_workers, all_callers;
+    uint8_t all_workers, all_callers, clock;
 };
 
 /**
@@ -354,10 +355,13 @@ uint32_t cmwq_board_finish(struct cmwq_board *board, const struct cmwq_who *work
  * cmwq_board_begin() - a wait begins, by a lent caller: flush_workqueue(), drain_workqueue(), destroy_workqueue(),
  * flush_work(), flush_delayed_work() or cancel_work_sync()
  * @call: CMWQ_FLUSH, CMWQ_DRAIN, CMWQ_DESTROY, CMWQ_FLUSH_ITEM, CMWQ_FLUSH_DELAYED or CMWQ_CANCEL_SYNC. Of a worker:
- * its run waits, and sleeps meanwhile if it is awake. Of a caller: nobody's run waits, and the index isn't read
+ * its run waits, and sleeps meanwhile if it is awake. Of a caller: nobody's run waits, and the index isn't read. Such a
+ * wait goes on by a ticket of the same goal that was left, if a new one would wait for nothing more; then no entry is
+ * made
  * Return: CMWQ_OK: it has ended, and *@reply says how; CMWQ_WAITS: *@party is the lent caller, and *@reply has the
  * ticket: call cmwq_board_end() until it returns something else; CMWQ_REFUSED; CMWQ_CLOSED; CMWQ_FULL; CMWQ_CROWDED;
- * CMWQ_STOPPED; CMWQ_FAILED; CMWQ_NOT_NOW: the worker has no run; CMWQ_ITSELF; CMWQ_DEADLOCK; CMWQ_NO_CALLER.
+ * CMWQ_STOPPED; CMWQ_FAILED; CMWQ_NOT_NOW: the worker has no run, or its run waits already; CMWQ_ITSELF;
+ * CMWQ_DEADLOCK; CMWQ_NO_CALLER.
  * *@reply and *@wakes are written at the first two, *@party at CMWQ_WAITS alone.
  */
 uint32_t cmwq_board_begin(struct cmwq_board *board, const struct cmwq_call *call, uint8_t *party,
@@ -373,8 +377,9 @@ uint32_t cmwq_board_begin(struct cmwq_board *board, const struct cmwq_call *call
 uint32_t cmwq_board_end(struct cmwq_board *board, uint8_t party, struct cmwq_wakes *wakes);
 
 /**
- * cmwq_board_leave() - nobody waits by this party any more. Its ticket is ended once it is ready, by a later
- * cmwq_board_call(), cmwq_board_finish(), cmwq_board_end() or cmwq_board_leave(), and then the caller is lent again
+ * cmwq_board_leave() - nobody waits by this party any more, and the caller may be lent again. Its ticket is ended once
+ * it is ready, by cmwq_board_call(), cmwq_board_finish(), cmwq_board_end() or cmwq_board_leave(), or a later wait goes
+ * on by it
  * Return: CMWQ_OK; CMWQ_REFUSED: no lent caller; CMWQ_CLOSED; CMWQ_FAILED; CMWQ_NOT_NOW: nobody waits by it, or a run.
  */
 uint32_t cmwq_board_leave(struct cmwq_board *board, uint8_t party, struct cmwq_wakes *wakes);
@@ -464,8 +469,9 @@ CMWQ_ASSERT(sizeof(struct cmwq_reply) == 24 && offsetof(struct cmwq_reply, other
             offsetof(struct cmwq_reply, item) == 16 && offsetof(struct cmwq_reply, kind) == 18);
 CMWQ_ASSERT(sizeof(struct cmwq_entry) == 56 && offsetof(struct cmwq_entry, call) == 8 &&
             offsetof(struct cmwq_entry, reply) == 32);
-CMWQ_ASSERT(sizeof(struct cmwq_wakes) == 34 && offsetof(struct cmwq_wakes, callers) == 24 &&
-            offsetof(struct cmwq_wakes, all_workers) == 32 && offsetof(struct cmwq_wakes, all_callers) == 33);
+CMWQ_ASSERT(sizeof(struct cmwq_wakes) == 35 && offsetof(struct cmwq_wakes, callers) == 24 &&
+            offsetof(struct cmwq_wakes, all_workers) == 32 && offsetof(struct cmwq_wakes, all_callers) == 33 &&
+            offsetof(struct cmwq_wakes, clock) == 34);
 CMWQ_ASSERT(sizeof(struct cmwq_item) == 24 && offsetof(struct cmwq_item, run) == 8 &&
             offsetof(struct cmwq_item, pending) == 16 && offsetof(struct cmwq_item, queue) == 17 &&
             offsetof(struct cmwq_item, cpu) == 18 && offsetof(struct cmwq_item, runs) == 19 &&

@@ -111,6 +111,8 @@ static inline int cmwq_hub_do_(struct cmwq_hub *hub, uint8_t kind, unsigned cpu,
         return -(int)status;
     case CMWQ_FOREIGN: case CMWQ_DRAINING: case CMWQ_MISUSE: case CMWQ_GONE: case CMWQ_TIMERS:
         return -64 - reply.kind;
+    case CMWQ_CROWD: /* of each lent caller 64 waits were left that go on */
+        return -CMWQ_NO_CALLER;
     case CMWQ_NO: case CMWQ_IDLE: case CMWQ_TICKET_NO:
         return 0;
     case CMWQ_YES: case CMWQ_BOOKED:

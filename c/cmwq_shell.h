@@ -25,7 +25,7 @@ struct cmwq_hub {                           /* all zeros: none. It is never copi
     struct cmwq_wakes wakes; struct cmwq_party_ *named[64]; unsigned names; /* who is woken when the lock is let go */
     unsigned workers, inside, signalling;   /* calls that hold the lock or sleep; threads that wake others without it */
     uint64_t begun, handed, due;            /* the clock at tick 0; entries handed out; the tick the clock sleeps for */
-    bool frozen, left, busy, deaf, over;    /* left: a drain was; busy: the journal has lines; deaf: it wants no more */
+    bool frozen, busy, deaf, over;          /* busy: the journal has lines; deaf: it wants no more */
     bool forked, torn;                      /* of a child: it was open before; and a thread was about to change it */
     void (*then)(void *data); void *data;   /* the clock's thread is to close it, and to call this */
 };
@@ -133,8 +133,9 @@ static inline uint32_t cmwq_hub_note_(struct cmwq_hub *hub, uint32_t status)
         cmwq_hub_name_(hub, &hub->parties[k]);
     for (unsigned k = hub->workers; wakes->all_callers && k < hub->workers + hub->is.waits; k++)
         cmwq_hub_name_(hub, &hub->parties[k]);
+    if (wakes->clock) cmwq_hub_name_(hub, hub->clock); /* there may be timers that a drain held back */
     wakes->workers[0].kind = wakes->callers[0] = CMWQ_NOBODY; /* as a call that isn't made leaves it so */
-    wakes->all_workers = wakes->all_callers = 0;
+    wakes->all_workers = wakes->all_callers = wakes->clock = 0;
     return status;
 }
 
@@ -245,10 +246,8 @@ static inline uint32_t cmwq_hub_wait_(struct cmwq_hub *hub, struct cmwq_call *ca
         } else if (status == CMWQ_WAITS && !cmwq_hub_sleep_(hub, &hub->parties[hub->workers + by - 1u], then)) {
             status = cmwq_hub_note_(hub, cmwq_board_leave(&hub->board, by, &hub->wakes));
             status = status == CMWQ_OK ? (uint32_t)CMWQ_TIMED_OUT : status;
-            hub->left = hub->left || call->kind == CMWQ_DRAIN;
         }
     }
-    if (call->kind == CMWQ_DRAIN) cmwq_hub_name_(hub, hub->clock); /* there may be timers that were held back */
     return status;
 }
 
@@ -303,8 +302,6 @@ static inline void *cmwq_hub_tick_(void *at)
         now = cmwq_hub_now_(hub);
         hub->due = cmwq_board_due(&hub->board);
         then = hub->due < UINT64_MAX / 2 / tick ? hub->due * tick : UINT64_MAX;
-        if (hub->left && then > now + 100000000)
-            then = now + 100000000; /* the end of a drain that was left isn't told */
         if (status != CMWQ_OK) cmwq_hub_sleep_(hub, me, UINT64_MAX); /* no room for the time: nothing fires any more */
         else if (hub->due > now / tick) cmwq_hub_sleep_(hub, me, then);
         else status = cmwq_hub_advance_(hub, now / tick);

@@ -95,7 +95,7 @@ static uint32_t look_at(struct cmwq_board *board, uint16_t item)
 static bool names_nobody(void)
 {
     return outputs.wakes.workers[0].kind == CMWQ_NOBODY && outputs.wakes.callers[0] == CMWQ_NOBODY &&
-           !outputs.wakes.all_workers && !outputs.wakes.all_callers;
+           !outputs.wakes.all_workers && !outputs.wakes.all_callers && !outputs.wakes.clock;
 }
 
 static bool names_worker(uint8_t index)

@@ -126,6 +126,16 @@ static struct cmwq_options made(void (*work)(struct cmwq_run *run, void *data))
 
 static void open_hub(struct cmwq_options options) { CHECK(cmwq_hub_open(&hub, &options) == CMWQ_OK); }
 
+/* How many lines the history has. */
+static unsigned lines(void)
+{
+    unsigned count = 0;
+
+    for (size_t k = 0; k < written; k++)
+        count += text[k] == '\n';
+    return count;
+}
+
 static void judge(void)
 {
     uint8_t line[CMWQ_LINE];
@@ -336,13 +346,21 @@ static void test_timeouts(void)
     CHECK(cmwq_hub_now_(&hub) - begun >= 30000000);
     while (cmwq_work_busy(&hub, 0) != 2)
         usleep(100);
-    CHECK(cmwq_cancel_work_sync(&hub, 0, 0) == -CMWQ_TIMED_OUT && cmwq_flush_work(&hub, 0, 0) == -CMWQ_NO_CALLER);
+    /* a wait that was left takes no caller: many for the same, for others, and those that follow */
+    for (int k = 0; k < 1000; k++)
+        CHECK(cmwq_flush_work(&hub, 0, 0) == -CMWQ_TIMED_OUT);
+    for (int k = 0; k < 20; k++) {
+        CHECK(cmwq_flush_workqueue(&hub, 0, 0) == -CMWQ_TIMED_OUT && cmwq_cancel_work_sync(&hub, 1, CMWQ_FOREVER) == 0);
+        CHECK(cmwq_queue_work_on(&hub, 0, (uint16_t)(2 + k % 2), 0) >= 0 && cmwq_flush_work(&hub, 0, 0) == -CMWQ_TIMED_OUT);
+    }
+    CHECK(cmwq_drain_workqueue(&hub, 0, 0) == -CMWQ_TIMED_OUT && cmwq_drain_workqueue(&hub, 0, 1) == -CMWQ_TIMED_OUT);
+    CHECK(cmwq_cancel_work_sync(&hub, 0, 0) == -CMWQ_TIMED_OUT && cmwq_cancel_work_sync(&hub, 0, 1) == -CMWQ_TIMED_OUT);
+    CHECK(cmwq_queue_work_on(&hub, 0, 0, 0) == 0 && cmwq_queue_work_on(&hub, 0, 1, 0) == -CMWQ_IS_DRAINING);
     __atomic_store_n(&gate_open, true, __ATOMIC_RELEASE);
-    /* both tickets are ended by the hub then */
-    while (cmwq_flush_workqueue(&hub, 0, CMWQ_FOREVER) == -CMWQ_NO_CALLER)
-        usleep(100);
-    CHECK(cmwq_flush_work(&hub, 0, 5) == 0);
-    CHECK(cmwq_hub_close(&hub) == CMWQ_OK && ran == 1);
+    /* the hub ends their tickets then */
+    CHECK(cmwq_drain_workqueue(&hub, 0, CMWQ_FOREVER) == 1 && cmwq_cancel_work_sync(&hub, 0, CMWQ_FOREVER) == 0);
+    CHECK(cmwq_queue_work_on(&hub, 0, 0, 0) == 1 && cmwq_flush_workqueue(&hub, 0, CMWQ_FOREVER) == 1);
+    CHECK(cmwq_hub_close(&hub) == CMWQ_OK && ran >= 4 && lines() < 200);
     judge();
 }
 
@@ -376,7 +394,15 @@ static void test_delays(void)
     CHECK(cmwq_drain_workqueue(&hub, 0, CMWQ_FOREVER) == 1);
     while (cmwq_work_busy(&hub, 0))
         usleep(100);
-    CHECK(cmwq_hub_close(&hub) == CMWQ_OK && ran == 6);
+    /* a drain holds back a timer that is due, and one that isn't yet when its queue is empty: the clock is told then */
+    works[1].run = wait_at_gate;
+    CHECK(cmwq_queue_work_on(&hub, 0, 1, 0) == 1 && cmwq_queue_delayed_work_on(&hub, 0, 0, 0, 1) == 1);
+    CHECK(cmwq_queue_delayed_work_on(&hub, 0, 2, 0, 30) == 1 && cmwq_drain_workqueue(&hub, 0, 0) == -CMWQ_TIMED_OUT);
+    usleep(10000);
+    __atomic_store_n(&gate_open, true, __ATOMIC_RELEASE);
+    while (cmwq_work_busy(&hub, 0) || cmwq_work_busy(&hub, 2))
+        usleep(100);
+    CHECK(cmwq_hub_close(&hub) == CMWQ_OK && ran == 9);
     judge();
 }
 

@@ -92,7 +92,7 @@ static void wake(void)
             parties[p].asleep = false;
     }
     memset(&wakes, CMWQ_NOBODY, sizeof wakes);
-    wakes.all_workers = wakes.all_callers = 0;
+    wakes.all_workers = wakes.all_callers = wakes.clock = 0;
 }
 
 /* What became of a call; where it was crowded it is to be made again. */
@@ -358,7 +358,7 @@ static void open_all(void)
     stopped = false;
     entries = 0;
     memset(&wakes, CMWQ_NOBODY, sizeof wakes);
-    wakes.all_workers = wakes.all_callers = 0;
+    wakes.all_workers = wakes.all_callers = wakes.clock = 0;
     CHECK(cmwq_board_open(&board, &shape, queues, queue_count, (uint8_t)lent) == CMWQ_OK && cmwq_lines_open(&lines, &board) == CMWQ_OK);
     CHECK(cmwq_head(&shape, queues, queue_count, history, sizeof history, &written) == CMWQ_OK);
     shape.keep = 1 << 16;

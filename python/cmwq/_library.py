@@ -72,7 +72,7 @@ REPLY = struct.Struct("<QQHB")
 # What a call of a board reads and writes, and where in it that is. WHO is a part of the call.
 Buffer = ctypes.c_char * 104
 WHO_AT, REPLY_AT, WAKES_AT, ITEM_AT, NUMBER_AT, PARTY_AT = 17, 24, 48, 84, 88, 96
-WAKES = slice(WAKES_AT, WAKES_AT + 34)
+WAKES = slice(WAKES_AT, WAKES_AT + 35)
 
 
 def _path() -> str:

@@ -42,7 +42,7 @@ LOOK, END, ABORT = "look", "end", "abort"
 CALLER_0 = (library.CALLER, 0, 0)
 
 # What names nobody.
-NOBODY = bytes(8 * [library.NOBODY, 0, 0] + 8 * [library.NOBODY] + 2 * [0])
+NOBODY = bytes(8 * [library.NOBODY, 0, 0] + 8 * [library.NOBODY] + 3 * [0])
 
 _pack, _unpack = library.CALL.pack_into, library.REPLY.unpack_from
 
@@ -236,7 +236,7 @@ class Shell:
         # the clock
         self.clock: "Bell[Any]" = Bell()
         self.rescue = self.clock.put
-        self.due, self.has_timers, self.left_drain = library.NEVER, False, False
+        self.due, self.has_timers = library.NEVER, False
         # the journal
         self.journal: "Bell[Any]" = Bell()
         self.history, self.armed, self.is_over = history, history is None, False
@@ -320,6 +320,8 @@ class Shell:
                 ring(self.bells[self.first_caller + caller])
         if wakes[32] or wakes[33]:
             self.wake_all()
+        if wakes[34]:  # a drain has ended: there may be timers that it has held back
+            self.clock.put(LOOK)
         if not self.armed:
             self.armed = True
             ring(self.journal)
@@ -620,13 +622,10 @@ class Shell:
                 self.sleep(self.first_caller + party, left)
             else:
                 time.sleep(0)
-        if call.kind == library.DRAIN:  # there may be timers that it has held back
-            self.clock.put(LOOK)
         return library.OVER if call.is_left else status
 
     def leave(self, call: Call) -> None:
         """Nobody waits by this call any more."""
-        self.left_drain |= call.kind == library.DRAIN
         self.make(call, lib.cmwq_board_leave, call.party())
 
     def go_on(self, call: Call) -> None:

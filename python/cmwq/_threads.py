@@ -14,7 +14,7 @@ from ._shell import ABORT, LOOK, MADE, MOST_FULL, NOBODY, Bell, Call, Lines, Rec
 
 # How long entries are kept at most before they are written, and how often the clock looks at the timers after a drain
 # was left, since nobody is told when that drain ends. In seconds.
-QUIET, LOOKS = 0.05, 0.01
+QUIET = 0.05
 
 
 class Worker:
@@ -159,8 +159,6 @@ class Clock:
             if shell.due != library.NEVER and left <= 0:
                 self._has_room = not shell.advance(max(shell.ticks(0)[0], shell.due))
                 self._look()
-            elif shell.left_drain:
-                return min(left, LOOKS)
             else:
                 return None if shell.due == library.NEVER else min(left, threading.TIMEOUT_MAX)
         return None

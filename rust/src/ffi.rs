@@ -83,6 +83,7 @@ pub struct Wakes {
     callers: [u8; NAMED],
     all_workers: u8,
     all_callers: u8,
+    clock: u8,
 }
 
 impl Wakes {
@@ -91,6 +92,7 @@ impl Wakes {
         callers: [NOBODY; NAMED],
         all_workers: 0,
         all_callers: 0,
+        clock: 0,
     };
 
     #[inline]
@@ -107,6 +109,12 @@ impl Wakes {
     #[inline]
     pub fn all(&self) -> bool {
         self.all_workers != 0 || self.all_callers != 0
+    }
+
+    /// Whether the clock is named: a timer may fire earlier than was known.
+    #[inline]
+    pub fn clock(&self) -> bool {
+        self.clock != 0
     }
 }
 

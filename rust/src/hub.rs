@@ -41,7 +41,6 @@ pub(crate) struct State {
     due: u64,
     /// Whether an item was ever delayed.
     has_timers: bool,
-    left_drain: bool,
     closing: bool,
     ended: bool,
     /// How many calls wait.
@@ -150,6 +149,9 @@ impl<'a> Hold<'a> {
         }
         let made = call(&mut self.state.board, &mut wakes);
         self.woken.add(&wakes);
+        if wakes.clock() {
+            self.look();
+        }
         if !self.state.journal.armed {
             self.state.journal.armed = true;
             self.woken.journal = true;
@@ -222,7 +224,6 @@ impl Hub {
             free: (0..shape.items).rev().collect(),
             due: u64::MAX,
             has_timers: false,
-            left_drain: false,
             closing: false,
             ended: false,
             waits: 0,
@@ -313,7 +314,6 @@ impl Hub {
         let ended = loop {
             match hold.make(|board, wakes| board.end(party, wakes)) {
                 Ok(Ended::Waits | Ended::LookAgain) if deadline.is_some_and(|it| it <= Instant::now()) => {
-                    hold.state.left_drain |= kind == call::DRAIN;
                     break hold.make(|board, wakes| board.leave(party, wakes)).and(Err(Error::TimedOut));
                 }
                 Ok(Ended::Waits) => hold = hold.sleep(self.place_of_caller(party), deadline),
@@ -326,9 +326,6 @@ impl Hub {
                 Err(fault) => break Err(fault),
             }
         };
-        if kind == call::DRAIN {
-            hold.look();
-        }
         hold.state.waits -= 1;
         if hold.state.closing && hold.state.waits == 0 {
             self.space.notify_all();

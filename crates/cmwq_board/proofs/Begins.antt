@@ -1,8 +1,8 @@
 -- What is known where a wait is not refused.
 use Rattle.std.specs.Prelude.{◌≡◌, ◌≤◌, ◌<◌, ◌+◌, ◌&&◌, ◌||◌, ◌∷◌, [], ℕ, Bool, true, false, not, List, length}
-use Rattle.std.specs.Prelude.{Option, Some, None, if◌then◌else◌, nat_lt, slice_index_or, IsTrue}
+use Rattle.std.specs.Prelude.{Option, Some, None, if◌then◌else◌, find, nat_lt, slice_index_or, IsTrue}
 use Rattle.std.proofs.Common.{refl, sym, ap, ap₂, ◌∙◌, subst, arith, true≢false}
-use Rattle.std.proofs.lemmas.Bool.{and_parts, leb-true, lt-ltb, ltb-true}
+use Rattle.std.proofs.lemmas.Bool.{and_parts, eq-eqb, leb-true, lt-ltb, ltb-true}
 use Rattle.std.proofs.lemmas.List.Quantifiers.{position-Some}
 use Rattle.cmwq_dispatch.specs.Dispatched.{Dispatched, is_over, past_now}
 use Rattle.cmwq_model.specs.Prelude.{Layout, fits, gives_ticket, has_numbers}
@@ -14,22 +14,26 @@ use Rattle.cmwq_model.specs.declared.id.WorkerId.{WorkerId}
 use Rattle.cmwq_waits.specs.declared.waits.Stuck.{Stuck}
 use Rattle.cmwq_board.specs.Asked.{is_wait}
 use Rattle.cmwq_board.specs.Boarded.{Boarded, board_of, has_space, layout_of}
-use Rattle.cmwq_board.specs.Lent.{AreLent, first_lent, is_left, tickets_held, tickets_of}
+use Rattle.cmwq_board.specs.Left.{is_free}
+use Rattle.cmwq_board.specs.Lent.{AreLent, caller_of, ticket_at, waits_by}
 use Rattle.cmwq_board.specs.Steps.{Stays, may_fire}
-use Rattle.cmwq_board.proofs.Places.{firing_may}
+use Rattle.cmwq_board.proofs.Places.{caller_there, firing_may}
+use Rattle.std.specs.Option.{option_or}
+use Rattle.std.proofs.lemmas.Option.{same_Some}
+use Rattle.cmwq_refinement.proofs.Numbers.{found, of_in, range_below}
 use Rattle.cmwq_state.specs.Tails.{Tailed}
 use Rattle.cmwq_model.specs.declared.entry.Entry.{Entry}
 use Rattle.cmwq_model.specs.declared.record.Ticket.{Ticket}
 use Rattle.cmwq_model.specs.declared.reply.Reply.{Reply}
-use Rattle.cmwq_board.specs.Waits.{begin_fault, caller_at, early_fault, fault_or, first_free, has_room_for}
-use Rattle.cmwq_board.specs.Waits.{is_free, is_there, lending_by, lent_fault, room_fault, sleeps_first, stuck_now}
+use Rattle.cmwq_board.specs.Waits.{caller_at, early_fault, first_free, has_room_for, is_there, lending_at, lending_by}
+use Rattle.cmwq_board.specs.Waits.{lent_fault, lent_place, may_be_lent, places, room_fault, sleeps_first, stuck_now}
 use Rattle.cmwq_board.specs.Waits.{with_firing}
 use Rattle.cmwq_board.specs.declared.fault.BoardFault.{BoardFault}
 use Rattle.cmwq_board.specs.declared.fault.BoardFault.TheVariants as fault
 use Rattle.cmwq_board.specs.declared.fault.WaitFault.TheVariants as wait
 use Rattle.cmwq_board.specs.declared.fault.WaitFault.{WaitFault}
 use Rattle.cmwq_board.specs.declared.lending.Lending.{Lending}
-use Rattle.cmwq_board.specs.declared.lending.Lending.TheVariants.{Free, Waits, Left}
+use Rattle.cmwq_board.specs.declared.lending.Lending.TheVariants.{Free, Waits}
 
 -- ---- the first that is free
 
@@ -40,12 +44,26 @@ pub record IsFree (lent : List Lending) (place : ℕ) : Type 0 where
 free_is : (l : Lending) → is_free l ≡ true → l ≡ Free
 free_is Free is = refl
 free_is (Waits t run slept) is = absurd (true≢false (sym is))
-free_is (Left t) is = absurd (true≢false (sym is))
 
 pub first_is_free : (lent : List Lending) (place : ℕ) → first_free lent ≡ Some place → IsFree lent place
 first_is_free lent place is =
     let found = position-Some is_free lent place Free is in
     record { less = found.0; free = free_is (slice_index_or lent place Free) found.1 }
+
+-- the first that may be lent, or the first that is free, is free
+pub lent_is_free : (b : Boarded) (place : ℕ) → lent_place b ≡ Some place → IsFree b.lent place
+lent_is_free b place is = at (find (may_be_lent b) (places b)) refl is
+  where
+    at : (o : Option ℕ) → find (may_be_lent b) (places b) ≡ o → option_or o (first_free b.lent) ≡ Some place
+        → IsFree b.lent place
+    at None none first = first_is_free b.lent place first
+    at (Some k) some same =
+        let of = found (may_be_lent b) (places b) k some in
+        let lt = of_in (λ i. i < 0 + length b.lent) (places b) k (range_below 0 (length b.lent)) of.0 in
+        let less : k < length b.lent = omega (arith, lt) in
+        let free = and_parts (is_free (lending_at b k)) _ of.1 in
+        subst (IsFree b.lent) (same_Some k place same)
+        (record { less = less; free = free_is (slice_index_or b.lent k Free) free.0 })
 
 -- ---- no fault
 
@@ -93,12 +111,8 @@ pub record MayBegin (b : Boarded) (run : Option WorkerId) (c : Call) (place : �
   pub waits : MayWait b run c
   pub room : has_room_for b.dispatch run (caller_at b place) c ≡ true
 
-no_fault : (o : Option BoardFault) (later : Option WaitFault) → fault_or o later ≡ None → (o ≡ None) × (later ≡ None)
-no_fault None later is = (refl, is)
-no_fault (Some f) later is = cc
-
 not_stuck : (b : Boarded) (run : Option WorkerId) (c : Call) (o : Option Stuck) → lent_fault b run c o ≡ None
-    → room_fault b run c (first_free b.lent) ≡ None
+    → room_fault b run c (lent_place b) ≡ None
 not_stuck b run c None is = is
 not_stuck b run c (Some x) is = cc
 
@@ -106,13 +120,12 @@ has_room : (r : Bool) (f : WaitFault) → (if r then None else Some f) ≡ None 
 has_room true f is = refl
 has_room false f is = cc
 
-pub no_begin_fault : (b : Boarded) (run : Option WorkerId) (c : Call) (place : ℕ) → first_free b.lent ≡ Some place
-    → begin_fault b run c ≡ None → MayBegin b run c place
-no_begin_fault b run c place first none =
-    let parts = no_fault (early_fault b run c) (lent_fault b run c (stuck_now b.dispatch run c)) none in
+pub no_lent_fault : (b : Boarded) (run : Option WorkerId) (c : Call) (place : ℕ) → lent_place b ≡ Some place
+    → early_fault b run c ≡ None → lent_fault b run c (stuck_now b.dispatch run c) ≡ None → MayBegin b run c place
+no_lent_fault b run c place first early none =
     let room : room_fault b run c (Some place) ≡ None =
-    ap (room_fault b run c) (sym first) ∙ not_stuck b run c (stuck_now b.dispatch run c) parts.1 in
-    record { waits = no_early_fault b run c parts.0; room = has_room _ _ room }
+    ap (room_fault b run c) (sym first) ∙ not_stuck b run c (stuck_now b.dispatch run c) none in
+    record { waits = no_early_fault b run c early; room = has_room _ _ room }
 
 -- ---- the call fits
 
@@ -128,11 +141,6 @@ wait_fits s c (call.CancelSync i) there wait numbers =
     ap₂ (λ a b. (a && true) && b) (lt-ltb c.0 s.callers there) numbers
 wait_fits s c cl there wait numbers = cc
 
--- the caller of a place is there
-pub caller_there_at : (s : Layout) (lent : List Lending) (place : ℕ) → length lent ≤ s.callers → place < length lent
-    → first_lent s lent + place < s.callers
-caller_there_at s lent place few less = omega arith
-
 -- ---- what the call of a lent caller needs
 
 pub record MayLend (d : Dispatched) (t : Tailed Entry) (lent : List Lending) (run : Option WorkerId) (c : Call) (place : ℕ)
@@ -143,17 +151,17 @@ pub record MayLend (d : Dispatched) (t : Tailed Entry) (lent : List Lending) (ru
   pub may : may_fire d ≡ true
   pub room : has_room_for d run caller c ≡ true
   pub space : length t.all + 3 ≤ t.room + t.given
-  pub held : tickets_held (past_now d) caller.0 ≡ []
   pub less : place < length lent
-  pub at : caller.0 ≡ first_lent d.history.layout lent + place
+  pub free : slice_index_or lent place Free ≡ Free
+  pub at : caller ≡ caller_of d.history.layout lent place
 
 lent_here : (d : Dispatched) (t : Tailed Entry) (lent : List Lending) (run : Option WorkerId) (c : Call) (place : ℕ)
-    → t.all ≡ d.history.entries → AreLent d.history.layout (past_now d) lent → first_free lent ≡ Some place
-    → MayBegin (board_of d t.given t.room lent) run c place
+    → t.all ≡ d.history.entries → AreLent d.history.layout (past_now d) lent
+    → lent_place (board_of d t.given t.room lent) ≡ Some place → MayBegin (board_of d t.given t.room lent) run c place
     → MayLend (with_firing d) t lent run c place (caller_at (board_of d t.given t.room lent) place)
 lent_here d t lent run c place kept are first may =
-    let free = first_is_free lent place first in
-    let there = caller_there_at d.history.layout lent place are.few free.less in
+    let free = lent_is_free (board_of d t.given t.room lent) place first in
+    let there = caller_there d.history.layout lent place are.few free.less in
     let entries = leb-true (length d.history.entries + 3) (t.room + t.given) may.waits.space in
     record {
       call = may.waits.call;
@@ -163,39 +171,39 @@ lent_here d t lent run c place kept are first may =
       may = firing_may d.failed d.closed 1 may.waits.lives refl;
       room = may.room;
       space = subst (λ es. length es + 3 ≤ t.room + t.given) (sym kept) entries;
-      held = are.tickets place free.less ∙ ap tickets_of free.free;
       less = free.less;
+      free = free.free;
       at = refl;
     }
 
 pub may_lend : (d n : Dispatched) (t : Tailed Entry) (lent : List Lending) (b : Boarded) (run : Option WorkerId) (c : Call)
     (place : ℕ) (caller : CallerId) → n ≡ with_firing d → board_of d t.given t.room lent ≡ b
     → caller ≡ caller_at b place → t.all ≡ d.history.entries → AreLent d.history.layout (past_now d) lent
-    → first_free b.lent ≡ Some place → begin_fault b run c ≡ None → MayLend n t lent run c place caller
-may_lend d n t lent b run c place caller new view is kept are first none =
+    → lent_place b ≡ Some place → early_fault b run c ≡ None
+    → lent_fault b run c (stuck_now b.dispatch run c) ≡ None → MayLend n t lent run c place caller
+may_lend d n t lent b run c place caller new view is kept are first early none =
     let here = board_of d t.given t.room lent in
-    let its_first : first_free lent ≡ Some place = subst (λ (x : Boarded). first_free x.lent ≡ Some place) (sym view) first in
-    let its_none : begin_fault here run c ≡ None = subst (λ x. begin_fault x run c ≡ None) (sym view) none in
+    let its_first : lent_place here ≡ Some place = subst (λ x. lent_place x ≡ Some place) (sym view) first in
+    let its_early : early_fault here run c ≡ None = subst (λ x. early_fault x run c ≡ None) (sym view) early in
+    let its_none : lent_fault here run c (stuck_now here.dispatch run c) ≡ None =
+    subst (λ (x : Boarded). lent_fault x run c (stuck_now x.dispatch run c) ≡ None) (sym view) none in
     subst (λ m. MayLend m t lent run c place caller) (sym new)
     (subst (λ k. MayLend (with_firing d) t lent run c place k) (sym (is ∙ ap (λ x. caller_at x place) (sym view)))
-    (lent_here d t lent run c place kept are its_first (no_begin_fault here run c place its_first its_none)))
+    (lent_here d t lent run c place kept are its_first (no_lent_fault here run c place its_first its_early its_none)))
 
--- the caller of a place has no ticket that was left, whatever its call was answered
-pub lending_not_left : (run : Option WorkerId) (slept : Bool) (t : Ticket) (r : Reply)
-    → is_left (lending_by run slept t r) ≡ false
-lending_not_left run slept t r = at (gives_ticket r)
-  where
-    at : (b : Bool) → is_left (if b then Waits t run slept else Free) ≡ false
-    at true = refl
-    at false = refl
+-- the caller of a place waits by the ticket that its call got, if it got one
+pub lending_waits : (run : Option WorkerId) (slept : Bool) (t : Ticket) (r : Reply) → gives_ticket r ≡ true
+    → waits_by t (lending_by run slept t r) ≡ true
+lending_waits run slept t r gives = rw gives (eq-eqb t.number t.number refl)
 
-pub given_held : (run : Option WorkerId) (slept : Bool) (t : Ticket) (r : Reply)
-    → (if gives_ticket r then t ∷ [] else []) ≡ tickets_of (lending_by run slept t r)
-given_held run slept t r = at (gives_ticket r)
+pub lending_has : (run : Option WorkerId) (slept : Bool) (t u : Ticket) (r : Reply)
+    → ticket_at (lending_by run slept t r) ≡ Some u → (gives_ticket r ≡ true) × (t ≡ u)
+lending_has run slept t u r is = at (gives_ticket r) refl is
   where
-    at : (b : Bool) → (if b then t ∷ [] else []) ≡ tickets_of (if b then Waits t run slept else Free)
-    at true = refl
-    at false = refl
+    at : (b : Bool) → gives_ticket r ≡ b → ticket_at (if b then Waits t run slept else Free) ≡ Some u
+        → (gives_ticket r ≡ true) × (t ≡ u)
+    at true gives has = (gives, same_Some t u has)
+    at false gives has = cc
 
 pub caller_fits_there : (s : Layout) (c : CallerId) (cl : Call) → IsTrue (fits s (Caller c) cl) → c.0 < s.callers
 caller_fits_there s c cl fit =
@@ -205,9 +213,9 @@ pub fires_stay : (d n : Dispatched) → Stays d n → may_fire d ≡ true → ma
 fires_stay d n stays may = rw (stays.failed, stays.closed, stays.firing) may
 
 -- whether there is room for the call of the first that is free
-pub room_is : (b : Boarded) (run : Option WorkerId) (c : Call) (place : ℕ) (r : Bool) → first_free b.lent ≡ Some place
+pub room_is : (b : Boarded) (run : Option WorkerId) (c : Call) (place : ℕ) (r : Bool) → lent_place b ≡ Some place
     → has_room_for b.dispatch run (caller_at b place) c ≡ r
-    → room_fault b run c (first_free b.lent) ≡ (if r then None else Some (wait.Board fault.Full))
+    → room_fault b run c (lent_place b) ≡ (if r then None else Some (wait.Board fault.Full))
 room_is b run c place r first room =
     ap (room_fault b run c) first ∙ ap (λ x. if x then None else Some (wait.Board fault.Full)) room
 

@@ -8,17 +8,18 @@ use Rattle.cmwq_dispatch.specs.Asleep.{SleepOn}
 use Rattle.cmwq_dispatch.specs.Dispatched.{Dispatched, MayEnter, is_over, past_now}
 use Rattle.cmwq_dispatch.specs.declared.wakes.Wakes.{Wakes}
 use Rattle.cmwq_dispatch.proofs.Steady.{newest}
-use Rattle.cmwq_model.specs.Prelude.{IsLegal, Layout, first_due, fired_answer, gives_ticket, ticket_in}
+use Rattle.cmwq_model.specs.Prelude.{IsLegal, Layout, unended_tickets}
 use Rattle.cmwq_model.specs.declared.call.Call.TheVariants as call
 use Rattle.cmwq_model.specs.declared.entry.Entry.{Entry}
 use Rattle.cmwq_model.specs.declared.id.CallerId.{CallerId}
 use Rattle.cmwq_model.specs.declared.id.Who.TheVariants.{Caller}
 use Rattle.cmwq_model.specs.declared.record.Booking.{Booking}
 use Rattle.cmwq_state.specs.Tails.{Tailed}
-use Rattle.cmwq_board.specs.Lent.{tickets_held}
+use Rattle.cmwq_board.specs.Lent.{SameTickets}
 use Rattle.cmwq_board.specs.Steps.{Stays, after_call, after_fires, may_fire}
 use Rattle.cmwq_board.proofs.Sleepers.{sleep_on_more}
-use Rattle.cmwq_board.proofs.Tickets.{held_same}
+use Rattle.cmwq_board.proofs.Tickets.{same_by_plain}
+use Rattle.cmwq_theory_steps.proofs.TicketSteps.{unended_go_on}
 use Rattle.cmwq_dispatch.proofs.Cared.{sleep_same}
 use Rattle.cmwq_model.specs.Prelude.{answer}
 
@@ -55,7 +56,7 @@ pub record HasFired (k : ℕ) (c : CallerId) (old now : Dispatched) (t u : Taile
   pub many : length now.history.entries ≡ length old.history.entries + k
   pub tail : u ≡ record t { all = now.history.entries }
   pub named : SleepOn (Caller c) old.asleep now.asleep before after
-  pub tickets : (n : ℕ) → tickets_held (past_now now) n ≡ tickets_held (past_now old) n
+  pub tickets : SameTickets (past_now old) (past_now now)
 
 pub fired_none : (c : CallerId) (d : Dispatched) (t : Tailed Entry) (w : Wakes) → may_fire d ≡ true
     → t.all ≡ d.history.entries → HasFired 0 c d d t t w w
@@ -66,28 +67,8 @@ fired_none c d t w may kept = record {
   many = omega arith;
   tail = rw (sym kept) refl;
   named = sleep_same (Caller c) d.asleep w;
-  tickets = λ n. refl;
+  tickets = refl;
 }
-
--- a fire neither ends nor gives a ticket
-gives_none : (o : Option Booking) (k : ℕ) → gives_ticket (fired_answer o k) ≡ false
-gives_none None k = refl
-gives_none (Some b) k = refl
-
-ends_none : (b c : Bool) → ((b && false) && c) ≡ false
-ends_none true c = refl
-ends_none false c = refl
-
-fire_gives : (h : History) (c : CallerId) (n : ℕ) → ticket_in (next_entry h (Caller c) call.Fire) n ≡ None
-unfolding answer
-fire_gives h c n = rw (gives_none (first_due (past_in h)) (length (past_in h))) refl
-
-held_on : (h : History) (c : CallerId) (n : ℕ)
-    → IsLegal h.layout (next_entry h (Caller c) call.Fire ∷ past_in h)
-    → tickets_held (next_entry h (Caller c) call.Fire ∷ past_in h) n ≡ tickets_held (past_in h) n
-held_on h c n legal =
-    held_same h.layout (past_in h) (next_entry h (Caller c) call.Fire) n legal (λ t. ends_none _ _)
-    (fire_gives h c (length (past_in h)))
 
 -- once more
 pub fired_more : (k : ℕ) (c : CallerId) (old now next : Dispatched) (t u v : Tailed Entry) (x y z : Wakes)
@@ -124,5 +105,7 @@ fired_more k c old now next t u v x y z so made tail named legal =
       );
       tail = tail ∙ ap (λ (r : Tailed Entry). record r { all = next.history.entries }) so.tail;
       named = sleep_on_more (Caller c) old.asleep now.asleep next.asleep x y z so.named named;
-      tickets = λ n. ap (λ p. tickets_held p n) past ∙ held_on now.history c n legal_e ∙ so.tickets n;
+      tickets = ap unended_tickets past
+          ∙ same_by_plain now.history.layout (past_now now) (e ∷ past_now now) e
+          (unended_go_on now.history.layout (past_now now) e legal_e) legal_e refl (λ n. refl) ∙ so.tickets;
     }

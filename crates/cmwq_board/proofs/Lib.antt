@@ -6,4 +6,4 @@ pub mod Runs
 pub mod Slept
 pub mod Begins
 pub mod Items
-pub mod Cleared
+pub mod Sought

@@ -1,108 +1,54 @@
 -- The callers that are lent, at their places.
-use Rattle.std.specs.Prelude.{◌≡◌, ◌≢◌, ◌≤◌, ◌<◌, ◌+◌, ◌-◌, ◌&&◌, ◌||◌, ◌∷◌, [], ℕ, Bool, true, false, not, zero, suc, List, length}
-use Rattle.std.specs.Prelude.{Option, Some, None, filter, if◌then◌else◌, nat_lt, slice_index_or, slice_set, is_some}
-use Rattle.std.specs.List.{list_any}
-use Rattle.std.specs.Prelude.{replicate}
-use Rattle.std.proofs.lemmas.List.{length-replicate}
-use Rattle.cmwq_dispatch.specs.Asleep.{Asleep}
-use Rattle.cmwq_model.specs.Tickets.{tickets}
-use Rattle.std.proofs.lemmas.Bool.{eq-eqb, eqb-true}
+use Rattle.std.specs.Prelude.{◌≡◌, ◌≢◌, ◌≤◌, ◌<◌, ◌+◌, ◌-◌, ◌&&◌, ◌||◌, ◌++◌, [], ℕ, Bool, true, false, not, zero, suc, List}
+use Rattle.std.specs.Prelude.{length, ◌==◌, ◌∷◌, Contains, Option, Some, None, if◌then◌else◌, count_by, filter, find, nat_lt}
+use Rattle.std.specs.Prelude.{option_to_list, slice_index_or, slice_set, is_some, replicate, nat_le}
+use Rattle.std.proofs.lemmas.List.{length-replicate, get_or-set_other, get_or-set_same}
+use Rattle.std.proofs.lemmas.Bool.{and_parts, eq-eqb, eqb-true, leb-true, ltb-true}
+use Rattle.std.proofs.lemmas.Bool.Decides.{nat_tests}
 use Rattle.std.proofs.lemmas.Option.{same_Some}
-use Rattle.std.specs.Prelude.{find}
-use Rattle.cmwq_core.specs.History.{is_done_waiting}
+use Rattle.std.proofs.Common.{true≢false, refl, sym, ap, ap₂, ◌∙◌, subst, arith, inl, inr, ⊎_elim, length-set}
+use Rattle.cmwq_core.specs.History.{History, is_done_waiting, past_in}
 use Rattle.cmwq_core.specs.Plans.{IsPlan}
 use Rattle.cmwq_core.specs.declared.plan.Plan.{Plan}
-use Rattle.cmwq_model.specs.Prelude.{end_of_ticket, is_done, ticket_of, waiting_for, waits_for, is_drain}
-unfoldable use Rattle.cmwq_model.specs.Prelude.{answer}
-use Rattle.cmwq_model.specs.declared.call.Call.TheVariants as call
-use Rattle.cmwq_model.specs.declared.id.Who.TheVariants.{Caller}
-use Rattle.cmwq_core.specs.History.{History, past_in}
-use Rattle.std.proofs.Common.{◌==◌, true≢false, refl, sym, ap, ◌∙◌, subst, arith, inl, length-set}
-use Rattle.std.proofs.lemmas.Bool.Decides.{nat_tests}
-use Rattle.std.proofs.lemmas.List.{get_or-set_other, get_or-set_same}
-use Rattle.std.proofs.lemmas.List.Folds.{list_any_at}
-use Rattle.cmwq_dispatch.proofs.OneNamed.{or_more}
+use Rattle.cmwq_dispatch.specs.Asleep.{Asleep}
 use Rattle.cmwq_dispatch.specs.Dispatched.{Dispatched, SameButAsleep, is_new, past_now}
-use Rattle.cmwq_model.specs.Prelude.{Layout, unended_tickets}
+use Rattle.cmwq_model.specs.Prelude.{Layout, end_of_ticket, gives_ticket, is_done, is_drain, is_ticket, ticket_of}
+use Rattle.cmwq_model.specs.Prelude.{unended_tickets, waiting_for, waits_for}
+use Rattle.cmwq_model.specs.Tickets.{tickets}
+unfoldable use Rattle.cmwq_model.specs.Prelude.{answer}
+use Rattle.cmwq_model.specs.declared.call.Call.{Call}
+use Rattle.cmwq_model.specs.declared.call.Call.TheVariants as call
 use Rattle.cmwq_model.specs.declared.entry.Entry.{Entry}
-use Rattle.cmwq_model.specs.declared.record.Ticket.{Ticket}
-use Rattle.cmwq_refinement.proofs.Numbers.{In, in_filter}
-use Rattle.cmwq_board.specs.Boarded.{IsBoard, first_place, most_made}
 use Rattle.cmwq_model.specs.declared.id.CallerId.{CallerId}
-use Rattle.std.specs.Prelude.{nat_le}
-use Rattle.std.proofs.lemmas.Bool.{and_parts, leb-true, ltb-true}
-use Rattle.cmwq_board.specs.Lent.{AreLent, drains, first_lent, is_left, tickets_held, tickets_of}
-use Rattle.cmwq_board.specs.Steps.{may_fire}
-use Rattle.cmwq_board.specs.Waits.{firing_for, ticket_at}
+use Rattle.cmwq_model.specs.declared.id.Who.TheVariants.{Caller}
+use Rattle.cmwq_model.specs.declared.record.Ticket.{Ticket}
+use Rattle.cmwq_model.specs.declared.reply.Reply.{Reply}
+use Rattle.cmwq_lemmas.proofs.Lists.{count_by-cons}
+use Rattle.std.specs.List.{AllByRecursion}
+use Rattle.std.specs.Option.{option_or}
+use Rattle.std.proofs.lemmas.List.Folds.{find-append}
+use Rattle.cmwq_refinement.proofs.TicketSteps.{unended_below}
+use Rattle.cmwq_refinement.proofs.Numbers.{In, contained_in, found, in_append, in_contained, in_filter, option_in, in_option}
+use Rattle.cmwq_board.specs.Boarded.{IsBoard, firing_for, first_place, most_made}
+use Rattle.cmwq_board.specs.Lent.{AreLent, EndsTicketOf, GivesBy, HasLeft, MayBecome, SameTickets, caller_of, first_lent}
+use Rattle.cmwq_board.specs.Lent.{given_by, is_of_drain, is_other, ticket_at, unended_drains, waits_by}
+use Rattle.cmwq_board.specs.Steps.{Stays, may_fire}
 use Rattle.cmwq_board.specs.declared.lending.Lending.{Lending}
-use Rattle.cmwq_board.specs.declared.lending.Lending.TheVariants.{Free, Waits, Left}
-use Rattle.cmwq_board.proofs.Tickets.{held_test}
+use Rattle.cmwq_board.specs.declared.lending.Lending.TheVariants.{Free, Waits}
+use Rattle.cmwq_board.proofs.Tickets.{kept_found, still_found}
 
--- ---- the caller of a place that has a ticket
+-- ---- the ticket that is found
 
-tickets_are : (l : Lending) (t : Ticket) → ticket_at l ≡ Some t → tickets_of l ≡ t ∷ []
-tickets_are Free t is = cc
-tickets_are (Waits u run slept) t is = grind arith
-tickets_are (Left u) t is = grind arith
+-- it is its caller's
+pub own_caller : (past : List Entry) (c : CallerId) (n : ℕ) (t : Ticket) → ticket_of past (Caller c) n ≡ Some t
+    → t.caller ≡ c
+own_caller past c n t is =
+    let passes = (found (is_ticket (Caller c) n) (unended_tickets past) t is).1 in
+    ap (λ k. record { 0 = k }) (eqb-true t.caller.0 c.0 (and_parts (t.number == n) (t.caller.0 == c.0) passes).1)
 
-drains_as : (l : Lending) (t : Ticket) → ticket_at l ≡ Some t → is_drain t.call ≡ true → drains l ≡ true
-drains_as Free t is drain = cc
-drains_as (Waits u run slept) t is drain = subst (λ (o : Option Ticket). drains_of o ≡ true) (sym is) drain
-  where
-    drains_of : Option Ticket → Bool
-    drains_of (Some v) = is_drain v.call
-    drains_of None = false
-drains_as (Left u) t is drain = subst (λ (o : Option Ticket). drains_of o ≡ true) (sym is) drain
-  where
-    drains_of : Option Ticket → Bool
-    drains_of (Some v) = is_drain v.call
-    drains_of None = false
-
-pub held_at : (s : Layout) (past : List Entry) (lent : List Lending) (place : ℕ) (t : Ticket) → AreLent s past lent
-    → place < length lent → ticket_at (slice_index_or lent place Free) ≡ Some t
-    → tickets_held past (first_lent s lent + place) ≡ t ∷ []
-held_at s past lent place t are less is =
-    are.tickets place less ∙ tickets_are (slice_index_or lent place Free) t is
-
--- it is the ticket's
-caller_of : (past : List Entry) (c : ℕ) (t : Ticket) → tickets_held past c ≡ t ∷ [] → t.caller.0 ≡ c
-caller_of past c t held =
-    let passes : held_test c t ≡ true =
-    (in_filter (held_test c) (unended_tickets past) t (subst (In t) (sym held) (inl refl))).1 in
-    grind (arith, nat_tests, passes)
-
-pub caller_at_place : (s : Layout) (past : List Entry) (lent : List Lending) (place : ℕ) (t : Ticket)
-    → AreLent s past lent → place < length lent → ticket_at (slice_index_or lent place Free) ≡ Some t
-    → t.caller.0 ≡ first_lent s lent + place
-caller_at_place s past lent place t are less is =
-    caller_of past (first_lent s lent + place) t (held_at s past lent place t are less is)
-
-pub caller_there : (s : Layout) (past : List Entry) (lent : List Lending) (place : ℕ) (t : Ticket)
-    → AreLent s past lent → place < length lent → ticket_at (slice_index_or lent place Free) ≡ Some t
-    → t.caller.0 < s.callers
-caller_there s past lent place t are less is =
-    let few = are.few in
-    let own = caller_at_place s past lent place t are less is in
-    omega (arith, few, less, own)
-
-pub own_ticket : (s : Layout) (past : List Entry) (lent : List Lending) (place : ℕ) (t : Ticket)
-    → AreLent s past lent → place < length lent → ticket_at (slice_index_or lent place Free) ≡ Some t
-    → tickets_held past t.caller.0 ≡ t ∷ []
-own_ticket s past lent place t are less is =
-    ap (tickets_held past) (caller_at_place s past lent place t are less is)
-    ∙ held_at s past lent place t are less is
-
-find_filtered : {X : Type 0} (p q : X → Bool) (xs : List X) → find (λ x. p x && q x) xs ≡ find p (filter q xs)
-find_filtered p q [] = refl
-find_filtered p q (x ∷ xs) = grind (arith, find_filtered p q xs)
-
--- it is the one that is found under its number
-pub found_own : (past : List Entry) (t : Ticket) → tickets_held past t.caller.0 ≡ t ∷ []
-    → ticket_of past (Caller t.caller) t.number ≡ Some t
-found_own past t held =
-    find_filtered (λ (x : Ticket). x.number == t.number) (held_test t.caller.0) (unended_tickets past)
-    ∙ ap (find (λ (x : Ticket). x.number == t.number)) held
-    ∙ ap (λ b. if b then Some t else None) (eq-eqb t.number t.number refl)
+pub own_ticket : (past : List Entry) (c : CallerId) (n : ℕ) (t : Ticket) → ticket_of past (Caller c) n ≡ Some t
+    → ticket_of past (Caller t.caller) n ≡ Some t
+own_ticket past c n t is = ap (λ k. ticket_of past (Caller k) n) (own_caller past c n t is) ∙ is
 
 -- what its end would be says whether it is ready
 done_waiting : (o : Option ℕ) → is_done (waiting_for o) ≡ true → not (is_some o) ≡ true
@@ -133,31 +79,27 @@ same_asleep d n s = λ i. record {
 
 -- ---- the place of a caller
 
-pub record IsPlaceOf (s : Layout) (lent : List Lending) (c place : ℕ) : Type 0 where
+pub record IsPlaceOf (s : Layout) (lent : List Lending) (c : CallerId) (place : ℕ) : Type 0 where
   pub less : place < length lent
-  pub at : c ≡ first_lent s lent + place
+  pub at : c ≡ caller_of s lent place
 
-pub place_is : (s : Layout) (lent : List Lending) (c place : ℕ) → length lent ≤ s.callers
-    → first_place s lent c ≡ Some place → IsPlaceOf s lent c place
-place_is s lent c place few is = by (nat_le (first_lent s lent) c && nat_lt c s.callers) refl is
+pub place_is : (s : Layout) (lent : List Lending) (c : CallerId) (place : ℕ) → length lent ≤ s.callers
+    → first_place s lent c.0 ≡ Some place → IsPlaceOf s lent c place
+place_is s lent c place few is = by (nat_le (first_lent s lent) c.0 && nat_lt c.0 s.callers) refl is
   where
-    by : (b : Bool) → (nat_le (first_lent s lent) c && nat_lt c s.callers) ≡ b
-        → (if b then Some (c - first_lent s lent) else None) ≡ Some place → IsPlaceOf s lent c place
+    by : (b : Bool) → (nat_le (first_lent s lent) c.0 && nat_lt c.0 s.callers) ≡ b
+        → (if b then Some (c.0 - first_lent s lent) else None) ≡ Some place → IsPlaceOf s lent c place
     by false test found = cc
     by true test found =
-        let parts = and_parts (nat_le (first_lent s lent) c) (nat_lt c s.callers) test in
-        let from = leb-true (first_lent s lent) c parts.0 in
-        let below = ltb-true c s.callers parts.1 in
-        let same = same_Some (c - first_lent s lent) place found in
-        record { less = omega arith; at = omega arith }
+        let parts = and_parts (nat_le (first_lent s lent) c.0) (nat_lt c.0 s.callers) test in
+        let from = leb-true (first_lent s lent) c.0 parts.0 in
+        let below = ltb-true c.0 s.callers parts.1 in
+        let same = same_Some (c.0 - first_lent s lent) place found in
+        record { less = omega arith; at = ap (λ k. record { 0 = k }) (omega arith) }
 
-pub same_caller : (s : Layout) (past : List Entry) (lent : List Lending) (place : ℕ) (t : Ticket) (c : CallerId)
-    → AreLent s past lent → first_place s lent c.0 ≡ Some place
-    → ticket_at (slice_index_or lent place Free) ≡ Some t → t.caller ≡ c
-same_caller s past lent place t c are is has =
-    let of = place_is s lent c.0 place are.few is in
-    let same : t.caller.0 ≡ c.0 = caller_at_place s past lent place t are of.less has ∙ sym of.at in
-    ap (λ n. record { 0 = n }) same
+pub caller_there : (s : Layout) (lent : List Lending) (place : ℕ) → length lent ≤ s.callers → place < length lent
+    → (caller_of s lent place).0 < s.callers
+caller_there s lent place few less = omega arith
 
 -- ---- a drain may fire
 
@@ -165,118 +107,343 @@ pub firing_may : (f c : Bool) (n : ℕ) → f ≡ false → n ≡ 1 → (not f &
 firing_may f false n lives one = rw lives refl
 firing_may f true n lives one = rw (lives, one) refl
 
-pub drain_may_fire : (d : Dispatched) (lent : List Lending) (place : ℕ) (t : Ticket)
-    → d.firing ≡ firing_for lent → d.failed ≡ false → place < length lent
-    → ticket_at (slice_index_or lent place Free) ≡ Some t → is_drain t.call ≡ true → may_fire d ≡ true
-drain_may_fire d lent place t firing lives less is drain =
-    let any : list_any drains lent ≡ true =
-    list_any_at drains lent place Free less (drains_as (slice_index_or lent place Free) t is drain) in
-    firing_may d.failed d.closed d.firing lives (firing ∙ ap (λ b. if b then 1 else 0) any)
+counts_one : {X : Type 0} (p : X → Bool) (xs : List X) (x : X) → In x xs → p x ≡ true → nat_lt 0 (count_by p xs) ≡ true
+counts_one p [] x i passes = absurd i
+counts_one p (y ∷ ys) x i passes =
+    grind (arith, nat_tests, count_by-cons p y ys, counts_one p ys x)
 
--- ---- the place is free again
+pub drain_counts : (past : List Entry) (c : CallerId) (n : ℕ) (t : Ticket) → ticket_of past (Caller c) n ≡ Some t
+    → is_drain t.call ≡ true → nat_lt 0 (unended_drains past) ≡ true
+drain_counts past c n t is drain =
+    counts_one is_of_drain (unended_tickets past) t (found (is_ticket (Caller c) n) (unended_tickets past) t is).0 drain
 
-pub any_less : {X : Type 0} (p : X → Bool) (xs : List X) (i : ℕ) (y : X) → p y ≡ false
-    → list_any p (slice_set xs i y) ≡ true → list_any p xs ≡ true
-any_less p [] i y none any = any
-any_less p (x ∷ xs) zero y none any = at (p x) (list_any p xs) (sym (ap (λ b. b || list_any p xs) none) ∙ any)
+pub drain_may_fire : (d : Dispatched) (c : CallerId) (n : ℕ) (t : Ticket)
+    → d.firing ≡ firing_for (unended_drains (past_now d)) → d.failed ≡ false
+    → ticket_of (past_now d) (Caller c) n ≡ Some t → is_drain t.call ≡ true → may_fire d ≡ true
+drain_may_fire d c n t firing lives is drain =
+    firing_may d.failed d.closed d.firing lives
+    (firing ∙ ap (λ b. if b then 1 else 0) (drain_counts (past_now d) c n t is drain))
+
+-- ---- how many drains are unended
+
+pub drains_same : (old new : List Entry) → SameTickets old new → unended_drains new ≡ unended_drains old
+drains_same old new same = ap (count_by is_of_drain) same
+
+count_append : {X : Type 0} (p : X → Bool) (xs ys : List X) → count_by p (xs ++ ys) ≡ count_by p xs + count_by p ys
+count_append p [] ys = let none : count_by p [] ≡ 0 = refl in omega (arith, none)
+count_append p (x ∷ xs) ys =
+    grind (arith, count_by-cons p x xs, count_by-cons p x (xs ++ ys), count_append p xs ys)
+
+counts_given : (t : Ticket) (d b : Bool) → is_drain t.call ≡ d
+    → count_by is_of_drain (option_to_list (if b then Some t else None)) ≡ (if d && b then 1 else 0)
+counts_given t true true is = count_by-cons is_of_drain t [] ∙ rw is refl
+counts_given t false true is = count_by-cons is_of_drain t [] ∙ rw is refl
+counts_given t true false is = refl
+counts_given t false false is = refl
+
+pub given_counts : (old new : List Entry) (r : Reply) (t : Ticket) → GivesBy r t old new
+    → unended_drains new ≡ unended_drains old + (if is_drain t.call && gives_ticket r then 1 else 0)
+given_counts old new r t gives =
+    ap (count_by is_of_drain) gives ∙ count_append is_of_drain (unended_tickets old) (given_by r t)
+    ∙ ap (λ k. unended_drains old + k) (counts_given t (is_drain t.call) (gives_ticket r) refl)
+
+-- ---- what a wait needs stays where others make entries
+
+pub same_found : (old new : List Entry) (c : CallerId) (n : ℕ) (t : Ticket) → SameTickets old new
+    → ticket_of old (Caller c) n ≡ Some t → ticket_of new (Caller c) n ≡ Some t
+same_found old new c n t same is = ap (find (is_ticket (Caller c) n)) same ∙ is
+
+pub given_found : (old new : List Entry) (r : Reply) (g : Ticket) (c : CallerId) (n : ℕ) (t : Ticket)
+    → GivesBy r g old new → ticket_of old (Caller c) n ≡ Some t → ticket_of new (Caller c) n ≡ Some t
+given_found old new r g c n t gives is =
+    ap (find (is_ticket (Caller c) n)) gives
+    ∙ still_found (is_ticket (Caller c) n) (unended_tickets old) (given_by r g) t is
+
+other_caller : (t u : Ticket) → (u.caller.0 ≡ t.caller.0 → ⊥) → is_other t u ≡ true
+other_caller t u far = at (u.caller.0 == t.caller.0) refl
   where
-    at : (b c : Bool) → c ≡ true → (b || c) ≡ true
-    at true c is = refl
-    at false c is = is
-any_less p (x ∷ xs) (suc i) y none any =
-    or_more (p x) (list_any p (slice_set xs i y)) (list_any p xs) any (λ h. any_less p xs i y none h)
+    at : (b : Bool) → (u.caller.0 == t.caller.0) ≡ b → not ((u.number == t.number) && (u.caller.0 == t.caller.0)) ≡ true
+    at true same = absurd (far (eqb-true u.caller.0 t.caller.0 same))
+    at false differs = grind (arith, differs)
 
--- what the caller of a place does drains as much as before
-pub any_same : {X : Type 0} (p : X → Bool) (xs : List X) (i : ℕ) (d y : X) → i < length xs
-    → p y ≡ p (slice_index_or xs i d) → list_any p (slice_set xs i y) ≡ list_any p xs
-any_same p [] i d y less same = refl
-any_same p (x ∷ xs) zero d y less same = ap (λ b. b || list_any p xs) same
-any_same p (x ∷ xs) (suc i) d y less same = ap (λ b. p x || b) (any_same p xs i d y (omega arith) same)
+other_number : (t u : Ticket) → (u.number == t.number) ≡ false → is_other t u ≡ true
+other_number t u differs = grind (arith, differs)
 
-ticket_drains : (l : Lending) (t : Ticket) → ticket_at l ≡ Some t → is_drain t.call ≡ drains l
-ticket_drains Free t is = cc
-ticket_drains (Waits u run slept) t is = ap (λ (v : Ticket). is_drain v.call) (sym (same_Some u t is))
-ticket_drains (Left u) t is = ap (λ (v : Ticket). is_drain v.call) (sym (same_Some u t is))
+pub ended_found : (old new : List Entry) (e : Ticket) (c : CallerId) (n : ℕ) (t : Ticket) → EndsTicketOf e old new
+    → is_other e t ≡ true → ticket_of old (Caller c) n ≡ Some t → ticket_of new (Caller c) n ≡ Some t
+ended_found old new e c n t ends other is =
+    ap (find (is_ticket (Caller c) n)) ends
+    ∙ kept_found (is_ticket (Caller c) n) (is_other e) (unended_tickets old) t is other
 
-pub left_drains : (lent : List Lending) (place : ℕ) (t : Ticket) → place < length lent
-    → ticket_at (slice_index_or lent place Free) ≡ Some t
-    → list_any drains (slice_set lent place (Left t)) ≡ list_any drains lent
-left_drains lent place t less is =
-    any_same drains lent place Free (Left t) less (ticket_drains (slice_index_or lent place Free) t is)
+-- ---- what the caller of a place does changes
 
-module _ (s : Layout) (old new : List Entry) (lent : List Lending) (place : ℕ) (l : Lending) (are : AreLent s old lent)
-    (less : place < length lent) (own : tickets_held new (first_lent s lent + place) ≡ tickets_of l)
-    (others : (n : ℕ) → n ≢ first_lent s lent + place → tickets_held new n ≡ tickets_held old n) where
+module _ (s : Layout) (new : List Entry) (lent : List Lending) (place : ℕ) (l : Lending) (few : length lent ≤ s.callers)
+    (less : place < length lent)
+    (own : (t : Ticket) → ticket_at l ≡ Some t → ticket_of new (Caller (caller_of s lent place)) t.number ≡ Some t)
+    (others : (j : ℕ) (t : Ticket) → j < length lent → j ≢ place → ticket_at (slice_index_or lent j Free) ≡ Some t
+    → ticket_of new (Caller (caller_of s lent j)) t.number ≡ Some t) where
   long : length (slice_set lent place l) ≡ length lent
   long = length-set lent place l
 
-  at_first : (j : ℕ) → tickets_held new (first_lent s (slice_set lent place l) + j)
-      ≡ tickets_held new (first_lent s lent + j)
-  at_first j = ap (λ n. tickets_held new (s.callers - n + j)) long
+  caller_same : (j : ℕ) → caller_of s (slice_set lent place l) j ≡ caller_of s lent j
+  caller_same j = ap (λ n. record { 0 = s.callers - n + j }) long
 
-  set_tickets : (j : ℕ) → j < length (slice_set lent place l) → (b : Bool) → (j == place) ≡ b
-      → tickets_held new (first_lent s (slice_set lent place l) + j)
-      ≡ tickets_of (slice_index_or (slice_set lent place l) j Free)
-  set_tickets j j_less true same =
-      let is : j ≡ place = eqb-true j place same in
-      at_first j ∙ ap (λ k. tickets_held new (first_lent s lent + k)) is ∙ own
-      ∙ ap tickets_of (sym (get_or-set_same lent place l Free less))
-      ∙ ap (λ k. tickets_of (slice_index_or (slice_set lent place l) k Free)) (sym is)
-  set_tickets j j_less false differs =
+  set_held : (j : ℕ) (t : Ticket) → j < length (slice_set lent place l)
+      → ticket_at (slice_index_or (slice_set lent place l) j Free) ≡ Some t → (b : Bool) → (j == place) ≡ b
+      → ticket_of new (Caller (caller_of s (slice_set lent place l) j)) t.number ≡ Some t
+  set_held j t j_less is true same =
+      let at : j ≡ place = eqb-true j place same in
+      let here : ticket_at l ≡ Some t =
+      ap ticket_at (sym (get_or-set_same lent place l Free less))
+      ∙ ap (λ k. ticket_at (slice_index_or (slice_set lent place l) k Free)) (sym at) ∙ is in
+      ap (λ k. ticket_of new (Caller k) t.number) (caller_same j ∙ ap (caller_of s lent) at) ∙ own t here
+  set_held j t j_less is false differs =
       let other : j ≢ place = λ e. true≢false (sym (eq-eqb j place e) ∙ differs) in
-      let far : first_lent s lent + j ≢ first_lent s lent + place = λ e. other (omega (arith, e)) in
-      at_first j ∙ others (first_lent s lent + j) far ∙ are.tickets j (omega (arith, j_less, long))
-      ∙ ap tickets_of (sym (get_or-set_other lent place j l Free other))
+      ap (λ k. ticket_of new (Caller k) t.number) (caller_same j)
+      ∙ others j t (omega (arith, j_less, long)) other (ap ticket_at (sym (get_or-set_other lent place j l Free other)) ∙ is)
 
   pub lent_set : AreLent s new (slice_set lent place l)
   lent_set = record {
-    few = (let few = are.few in omega (arith, few, long));
-    tickets = λ j j_less. set_tickets j j_less (j == place) refl;
+    few = omega (arith, few, long);
+    held = λ j t j_less is. set_held j t j_less is (j == place) refl;
   }
 
--- the board once what the caller of a place does has changed
-pub board_set : (d e n : Dispatched) (keeps kept : ℕ) (lent : List Lending) (place : ℕ) (l : Lending)
-    → IsBoard d keeps lent → e.history.layout ≡ d.history.layout → e.history.room ≡ d.history.room → kept ≡ keeps
-    → place < length lent → tickets_held (past_now e) (first_lent d.history.layout lent + place) ≡ tickets_of l
-    → ((m : ℕ) → m ≢ first_lent d.history.layout lent + place
-    → tickets_held (past_now e) m ≡ tickets_held (past_now d) m)
-    → n.history ≡ e.history → n.firing ≡ firing_for (slice_set lent place l) → IsBoard n kept (slice_set lent place l)
-board_set d e n keeps kept lent place l was layout room same less own others history firing =
-    let set = lent_set d.history.layout (past_now d) (past_now e) lent place l was.lent less own others in
-    let layouts : n.history.layout ≡ d.history.layout = ap (λ (h : History). h.layout) history ∙ layout in
-    record {
-      room = ap (λ (h : History). h.room) history ∙ room ∙ was.room ∙ ap (λ (s : Layout). s.room) (sym layouts);
-      keeps = subst (λ (s : Layout). most_made s ≤ kept) (sym layouts)
-          (subst (λ k. most_made d.history.layout ≤ k) (sym same) was.keeps);
-      lent = subst (λ (s : Layout). AreLent s (past_now n) (slice_set lent place l)) (sym layouts)
-          (subst (λ p. AreLent d.history.layout p (slice_set lent place l)) (ap past_in (sym history)) set);
-      firing = firing;
-    }
+-- a ticket is given to the caller of a free place
+fresh : (k n : ℕ) (who : _) (ts : List Ticket) → k ≤ n → AllByRecursion (λ (u : Ticket). u.number < k) ts
+    → find (is_ticket who n) ts ≡ None
+fresh k n who [] later h = refl
+fresh k n who (u ∷ us) later h = grind (arith, nat_tests, h.0, fresh k n who us later h.1)
+
+pub given_is_found : (old new : List Entry) (r : Reply) (c : CallerId) (cl : Call) (n : ℕ)
+    → GivesBy r (record { caller = c; call = cl; number = n }) old new → length old ≤ n → gives_ticket r ≡ true
+    → ticket_of new (Caller c) n ≡ Some (record { caller = c; call = cl; number = n })
+given_is_found old new r c cl n gives later given =
+    let t : Ticket = record { caller = c; call = cl; number = n } in
+    ap (find (is_ticket (Caller c) n)) gives
+    ∙ find-append (is_ticket (Caller c) n) (unended_tickets old) (given_by r t)
+    ∙ ap (λ o. option_or o (find (is_ticket (Caller c) n) (given_by r t))) (fresh (length old) n (Caller c) (unended_tickets old) later (unended_below old))
+    ∙ rw given (rw (eq-eqb n n refl, eq-eqb c.0 c.0 refl) refl)
+
+-- ---- the lent callers after a step
+
+-- a ticket of the caller of a place is ended
+pub ended_places : (s : Layout) (old new : List Entry) (lent : List Lending) (place : ℕ) (l : Lending) (t : Ticket)
+    → AreLent s old lent → place < length lent → t.caller ≡ caller_of s lent place → EndsTicketOf t old new
+    → MayBecome t (slice_index_or lent place Free) l → AreLent s new (slice_set lent place l)
+ended_places s old new lent place l t are less own ends may =
+    lent_set s new lent place l are.few less (stays l may)
+    (λ j u j_less other is. ended_found old new t (caller_of s lent j) u.number u ends
+    (other_caller t u (far j u j_less other is)) (are.held j u j_less is))
+  where
+    far : (j : ℕ) (u : Ticket) → j < length lent → j ≢ place → ticket_at (slice_index_or lent j Free) ≡ Some u
+        → u.caller.0 ≡ t.caller.0 → ⊥
+    far j u j_less other is same =
+        let at : (caller_of s lent j).0 ≡ (caller_of s lent place).0 =
+        ap (λ (c : CallerId). c.0) (sym (own_caller old (caller_of s lent j) u.number u (are.held j u j_less is)))
+        ∙ same ∙ ap (λ (c : CallerId). c.0) own in
+        other (omega (arith, at))
+
+    stays : (m : Lending) → MayBecome t (slice_index_or lent place Free) m → (u : Ticket) → ticket_at m ≡ Some u
+        → ticket_of new (Caller (caller_of s lent place)) u.number ≡ Some u
+    stays Free may u is = cc
+    stays (Waits v run slept) may u is =
+        let was : ticket_at (slice_index_or lent place Free) ≡ Some u = ap ticket_at may.0 ∙ is in
+        let same : v ≡ u = same_Some v u is in
+        ended_found old new t (caller_of s lent place) u.number u ends
+        (other_number t u (ap (λ (x : Ticket). x.number == t.number) (sym same) ∙ sym (ap (waits_by t) may.0) ∙ may.1))
+        (are.held place u less was)
+
+-- a ticket is given to it, by which it waits if it does
+pub given_places : (s : Layout) (old new : List Entry) (lent : List Lending) (place : ℕ) (l : Lending) (r : Reply)
+    (c : CallerId) (cl : Call) (n : ℕ) → AreLent s old lent → place < length lent → c ≡ caller_of s lent place
+    → length old ≤ n → GivesBy r (record { caller = c; call = cl; number = n }) old new
+    → ((u : Ticket) → ticket_at l ≡ Some u → (gives_ticket r ≡ true) × (record { caller = c; call = cl; number = n } ≡ u))
+    → AreLent s new (slice_set lent place l)
+given_places s old new lent place l r c cl n are less own later gives has =
+    lent_set s new lent place l are.few less
+    (λ u is. let its = has u is in
+    subst (λ (x : Ticket). ticket_of new (Caller (caller_of s lent place)) x.number ≡ Some x) its.1
+    (ap (λ k. ticket_of new (Caller k) n) (sym own) ∙ given_is_found old new r c cl n gives later its.0))
+    (λ j u j_less other is. given_found old new r _ (caller_of s lent j) u.number u gives (are.held j u j_less is))
+
+-- its caller waits by an unended ticket again
+pub resumed_places : (s : Layout) (old : List Entry) (lent : List Lending) (place : ℕ) (t : Ticket) → AreLent s old lent
+    → place < length lent → ticket_of old (Caller (caller_of s lent place)) t.number ≡ Some t
+    → AreLent s old (slice_set lent place (Waits t None false))
+resumed_places s old lent place t are less held =
+    lent_set s old lent place (Waits t None false) are.few less
+    (λ u is. subst (λ (x : Ticket). ticket_of old (Caller (caller_of s lent place)) x.number ≡ Some x)
+    (same_Some t u is) held)
+    (λ j u j_less other is. are.held j u j_less is)
+
+-- nobody waits by it
+pub freed_places : (s : Layout) (old : List Entry) (lent : List Lending) (place : ℕ) → AreLent s old lent
+    → place < length lent → AreLent s old (slice_set lent place Free)
+freed_places s old lent place are less =
+    lent_set s old lent place Free are.few less (λ u is. cc) (λ j u j_less other is. are.held j u j_less is)
+
+-- ---- the board after a step
+
+pub board_now : (d n : Dispatched) (keeps kept : ℕ) (lent after : List Lending) → IsBoard d keeps lent
+    → n.history.layout ≡ d.history.layout → n.history.room ≡ d.history.room → kept ≡ keeps
+    → AreLent d.history.layout (past_now n) after → n.firing ≡ firing_for (unended_drains (past_now n))
+    → IsBoard n kept after
+board_now d n keeps kept lent after was layout room same are firing = record {
+  room = room ∙ was.room ∙ ap (λ (s : Layout). s.room) (sym layout);
+  keeps = subst (λ (s : Layout). most_made s ≤ kept) (sym layout)
+      (subst (λ k. most_made d.history.layout ≤ k) (sym same) was.keeps);
+  lent = subst (λ (s : Layout). AreLent s (past_now n) after) (sym layout) are;
+  firing = firing;
+}
+
+-- one that ends and gives no ticket
+pub board_same : (d n : Dispatched) (keeps kept : ℕ) (lent : List Lending) → Stays d n
+    → SameTickets (past_now d) (past_now n) → kept ≡ keeps → IsBoard d keeps lent → IsBoard n kept lent
+board_same d n keeps kept lent stays same is was =
+    board_now d n keeps kept lent lent was stays.layout stays.room is
+    (record {
+      few = was.lent.few;
+      held = λ place t less at.
+          same_found (past_now d) (past_now n) (caller_of d.history.layout lent place) t.number t same
+          (was.lent.held place t less at);
+    })
+    (stays.firing ∙ was.firing ∙ ap (λ ts. firing_for (count_by is_of_drain ts)) (sym same))
+
+-- ---- whether any was left
+
+pub left_same : (s r : Layout) (old new : List Entry) (lent : List Lending) → r ≡ s → SameTickets old new
+    → HasLeft r new lent → HasLeft s old lent
+left_same s r old new lent layout same h = record {
+  place = h.place;
+  less = h.less;
+  ticket = h.ticket;
+  unended = subst (λ ts. Contains ts h.ticket) same h.unended;
+  own = h.own ∙ ap (λ (l : Layout). (caller_of l lent h.place).0) layout;
+  nobody = h.nobody;
+}
+
+-- where the caller of a place does something else
+module _ (s r : Layout) (old new : List Entry) (lent : List Lending) (place : ℕ) (l : Lending) (layout : r ≡ s)
+    (less : place < length lent) (h : HasLeft r new (slice_set lent place l)) where
+  left_long : length (slice_set lent place l) ≡ length lent
+  left_long = length-set lent place l
+
+  pub left_own : h.ticket.caller.0 ≡ (caller_of s lent h.place).0
+  left_own = h.own ∙ ap₂ (λ (q : Layout) n. q.callers - n + h.place) layout left_long
+
+  here_or : (b : Bool) → (h.place == place) ≡ b → In h.ticket (unended_tickets old)
+      → (h.place ≡ place → waits_by h.ticket l ≡ false → waits_by h.ticket (slice_index_or lent place Free) ≡ false)
+      → waits_by h.ticket (slice_index_or lent h.place Free) ≡ false
+  here_or true same was back =
+      let at = eqb-true h.place place same in
+      ap (λ k. waits_by h.ticket (slice_index_or lent k Free)) at
+      ∙ back at (ap (waits_by h.ticket) (sym (get_or-set_same lent place l Free less))
+      ∙ ap (λ k. waits_by h.ticket (slice_index_or (slice_set lent place l) k Free)) (sym at) ∙ h.nobody)
+  here_or false differs was back =
+      let other : h.place ≢ place = λ e. true≢false (sym (eq-eqb h.place place e) ∙ differs) in
+      ap (waits_by h.ticket) (sym (get_or-set_other lent place h.place l Free other)) ∙ h.nobody
+
+  pub left_before : In h.ticket (unended_tickets old)
+      → (h.place ≡ place → waits_by h.ticket l ≡ false → waits_by h.ticket (slice_index_or lent place Free) ≡ false)
+      → HasLeft s old lent
+  left_before was back = record {
+    place = h.place;
+    less = (let long = left_long in let lt = h.less in omega (arith, long, lt));
+    ticket = h.ticket;
+    unended = in_contained (unended_tickets old) h.ticket was;
+    own = left_own;
+    nobody = here_or (h.place == place) refl was back;
+  }
+
+  pub left_in : In h.ticket (unended_tickets new)
+  left_in = contained_in (unended_tickets new) h.ticket h.unended
+
+-- its caller was free, and the wait goes on by this ticket
+pub left_resumed : (s r : Layout) (old : List Entry) (lent : List Lending) (place : ℕ) (l : Lending) → r ≡ s
+    → place < length lent → slice_index_or lent place Free ≡ Free → HasLeft r old (slice_set lent place l)
+    → HasLeft s old lent
+left_resumed s r old lent place l layout less free h =
+    left_before s r old old lent place l layout less h (left_in s r old old lent place l layout less h)
+    (λ at none. ap (waits_by h.ticket) free)
+
+-- its ticket was ended
+pub left_ended : (s r : Layout) (old new : List Entry) (lent : List Lending) (place : ℕ) (l : Lending) (t : Ticket)
+    → r ≡ s → place < length lent → t.caller ≡ caller_of s lent place → EndsTicketOf t old new
+    → MayBecome t (slice_index_or lent place Free) l → HasLeft r new (slice_set lent place l) → HasLeft s old lent
+left_ended s r old new lent place l t layout less own ends may h =
+    left_before s r old new lent place l layout less h was.0
+    (λ at none. back l (slice_index_or lent place Free) may none (same_owner at))
+  where
+    was : In h.ticket (unended_tickets old) × (is_other t h.ticket ≡ true)
+    was = in_filter (is_other t) (unended_tickets old) h.ticket
+        (subst (In h.ticket) ends (left_in s r old new lent place l layout less h))
+
+    same_owner : h.place ≡ place → h.ticket.caller.0 ≡ t.caller.0
+    same_owner at =
+        left_own s r old new lent place l layout less h ∙ ap (λ k. (caller_of s lent k).0) at
+        ∙ ap (λ (c : CallerId). c.0) (sym own)
+
+    -- it has another number, since it has the same caller
+    apart : h.ticket.caller.0 ≡ t.caller.0 → (t.number == h.ticket.number) ≡ false
+    apart same = at (h.ticket.number == t.number) refl
+      where
+        at : (b : Bool) → (h.ticket.number == t.number) ≡ b → (t.number == h.ticket.number) ≡ false
+        at true is =
+            absurd (true≢false (sym was.1
+            ∙ ap₂ (λ x y. not (x && y)) is (eq-eqb h.ticket.caller.0 t.caller.0 same)))
+        at false is = grind (arith, nat_tests, is)
+
+    back : (after before : Lending) → MayBecome t before after → waits_by h.ticket after ≡ false
+        → h.ticket.caller.0 ≡ t.caller.0 → waits_by h.ticket before ≡ false
+    back Free Free may none same = refl
+    back Free (Waits u run slept) may none same =
+        ap (λ n. n == h.ticket.number) (may u refl) ∙ apart same
+    back (Waits u run slept) before may none same = ap (waits_by h.ticket) may.0 ∙ none
+
+-- a ticket was given to it, by which it waits
+pub left_given : (s r : Layout) (old new : List Entry) (lent : List Lending) (place : ℕ) (l : Lending) (reply : Reply)
+    (t : Ticket) → r ≡ s → place < length lent → slice_index_or lent place Free ≡ Free
+    → t.caller ≡ caller_of s lent place → GivesBy reply t old new → (gives_ticket reply ≡ true → waits_by t l ≡ true)
+    → HasLeft r new (slice_set lent place l) → HasLeft s old lent
+left_given s r old new lent place l reply t layout less free own gives waits h =
+    ⊎_elim (λ was. left_before s r old new lent place l layout less h was (λ at none. ap (waits_by h.ticket) free))
+    (λ is. absurd (given (gives_ticket reply) refl is))
+    (in_append (unended_tickets old) (given_by reply t) h.ticket
+    (subst (In h.ticket) gives (left_in s r old new lent place l layout less h)))
+  where
+    given : (b : Bool) → gives_ticket reply ≡ b → In h.ticket (option_to_list (if b then Some t else None)) → ⊥
+    given false gave is = is
+    given true gave is =
+        let same : t ≡ h.ticket = same_Some t h.ticket (in_option (Some t) h.ticket is) in
+        let owner : (caller_of s lent h.place).0 ≡ (caller_of s lent place).0 =
+        sym (left_own s r old new lent place l layout less h) ∙ ap (λ (u : Ticket). u.caller.0) (sym same)
+        ∙ ap (λ (c : CallerId). c.0) own in
+        let at : h.place ≡ place = omega (arith, owner) in
+        true≢false (sym (waits gave)
+        ∙ ap (λ (u : Ticket). waits_by u l) same
+        ∙ ap (waits_by h.ticket) (sym (get_or-set_same lent place l Free less))
+        ∙ ap (λ k. waits_by h.ticket (slice_index_or (slice_set lent place l) k Free)) (sym at) ∙ h.nobody)
 
 -- ---- a new board
 
-none_drain : (n : ℕ) → list_any drains (replicate n Free) ≡ false
-none_drain zero = refl
-none_drain (suc n) = none_drain n
-
-pub free_none_drains : (n : ℕ) (lent : List Lending) → lent ≡ replicate n Free → list_any drains lent ≡ false
-free_none_drains n lent is = ap (list_any drains) is ∙ none_drain n
-
-none_left : (n : ℕ) → list_any is_left (replicate n Free) ≡ false
-none_left zero = refl
-none_left (suc n) = none_left n
-
-pub free_none_left : (n : ℕ) (lent : List Lending) → lent ≡ replicate n Free → list_any is_left lent ≡ false
-free_none_left n lent is = ap (list_any is_left) is ∙ none_left n
-
-free_at : (n place : ℕ) → tickets_of (slice_index_or (replicate n Free) place Free) ≡ []
+free_at : (n place : ℕ) → slice_index_or (replicate n Free) place Free ≡ Free
 free_at zero place = refl
 free_at (suc n) zero = refl
 free_at (suc n) (suc place) = free_at n place
 
-none_held : (c : ℕ) → tickets_held [] c ≡ []
+none_unended : unended_tickets [] ≡ []
 unfolding tickets
-none_held c = refl
+none_unended = refl
+
+pub new_unended : (s : Layout) (asleep : Asleep) → unended_tickets (past_now (is_new s s.room asleep)) ≡ []
+new_unended s asleep = none_unended
+
+pub none_left : (s : Layout) (past : List Entry) (lent : List Lending) → unended_tickets past ≡ [] → HasLeft s past lent → ⊥
+none_left s past lent none h =
+    subst (In h.ticket) none (contained_in (unended_tickets past) h.ticket h.unended)
+
+free_waits : (l : Lending) (t : Ticket) → l ≡ Free → ticket_at l ≡ Some t → ⊥
+free_waits l t free is = let bad : None ≡ Some t = ap ticket_at (sym free) ∙ is in cc
 
 pub new_board : (s : Layout) (asleep : Asleep) (keeps n : ℕ) → most_made s ≤ keeps → n ≤ s.callers
     → IsBoard (is_new s s.room asleep) keeps (replicate n Free)
@@ -285,7 +452,7 @@ new_board s asleep keeps n most few = record {
   keeps = most;
   lent = record {
     few = subst (λ k. k ≤ s.callers) (sym (length-replicate n Free)) few;
-    tickets = λ place less. none_held (first_lent s (replicate n Free) + place) ∙ sym (free_at n place);
+    held = λ place t less is. absurd (free_waits (slice_index_or (replicate n Free) place Free) t (free_at n place) is);
   };
-  firing = ap (λ b. if b then 1 else 0) (sym (none_drain n));
+  firing = ap (λ ts. firing_for (count_by is_of_drain ts)) (sym none_unended);
 }

@@ -1,13 +1,12 @@
 -- What contracts see of a board.
 use Rattle.std.specs.Prelude.{◌≡◌, ◌≤◌, ◌+◌, ◌-◌, ◌*◌, ◌&&◌, if◌then◌else◌, ℕ, Bool, true, List, length}
 use Rattle.std.specs.Prelude.{nat_le, nat_lt, max, replicate, drop, Option, Some, None}
-use Rattle.std.specs.List.{list_any}
 use Rattle.cmwq_model.specs.Prelude.{Layout}
 use Rattle.cmwq_model.specs.declared.entry.Entry.{Entry}
 use Rattle.cmwq_model.specs.declared.id.Who.{Who}
 use Rattle.cmwq_dispatch.specs.Asleep.{Asleep}
 use Rattle.cmwq_dispatch.specs.Dispatched.{Dispatched, is_new, past_now}
-use Rattle.cmwq_board.specs.Lent.{AreLent, drains, first_lent, is_before}
+use Rattle.cmwq_board.specs.Lent.{AreLent, first_lent, is_before, unended_drains}
 use Rattle.cmwq_board.specs.declared.lending.Lending.{Lending}
 use Rattle.cmwq_board.specs.declared.lending.Lending.TheVariants.{Free}
 
@@ -45,17 +44,20 @@ abbrev pub is_new_board : Layout → ℕ → ℕ → Asleep → Boarded
 is_new_board s kept lent asleep =
     board_of (is_new s s.room asleep) 0 (max kept (least_kept s)) (replicate lent Free)
 
+-- Whoever may fire keeps it from being over: there is one while any drain is unended.
+abbrev pub firing_for : ℕ → ℕ
+firing_for n = if nat_lt 0 n then 1 else 0
+
 -- a worker, or a caller of the user's own
 abbrev pub is_own : Boarded → Who → Bool
 is_own b who = is_before (first_lent (layout_of b) b.lent) who
 
--- What holds of each board: its lent callers have the tickets that are kept of them. A drain that has one may still
--- fire.
+-- What holds of each board: its lent callers have the tickets by which somebody waits. Whoever drains may still fire.
 pub record IsBoard (d : Dispatched) (kept : ℕ) (callers : List Lending) : Type 0 where
   pub room : d.history.room ≡ d.history.layout.room
   pub keeps : most_made d.history.layout ≤ kept
   pub lent : AreLent d.history.layout (past_now d) callers
-  pub firing : d.firing ≡ (if list_any drains callers then 1 else 0)
+  pub firing : d.firing ≡ firing_for (unended_drains (past_now d))
 
 -- only who sleeps changes
 abbrev pub with_asleep : Boarded → Asleep → Boarded

@@ -1,9 +1,9 @@
 -- Waits, by callers that are lent to them.
-use Rattle.std.specs.Prelude.{◌≡◌, ◌+◌, ◌&&◌, ◌||◌, ℕ, Bool, true, false, not, List}
-use Rattle.std.specs.Prelude.{Option, Some, None, if◌then◌else◌, is_some, length}
+use Rattle.std.specs.Prelude.{◌≡◌, ◌⊎◌, ◌+◌, ◌&&◌, ◌||◌, ℕ, Bool, true, false, not, List}
+use Rattle.std.specs.Prelude.{Option, Some, None, if◌then◌else◌, find, is_some, length}
 use Rattle.std.specs.Prelude.{slice_index_or, slice_set}
-use Rattle.std.specs.List.{list_any, position}
-use Rattle.std.specs.Option.{option_map_or}
+use Rattle.std.specs.List.{list_any, position, range_with_len}
+use Rattle.std.specs.Option.{option_map_or, option_or}
 use Rattle.cmwq_core.specs.History.{is_done_waiting, next_entry, takes, takes_with}
 use Rattle.cmwq_dispatch.specs.Asleep.{IsUpAgain, SleepOn}
 use Rattle.cmwq_dispatch.specs.Asleep.{Waits as SleepsFor}
@@ -11,7 +11,9 @@ use Rattle.cmwq_dispatch.specs.Dispatched.{Dispatched, FallsAsleep, is_over, pas
 use Rattle.cmwq_dispatch.specs.declared.dispatch.Sleep.{Sleep}
 use Rattle.cmwq_dispatch.specs.declared.wakes.Wakes.{Wakes}
 use Rattle.cmwq_model.specs.Prelude.{Layout, gives_ticket, has_numbers, has_run, is_done, runs_asleep, runs_awake}
-use Rattle.cmwq_model.specs.Prelude.{is_drain}
+use Rattle.cmwq_model.specs.Prelude.{is_crowded, is_drain, same_worker}
+use Rattle.cmwq_model.specs.declared.reply.Reply.TheVariants as reply
+use Rattle.cmwq_dispatch.specs.Naming.{NamesMore, names_completions}
 use Rattle.cmwq_model.specs.declared.call.Call.{Call}
 use Rattle.cmwq_model.specs.declared.call.Call.TheVariants as call
 use Rattle.cmwq_model.specs.declared.id.CallerId.{CallerId}
@@ -23,9 +25,11 @@ use Rattle.cmwq_model.specs.declared.reply.Reply.{Reply}
 use Rattle.cmwq_waits.specs.Registered.{refusal_of, registered, wait_of}
 use Rattle.cmwq_waits.specs.declared.waits.Stuck.{Stuck}
 use Rattle.cmwq_board.specs.Asked.{is_wait}
-use Rattle.cmwq_board.specs.Boarded.{Boarded, first_place, has_space, layout_of, most_made, past_of_board, with_asleep}
+use Rattle.cmwq_board.specs.Boarded.{Boarded, firing_for, first_place, has_space, layout_of, most_made}
+use Rattle.cmwq_board.specs.Boarded.{past_of_board, with_asleep}
 use Rattle.cmwq_board.specs.Faults.{fault_of_stuck}
-use Rattle.cmwq_board.specs.Lent.{drains, first_lent}
+use Rattle.cmwq_board.specs.Left.{is_free, sought_of}
+use Rattle.cmwq_board.specs.Lent.{caller_of, ticket_at, unended_drains}
 use Rattle.cmwq_board.specs.Steps.{Enters, FiresDue, has_worker, with_dispatch}
 use Rattle.cmwq_board.specs.declared.board.Begun.{Begun}
 use Rattle.cmwq_board.specs.declared.board.Begun.TheVariants as begun
@@ -36,23 +40,44 @@ use Rattle.cmwq_board.specs.declared.fault.BoardFault.TheVariants as fault
 use Rattle.cmwq_board.specs.declared.fault.WaitFault.{WaitFault}
 use Rattle.cmwq_board.specs.declared.fault.WaitFault.TheVariants as wait
 use Rattle.cmwq_board.specs.declared.lending.Lending.{Lending}
-use Rattle.cmwq_board.specs.declared.lending.Lending.TheVariants.{Free, Waits, Left}
+use Rattle.cmwq_board.specs.declared.lending.Lending.TheVariants.{Free, Waits}
+use Rattle.cmwq_board.specs.declared.left.Sought.{Sought}
+use Rattle.cmwq_board.specs.declared.left.Sought.TheVariants.{Ready, For}
 
--- ---- which caller is lent
-
-abbrev pub is_free : Lending → Bool
-is_free Free = true
-is_free l = false
-
--- the first place of a caller that may be lent
-abbrev pub first_free : List Lending → Option ℕ
-first_free lent = position is_free lent
+-- ---- the lent callers
 
 abbrev pub lending_at : Boarded → ℕ → Lending
 lending_at b place = slice_index_or b.lent place Free
 
 abbrev pub caller_at : Boarded → ℕ → CallerId
-caller_at b place = record { 0 = first_lent (layout_of b) b.lent + place }
+caller_at b place = caller_of (layout_of b) b.lent place
+
+abbrev pub places : Boarded → List ℕ
+places b = range_with_len 0 (length b.lent)
+
+-- what is sought among the tickets of the caller of a place, and the first place whose caller has such a ticket
+abbrev pub sought_at : Boarded → Sought → ℕ → Option Ticket
+sought_at b sought place =
+    sought_of (layout_of b) (past_of_board b) (caller_at b place).0 (lending_at b place) sought
+
+abbrev pub has_sought : Boarded → Sought → ℕ → Bool
+has_sought b sought place = is_some (sought_at b sought place)
+
+abbrev pub place_with : Boarded → Sought → Option ℕ
+place_with b sought = find (has_sought b sought) (places b)
+
+-- ---- which caller is lent
+
+-- The first by which nobody waits, and which may have another ticket. Where all that are free have as many tickets as
+-- they may have, the first that is free.
+abbrev pub first_free : List Lending → Option ℕ
+first_free lent = position is_free lent
+
+abbrev pub may_be_lent : Boarded → ℕ → Bool
+may_be_lent b place = is_free (lending_at b place) && not (is_crowded (past_of_board b) (Caller (caller_at b place)))
+
+abbrev pub lent_place : Boarded → Option ℕ
+lent_place b = option_or (find (may_be_lent b) (places b)) (first_free b.lent)
 
 -- ---- why a wait does not begin
 
@@ -61,8 +86,14 @@ abbrev pub is_there : Layout → Option WorkerId → Bool
 is_there s (Some w) = has_worker s w
 is_there s None = true
 
+-- it has a run, which does not wait already
+abbrev pub is_wait_of : WorkerId → Lending → Bool
+is_wait_of w Free = false
+is_wait_of w (Waits t None slept) = false
+is_wait_of w (Waits t (Some v) slept) = same_worker v w
+
 abbrev pub has_its_run : Boarded → Option WorkerId → Bool
-has_its_run b (Some w) = has_run (past_of_board b) w
+has_its_run b (Some w) = has_run (past_of_board b) w && not (list_any (is_wait_of w) b.lent)
 has_its_run b None = true
 
 -- numbers, the board, the run, space
@@ -106,15 +137,24 @@ room_fault b run c (Some place) =
 
 abbrev pub lent_fault : Boarded → Option WorkerId → Call → Option Stuck → Option WaitFault
 lent_fault b run c (Some stuck) = Some (fault_of_stuck stuck)
-lent_fault b run c None = room_fault b run c (first_free b.lent)
+lent_fault b run c None = room_fault b run c (lent_place b)
 
 abbrev pub fault_or : Option BoardFault → Option WaitFault → Option WaitFault
 fault_or (Some f) later = Some (wait.Board f)
 fault_or None later = later
 
+-- the place of a left ticket by which the wait can go on: of no run
+abbrev pub resumed_place : Boarded → Option WorkerId → Call → Option ℕ
+resumed_place b None c = place_with b (For c)
+resumed_place b (Some w) c = None
+
+abbrev pub new_fault : Boarded → Option WorkerId → Call → Option ℕ → Option WaitFault
+new_fault b run c (Some place) = None
+new_fault b run c None = lent_fault b run c (stuck_now b.dispatch run c)
+
 -- in the order of the runs' own waits: numbers, the board, space, itself, a deadlock, no caller, no room
 abbrev pub begin_fault : Boarded → Option WorkerId → Call → Option WaitFault
-begin_fault b run c = fault_or (early_fault b run c) (lent_fault b run c (stuck_now b.dispatch run c))
+begin_fault b run c = fault_or (early_fault b run c) (new_fault b run c (resumed_place b run c))
 
 -- ---- a wait begins
 
@@ -131,12 +171,9 @@ IsWoken (Some w) old new before after =
     MayEnterOf (Some w) call.Wake (wakes_now old w) old new before after
 IsWoken None old new before after = (new ≡ old) × (after ≡ before)
 
--- Whoever may fire keeps it from being over: there is one while any drain has not ended. Nothing else changes.
-abbrev pub firing_for : List Lending → ℕ
-firing_for lent = if list_any drains lent then 1 else 0
-
-pub record Settles (lent : List Lending) (old new : Dispatched) (before after : Wakes) : Type 0 where
-  pub settled : new ≡ record old { firing = firing_for lent; asleep = new.asleep }
+-- Somebody may fire while so many drains are unended. Nothing else changes.
+pub record Settles (n : ℕ) (old new : Dispatched) (before after : Wakes) : Type 0 where
+  pub settled : new ≡ record old { firing = firing_for n; asleep = new.asleep }
   pub named : (who : Who) → SleepOn who old.asleep new.asleep before after
 
 -- What the run waits for is known from then on, if there is a place for that: there is one for each caller.
@@ -177,11 +214,11 @@ begun_by c r = if gives_ticket r then begun.Waits c r else begun.Ended r
 abbrev pub with_firing : Dispatched → Dispatched
 with_firing d = record d { firing = 1 }
 
--- It is begun by the first caller that may be lent. Somebody may fire meanwhile, so that it is not over.
-pub record Begins (run : Option WorkerId) (c : Call) (answer : Begun) (old new : Boarded) (before after : Wakes)
+-- A new ticket, by a caller that may be lent. Somebody may fire meanwhile, so that it is not over.
+pub record BeginsAnew (run : Option WorkerId) (c : Call) (answer : Begun) (old new : Boarded) (before after : Wakes)
     : Type 0 where
   pub place : ℕ
-  pub is_first : first_free old.lent ≡ Some place
+  pub is_first : lent_place old ≡ Some place
   pub reply : Reply
   pub number : ℕ
   pub called : Dispatched
@@ -190,15 +227,29 @@ pub record Begins (run : Option WorkerId) (c : Call) (answer : Begun) (old new :
   pub begun : answer ≡ begun_by (caller_at old place) reply
   pub lent : new.lent ≡ slice_set old.lent place (lending_by run (sleeps_first old.dispatch run)
       (record { caller = caller_at old place; call = c; number = number }) reply)
-  pub settles : Settles new.lent called new.dispatch then_called after
+  pub settles : Settles (unended_drains (past_now called)) called new.dispatch then_called after
   pub kept : (new.given ≡ old.given) × (new.keeps ≡ old.keeps)
 
--- ---- a wait ends
+-- The wait goes on by a ticket that was left, with the reply that a new call would get but for its number. No entry is
+-- made.
+abbrev pub resumed_reply : Ticket → Call → Reply
+resumed_reply t (call.CancelSync i) = reply.TicketNo t.number
+resumed_reply t c = reply.Ticket t.number
 
-abbrev pub ticket_at : Lending → Option Ticket
-ticket_at Free = None
-ticket_at (Waits t run slept) = Some t
-ticket_at (Left t) = Some t
+pub record Resumes (place : ℕ) (c : Call) (answer : Begun) (old new : Boarded) : Type 0 where
+  pub ticket : Ticket
+  pub was_left : sought_at old (For c) place ≡ Some ticket
+  pub begun : answer ≡ begun.Waits (caller_at old place) (resumed_reply ticket c)
+  pub new_is : new ≡ record old { lent = slice_set old.lent place (Waits ticket None false) }
+
+abbrev pub BeginsAt : Option ℕ → Option WorkerId → Call → Begun → Boarded → Boarded → Wakes → Wakes → Type 0
+BeginsAt (Some place) run c answer old new before after = Resumes place c answer old new × (after ≡ before)
+BeginsAt None run c answer old new before after = BeginsAnew run c answer old new before after
+
+abbrev pub Begins : Option WorkerId → Call → Begun → Boarded → Boarded → Wakes → Wakes → Type 0
+Begins run c answer old new before after = BeginsAt (resumed_place old run c) run c answer old new before after
+
+-- ---- a wait ends
 
 abbrev pub is_waiting : Lending → Bool
 is_waiting (Waits t run slept) = true
@@ -220,39 +271,53 @@ pub record EndsTicket (t : Ticket) (run : Option WorkerId) (old new : Dispatched
   pub fires : MayFire (is_drain t.call) t.caller ended fired then_ended then_fired
   pub wakes : IsWoken run fired new then_fired after
 
--- The caller of the place may be lent again.
-pub record EndsAt (place : ℕ) (t : Ticket) (run : Option WorkerId) (old new : Boarded) (before after : Wakes)
+-- Whoever sleeps until something is completed is named, as whoever keeps the time does: a timer that a drain held back
+-- may fire earlier than was known.
+abbrev pub TellsTime : Bool → Wakes → Wakes → Type 0
+TellsTime true before after = (names_completions after ≡ true) × NamesMore before after
+TellsTime false before after = after ≡ before
+
+-- The ticket is ended, and what its caller does is this from then on.
+pub record EndsBy (t : Ticket) (run : Option WorkerId) (callers : List Lending) (old new : Boarded) (before after : Wakes)
     : Type 0 where
   pub ended : Dispatched
   pub then_ended : Wakes
+  pub then_settled : Wakes
   pub ends : EndsTicket t run old.dispatch ended before then_ended
-  pub lent : new.lent ≡ slice_set old.lent place Free
-  pub settles : Settles new.lent ended new.dispatch then_ended after
+  pub settles : Settles (unended_drains (past_now ended)) ended new.dispatch then_ended then_settled
+  pub tells : TellsTime (is_drain t.call) then_settled after
+  pub lent : new.lent ≡ callers
   pub kept : (new.given ≡ old.given) × (new.keeps ≡ old.keeps)
 
--- the ticket that is to be ended: it was left and is ready, and there is space for its end
-abbrev pub left_ready : Boarded → Lending → Option Ticket
-left_ready b (Left t) =
-    if has_space b (most_made (layout_of b)) && is_done_waiting (past_of_board b) t then Some t else None
-left_ready b l = None
+-- the caller of the place may be lent again
+abbrev pub EndsAt : ℕ → Ticket → Option WorkerId → Boarded → Boarded → Wakes → Wakes → Type 0
+EndsAt place t run old new before after = EndsBy t run (slice_set old.lent place Free) old new before after
 
-abbrev pub ClearsAt : ℕ → Option Ticket → Boarded → Boarded → Wakes → Wakes → Type 0
-ClearsAt place (Some t) old new before after = EndsAt place t None old new before after
-ClearsAt place None old new before after = (new ≡ old) × (after ≡ before)
+-- the first ticket is ended that was left and is ready
+pub record EndsFirst (old new : Boarded) (before after : Wakes) : Type 0 where
+  pub place : ℕ
+  pub ticket : Ticket
+  pub first : place_with old Ready ≡ Some place
+  pub ready : sought_at old Ready place ≡ Some ticket
+  pub space : has_space old (most_made (layout_of old)) ≡ true
+  pub ends : EndsBy ticket None old.lent old new before after
 
--- so many places are gone through, one after another
-pub data Clears : ℕ → Boarded → Boarded → Wakes → Wakes → Type 0 where
-  nothing : (b : Boarded) (w : Wakes) → Clears 0 b b w w
-  more : (k : ℕ) (a b c : Boarded) (u v w : Wakes) → Clears k a b u v
-      → ClearsAt k (left_ready b (lending_at b k)) b c v w → Clears (k + 1) a c u w
+pub data EndsLeft : Boarded → Boarded → Wakes → Wakes → Type 0 where
+  nothing : (b : Boarded) (w : Wakes) → EndsLeft b b w w
+  more : (a b c : Boarded) (u v w : Wakes) → EndsLeft a b u v → EndsFirst b c v w → EndsLeft a c u w
 
--- a step, after which at each place the ticket is ended that was left and is ready
+-- one after another, until none is ready that was left, or there is no space for its end
+pub record Clears (old new : Boarded) (before after : Wakes) : Type 0 where
+  pub ends : EndsLeft old new before after
+  pub clear : (place_with new Ready ≡ None) ⊎ (has_space new (most_made (layout_of new)) ≡ false)
+
+-- a step, and then the end of the tickets that were left and are ready
 pub record ThenClears (Step : Boarded → Boarded → Wakes → Wakes → Type 0) (old new : Boarded) (before after : Wakes)
     : Type 0 where
   pub mid : Boarded
   pub meanwhile : Wakes
   pub step : Step old mid before meanwhile
-  pub clears : Clears (length mid.lent) mid new meanwhile after
+  pub clears : Clears mid new meanwhile after
 
 -- the place of a lent caller
 abbrev pub place_of : Boarded → CallerId → Option ℕ
@@ -319,13 +384,11 @@ leave_fault b c = if not (is_some (place_of b c)) then Some fault.Refused
     else None
 
 -- nobody waits for the ticket any more
-abbrev pub IsLeft : ℕ → Ticket → Boarded → Boarded → Type 0
-IsLeft place t new awake = new ≡ record awake { lent = slice_set awake.lent place (Left t) }
+abbrev pub IsLeft : ℕ → Boarded → Boarded → Type 0
+IsLeft place new awake = new ≡ record awake { lent = slice_set awake.lent place Free }
 
 pub record Leaves (c : CallerId) (old new : Boarded) (before after : Wakes) : Type 0 where
   pub place : ℕ
   pub is_place : place_of old c ≡ Some place
-  pub ticket : Ticket
-  pub has_ticket : ticket_at (lending_at old place) ≡ Some ticket
-  pub left : IsAwakeThen c (IsLeft place ticket new) old
+  pub left : IsAwakeThen c (IsLeft place new) old
   pub nobody : after ≡ before

@@ -1,13 +1,13 @@
 //! The call that begins a wait, and what the run makes besides that waits.
 
-ghost use Rattle.std.specs.Prelude.{◌≡◌, ◌≢◌, ◌<◌, ◌≤◌, ◌+◌, ◌∷◌, ℕ, IsTrue, [], false, if◌then◌else◌, length, true};
+ghost use Rattle.std.specs.Prelude.{◌≡◌, ◌<◌, ◌≤◌, ◌+◌, IsTrue, false, length, true};
 ghost use Rattle.cmwq_core.specs.History.{next_entry, takes};
 ghost use Rattle.cmwq_dispatch.specs.Dispatched.{past_now};
-ghost use Rattle.cmwq_model.specs.Prelude.{IsLegal, fits, gives_ticket};
+ghost use Rattle.cmwq_model.specs.Prelude.{IsLegal, fits};
 ghost use Rattle.cmwq_model.specs.declared.call.Call.TheVariants as calls;
 ghost use Rattle.cmwq_model.specs.declared.id.Who.TheVariants as who;
 ghost use Rattle.cmwq_board.specs.Asked.{is_wait};
-ghost use Rattle.cmwq_board.specs.Lent.{SameTickets, tickets_held, tickets_of};
+ghost use Rattle.cmwq_board.specs.Lent.{GivesBy, SameTickets};
 ghost use Rattle.cmwq_board.specs.Steps.{Enters, Stays, may_fire};
 ghost use Rattle.cmwq_board.specs.Waits.{BeginsWait, IsTold, MayEnterOf, ThenWaits, has_room_for, if_slept, is_there};
 ghost use Rattle.cmwq_board.specs.Waits.{lending_by, may_sleep, sleeps_first};
@@ -54,6 +54,7 @@ fn sleeps(
     ensures tickets { SameTickets (past_now dispatch.old) (past_now dispatch.new) }
     ensures stays { Stays dispatch.old dispatch.new }
     ensures many { length dispatch.new.history.entries ≤ length dispatch.old.history.entries + 1 }
+    ensures more { length dispatch.old.history.entries ≤ length dispatch.new.history.entries }
     ensures legal { IsLegal dispatch.new.history.layout (past_now dispatch.new) }
 {
     let _legal = dispatch.execution().len();
@@ -117,19 +118,18 @@ fn makes_call(
     call: Call,
     wakes: &mut Wakes,
 ) -> Reply
+    requires call { is_wait call ≡ true }
     requires fits { IsTrue (fits dispatch.old.history.layout (who.Caller caller) call) }
     requires may { may_fire dispatch.old ≡ true }
     requires room { takes dispatch.old.history (who.Caller caller) call ≡ true }
     requires kept { tail.old.all ≡ dispatch.old.history.entries }
     requires space { length tail.old.all < tail.old.room + tail.old.given }
-    requires held { tickets_held (past_now dispatch.old) caller.0 ≡ [] }
     ensures calls { Enters (who.Caller caller) call dispatch.old dispatch.new wakes.old wakes.new }
     ensures reply { result ≡ (next_entry dispatch.old.history (who.Caller caller) call).reply }
     ensures kept { tail.new ≡ record tail.old { all = dispatch.new.history.entries } }
-    ensures own { tickets_held (past_now dispatch.new) caller.0 ≡ (if gives_ticket result
-        then (record { caller = caller; call = call; number = length dispatch.old.history.entries }) ∷ [] else []) }
-    ensures others { (n : ℕ) → n ≢ caller.0
-        → tickets_held (past_now dispatch.new) n ≡ tickets_held (past_now dispatch.old) n }
+    ensures tickets { GivesBy result
+        (record { caller = caller; call = call; number = length dispatch.old.history.entries })
+        (past_now dispatch.old) (past_now dispatch.new) }
     ensures stays { Stays dispatch.old dispatch.new }
     ensures many { length dispatch.new.history.entries ≡ length dispatch.old.history.entries + 1 }
 {
@@ -156,15 +156,15 @@ pub(crate) fn begins_wait(
     requires room { has_room_for dispatch.old run caller call ≡ true }
     requires kept { tail.old.all ≡ dispatch.old.history.entries }
     requires space { length tail.old.all + 3 ≤ tail.old.room + tail.old.given }
-    requires held { tickets_held (past_now dispatch.old) caller.0 ≡ [] }
     ensures waits { BeginsWait run caller call result.reply result.number dispatch.old dispatch.new wakes.old
         wakes.new }
     ensures lending { result.lending ≡ lending_by run (sleeps_first dispatch.old run)
         (record { caller = caller; call = call; number = result.number }) result.reply }
     ensures kept { tail.new ≡ record tail.old { all = dispatch.new.history.entries } }
-    ensures own { tickets_held (past_now dispatch.new) caller.0 ≡ tickets_of result.lending }
-    ensures others { (n : ℕ) → n ≢ caller.0
-        → tickets_held (past_now dispatch.new) n ≡ tickets_held (past_now dispatch.old) n }
+    ensures tickets { GivesBy result.reply
+        (record { caller = caller; call = call; number = result.number })
+        (past_now dispatch.old) (past_now dispatch.new) }
+    ensures later { length dispatch.old.history.entries ≤ result.number }
     ensures stays { Stays dispatch.old dispatch.new }
 {
     let slept = sleeps(dispatch, tail, run, wakes);

@@ -1,22 +1,22 @@
 //! A hub without threads: what its calls return, who sleeps, and who is to be woken.
 
-ghost use Rattle.std.specs.Prelude.{◌≡◌, ◌≤◌, IfOk, IfErr, OnErr, IsTrue, None, Some, [], false, is_ok, length, min};
+ghost use Rattle.std.specs.Prelude.{◌≡◌, ◌≤◌, IfOk, IfErr, OnErr, IsTrue, None, Some, [], is_ok, length, min};
 ghost use Rattle.std.specs.Prelude.{max, replicate, vec_capacity};
-ghost use Rattle.cmwq_model.specs.Prelude.{IsLegal};
+ghost use Rattle.cmwq_model.specs.Prelude.{IsLegal, unended_tickets};
 ghost use Rattle.cmwq_dispatch.specs.Asleep.{NobodySleeps};
-ghost use Rattle.cmwq_dispatch.specs.Dispatched.{Stands, is_new, is_over};
+ghost use Rattle.cmwq_dispatch.specs.Dispatched.{Stands, is_new, is_over, past_now};
 ghost use Rattle.cmwq_dispatch.specs.Naming.{NamesAll, NamesMore};
 ghost use Rattle.cmwq_board.specs.Boarded.{IsBoard, board_of, failed, handed_out, is_new_board, is_own, kept_in};
 ghost use Rattle.cmwq_board.specs.Boarded.{layout_of};
 ghost use Rattle.cmwq_board.specs.Boarded.{least_kept, most_made, past_of_board, stopped, with_asleep};
-ghost use Rattle.cmwq_board.specs.Lent.{drains, first_lent, is_left};
-ghost use Rattle.std.specs.List.{list_any};
+ghost use Rattle.cmwq_board.specs.Lent.{first_lent};
 ghost use Rattle.cmwq_board.specs.Steps.{Finishes, Makes, Starts, call_fault, finish_fault};
 ghost use Rattle.cmwq_board.specs.Steps.{reply_now, start_fault};
 ghost use Rattle.cmwq_board.specs.Waits.{ThenClears};
 
 mod begin;
 mod items;
+mod left;
 mod time;
 mod waits;
 
@@ -76,25 +76,28 @@ pub struct Board {
     tail: Tail<Entry>,
     /// What each of the last callers of the shape does.
     lent: Vec<Lending>,
-    /// What whoever may still fire has: there is one while any drain has not ended.
+    /// How many drains are unended.
+    drains: u64,
+    /// What whoever may still fire has: there is one while any drain is unended.
     firing: Option<Firing>,
-    /// Whether somebody may have left a wait that has not ended. If not, no ticket is looked at.
+    /// Whether a ticket may have been left that is unended. If not, no ticket is looked at.
     left: bool,
 }
 
 impl Model for Board {
-    ghost use Rattle.std.specs.Prelude.{◌≡◌, is_some, true};
-    ghost use Rattle.std.specs.List.{list_any};
+    ghost use Rattle.std.specs.Prelude.{◌≡◌, is_some, nat_lt, true};
+    ghost use Rattle.cmwq_dispatch.specs.Dispatched.{past_now};
     ghost use Rattle.cmwq_board.specs.Boarded.{Boarded, IsBoard, board_of};
-    ghost use Rattle.cmwq_board.specs.Lent.{drains, is_left};
+    ghost use Rattle.cmwq_board.specs.Lent.{HasLeft, unended_drains};
 
     ghost Value = { Boarded };
 
     ghost view = { λ b. board_of b.dispatch b.tail.given b.tail.room b.lent.items };
 
     ghost invariant = { λ b. (b.tail.all ≡ b.dispatch.history.entries)
-        × (is_some b.firing ≡ list_any drains b.lent.items) × IsBoard b.dispatch b.tail.room b.lent.items
-        × (list_any is_left b.lent.items ≡ true → b.left ≡ true) };
+        × (b.drains ≡ unended_drains (past_now b.dispatch)) × (is_some b.firing ≡ nat_lt 0 b.drains)
+        × IsBoard b.dispatch b.tail.room b.lent.items
+        × (HasLeft b.dispatch.history.layout (past_now b.dispatch) b.lent.items → b.left ≡ true) };
 }
 
 /// How many entries one call makes at most: the end of a drain ends it, fires each item, and wakes the run that waited.
@@ -154,8 +157,7 @@ impl Board {
     /// The board of these parts, in which nobody waits.
     fn of_parts(dispatch: Dispatch, tail: Tail<Entry>, lent: Vec<Lending>) -> Board
         requires kept { tail.all ≡ dispatch.history.entries }
-        requires free { list_any drains lent.items ≡ false }
-        requires waited { list_any is_left lent.items ≡ false }
+        requires none { unended_tickets (past_now dispatch) ≡ [] }
         requires board { IsBoard dispatch tail.room lent.items }
         ensures { result ≡ board_of dispatch tail.given tail.room lent.items }
     {
@@ -163,6 +165,7 @@ impl Board {
             dispatch,
             tail,
             lent,
+            drains: 0,
             firing: None,
             left: false,
         }
@@ -174,6 +177,7 @@ impl Board {
             mut dispatch,
             tail: _tail,
             lent: _lent,
+            drains: _,
             firing,
             left: _,
         } = self;

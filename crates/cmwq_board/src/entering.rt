@@ -1,6 +1,6 @@
 //! Entries are made, and kept until they are handed out.
 
-ghost use Rattle.std.specs.Prelude.{◌≡◌, ◌≢◌, ◌<◌, ◌≤◌, ◌+◌, ◌∷◌, ℕ, IfOk, IsTrue, OnErr, [], false, is_ok, length};
+ghost use Rattle.std.specs.Prelude.{◌≡◌, ◌<◌, ◌≤◌, ◌+◌, ◌∷◌, IfOk, IsTrue, OnErr, false, if◌then◌else◌, is_ok, length};
 ghost use Rattle.std.specs.Prelude.{true};
 ghost use Rattle.std.specs.Prelude.{IfSome, Some, is_some};
 ghost use Rattle.cmwq_core.specs.History.{IsItemOf, next_entry, takes};
@@ -8,11 +8,11 @@ ghost use Rattle.cmwq_theory_wakes.specs.Starting.{would_start};
 ghost use Rattle.cmwq_core.specs.Plans.{IsPlan};
 ghost use Rattle.cmwq_dispatch.specs.Asleep.{SleepOn};
 ghost use Rattle.cmwq_dispatch.specs.Dispatched.{MayEnter, past_now};
-ghost use Rattle.cmwq_model.specs.Prelude.{IsLegal, fits, is_done, number_started, runs_awake, is_drain};
+ghost use Rattle.cmwq_model.specs.Prelude.{IsLegal, fits, is_done, number_started, runs_awake, is_drain, ticket_of};
 ghost use Rattle.cmwq_model.specs.declared.call.Call.TheVariants as calls;
 ghost use Rattle.cmwq_model.specs.declared.id.Who.TheVariants as who;
 ghost use Rattle.cmwq_state.specs.Tails.{with_item};
-ghost use Rattle.cmwq_board.specs.Lent.{OthersTickets, SameTickets, tickets_held};
+ghost use Rattle.cmwq_board.specs.Lent.{EndsTicketOf, SameTickets, TicketsGoOn, unended_drains};
 ghost use Rattle.cmwq_board.specs.Steps.{FinishesRun, FiresDue, MayRetire, Stays, Ticks, after_call};
 ghost use Rattle.cmwq_board.specs.Steps.{after_entry};
 ghost use Rattle.cmwq_board.specs.Steps.{has_worker, may_fire};
@@ -45,7 +45,7 @@ pub(crate) fn make(
     ensures legal { IsLegal dispatch.new.history.layout (past_now dispatch.new) }
     ensures past { past_now dispatch.new ≡ plan.now.mark.entry ∷ past_now dispatch.old }
     ensures stays { Stays dispatch.old dispatch.new }
-    ensures others { OthersTickets plan.now.mark.entry.who (past_now dispatch.old) (past_now dispatch.new) }
+    ensures tickets { TicketsGoOn plan.now.mark.entry (past_now dispatch.old) (past_now dispatch.new) }
 {
     let _len = dispatch.execution().len();
     let reply = dispatch.commit(plan, wakes);
@@ -78,7 +78,8 @@ pub(crate) fn enter(
     ensures past { IfOk result
         (λ _. past_now dispatch.new ≡ next_entry dispatch.old.history who call ∷ past_now dispatch.old) }
     ensures stays { IfOk result (λ _. Stays dispatch.old dispatch.new) }
-    ensures others { IfOk result (λ _. OthersTickets who (past_now dispatch.old) (past_now dispatch.new)) }
+    ensures tickets { IfOk result (λ _. TicketsGoOn (next_entry dispatch.old.history who call)
+        (past_now dispatch.old) (past_now dispatch.new)) }
     ensures same { OnErr result
         ((dispatch.new ≡ dispatch.old) × (tail.new ≡ tail.old) × (wakes.new ≡ wakes.old)) }
 {
@@ -106,6 +107,7 @@ pub(crate) fn fire_due(
     ensures stays { Stays dispatch.old dispatch.new }
     ensures many { length dispatch.new.history.entries
         ≤ length dispatch.old.history.entries + dispatch.old.history.layout.items }
+    ensures more { length dispatch.old.history.entries ≤ length dispatch.new.history.entries }
 {
     let items = dispatch.shape().counts().items;
     for _ in 0..items {
@@ -132,6 +134,7 @@ fn fire_after(dispatch: &mut Dispatch, tail: &mut Tail<Entry>, ticket: Ticket, w
     ensures stays { Stays dispatch.old dispatch.new }
     ensures many { length dispatch.new.history.entries
         ≤ length dispatch.old.history.entries + dispatch.old.history.layout.items }
+    ensures more { length dispatch.old.history.entries ≤ length dispatch.new.history.entries }
 {
     if ticket.call.is_drain() {
         fire_due(dispatch, tail, ticket.caller, wakes);
@@ -157,6 +160,7 @@ pub(crate) fn wake(
     requires kept { tail.old.all ≡ dispatch.old.history.entries }
     requires space { length tail.old.all < tail.old.room + tail.old.given }
     ensures woken { IsWoken run dispatch.old dispatch.new wakes.old wakes.new }
+    ensures more { length dispatch.old.history.entries ≤ length dispatch.new.history.entries }
     ensures kept { tail.new ≡ record tail.old { all = dispatch.new.history.entries } }
     ensures tickets { SameTickets (past_now dispatch.old) (past_now dispatch.new) }
     ensures stays { Stays dispatch.old dispatch.new }
@@ -194,12 +198,13 @@ pub(crate) fn end_ticket(
     requires may { is_drain ticket.call ≡ true → may_fire dispatch.old ≡ true }
     requires kept { tail.old.all ≡ dispatch.old.history.entries }
     requires space { length tail.old.all + most_made dispatch.old.history.layout ≤ tail.old.room + tail.old.given }
-    requires held { tickets_held (past_now dispatch.old) ticket.caller.0 ≡ ticket ∷ [] }
+    requires held { ticket_of (past_now dispatch.old) (who.Caller ticket.caller) ticket.number ≡ Some ticket }
     ensures ends { EndsTicket ticket run dispatch.old dispatch.new wakes.old wakes.new }
+    ensures grows { length dispatch.old.history.entries < length dispatch.new.history.entries }
     ensures kept { tail.new ≡ record tail.old { all = dispatch.new.history.entries } }
-    ensures own { tickets_held (past_now dispatch.new) ticket.caller.0 ≡ [] }
-    ensures others { (n : ℕ) → n ≢ ticket.caller.0
-        → tickets_held (past_now dispatch.new) n ≡ tickets_held (past_now dispatch.old) n }
+    ensures tickets { EndsTicketOf ticket (past_now dispatch.old) (past_now dispatch.new) }
+    ensures drains { unended_drains (past_now dispatch.new) + (if is_drain ticket.call then 1 else 0)
+        ≡ unended_drains (past_now dispatch.old) }
     ensures stays { Stays dispatch.old dispatch.new }
 {
     make(dispatch, tail, plan, wakes);
@@ -220,7 +225,7 @@ fn retire(
     requires space { length tail.old.all < tail.old.room + tail.old.given }
     ensures retires { MayRetire dispatch.old worker result dispatch.new wakes.old wakes.new }
     ensures kept { tail.new ≡ record tail.old { all = dispatch.new.history.entries } }
-    ensures others { OthersTickets (who.Worker worker) (past_now dispatch.old) (past_now dispatch.new) }
+    ensures tickets { SameTickets (past_now dispatch.old) (past_now dispatch.new) }
     ensures stays { Stays dispatch.old dispatch.new }
 {
     let who = Who::Worker(worker);
@@ -251,8 +256,7 @@ pub(crate) fn finish_run(
     ensures finishes { IfOk result
         (λ finish. FinishesRun worker finish dispatch.old dispatch.new wakes.old wakes.new) }
     ensures kept { IfOk result (λ _. tail.new ≡ record tail.old { all = dispatch.new.history.entries }) }
-    ensures others { IfOk result
-        (λ _. OthersTickets (who.Worker worker) (past_now dispatch.old) (past_now dispatch.new)) }
+    ensures tickets { IfOk result (λ _. SameTickets (past_now dispatch.old) (past_now dispatch.new)) }
     ensures stays { IfOk result (λ _. Stays dispatch.old dispatch.new) }
     ensures same { OnErr result
         ((dispatch.new ≡ dispatch.old) × (tail.new ≡ tail.old) × (wakes.new ≡ wakes.old)) }
@@ -315,8 +319,7 @@ pub(crate) fn tick(
     ensures room { is_ok result ≡ takes dispatch.old.history (who.Caller caller) (calls.Tick ticks) }
     ensures ticks { IfOk result (λ _. Ticks caller ticks dispatch.old dispatch.new wakes.old wakes.new) }
     ensures kept { IfOk result (λ _. tail.new ≡ record tail.old { all = dispatch.new.history.entries }) }
-    ensures others { IfOk result
-        (λ _. OthersTickets (who.Caller caller) (past_now dispatch.old) (past_now dispatch.new)) }
+    ensures tickets { IfOk result (λ _. SameTickets (past_now dispatch.old) (past_now dispatch.new)) }
     ensures stays { IfOk result (λ _. Stays dispatch.old dispatch.new) }
     ensures same { OnErr result
         ((dispatch.new ≡ dispatch.old) × (tail.new ≡ tail.old) × (wakes.new ≡ wakes.old)) }

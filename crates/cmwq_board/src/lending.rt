@@ -2,15 +2,17 @@
 
 ghost use Rattle.std.specs.Prelude.{◌≡◌};
 ghost use Rattle.std.specs.List.{list_any};
-ghost use Rattle.cmwq_board.specs.Lent.{drains, is_left};
-ghost use Rattle.cmwq_board.specs.Waits.{is_free};
+ghost use Rattle.cmwq_model.specs.Prelude.{same_worker};
+ghost use Rattle.cmwq_board.specs.Left.{is_free};
+ghost use Rattle.cmwq_board.specs.Lent.{waits_by};
+ghost use Rattle.cmwq_board.specs.Waits.{is_wait_of};
 
 use cmwq_model::{Ticket, WorkerId};
 
 /// What a caller that is lent to waits does.
 #[derive(Clone, Copy, Debug)]
 pub enum Lending {
-    /// It may be lent.
+    /// It may be lent. It may have tickets of waits that were left.
     Free,
     /// Somebody waits by it until this ticket is ready.
     Waits {
@@ -19,10 +21,22 @@ pub enum Lending {
         run: Option<WorkerId>,
         slept: bool,
     },
-    /// Nobody waits by it any more. Its ticket is ended once it is ready.
-    Left {
-        ticket: Ticket,
-    },
+}
+
+/// Whether the run of this worker waits by any of them.
+pub(crate) fn any_wait_of(lent: &[Lending], worker: WorkerId) -> bool
+    ensures { result ≡ list_any (is_wait_of worker) lent.now }
+{
+    lent.iter().any(|lending| lending.is_wait_of(worker))
+}
+
+/// Whether these are the same worker.
+fn is_same_worker(one: WorkerId, other: WorkerId) -> bool
+    ensures { result ≡ same_worker one other }
+{
+    one.pool.cpu.0 == other.pool.cpu.0
+        && one.pool.high == other.pool.high
+        && one.index == other.index
 }
 
 impl Lending {
@@ -33,34 +47,23 @@ impl Lending {
         matches!(self, Lending::Free)
     }
 
-    /// Whether somebody has left its wait.
-    pub(crate) fn is_left(&self) -> bool
-        ensures { result ≡ is_left self.now }
+    /// Whether the run of this worker waits by it.
+    pub(crate) fn is_wait_of(&self, worker: WorkerId) -> bool
+        ensures { result ≡ is_wait_of worker self.now }
     {
-        matches!(self, Lending::Left { .. })
+        match self {
+            Lending::Waits { run: Some(of), .. } => is_same_worker(*of, worker),
+            _ => false,
+        }
     }
 
-    /// Whether its ticket is one of a drain.
-    pub(crate) fn drains(&self) -> bool
-        ensures { result ≡ drains self.now }
+    /// Whether somebody waits by this ticket of it.
+    pub(crate) fn waits_by(&self, ticket: Ticket) -> bool
+        ensures { result ≡ waits_by ticket self.now }
     {
         match self {
             Lending::Free => false,
-            Lending::Waits { ticket, .. } | Lending::Left { ticket } => ticket.call.is_drain(),
+            Lending::Waits { ticket: of, .. } => of.number == ticket.number,
         }
     }
-}
-
-/// Whether somebody has left the wait of any of them.
-pub(crate) fn any_left(lent: &[Lending]) -> bool
-    ensures { result ≡ list_any is_left lent.now }
-{
-    lent.iter().any(|lending| lending.is_left())
-}
-
-/// Whether any of them drains.
-pub(crate) fn any_drains(lent: &[Lending]) -> bool
-    ensures { result ≡ list_any drains lent.now }
-{
-    lent.iter().any(|lending| lending.drains())
 }

@@ -9,6 +9,7 @@ mod entering;
 mod fault;
 mod firing;
 mod item_state;
+mod left;
 mod lending;
 
 pub use board::{Begun, Board, Ended, Finish, Start};

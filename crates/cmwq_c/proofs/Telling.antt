@@ -6,8 +6,8 @@ use Rattle.std.specs.Prelude.{filter_map, option_map}
 use Rattle.std.specs.List.{AllByRecursion, list_any}
 use Rattle.cmwq_model.specs.declared.id.WorkerId.{WorkerId}
 use Rattle.cmwq_dispatch.specs.Naming.{is_caller, is_worker}
-use Rattle.cmwq_c.specs.Wakes.{CallersAreTold, WorkersAreTold, before_nobody, caller_number, flag_number, is_no_caller}
-use Rattle.cmwq_c.specs.Wakes.{is_no_worker, nobody_number, nobody_numbers, worker_numbers}
+use Rattle.cmwq_c.specs.Wakes.{CallersAreTold, ClockIsTold, WorkersAreTold, before_nobody, caller_number}
+use Rattle.cmwq_c.specs.Wakes.{flag_number, is_no_caller, is_no_worker, nobody_number, nobody_numbers, worker_numbers}
 use Rattle.cmwq_c.specs.Numbers.{worker_in, worker_meant}
 use Rattle.cmwq_c.proofs.Tables.{who_again}
 
@@ -80,3 +80,6 @@ workers_are_told w v =
     (told_there worker_numbers is_no_worker (λ o. false) is_some_worker named (none_bad named)))
     ∙ told_any worker_numbers (λ m. is_worker v (worker_meant m)) (is_worker v)
     (λ u. ap (λ who. is_worker v (worker_in who)) (who_again (Worker u))) refl named)
+
+pub clock_is_told : ClockIsTold
+clock_is_told w = flag_again w.named.completions

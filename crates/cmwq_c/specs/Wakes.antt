@@ -6,7 +6,7 @@ use Rattle.std.specs.Prelude.{filter_map, replicate, Option, option_map}
 use Rattle.std.specs.List.{list_any}
 use Rattle.cmwq_model.specs.declared.id.CallerId.{CallerId}
 use Rattle.cmwq_model.specs.declared.id.WorkerId.{WorkerId}
-use Rattle.cmwq_dispatch.specs.Naming.{is_caller, is_worker, names_caller, names_worker}
+use Rattle.cmwq_dispatch.specs.Naming.{is_caller, is_worker, names_caller, names_completions, names_worker}
 use Rattle.cmwq_dispatch.specs.declared.wakes.Named.{Named}
 use Rattle.cmwq_dispatch.specs.declared.wakes.Wakes.{Wakes}
 use Rattle.cmwq_c.specs.declared.numbers.WhoNumbers.{WhoNumbers}
@@ -41,6 +41,7 @@ wakes_numbers n = record {
   callers = told_first caller_number nobody_number n.callers;
   all_workers = flag_number n.all_workers;
   all_callers = flag_number n.all_callers;
+  clock = flag_number n.completions;
 }
 
 -- ---- whom the numbers name, as C reads them
@@ -70,3 +71,6 @@ CallersAreTold = (w : Wakes) (c : ℕ) → list_any (is_caller 255) w.named.call
 
 abbrev pub WorkersAreTold : Type 0
 WorkersAreTold = (w : Wakes) (v : WorkerId) → is_told_worker (wakes_numbers w.named) v ≡ names_worker w v
+
+abbrev pub ClockIsTold : Type 0
+ClockIsTold = (w : Wakes) → not ((wakes_numbers w.named).clock == 0) ≡ names_completions w

@@ -2,7 +2,7 @@
 ghost use Rattle.std.specs.Prelude.{[], ◌∷◌};
 ghost use Rattle.cmwq_c.specs.Numbers.{CallNumbersReadAgain, RepliesStandApart};
 ghost use Rattle.cmwq_c.specs.Offsets.{FieldsLieAt};
-ghost use Rattle.cmwq_c.specs.Wakes.{CallersAreTold, WorkersAreTold};
+ghost use Rattle.cmwq_c.specs.Wakes.{CallersAreTold, ClockIsTold, WorkersAreTold};
 ghost use Rattle.cmwq_c.specs.contracts.handle.Handle.{the_row as Handle};
 ghost use Rattle.cmwq_c.specs.contracts.held.Held.{the_row as Held};
 ghost use Rattle.cmwq_c.specs.contracts.numbers.ShapeNumbers.{the_row as ShapeNumbers};
@@ -31,10 +31,11 @@ pub fn replies_stand_apart()
 {}
 
 /// Whoever is named is told, and nobody else.
-#[tactic(auto, using(crate::proofs::Telling::callers_are_told, crate::proofs::Telling::workers_are_told))]
+#[tactic(auto, using(crate::proofs::Telling::callers_are_told, crate::proofs::Telling::workers_are_told, crate::proofs::Telling::clock_is_told))]
 pub fn wakes_are_told()
     ensures callers { CallersAreTold }
     ensures workers { WorkersAreTold }
+    ensures clock { ClockIsTold }
 {}
 
 /// Where the fields of each struct that C sees lie, in the order in which they are written. `tools/c` reads this table,
@@ -48,7 +49,7 @@ pub fn fields_lie_as_told()
     ensures call { FieldsLieAt CallNumbers (0 ∷ 8 ∷ 12 ∷ 14 ∷ 15 ∷ 16 ∷ 17 ∷ []) }
     ensures reply { FieldsLieAt ReplyNumbers (0 ∷ 8 ∷ 16 ∷ 18 ∷ []) }
     ensures entry { FieldsLieAt EntryNumbers (0 ∷ 8 ∷ 32 ∷ []) }
-    ensures wakes { FieldsLieAt WakesNumbers (0 ∷ 24 ∷ 32 ∷ 33 ∷ []) }
+    ensures wakes { FieldsLieAt WakesNumbers (0 ∷ 24 ∷ 32 ∷ 33 ∷ 34 ∷ []) }
     ensures item { FieldsLieAt ItemNumbers (0 ∷ 8 ∷ 16 ∷ 17 ∷ 18 ∷ 19 ∷ 20 ∷ []) }
     ensures board { FieldsLieAt BoardHandle (0 ∷ 8 ∷ []) }
     ensures pointer_of_board { FieldsLieAt HeldBoard (0 ∷ []) }

@@ -80,6 +80,7 @@ pub struct WakesNumbers {
     pub callers: [u8; 8],
     pub all_workers: u8,
     pub all_callers: u8,
+    pub clock: u8,
 }
 
 /// What an item does. What it doesn't have is 0.
@@ -108,7 +109,7 @@ const _: () = prove!(size_of::<ReplyNumbers>() == 24);
 
 const _: () = prove!(size_of::<EntryNumbers>() == 56);
 
-const _: () = prove!(size_of::<WakesNumbers>() == 34);
+const _: () = prove!(size_of::<WakesNumbers>() == 35);
 
 const _: () = prove!(size_of::<ItemNumbers>() == 24);
 

@@ -57,6 +57,7 @@ fn wakes_numbers(named: &Named) -> WakesNumbers
         callers: caller_numbers(&named.callers),
         all_workers: named.all_workers.into(),
         all_callers: named.all_callers.into(),
+        clock: named.completions.into(),
     }
 }
 

@@ -2,11 +2,7 @@
 use super::{Hold, Hub};
 use crate::error::{Error, Result};
 use crate::ffi::{Call, Reply};
-use std::sync::PoisonError;
 use std::time::Duration;
-
-/// How often the clock looks at the timers after a drain was left, since nobody is told when that drain ends.
-const LOOKS: Duration = Duration::from_millis(10);
 
 impl Hold<'_> {
     /// Brings the board's time up to this tick, and fires what is due. A call of the board goes on for 2^32 - 1 ticks
@@ -68,7 +64,7 @@ impl Hub {
             if hold.state.due == 0 {
                 hold.state.due = hold.state.board.due();
             }
-            let (due, looks) = (hold.state.due, hold.state.left_drain);
+            let due = hold.state.due;
             let at = u128::from(due).saturating_mul(self.tick.as_nanos());
             let at = Duration::from_nanos(u64::try_from(at).unwrap_or(u64::MAX));
             let left = at.saturating_sub(self.begun.elapsed());
@@ -81,13 +77,10 @@ impl Hub {
             }
             let Hold { state, woken } = hold;
             debug_assert!(woken.is_empty());
-            if due == u64::MAX && !looks {
+            if due == u64::MAX {
                 drop(self.clock.wait(state));
             } else {
-                let left = if looks { left.min(LOOKS) } else { left };
-                let waited = self.clock.wait_timeout(state, left).unwrap_or_else(PoisonError::into_inner);
-                let (mut state, _) = waited;
-                state.due = if looks { 0 } else { state.due };
+                drop(self.clock.wait_timeout(state, left));
             }
         }
     }

@@ -1,8 +1,10 @@
 //! Waits begin, each by a caller that is lent to it.
 
-ghost use Rattle.std.specs.Prelude.{◌≡◌, ◌<◌, IfErr, IfOk, None, OnErr, Some, is_some, length, true};
+ghost use Rattle.std.specs.Prelude.{◌≡◌, ◌<◌, IfErr, IfOk, IfSome, None, OnErr, Some, is_some, length, true};
 ghost use Rattle.cmwq_board.specs.Boarded.{has_space, layout_of};
-ghost use Rattle.cmwq_board.specs.Waits.{Begins, begin_fault, begun_by, caller_at, early_fault, first_free};
+ghost use Rattle.cmwq_board.specs.Waits.{Begins, BeginsAnew, begin_fault, begun_by, caller_at, early_fault, first_free};
+ghost use Rattle.cmwq_board.specs.Waits.{lent_place, may_be_lent, place_with, resumed_place};
+ghost use Rattle.cmwq_board.specs.declared.left.Sought.TheVariants as of;
 ghost use Rattle.cmwq_board.specs.Waits.{has_its_run, has_room_for, is_there, lent_fault, more_made, may_sleep};
 ghost use Rattle.cmwq_board.specs.Waits.{room_fault, stuck_now};
 ghost use Rattle.cmwq_model.specs.Prelude.{fits, has_numbers};
@@ -13,12 +15,13 @@ use crate::board::{Begun, Board};
 use crate::calls::is_wait;
 use crate::entering::has_worker;
 use crate::fault::{BoardFault, WaitFault, fault_of};
-use crate::firing::{begins_firing, ends_firing};
-use crate::lending::Lending;
+use crate::firing::{begins_firing, ends_firing, more_drains};
+use crate::left::Sought;
+use crate::lending::{Lending, any_wait_of};
 use cmwq_dispatch::{Dispatch, Stuck, Wakes};
 use cmwq_model::{Call, CallerId, Reply, Shape, Who, WorkerId};
 
-/// The place of the first of them that may be lent.
+/// The place of the first of them by which nobody waits.
 fn first_free(lent: &[Lending]) -> Option<usize>
     ensures { result ≡ first_free lent.now }
 {
@@ -89,20 +92,69 @@ fn has_room_for(dispatch: &Dispatch, run: Option<WorkerId>, caller: CallerId, ca
 
 impl Board {
     /// The caller of this place.
-    fn caller_at(&self, place: usize) -> CallerId
+    pub(crate) fn caller_at(&self, place: usize) -> CallerId
         requires { place < length self.now.lent }
         ensures { result ≡ caller_at self.now place }
     {
         CallerId(self.first_lent() + place as u8)
     }
 
-    /// Whether the worker has the run that is said to wait, if one is.
+    /// Whether the caller of this place may be lent, and may have another ticket.
+    fn may_be_lent(&self, place: usize) -> bool
+        requires { place < length self.now.lent }
+        ensures { result ≡ may_be_lent self.now place }
+    {
+        let who = Who::Caller(self.caller_at(place));
+        self.lent[place].is_free() && !self.dispatch.execution().state().is_crowded(who)
+    }
+
+    /// The place of the caller that is lent next.
+    fn lent_place(&self) -> Option<usize>
+        ensures { result ≡ lent_place self.now }
+    {
+        let places = self.lent.len();
+        for place in 0..places {
+            if self.may_be_lent(place) {
+                return Some(place);
+            }
+        }
+        first_free(&self.lent)
+    }
+
+    /// The place of a ticket that was left, by which a wait of no run can go on.
+    fn place_left_for(&self, call: Call) -> Option<usize>
+        requires { has_numbers (layout_of self.now) call ≡ true }
+        ensures is { result ≡ place_with self.now (of.For call) }
+        ensures there { IfSome result (λ place. place < length self.now.lent) }
+    {
+        if !self.left {
+            return None;
+        }
+        self.place_with(Sought::For(call))
+    }
+
+    /// The place of a ticket that was left, by which the wait can go on.
+    fn resumed_place(&self, run: Option<WorkerId>, call: Call) -> Option<usize>
+        requires { has_numbers (layout_of self.now) call ≡ true }
+        ensures is { result ≡ resumed_place self.now run call }
+        ensures there { IfSome result (λ place. place < length self.now.lent) }
+    {
+        match run {
+            Some(_) => None,
+            None => self.place_left_for(call),
+        }
+    }
+
+    /// Whether the worker has the run that is said to wait, if one is, and it does not wait already.
     fn has_its_run(&self, run: Option<WorkerId>) -> bool
         requires { is_there (layout_of self.now) run ≡ true }
         ensures { result ≡ has_its_run self.now run }
     {
         match run {
-            Some(worker) => self.dispatch.execution().state().has_run(worker),
+            Some(worker) => {
+                self.dispatch.execution().state().has_run(worker)
+                    && !any_wait_of(&self.lent, worker)
+            }
             None => true,
         }
     }
@@ -130,15 +182,16 @@ impl Board {
         None
     }
 
-    /// The place of the first caller that may be lent, if there is room for its call.
+    /// The place of the caller that is lent next, if there is room for its call.
     fn place_with_room(&self, run: Option<WorkerId>, call: Call) -> Result<usize, WaitFault>
         requires { early_fault self.now run call ≡ None }
-        ensures first { IfOk result (λ place. first_free self.now.lent ≡ Some place) }
-        ensures taken { IfOk result (λ _. room_fault self.now run call (first_free self.now.lent) ≡ None) }
+        ensures there { IfOk result (λ place. place < length self.now.lent) }
+        ensures first { IfOk result (λ place. lent_place self.now ≡ Some place) }
+        ensures taken { IfOk result (λ _. room_fault self.now run call (lent_place self.now) ≡ None) }
         ensures refused { IfErr result
-            (λ fault. room_fault self.now run call (first_free self.now.lent) ≡ Some fault) }
+            (λ fault. room_fault self.now run call (lent_place self.now) ≡ Some fault) }
     {
-        let Some(place) = first_free(&self.lent) else {
+        let Some(place) = self.lent_place() else {
             return Err(WaitFault::NoCaller);
         };
         if has_room_for(&self.dispatch, run, self.caller_at(place), call) {
@@ -150,16 +203,16 @@ impl Board {
         }
     }
 
-    /// The place of the caller that is lent to the wait.
+    /// The place of the caller that is lent to a wait that goes on by no ticket of before.
     fn place_for(&mut self, run: Option<WorkerId>, call: Call) -> Result<usize, WaitFault>
-        ensures first { IfOk result (λ place. first_free self.old.lent ≡ Some place) }
-        ensures taken { IfOk result (λ _. begin_fault self.old run call ≡ None) }
-        ensures refused { IfErr result (λ fault. begin_fault self.old run call ≡ Some fault) }
+        requires { early_fault self.old run call ≡ None }
+        ensures there { IfOk result (λ place. place < length self.old.lent) }
+        ensures first { IfOk result (λ place. lent_place self.old ≡ Some place) }
+        ensures taken { IfOk result (λ _. lent_fault self.old run call (stuck_now self.old.dispatch run call) ≡ None) }
+        ensures refused { IfErr result
+            (λ fault. lent_fault self.old run call (stuck_now self.old.dispatch run call) ≡ Some fault) }
         ensures same { self.new ≡ self.old }
     {
-        if let Some(fault) = self.early_fault(run, call) {
-            return Err(WaitFault::Board { fault });
-        }
         match stuck(&mut self.dispatch, run, call) {
             Some(stuck) => Err(fault_of(stuck)),
             None => self.place_with_room(run, call),
@@ -167,7 +220,8 @@ impl Board {
     }
 
     /// A wait begins by this call: flush, drain, destroy, flush_item, flush_delayed or cancel_sync. A caller is lent to
-    /// it. If a run waits, its worker is told, and the run sleeps meanwhile, if it is awake.
+    /// it. If a run waits, its worker is told, and the run sleeps meanwhile, if it is awake. A wait of no run goes on by
+    /// a ticket that was left, if that is as good as a new one.
     pub fn begin(
         &mut self,
         run: Option<WorkerId>,
@@ -179,6 +233,12 @@ impl Board {
         ensures refused { IfErr result (λ fault. begin_fault self.old run call ≡ Some fault) }
         ensures same { OnErr result ((self.new ≡ self.old) × (wakes.new ≡ wakes.old)) }
     {
+        if let Some(fault) = self.early_fault(run, call) {
+            return Err(WaitFault::Board { fault });
+        }
+        if let Some(place) = self.resumed_place(run, call) {
+            return Ok(self.resumes(place, call));
+        }
         match self.place_for(run, call) {
             Ok(place) => Ok(self.lend(place, run, call, wakes)),
             Err(fault) => Err(fault),
@@ -187,15 +247,18 @@ impl Board {
 
     /// The wait begins, by the caller of this place.
     fn lend(&mut self, place: usize, run: Option<WorkerId>, call: Call, wakes: &mut Wakes) -> Begun
-        requires first { first_free self.old.lent ≡ Some place }
-        requires taken { begin_fault self.old run call ≡ None }
-        ensures { Begins run call result self.old self.new wakes.old wakes.new }
+        requires there { place < length self.old.lent }
+        requires first { lent_place self.old ≡ Some place }
+        requires early { early_fault self.old run call ≡ None }
+        requires taken { lent_fault self.old run call (stuck_now self.old.dispatch run call) ≡ None }
+        ensures { BeginsAnew run call result self.old self.new wakes.old wakes.new }
     {
         let caller = self.caller_at(place);
         begins_firing(&mut self.dispatch, &mut self.firing, wakes);
         let called = begins_wait(&mut self.dispatch, &mut self.tail, run, caller, call, wakes);
         self.lent[place] = called.lending;
-        ends_firing(&mut self.dispatch, &mut self.firing, &self.lent, wakes);
+        self.drains = more_drains(self.drains, call, called.reply, self.tail.len());
+        ends_firing(&mut self.dispatch, &mut self.firing, self.drains, wakes);
         begun_by(caller, called.reply)
     }
 }

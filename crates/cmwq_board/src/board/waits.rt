@@ -1,6 +1,6 @@
 //! Waits end, or are left.
 
-ghost use Rattle.std.specs.Prelude.{◌≡◌, ◌<◌, ◌∷◌, IfErr, IfOk, IfSome, None, OnErr, Some, [], false, is_some, length};
+ghost use Rattle.std.specs.Prelude.{◌≡◌, ◌<◌, IfErr, IfOk, IfSome, None, OnErr, Some, false, is_some, length, slice_set};
 ghost use Rattle.std.specs.Prelude.{true};
 ghost use Rattle.cmwq_core.specs.History.{is_done_waiting};
 ghost use Rattle.cmwq_core.specs.Plans.{IsPlan};
@@ -9,27 +9,27 @@ ghost use Rattle.cmwq_dispatch.specs.Dispatched.{past_now};
 ghost use Rattle.cmwq_dispatch.specs.Waiting.{IsKnown};
 ghost use Rattle.cmwq_model.specs.declared.call.Call.TheVariants as calls;
 ghost use Rattle.cmwq_model.specs.declared.id.Who.TheVariants as who;
-ghost use Rattle.cmwq_model.specs.Prelude.{is_done};
+ghost use Rattle.cmwq_model.specs.Prelude.{is_done, ticket_of};
 ghost use Rattle.cmwq_board.specs.Boarded.{has_space, layout_of, most_made, past_of_board, with_asleep};
-ghost use Rattle.cmwq_board.specs.Lent.{tickets_held};
-ghost use Rattle.cmwq_board.specs.Waits.{Clears, ClearsAt, EndsAt, EndsOrWaits, IsAwakeThen, IsLeft, Leaves};
-ghost use Rattle.cmwq_board.specs.Waits.{ThenClears, WaitsOn, end_fault, leave_fault, left_ready, lending_at, place_of};
-ghost use Rattle.cmwq_board.specs.Waits.{ticket_at};
+ghost use Rattle.cmwq_board.specs.Lent.{MayBecome};
+ghost use Rattle.cmwq_board.specs.declared.lending.Lending.TheVariants as free;
+ghost use Rattle.cmwq_board.specs.Waits.{EndsAt, EndsBy, EndsOrWaits, IsAwakeThen, IsLeft, Leaves, ThenClears, WaitsOn};
+ghost use Rattle.cmwq_board.specs.Waits.{caller_at, end_fault, leave_fault, lending_at, place_of};
 
 use crate::beginning::if_slept;
 use crate::board::{Board, Ended, most_made};
 use crate::entering::end_ticket;
 use crate::fault::BoardFault;
-use crate::firing::ends_firing;
-use crate::lending::{Lending, any_left};
+use crate::firing::{ends_firing, less_drains, tells_time};
+use crate::lending::Lending;
 use cmwq_core::Plan;
 use cmwq_dispatch::{Dispatch, EndPlan, Sleep, Wakes};
 use cmwq_model::{CallerId, Ticket, Who, WorkerId};
 
 /// The end of this ticket, if it is ready.
-fn planned_end(dispatch: &Dispatch, ticket: Ticket) -> Option<Plan>
+pub(crate) fn planned_end(dispatch: &Dispatch, ticket: Ticket) -> Option<Plan>
     requires there { ticket.caller.0 < dispatch.now.history.layout.callers }
-    requires held { tickets_held (past_now dispatch.now) ticket.caller.0 ≡ ticket ∷ [] }
+    requires held { ticket_of (past_now dispatch.now) (who.Caller ticket.caller) ticket.number ≡ Some ticket }
     ensures ready { is_some result ≡ is_done_waiting (past_now dispatch.now) ticket }
     ensures plan { IfSome result
         (λ plan. IsPlan dispatch.now.history (who.Caller ticket.caller) (calls.End ticket.number) plan) }
@@ -109,7 +109,9 @@ impl Board {
         wakes: &mut Wakes,
     )
         requires place { place < length self.old.lent }
-        requires ticket { ticket_at (lending_at self.old place) ≡ Some ticket }
+        requires own { ticket.caller ≡ caller_at self.old place }
+        requires held { ticket_of (past_of_board self.old) (who.Caller ticket.caller) ticket.number ≡ Some ticket }
+        requires may { MayBecome ticket (lending_at self.old place) free.Free }
         requires plan { IsPlan self.old.dispatch.history (who.Caller ticket.caller) (calls.End ticket.number) plan.now }
         requires done { is_done plan.now.mark.entry.reply ≡ true }
         requires lives { self.old.dispatch.failed ≡ false }
@@ -118,73 +120,39 @@ impl Board {
             (λ awake. ThenClears (EndsAt place ticket run) awake self.new wakes.old wakes.new) self.old }
     {
         self.dispatch.awakes(Who::Caller(ticket.caller));
-        self.ends(place, ticket, run, plan, wakes);
+        self.ends(place, Lending::Free, ticket, run, plan, wakes);
         self.clears(wakes);
     }
 
-    /// Makes the end of a ticket that was planned, and what belongs to it.
-    fn ends(
+    /// Makes the end of a ticket that was planned, and what belongs to it. Then its caller, which has this place, does
+    /// this.
+    pub(crate) fn ends(
         &mut self,
         place: usize,
+        lending: Lending,
         ticket: Ticket,
         run: Option<WorkerId>,
         plan: &Plan,
         wakes: &mut Wakes,
     )
         requires place { place < length self.old.lent }
-        requires ticket { ticket_at (lending_at self.old place) ≡ Some ticket }
+        requires own { ticket.caller ≡ caller_at self.old place }
+        requires held { ticket_of (past_of_board self.old) (who.Caller ticket.caller) ticket.number ≡ Some ticket }
+        requires may { MayBecome ticket (lending_at self.old place) lending }
         requires plan { IsPlan self.old.dispatch.history (who.Caller ticket.caller) (calls.End ticket.number) plan.now }
         requires done { is_done plan.now.mark.entry.reply ≡ true }
         requires lives { self.old.dispatch.failed ≡ false }
         requires space { has_space self.old (most_made (layout_of self.old)) ≡ true }
-        ensures ends { EndsAt place ticket run self.old self.new wakes.old wakes.new }
+        ensures ends { EndsBy ticket run (slice_set self.old.lent place lending) self.old self.new wakes.old wakes.new }
+        ensures grows { length self.old.dispatch.history.entries < length self.new.dispatch.history.entries }
         ensures lives { self.new.dispatch.failed ≡ false }
     {
         let _legal = self.dispatch.execution().len();
         end_ticket(&mut self.dispatch, &mut self.tail, ticket, run, plan, wakes);
-        self.lent[place] = Lending::Free;
-        ends_firing(&mut self.dispatch, &mut self.firing, &self.lent, wakes);
-    }
-
-    /// Ends the tickets that were left and are ready.
-    pub(crate) fn clears(&mut self, wakes: &mut Wakes)
-        requires { self.old.dispatch.failed ≡ false }
-        ensures { Clears (length self.old.lent) self.old self.new wakes.old wakes.new }
-    {
-        if self.left {
-            self.clears_all(wakes);
-            self.left = any_left(&self.lent);
-        }
-    }
-
-    fn clears_all(&mut self, wakes: &mut Wakes)
-        requires { self.old.dispatch.failed ≡ false }
-        ensures { Clears (length self.old.lent) self.old self.new wakes.old wakes.new }
-    {
-        let places = self.lent.len();
-        for place in 0..places {
-            self.clears_at(place, wakes);
-        }
-    }
-
-    /// Ends the ticket of this place if it was left and is ready.
-    fn clears_at(&mut self, place: usize, wakes: &mut Wakes)
-        requires place { place < length self.old.lent }
-        requires lives { self.old.dispatch.failed ≡ false }
-        ensures clears { ClearsAt place (left_ready self.old (lending_at self.old place)) self.old self.new
-            wakes.old wakes.new }
-        ensures lives { self.new.dispatch.failed ≡ false }
-        ensures many { length self.new.lent ≡ length self.old.lent }
-    {
-        let Lending::Left { ticket } = self.lent[place] else {
-            return;
-        };
-        if self.tail.space() < most_made(self.dispatch.shape()) {
-            return;
-        }
-        if let Some(plan) = planned_end(&self.dispatch, ticket) {
-            self.ends(place, ticket, None, &plan, wakes);
-        }
+        self.lent[place] = lending;
+        self.drains = less_drains(self.drains, ticket.call);
+        ends_firing(&mut self.dispatch, &mut self.firing, self.drains, wakes);
+        tells_time(ticket.call, wakes);
     }
 
     /// A caller or a worker is awake again, also where nobody named it.
@@ -195,8 +163,9 @@ impl Board {
         self.dispatch.awakes(who);
     }
 
-    /// Nobody waits by this caller any more. Its ticket is ended once it is ready, at the next call, finish, end or
-    /// leave, and then the caller may be lent again. Waits of runs cannot be left, since the run goes on to wait.
+    /// Nobody waits by this caller any more, so that it may be lent again. Its ticket is ended once it is ready, at a
+    /// call, finish, end or leave, or a wait for the same goes on by it. Waits of runs cannot be left, since the run
+    /// goes on to wait.
     pub fn leaves(&mut self, party: CallerId, wakes: &mut Wakes) -> Result<(), BoardFault>
         ensures leaves { IfOk result (λ _. ThenClears (Leaves party) self.old self.new wakes.old wakes.new) }
         ensures taken { IfOk result (λ _. leave_fault self.old party ≡ None) }
@@ -206,30 +175,24 @@ impl Board {
         let Some(place) = self.place_of(party) else {
             return Err(BoardFault::Refused);
         };
-        let Lending::Waits {
-            ticket,
-            run: None,
-            ..
-        } = self.lent[place]
-        else {
+        let Lending::Waits { run: None, .. } = self.lent[place] else {
             return Err(BoardFault::Misuse);
         };
         if self.dispatch.has_failed() {
             return Err(BoardFault::Failed);
         }
-        self.leaves_at(place, ticket);
+        self.leaves_at(party, place);
         self.clears(wakes);
         Ok(())
     }
 
-    /// The caller of this place is awake, and nobody waits for its ticket any more.
-    fn leaves_at(&mut self, place: usize, ticket: Ticket)
+    /// The caller of this place is awake, and nobody waits by it.
+    fn leaves_at(&mut self, party: CallerId, place: usize)
         requires place { place < length self.old.lent }
-        requires ticket { ticket_at (lending_at self.old place) ≡ Some ticket }
-        ensures { IsAwakeThen ticket.caller (IsLeft place ticket self.new) self.old }
+        ensures { IsAwakeThen party (IsLeft place self.new) self.old }
     {
-        self.dispatch.awakes(Who::Caller(ticket.caller));
-        self.lent[place] = Lending::Left { ticket };
+        self.dispatch.awakes(Who::Caller(party));
+        self.lent[place] = Lending::Free;
         self.left = true;
     }
 }

@@ -38,6 +38,3 @@ makes_call-reply-requires-clause-room c =
     c.requires.call
     (and_parts (takes_with d.history (Caller c.args.caller) c.args.call (more_made c.args.run))
     (may_sleep d c.args.run) c.requires.room).0
-
-pub makes_call-reply-requires-clause-held : goal.makes_call-reply-requires-clause-held
-makes_call-reply-requires-clause-held c = c.sleeps-slept.ensures.tickets c.args.caller.0 ∙ c.requires.held

@@ -1,13 +1,12 @@
-use Rattle.std.specs.Prelude.{◌∷◌, [], if◌then◌else◌, length}
-use Rattle.std.proofs.Common.{ap, ◌∙◌, sym, subst}
-use Rattle.std.proofs.lemmas.Bool.{both_ways, ne_eqb}
-use Rattle.cmwq_core.specs.History.{next_entry, past_in}
-use Rattle.cmwq_model.specs.Prelude.{IsLegal, Layout, gives_ticket}
+use Rattle.std.specs.Prelude.{length}
+use Rattle.std.proofs.Common.{sym, subst}
+use Rattle.std.proofs.lemmas.Bool.{both_ways}
+use Rattle.cmwq_core.specs.History.{next_entry}
+use Rattle.cmwq_dispatch.specs.Dispatched.{past_now}
 use Rattle.cmwq_model.specs.declared.id.Who.TheVariants.{Caller}
-use Rattle.cmwq_model.specs.declared.reply.Reply.{Reply}
-use Rattle.cmwq_board.specs.Lent.{tickets_held}
+use Rattle.cmwq_board.specs.Lent.{GivesBy}
 use Rattle.cmwq_board.proofs.Fires.{firing_enters}
-use Rattle.cmwq_board.proofs.Tickets.{held_after_call}
+use Rattle.cmwq_board.proofs.Tickets.{given_by_call}
 use Rattle.cmwq_board.proofs.beginning.makes_call.Goals as goal
 
 pub enter-entered-requires-clause-may : goal.enter-entered-requires-clause-may
@@ -18,20 +17,10 @@ enter-entered-requires-clause-may c =
 pub unreachable-requires : goal.unreachable-requires
 unreachable-requires c = both_ways _ (sym c.in-Err.ensures.room) c.requires.room
 
-pub returns-clause-others : goal.returns-clause-others
-returns-clause-others c n other =
-    c.in-Ok.ensures.others n (ne_eqb c.args.caller.0 n (λ same. other (sym same)))
-
-pub returns-clause-own : goal.returns-clause-own
-returns-clause-own c =
-    let h = c.args.dispatch.now.history in
+pub returns-clause-tickets : goal.returns-clause-tickets
+returns-clause-tickets c =
+    let d = c.args.dispatch.now in
     let n = c.enter-entered.new.dispatch in
-    let e = next_entry h (Caller c.args.caller) c.args.call in
-    let legal : IsLegal h.layout (e ∷ past_in h) =
-    subst (λ (s : Layout). IsLegal s (e ∷ past_in h)) c.in-Ok.ensures.stays.layout
-    (subst (IsLegal n.history.layout) c.in-Ok.ensures.past c.in-Ok.ensures.legal) in
-    ap (λ p. tickets_held p c.args.caller.0) c.in-Ok.ensures.past
-    ∙ held_after_call h c.args.caller c.args.call legal c.requires.held
-    ∙ ap (λ (r : Reply). if gives_ticket r
-    then (record { caller = c.args.caller; call = c.args.call; number = length h.entries }) ∷ [] else [])
-    (sym c.in-Ok.ensures.reply)
+    subst (λ r. GivesBy r (record { caller = c.args.caller; call = c.args.call; number = length d.history.entries })
+    (past_now d) (past_now n)) (sym c.in-Ok.ensures.reply)
+    (given_by_call d.history c.args.caller c.args.call (past_now n) c.in-Ok.ensures.tickets c.requires.call)

@@ -2,8 +2,7 @@ use Rattle.std.specs.Prelude.{◌∷◌, IfOk}
 use Rattle.std.proofs.Common.{ap, ◌∙◌, subst}
 use Rattle.cmwq_core.specs.Plans.{IsPlan}
 use Rattle.cmwq_dispatch.specs.Dispatched.{past_now}
-use Rattle.cmwq_model.specs.declared.entry.Entry.{Entry}
-use Rattle.cmwq_board.specs.Lent.{is_of_number}
+use Rattle.cmwq_board.specs.Lent.{TicketsGoOn}
 use Rattle.cmwq_board.specs.Steps.{after_entry}
 use Rattle.cmwq_board.proofs.entering.enter.Goals as goal
 
@@ -22,10 +21,9 @@ returns-in-Ok-clause-past c =
     subst (λ r. IfOk r (IsPlan d.history c.args.who c.args.call)) c.in-Ok.is c.plan-planned.ensures.plan in
     c.make.ensures.past ∙ ap (λ e. e ∷ past_now d) plan.mark.is_next
 
-pub returns-in-Ok-clause-others : goal.returns-in-Ok-clause-others
-returns-in-Ok-clause-others c n other =
+pub returns-in-Ok-clause-tickets : goal.returns-in-Ok-clause-tickets
+returns-in-Ok-clause-tickets c =
     let d = c.args.dispatch.now in
     let plan : IsPlan d.history c.args.who c.args.call c.in-Ok.plan =
     subst (λ r. IfOk r (IsPlan d.history c.args.who c.args.call)) c.in-Ok.is c.plan-planned.ensures.plan in
-    let who = ap (λ (e : Entry). e.who) plan.mark.is_next in
-    c.make.ensures.others n (ap (is_of_number n) who ∙ other)
+    subst (λ e. TicketsGoOn e (past_now d) (past_now c.make.new.dispatch)) plan.mark.is_next c.make.ensures.tickets

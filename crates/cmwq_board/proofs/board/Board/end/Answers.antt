@@ -1,12 +1,18 @@
-use Rattle.std.specs.Prelude.{◌≡◌, Some, slice_index_or}
+use Rattle.std.specs.Prelude.{◌≡◌, ◌<◌, Some, slice_index_or}
 use Rattle.std.proofs.Common.{ap, ◌∙◌, refl, sym, subst}
 use Rattle.std.proofs.lemmas.List.{get_or_default}
 use Rattle.cmwq_dispatch.specs.Dispatched.{past_now}
-use Rattle.cmwq_board.specs.Boarded.{Boarded, first_place, layout_of}
-use Rattle.cmwq_board.specs.Waits.{Ends, EndsAt, IsAwake, ThenClears, lending_at, place_of, ticket_at}
+use Rattle.std.proofs.lemmas.Option.{same_Some}
+use Rattle.cmwq_model.specs.Prelude.{ticket_of}
+use Rattle.cmwq_model.specs.declared.id.Who.TheVariants.{Caller}
+use Rattle.cmwq_model.specs.declared.record.Ticket.{Ticket}
+use Rattle.cmwq_board.specs.Boarded.{Boarded, first_place, layout_of, past_of_board}
+use Rattle.cmwq_model.specs.declared.id.CallerId.{CallerId}
+use Rattle.cmwq_board.specs.Lent.{caller_of, ticket_at}
+use Rattle.cmwq_board.specs.Waits.{Ends, EndsAt, IsAwake, ThenClears, caller_at, lending_at, place_of}
 use Rattle.cmwq_board.specs.declared.board.Ended.TheVariants.{Done, Not}
 use Rattle.cmwq_board.specs.declared.lending.Lending.TheVariants.{Free, Waits}
-use Rattle.cmwq_board.proofs.Places.{caller_there, own_ticket, place_is, same_caller}
+use Rattle.cmwq_board.proofs.Places.{caller_there, own_caller, own_ticket, place_is}
 use Rattle.cmwq_board.proofs.board.Board.end.Goals as goal
 
 pub planned_end-requires-clause-there : goal.planned_end-requires-clause-there
@@ -20,10 +26,12 @@ planned_end-requires-clause-there c =
     let is_place : place_of b c.args.party ≡ Some place = sym c.place_of.ensures ∙ c.in-Some.is in
     let here : first_place s ls c.args.party.0 ≡ Some place =
     subst (λ (x : Boarded). first_place (layout_of x) x.lent c.args.party.0 ≡ Some place) (sym c.self.view_is) is_place in
-    let of = place_is s ls c.args.party.0 place c.self.invariant.2.lent.few here in
+    let of = place_is s ls c.args.party place c.self.invariant.3.lent.few here in
     let at : slice_index_or ls place Free ≡ Waits t c.in-Waits.run' c.in-Waits.slept =
     get_or_default ls place Free c.index.result.now of.less ∙ sym c.index.ensures ∙ c.in-Waits.is in
-    caller_there s (past_now i.dispatch) ls place t c.self.invariant.2.lent of.less (ap ticket_at at)
+    let held = c.self.invariant.3.lent.held place t of.less (ap ticket_at at) in
+    subst (λ (k : CallerId). k.0 < s.callers) (sym (own_caller (past_now i.dispatch) (caller_of s ls place) t.number t held))
+    (caller_there s ls place c.self.invariant.3.lent.few of.less)
 
 pub planned_end-requires-clause-held : goal.planned_end-requires-clause-held
 planned_end-requires-clause-held c =
@@ -36,10 +44,65 @@ planned_end-requires-clause-held c =
     let is_place : place_of b c.args.party ≡ Some place = sym c.place_of.ensures ∙ c.in-Some.is in
     let here : first_place s ls c.args.party.0 ≡ Some place =
     subst (λ (x : Boarded). first_place (layout_of x) x.lent c.args.party.0 ≡ Some place) (sym c.self.view_is) is_place in
-    let of = place_is s ls c.args.party.0 place c.self.invariant.2.lent.few here in
+    let of = place_is s ls c.args.party place c.self.invariant.3.lent.few here in
     let at : slice_index_or ls place Free ≡ Waits t c.in-Waits.run' c.in-Waits.slept =
     get_or_default ls place Free c.index.result.now of.less ∙ sym c.index.ensures ∙ c.in-Waits.is in
-    own_ticket s (past_now i.dispatch) ls place t c.self.invariant.2.lent of.less (ap ticket_at at)
+    own_ticket (past_now i.dispatch) (caller_of s ls place) t.number t
+    (c.self.invariant.3.lent.held place t of.less (ap ticket_at at))
+
+pub ends_wait-requires-clause-own : goal.ends_wait-requires-clause-own
+ends_wait-requires-clause-own c =
+    let b = c.args.self.now in
+    let i = c.self.inside in
+    let s = i.dispatch.history.layout in
+    let ls = i.lent.items in
+    let place = c.in-Some.place in
+    let t = c.in-Waits.ticket in
+    let is_place : place_of b c.args.party ≡ Some place = sym c.place_of.ensures ∙ c.in-Some.is in
+    let here : first_place s ls c.args.party.0 ≡ Some place =
+    subst (λ (x : Boarded). first_place (layout_of x) x.lent c.args.party.0 ≡ Some place) (sym c.self.view_is) is_place in
+    let of = place_is s ls c.args.party place c.self.invariant.3.lent.few here in
+    let at : slice_index_or ls place Free ≡ Waits t c.in-Waits.run' c.in-Waits.slept =
+    get_or_default ls place Free c.index.result.now of.less ∙ sym c.index.ensures ∙ c.in-Waits.is in
+    let held = c.self.invariant.3.lent.held place t of.less (ap ticket_at at) in
+    subst (λ (x : Boarded). t.caller ≡ caller_at x place) c.self.view_is
+    (own_caller (past_now i.dispatch) (caller_of s ls place) t.number t held)
+
+pub ends_wait-requires-clause-held : goal.ends_wait-requires-clause-held
+ends_wait-requires-clause-held c =
+    let b = c.args.self.now in
+    let i = c.self.inside in
+    let s = i.dispatch.history.layout in
+    let ls = i.lent.items in
+    let place = c.in-Some.place in
+    let t = c.in-Waits.ticket in
+    let is_place : place_of b c.args.party ≡ Some place = sym c.place_of.ensures ∙ c.in-Some.is in
+    let here : first_place s ls c.args.party.0 ≡ Some place =
+    subst (λ (x : Boarded). first_place (layout_of x) x.lent c.args.party.0 ≡ Some place) (sym c.self.view_is) is_place in
+    let of = place_is s ls c.args.party place c.self.invariant.3.lent.few here in
+    let at : slice_index_or ls place Free ≡ Waits t c.in-Waits.run' c.in-Waits.slept =
+    get_or_default ls place Free c.index.result.now of.less ∙ sym c.index.ensures ∙ c.in-Waits.is in
+    let held = c.self.invariant.3.lent.held place t of.less (ap ticket_at at) in
+    subst (λ (x : Boarded). ticket_of (past_of_board x) (Caller t.caller) t.number ≡ Some t) c.self.view_is
+    (own_ticket (past_now i.dispatch) (caller_of s ls place) t.number t held)
+
+pub ends_wait-requires-clause-may : goal.ends_wait-requires-clause-may
+ends_wait-requires-clause-may c u is =
+    let b = c.args.self.now in
+    let i = c.self.inside in
+    let s = i.dispatch.history.layout in
+    let ls = i.lent.items in
+    let place = c.in-Some.place in
+    let t = c.in-Waits.ticket in
+    let is_place : place_of b c.args.party ≡ Some place = sym c.place_of.ensures ∙ c.in-Some.is in
+    let here : first_place s ls c.args.party.0 ≡ Some place =
+    subst (λ (x : Boarded). first_place (layout_of x) x.lent c.args.party.0 ≡ Some place) (sym c.self.view_is) is_place in
+    let of = place_is s ls c.args.party place c.self.invariant.3.lent.few here in
+    let at : slice_index_or ls place Free ≡ Waits t c.in-Waits.run' c.in-Waits.slept =
+    get_or_default ls place Free c.index.result.now of.less ∙ sym c.index.ensures ∙ c.in-Waits.is in
+    let lending : lending_at b place ≡ Waits t c.in-Waits.run' c.in-Waits.slept =
+    subst (λ (x : Boarded). lending_at x place ≡ Waits t c.in-Waits.run' c.in-Waits.slept) c.self.view_is at in
+    ap (λ (v : Ticket). v.number) (sym (same_Some t u (ap ticket_at (sym lending) ∙ is)))
 
 pub returns-in_default-planned_end-clause-ends : goal.returns-in_default-planned_end-clause-ends
 returns-in_default-planned_end-clause-ends c =
@@ -52,10 +115,12 @@ returns-in_default-planned_end-clause-ends c =
     let is_place : place_of b c.args.party ≡ Some place = sym c.place_of.ensures ∙ c.in-Some.is in
     let here : first_place s ls c.args.party.0 ≡ Some place =
     subst (λ (x : Boarded). first_place (layout_of x) x.lent c.args.party.0 ≡ Some place) (sym c.self.view_is) is_place in
-    let of = place_is s ls c.args.party.0 place c.self.invariant.2.lent.few here in
+    let of = place_is s ls c.args.party place c.self.invariant.3.lent.few here in
     let at : slice_index_or ls place Free ≡ Waits t c.in-Waits.run' c.in-Waits.slept =
     get_or_default ls place Free c.index.result.now of.less ∙ sym c.index.ensures ∙ c.in-Waits.is in
-    let own = same_caller s (past_now i.dispatch) ls place t c.args.party c.self.invariant.2.lent here (ap ticket_at at) in
+    let held = c.self.invariant.3.lent.held place t of.less (ap ticket_at at) in
+    let own : t.caller ≡ c.args.party =
+    own_caller (past_now i.dispatch) (caller_of s ls place) t.number t held ∙ sym of.at in
     let lending : lending_at b place ≡ Waits t c.in-Waits.run' c.in-Waits.slept =
     subst (λ (x : Boarded). lending_at x place ≡ Waits t c.in-Waits.run' c.in-Waits.slept) c.self.view_is at in
     let waits = c.waits_on.ensures in
@@ -82,10 +147,12 @@ returns-clause-ends c =
     let is_place : place_of b c.args.party ≡ Some place = sym c.place_of.ensures ∙ c.in-Some.is in
     let here : first_place s ls c.args.party.0 ≡ Some place =
     subst (λ (x : Boarded). first_place (layout_of x) x.lent c.args.party.0 ≡ Some place) (sym c.self.view_is) is_place in
-    let of = place_is s ls c.args.party.0 place c.self.invariant.2.lent.few here in
+    let of = place_is s ls c.args.party place c.self.invariant.3.lent.few here in
     let at : slice_index_or ls place Free ≡ Waits t c.in-Waits.run' c.in-Waits.slept =
     get_or_default ls place Free c.index.result.now of.less ∙ sym c.index.ensures ∙ c.in-Waits.is in
-    let own = same_caller s (past_now i.dispatch) ls place t c.args.party c.self.invariant.2.lent here (ap ticket_at at) in
+    let held = c.self.invariant.3.lent.held place t of.less (ap ticket_at at) in
+    let own : t.caller ≡ c.args.party =
+    own_caller (past_now i.dispatch) (caller_of s ls place) t.number t held ∙ sym of.at in
     let lending : lending_at b place ≡ Waits t c.in-Waits.run' c.in-Waits.slept =
     subst (λ (x : Boarded). lending_at x place ≡ Waits t c.in-Waits.run' c.in-Waits.slept) c.self.view_is at in
     let ends = c.ends_wait.ensures in

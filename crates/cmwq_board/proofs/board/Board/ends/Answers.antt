@@ -1,62 +1,84 @@
-use Rattle.std.specs.Prelude.{◌≡◌, ◌<◌, ◌+◌, List, Some, length, slice_index_or, true}
-use Rattle.std.proofs.Common.{ap, ◌∙◌, refl, sym, subst}
-use Rattle.std.specs.List.{list_any}
-use Rattle.cmwq_core.specs.History.{History}
+use Rattle.std.specs.Prelude.{◌≡◌, ◌<◌, ◌≤◌, ◌+◌, List, Some, false, length, slice_index_or, slice_set}
+use Rattle.std.proofs.Common.{ap, arith, ◌∙◌, refl, sym, subst}
+use Rattle.cmwq_core.specs.History.{History, past_in}
 use Rattle.cmwq_dispatch.specs.Dispatched.{Dispatched, past_now}
+use Rattle.cmwq_model.specs.Prelude.{is_drain, ticket_of}
 use Rattle.cmwq_model.specs.declared.entry.Entry.{Entry}
+use Rattle.cmwq_model.specs.declared.id.CallerId.{CallerId}
+use Rattle.cmwq_model.specs.declared.id.Who.TheVariants.{Caller}
 use Rattle.cmwq_state.specs.Tails.{Tailed}
-use Rattle.cmwq_board.specs.Boarded.{Boarded}
-use Rattle.cmwq_board.specs.Lent.{drains, first_lent, is_left, tickets_held}
-use Rattle.cmwq_board.specs.Waits.{firing_for, ticket_at}
+use Rattle.cmwq_board.specs.Boarded.{Boarded, firing_for, past_of_board}
+use Rattle.cmwq_board.specs.Lent.{AreLent, EndsTicketOf, MayBecome, caller_of, unended_drains}
+use Rattle.cmwq_board.specs.Waits.{Settles, caller_at, lending_at}
 use Rattle.cmwq_board.specs.declared.lending.Lending.{Lending}
 use Rattle.cmwq_board.specs.declared.lending.Lending.TheVariants.{Free}
-use Rattle.cmwq_board.proofs.Places.{any_less, board_set, caller_at_place, caller_there, own_ticket}
+use Rattle.cmwq_board.proofs.Places.{board_now, caller_there, drain_may_fire, ended_places, left_ended}
 use Rattle.cmwq_board.proofs.board.Board.ends.Goals as goal
 
 pub end_ticket-requires-clause-there : goal.end_ticket-requires-clause-there
 end_ticket-requires-clause-there c =
-    let lent : c.self.inside.lent.items ≡ c.args.self.now.lent = ap (λ (b : Boarded). b.lent) c.self.view_is in
-    let d = c.self.inside.dispatch in
-    caller_there d.history.layout (past_now d) c.self.inside.lent.items c.args.place c.args.ticket c.self.invariant.2.lent
-    (subst (λ (ls : List Lending). c.args.place < length ls) (sym lent) c.requires.place)
-    (subst (λ ls. ticket_at (slice_index_or ls c.args.place Free) ≡ Some c.args.ticket) (sym lent) c.requires.ticket)
+    let i = c.self.inside in
+    let s = i.dispatch.history.layout in
+    let less : c.args.place < length i.lent.items =
+    subst (λ (b : Boarded). c.args.place < length b.lent) (sym c.self.view_is) c.requires.place in
+    let own : c.args.ticket.caller ≡ caller_of s i.lent.items c.args.place =
+    subst (λ (b : Boarded). c.args.ticket.caller ≡ caller_at b c.args.place) (sym c.self.view_is) c.requires.own in
+    subst (λ (k : CallerId). k.0 < s.callers) (sym own) (caller_there s i.lent.items c.args.place c.self.invariant.3.lent.few less)
 
 pub end_ticket-requires-clause-held : goal.end_ticket-requires-clause-held
 end_ticket-requires-clause-held c =
-    let lent : c.self.inside.lent.items ≡ c.args.self.now.lent = ap (λ (b : Boarded). b.lent) c.self.view_is in
-    let d = c.self.inside.dispatch in
-    own_ticket d.history.layout (past_now d) c.self.inside.lent.items c.args.place c.args.ticket c.self.invariant.2.lent
-    (subst (λ (ls : List Lending). c.args.place < length ls) (sym lent) c.requires.place)
-    (subst (λ ls. ticket_at (slice_index_or ls c.args.place Free) ≡ Some c.args.ticket) (sym lent) c.requires.ticket)
+    let t = c.args.ticket in
+    subst (λ (b : Boarded). ticket_of (past_of_board b) (Caller t.caller) t.number ≡ Some t) (sym c.self.view_is)
+    c.requires.held
 
-pub ends_firing-requires-clause-token : goal.ends_firing-requires-clause-token
-ends_firing-requires-clause-token c any =
-    c.self.invariant.1
-    ∙ any_less drains c.self.inside.lent.items c.args.place Free refl
-    (subst (λ ls. list_any drains ls ≡ true) c.deref.ensures.value any)
+pub end_ticket-requires-clause-may : goal.end_ticket-requires-clause-may
+end_ticket-requires-clause-may c drain =
+    let t = c.args.ticket in
+    drain_may_fire c.self.inside.dispatch t.caller t.number t c.self.invariant.3.firing
+    (subst (λ (b : Boarded). b.dispatch.failed ≡ false) (sym c.self.view_is) c.requires.lives)
+    (subst (λ (b : Boarded). ticket_of (past_of_board b) (Caller t.caller) t.number ≡ Some t) (sym c.self.view_is)
+    c.requires.held) drain
+
+pub less_drains-self-inside-requires : goal.less_drains-self-inside-requires
+less_drains-self-inside-requires c =
+    let counts = c.end_ticket.ensures.drains in
+    let was = c.self.invariant.1 in
+    omega (arith, counts, was)
 
 pub invariant_of-self : goal.invariant_of-self
 invariant_of-self c =
-    let lent : c.self.inside.lent.items ≡ c.args.self.now.lent = ap (λ (b : Boarded). b.lent) c.self.view_is in
-    let d = c.self.inside.dispatch in
-    let less : c.args.place < length c.self.inside.lent.items =
-    subst (λ (ls : List Lending). c.args.place < length ls) (sym lent) c.requires.place in
-    let is : ticket_at (slice_index_or c.self.inside.lent.items c.args.place Free) ≡ Some c.args.ticket =
-    subst (λ ls. ticket_at (slice_index_or ls c.args.place Free) ≡ Some c.args.ticket) (sym lent) c.requires.ticket in
-    let at : c.args.ticket.caller.0 ≡ first_lent d.history.layout c.self.inside.lent.items + c.args.place =
-    caller_at_place d.history.layout (past_now d) c.self.inside.lent.items c.args.place c.args.ticket
-    c.self.invariant.2.lent less is in
+    let i = c.self.inside in
+    let d = i.dispatch in
     let e = c.end_ticket.new.dispatch in
-    let history : c.ends_firing.new.dispatch.history ≡ e.history =
-    ap (λ (x : Dispatched). x.history) c.ends_firing.ensures.settles.settled in (
-      ap (λ (t : Tailed Entry). t.all) c.end_ticket.ensures.kept ∙ ap (λ (h : History). h.entries) (sym history),
-      c.ends_firing.ensures.token ∙ ap (list_any drains) c.deref.ensures.value,
-      board_set d e c.ends_firing.new.dispatch c.self.inside.tail.room c.end_ticket.new.tail.room
-          c.self.inside.lent.items c.args.place Free c.self.invariant.2 c.end_ticket.ensures.stays.layout
-          c.end_ticket.ensures.stays.room (ap (λ (t : Tailed Entry). t.room) c.end_ticket.ensures.kept) less
-          (ap (tickets_held (past_now e)) (sym at) ∙ c.end_ticket.ensures.own)
-          (λ m differs. c.end_ticket.ensures.others m (λ same. differs (same ∙ at))) history
-          (ap (λ (x : Dispatched). x.firing) c.ends_firing.ensures.settles.settled
-          ∙ ap (λ ls. firing_for ls) c.deref.ensures.value),
-      λ any. c.self.invariant.3 (any_less is_left c.self.inside.lent.items c.args.place Free refl any),
+    let n = c.ends_firing.new.dispatch in
+    let t = c.args.ticket in
+    let ls = i.lent.items in
+    let place = c.args.place in
+    let less : place < length ls =
+    subst (λ (b : Boarded). place < length b.lent) (sym c.self.view_is) c.requires.place in
+    let own : t.caller ≡ caller_of d.history.layout ls place =
+    subst (λ (b : Boarded). t.caller ≡ caller_at b place) (sym c.self.view_is) c.requires.own in
+    let may : MayBecome t (slice_index_or ls place Free) c.args.lending =
+    subst (λ (b : Boarded). MayBecome t (lending_at b place) c.args.lending) (sym c.self.view_is) c.requires.may in
+    let ends = c.end_ticket.ensures in
+    let history : n.history ≡ e.history = ap (λ (x : Dispatched). x.history) c.ends_firing.ensures.settles.settled in
+    let layout = ap (λ (h : History). h.layout) history ∙ ends.stays.layout in
+    let counts = ends.drains in
+    let was = c.self.invariant.1 in
+    let left = c.less_drains-self-inside.ensures in
+    let drains_e : c.less_drains-self-inside.result ≡ unended_drains (past_now e) = omega (arith, counts, was, left) in
+    let drains : c.less_drains-self-inside.result ≡ unended_drains (past_now n) =
+    drains_e ∙ ap (λ (h : History). unended_drains (past_in h)) (sym history) in
+    let tickets : EndsTicketOf t (past_now d) (past_now n) =
+    subst (λ (h : History). EndsTicketOf t (past_now d) (past_in h)) (sym history) ends.tickets in (
+      ap (λ (x : Tailed Entry). x.all) ends.kept ∙ ap (λ (h : History). h.entries) (sym history),
+      drains,
+      c.ends_firing.ensures.token,
+      board_now d n i.tail.room c.end_ticket.new.tail.room ls (slice_set ls place c.args.lending) c.self.invariant.3 layout
+          (ap (λ (h : History). h.room) history ∙ ends.stays.room) (ap (λ (x : Tailed Entry). x.room) ends.kept)
+          (ended_places d.history.layout (past_now d) (past_now n) ls place c.args.lending t c.self.invariant.3.lent less
+          own tickets may)
+          (ap (λ (x : Dispatched). x.firing) c.ends_firing.ensures.settles.settled ∙ ap (λ k. firing_for k) drains),
+      λ h. c.self.invariant.4 (left_ended d.history.layout n.history.layout (past_now d) (past_now n) ls place
+          c.args.lending t layout less own tickets may h),
     )

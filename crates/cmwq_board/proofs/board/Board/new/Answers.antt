@@ -1,20 +1,19 @@
 use Rattle.std.specs.Prelude.{◌≤◌, List, max, min}
-use Rattle.std.proofs.Common.{ap, arith, sym, subst}
-use Rattle.cmwq_dispatch.specs.Dispatched.{Dispatched, is_new}
+use Rattle.std.proofs.Common.{ap, arith, ◌∙◌, sym, subst}
+use Rattle.cmwq_dispatch.specs.Dispatched.{Dispatched, is_new, past_now}
+use Rattle.cmwq_model.specs.Prelude.{unended_tickets}
 use Rattle.cmwq_model.specs.declared.entry.Entry.{Entry}
 use Rattle.cmwq_state.specs.Tails.{Tailed}
 use Rattle.cmwq_board.specs.Boarded.{IsBoard, least_kept, most_made}
 use Rattle.cmwq_board.specs.declared.lending.Lending.{Lending}
-use Rattle.cmwq_board.proofs.Places.{free_none_drains, free_none_left, new_board}
+use Rattle.cmwq_board.proofs.Places.{new_board, new_unended}
 use Rattle.cmwq_board.proofs.board.Board.new.Goals as goal
 
-pub of_parts-requires-clause-free : goal.of_parts-requires-clause-free
-of_parts-requires-clause-free c =
-    free_none_drains (min c.args.lent c.args.shape.now.callers) c.in_ok-lent.lent.items c.in_ok-lent.ensures
-
-pub of_parts-requires-clause-waited : goal.of_parts-requires-clause-waited
-of_parts-requires-clause-waited c =
-    free_none_left (min c.args.lent c.args.shape.now.callers) c.in_ok-lent.lent.items c.in_ok-lent.ensures
+pub of_parts-requires-clause-none : goal.of_parts-requires-clause-none
+of_parts-requires-clause-none c =
+    let s = c.args.shape.now in
+    let d = c.in_ok-dispatch.dispatch in
+    ap (λ (x : Dispatched). unended_tickets (past_now x)) c.in_ok-dispatch.ensures.new ∙ new_unended s d.asleep
 
 pub of_parts-requires-clause-board : goal.of_parts-requires-clause-board
 of_parts-requires-clause-board c =

@@ -1,5 +1,5 @@
 use Rattle.std.specs.Prelude.{◌≡◌}
-use Rattle.std.proofs.Common.{ap, ◌∙◌, refl, subst}
+use Rattle.std.proofs.Common.{ap, ◌∙◌, subst, sym}
 use Rattle.cmwq_dispatch.specs.Asleep.{SleepOn}
 use Rattle.cmwq_dispatch.specs.Dispatched.{past_now}
 use Rattle.cmwq_model.specs.declared.call.Call.TheVariants as call
@@ -8,24 +8,27 @@ use Rattle.cmwq_model.specs.declared.id.Who.{Who}
 use Rattle.cmwq_model.specs.declared.id.Who.TheVariants.{Worker}
 use Rattle.cmwq_state.specs.Tails.{Tailed}
 use Rattle.cmwq_board.specs.Boarded.{Boarded, board_of}
-use Rattle.cmwq_board.specs.Lent.{OthersTickets}
 use Rattle.cmwq_board.specs.Steps.{Starts, after_call, after_entry}
 use Rattle.cmwq_board.specs.declared.board.Start.TheVariants.{Runs}
-use Rattle.cmwq_board.proofs.Tickets.{board_by_other, makes_in}
+use Rattle.cmwq_board.proofs.Places.{board_same, drains_same, left_same}
+use Rattle.cmwq_board.proofs.Tickets.{makes_in, same_by_worker}
 use Rattle.cmwq_board.proofs.board.Board.start.Goals as goal
 
 pub invariant_of-self-2 : goal.invariant_of-self-2
 invariant_of-self-2 c =
     let d = c.self.inside.dispatch in
     let n = c.make.new.dispatch in
-    let who = ap (λ (e : Entry). e.who) c.in-Some.ensures.plan.mark.is_next in (
+    let lent = c.self.inside.lent.items in
+    let who = ap (λ (e : Entry). e.who) c.in-Some.ensures.plan.mark.is_next in
+    let same =
+    same_by_worker (past_now d) (past_now n) c.in-Some.startable.plan.mark.entry c.args.worker c.make.ensures.tickets who in (
       ap (λ (t : Tailed Entry). t.all) c.make.ensures.kept,
-      c.self.invariant.1,
-      board_by_other d n (Worker c.args.worker) c.self.inside.tail.room c.make.new.tail.room c.self.inside.lent.items
-          c.make.ensures.stays
-          (subst (λ (x : Who). OthersTickets x (past_now d) (past_now n)) who c.make.ensures.others) refl
-          (ap (λ (t : Tailed Entry). t.room) c.make.ensures.kept) c.self.invariant.2,
-      c.self.invariant.3,
+      c.self.invariant.1 ∙ sym (drains_same (past_now d) (past_now n) same),
+      c.self.invariant.2,
+      board_same d n c.self.inside.tail.room c.make.new.tail.room lent c.make.ensures.stays same
+          (ap (λ (t : Tailed Entry). t.room) c.make.ensures.kept) c.self.invariant.3,
+      λ h. c.self.invariant.4 (left_same d.history.layout n.history.layout (past_now d) (past_now n) lent
+          c.make.ensures.stays.layout same h),
     )
 
 pub returns-clause-starts : goal.returns-clause-starts
