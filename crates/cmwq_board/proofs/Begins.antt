@@ -1,5 +1,5 @@
 -- What is known where a wait is not refused.
-use Rattle.std.specs.Prelude.{◌≡◌, ◌≤◌, ◌<◌, ◌+◌, ◌&&◌, ◌||◌, ◌∷◌, [], ℕ, Bool, true, false, not, List, length}
+use Rattle.std.specs.Prelude.{◌≡◌, ◌≤◌, ◌<◌, ◌+◌, ◌&&◌, ◌||◌, ℕ, Bool, true, false, not, List, length}
 use Rattle.std.specs.Prelude.{Option, Some, None, if◌then◌else◌, find, nat_lt, slice_index_or, IsTrue}
 use Rattle.std.proofs.Common.{refl, sym, ap, ap₂, ◌∙◌, subst, arith, true≢false}
 use Rattle.std.proofs.lemmas.Bool.{and_parts, eq-eqb, leb-true, lt-ltb, ltb-true}
@@ -28,7 +28,6 @@ use Rattle.cmwq_model.specs.declared.reply.Reply.{Reply}
 use Rattle.cmwq_board.specs.Waits.{caller_at, early_fault, first_free, has_room_for, is_there, lending_at, lending_by}
 use Rattle.cmwq_board.specs.Waits.{lent_fault, lent_place, may_be_lent, places, room_fault, sleeps_first, stuck_now}
 use Rattle.cmwq_board.specs.Waits.{with_firing}
-use Rattle.cmwq_board.specs.declared.fault.BoardFault.{BoardFault}
 use Rattle.cmwq_board.specs.declared.fault.BoardFault.TheVariants as fault
 use Rattle.cmwq_board.specs.declared.fault.WaitFault.TheVariants as wait
 use Rattle.cmwq_board.specs.declared.fault.WaitFault.{WaitFault}

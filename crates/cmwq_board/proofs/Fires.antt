@@ -1,9 +1,9 @@
 -- A caller that fires, time after time.
 use Rattle.std.specs.Prelude.{◌≡◌, ◌+◌, ◌&&◌, ◌||◌, ◌==◌, ◌∷◌, [], ℕ, Bool, true, false, not, suc, zero, nat_lt}
-use Rattle.std.specs.Prelude.{length, None, Some, Option}
+use Rattle.std.specs.Prelude.{length}
 use Rattle.std.proofs.lemmas.Bool.Decides.{nat_tests}
 use Rattle.std.proofs.Common.{refl, sym, ap, ◌∙◌, subst, arith, add-one, length-append, true≢false}
-use Rattle.cmwq_core.specs.History.{History, next_entry, past_in, with_entry}
+use Rattle.cmwq_core.specs.History.{History, next_entry, with_entry}
 use Rattle.cmwq_dispatch.specs.Asleep.{SleepOn}
 use Rattle.cmwq_dispatch.specs.Dispatched.{Dispatched, MayEnter, is_over, past_now}
 use Rattle.cmwq_dispatch.specs.declared.wakes.Wakes.{Wakes}
@@ -13,7 +13,6 @@ use Rattle.cmwq_model.specs.declared.call.Call.TheVariants as call
 use Rattle.cmwq_model.specs.declared.entry.Entry.{Entry}
 use Rattle.cmwq_model.specs.declared.id.CallerId.{CallerId}
 use Rattle.cmwq_model.specs.declared.id.Who.TheVariants.{Caller}
-use Rattle.cmwq_model.specs.declared.record.Booking.{Booking}
 use Rattle.cmwq_state.specs.Tails.{Tailed}
 use Rattle.cmwq_board.specs.Lent.{SameTickets}
 use Rattle.cmwq_board.specs.Steps.{Stays, after_call, after_fires, may_fire}
@@ -21,7 +20,6 @@ use Rattle.cmwq_board.proofs.Sleepers.{sleep_on_more}
 use Rattle.cmwq_board.proofs.Tickets.{same_by_plain}
 use Rattle.cmwq_theory_steps.proofs.TicketSteps.{unended_go_on}
 use Rattle.cmwq_dispatch.proofs.Cared.{sleep_same}
-use Rattle.cmwq_model.specs.Prelude.{answer}
 
 -- ---- whoever may fire may make an entry
 

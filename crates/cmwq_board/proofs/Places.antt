@@ -1,12 +1,12 @@
 -- The callers that are lent, at their places.
 use Rattle.std.specs.Prelude.{◌≡◌, ◌≢◌, ◌≤◌, ◌<◌, ◌+◌, ◌-◌, ◌&&◌, ◌||◌, ◌++◌, [], ℕ, Bool, true, false, not, zero, suc, List}
-use Rattle.std.specs.Prelude.{length, ◌==◌, ◌∷◌, Contains, Option, Some, None, if◌then◌else◌, count_by, filter, find, nat_lt}
+use Rattle.std.specs.Prelude.{length, ◌==◌, ◌∷◌, Contains, Option, Some, None, if◌then◌else◌, count_by, find, nat_lt}
 use Rattle.std.specs.Prelude.{option_to_list, slice_index_or, slice_set, is_some, replicate, nat_le}
 use Rattle.std.proofs.lemmas.List.{length-replicate, get_or-set_other, get_or-set_same}
 use Rattle.std.proofs.lemmas.Bool.{and_parts, eq-eqb, eqb-true, leb-true, ltb-true}
 use Rattle.std.proofs.lemmas.Bool.Decides.{nat_tests}
 use Rattle.std.proofs.lemmas.Option.{same_Some}
-use Rattle.std.proofs.Common.{true≢false, refl, sym, ap, ap₂, ◌∙◌, subst, arith, inl, inr, ⊎_elim, length-set}
+use Rattle.std.proofs.Common.{true≢false, refl, sym, ap, ap₂, ◌∙◌, subst, arith, ⊎_elim, length-set}
 use Rattle.cmwq_core.specs.History.{History, is_done_waiting, past_in}
 use Rattle.cmwq_core.specs.Plans.{IsPlan}
 use Rattle.cmwq_core.specs.declared.plan.Plan.{Plan}
@@ -28,7 +28,7 @@ use Rattle.std.specs.List.{AllByRecursion}
 use Rattle.std.specs.Option.{option_or}
 use Rattle.std.proofs.lemmas.List.Folds.{find-append}
 use Rattle.cmwq_refinement.proofs.TicketSteps.{unended_below}
-use Rattle.cmwq_refinement.proofs.Numbers.{In, contained_in, found, in_append, in_contained, in_filter, option_in, in_option}
+use Rattle.cmwq_refinement.proofs.Numbers.{In, contained_in, found, in_append, in_contained, in_filter, in_option}
 use Rattle.cmwq_board.specs.Boarded.{IsBoard, firing_for, first_place, most_made}
 use Rattle.cmwq_board.specs.Lent.{AreLent, EndsTicketOf, GivesBy, HasLeft, MayBecome, SameTickets, caller_of, first_lent}
 use Rattle.cmwq_board.specs.Lent.{given_by, is_of_drain, is_other, ticket_at, unended_drains, waits_by}
@@ -221,7 +221,8 @@ given_is_found old new r c cl n gives later given =
     let t : Ticket = record { caller = c; call = cl; number = n } in
     ap (find (is_ticket (Caller c) n)) gives
     ∙ find-append (is_ticket (Caller c) n) (unended_tickets old) (given_by r t)
-    ∙ ap (λ o. option_or o (find (is_ticket (Caller c) n) (given_by r t))) (fresh (length old) n (Caller c) (unended_tickets old) later (unended_below old))
+    ∙ ap (λ o. option_or o (find (is_ticket (Caller c) n) (given_by r t)))
+    (fresh (length old) n (Caller c) (unended_tickets old) later (unended_below old))
     ∙ rw given (rw (eq-eqb n n refl, eq-eqb c.0 c.0 refl) refl)
 
 -- ---- the lent callers after a step
@@ -438,7 +439,8 @@ none_unended = refl
 pub new_unended : (s : Layout) (asleep : Asleep) → unended_tickets (past_now (is_new s s.room asleep)) ≡ []
 new_unended s asleep = none_unended
 
-pub none_left : (s : Layout) (past : List Entry) (lent : List Lending) → unended_tickets past ≡ [] → HasLeft s past lent → ⊥
+pub none_left : (s : Layout) (past : List Entry) (lent : List Lending) → unended_tickets past ≡ []
+    → HasLeft s past lent → ⊥
 none_left s past lent none h =
     subst (In h.ticket) none (contained_in (unended_tickets past) h.ticket h.unended)
 

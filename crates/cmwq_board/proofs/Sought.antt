@@ -1,15 +1,15 @@
 -- What is sought among the tickets that were left.
-use Rattle.std.specs.Prelude.{◌≡◌, ◌<◌, ◌≤◌, ◌+◌, ◌-◌, ◌&&◌, ◌==◌, ℕ, Bool, true, false, not, List, length, filter, find, is_some}
-use Rattle.std.specs.Prelude.{◌∷◌, [], Contains, Option, Some, None, drop, option_to_list, slice_get, slice_index_or, suc, zero}
-use Rattle.std.specs.List.{AllByRecursion, range_with_len}
-use Rattle.std.proofs.Common.{true≢false, refl, sym, ap, ap₂, ◌∙◌, subst, arith, add-one, inl, inr, length-append}
+use Rattle.std.specs.Prelude.{◌≡◌, ◌<◌, ◌≤◌, ◌+◌, ◌-◌, ◌&&◌, ◌==◌, ℕ, Bool, true, false, not, List, length, find, is_some}
+use Rattle.std.specs.Prelude.{◌∷◌, [], Contains, Option, Some, None, drop, option_to_list, slice_get, suc, zero}
+use Rattle.std.specs.List.{range_with_len}
+use Rattle.std.proofs.Common.{true≢false, refl, sym, ap, ap₂, ◌∙◌, arith, add-one, inl, inr, length-append}
 use Rattle.std.proofs.lemmas.List.Sums.{count_by-le-length}
 use Rattle.std.proofs.lemmas.Option.{same_Some}
 use Rattle.cmwq_model.specs.Tickets.{is_unended, ticket_in, tickets}
 use Rattle.cmwq_refinement.proofs.Numbers.{filter_shorter}
 use Rattle.std.proofs.lemmas.Bool.{and_parts, eq-eqb, eqb-true}
 use Rattle.cmwq_core.specs.History.{is_done_waiting}
-use Rattle.cmwq_model.specs.Prelude.{Layout, is_held_by, is_ticket, ticket_of, unended_tickets}
+use Rattle.cmwq_model.specs.Prelude.{is_held_by, is_ticket, ticket_of, unended_tickets}
 use Rattle.cmwq_model.specs.declared.call.Call.{Call}
 use Rattle.cmwq_model.specs.declared.entry.Entry.{Entry}
 use Rattle.cmwq_model.specs.declared.id.Who.TheVariants.{Caller}
@@ -20,7 +20,7 @@ use Rattle.cmwq_refinement.proofs.Numbers.{In, all_in, contained_in, filter_in, 
 use Rattle.cmwq_refinement.proofs.Numbers.{in_range, number_of_ticket, of_in, range_below}
 use Rattle.cmwq_refinement.proofs.TicketSteps.{unended_rise}
 use Rattle.cmwq_board.specs.Boarded.{Boarded, layout_of, past_of_board}
-use Rattle.cmwq_board.specs.Left.{is_free, is_sought, sought_of}
+use Rattle.cmwq_board.specs.Left.{is_free, is_sought}
 use Rattle.cmwq_board.specs.Lent.{HasLeft, MayBecome, is_of_drain, unended_drains, waits_by}
 use Rattle.cmwq_board.specs.Waits.{caller_at, has_sought, lending_at, place_with, places, sought_at}
 use Rattle.cmwq_board.specs.declared.left.Sought.{Sought}

@@ -1,14 +1,14 @@
 -- The unended tickets, after one more entry.
 use Rattle.std.specs.Prelude.{if◌then◌else◌}
 use Rattle.cmwq_theory_steps.specs.Common.{◌≡◌, ◌+◌, ◌==◌, ◌&&◌, ◌∷◌, ◌++◌, [], ℕ, Bool, true, false, not, List}
-use Rattle.cmwq_theory_steps.specs.Common.{Option, Some, None, length, filter, find, option_to_list, refl, sym, ap, ap₂}
+use Rattle.cmwq_theory_steps.specs.Common.{Some, None, length, filter, find, option_to_list, refl, sym, ap, ap₂}
 use Rattle.cmwq_theory_steps.specs.Common.{◌∙◌, subst, arith, nat_tests, append-nil, Entry, Layout, Ticket, Who, IsLegal}
-use Rattle.cmwq_theory_steps.specs.Common.{Call, Caller, Worker, cond, ends, eq-eqb, gives_ticket, is_done, is_end_of}
+use Rattle.cmwq_theory_steps.specs.Common.{Call, Caller, Worker, cond, ends, gives_ticket, is_done, is_end_of}
 use Rattle.cmwq_theory_steps.specs.Common.{same_who, ticket_for, ticket_in, ticket_of, unended_tickets}
 use Rattle.cmwq_theory_steps.specs.Histories.{one}
 use Rattle.cmwq_theory_steps.specs.TicketSteps.{is_kept, passes, ticket_asked, ticket_ended}
-use Rattle.cmwq_theory_steps.proofs.TicketSteps.{is_done_reply, tickets_go_on, unended_go_on}
-use Rattle.cmwq_model.specs.Prelude.{is_drain, is_ticket}
+use Rattle.cmwq_theory_steps.proofs.TicketSteps.{is_done_reply, tickets_go_on}
+use Rattle.cmwq_model.specs.Prelude.{is_drain}
 use Rattle.cmwq_model.specs.declared.call.Call.TheVariants as call
 use Rattle.cmwq_model.specs.declared.id.CallerId.{CallerId}
 use Rattle.cmwq_model.specs.declared.reply.Reply.{Reply}
@@ -16,7 +16,7 @@ use Rattle.cmwq_core.specs.History.{History, next_entry, past_in}
 use Rattle.std.proofs.lemmas.List.{length-reverse}
 use Rattle.std.proofs.lemmas.List.Folds.{find-append}
 use Rattle.std.proofs.lemmas.Option.{same_Some}
-use Rattle.cmwq_refinement.proofs.Numbers.{In, all_in, filter_all, found}
+use Rattle.cmwq_refinement.proofs.Numbers.{all_in, filter_all, found}
 use Rattle.cmwq_theory_steps.proofs.Causes.{Cause, cause_of}
 use Rattle.cmwq_theory_steps.proofs.Causes as cause
 use Rattle.cmwq_board.specs.Asked.{is_single, is_wait}

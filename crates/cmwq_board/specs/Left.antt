@@ -15,7 +15,7 @@ use Rattle.cmwq_board.specs.Lent.{waits_by}
 use Rattle.cmwq_board.specs.declared.left.Sought.{Sought}
 use Rattle.cmwq_board.specs.declared.left.Sought.TheVariants.{Any, Ready, For}
 use Rattle.cmwq_board.specs.declared.lending.Lending.{Lending}
-use Rattle.cmwq_board.specs.declared.lending.Lending.TheVariants.{Free, Waits}
+use Rattle.cmwq_board.specs.declared.lending.Lending.TheVariants.{Free}
 
 abbrev pub is_free : Lending → Bool
 is_free Free = true

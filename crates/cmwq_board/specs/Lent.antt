@@ -1,5 +1,6 @@
 -- The callers that are lent to waits, and the unended tickets.
-use Rattle.std.specs.Prelude.{◌≡◌, ◌<◌, ◌≤◌, ◌+◌, ◌-◌, ◌++◌, ◌==◌, ℕ, Bool, true, false, not, List, length, filter, count_by}
+use Rattle.std.specs.Prelude.{◌≡◌, ◌<◌, ◌≤◌, ◌+◌, ◌-◌, ◌++◌, ◌==◌, ℕ, Bool, true, false, not, List, length}
+use Rattle.std.specs.Prelude.{count_by, filter}
 use Rattle.std.specs.Prelude.{Contains, Option, Some, None, nat_lt, slice_index_or, option_to_list, if◌then◌else◌}
 use Rattle.cmwq_model.specs.Prelude.{Layout, gives_ticket, is_drain, is_ticket, ticket_in, ticket_of, unended_tickets}
 use Rattle.cmwq_model.specs.declared.entry.Entry.{Entry}
@@ -21,8 +22,8 @@ abbrev pub waits_by : Ticket → Lending → Bool
 waits_by t Free = false
 waits_by t (Waits u run slept) = u.number == t.number
 
--- Where this ticket is ended its caller may be lent again, if somebody waited by it or nobody did, or does as before, if
--- somebody waits by another ticket.
+-- Where this ticket is ended, its caller may be lent again, if somebody waited by it or nobody did. It does as
+-- before, if somebody waits by another ticket.
 abbrev pub MayBecome : Ticket → Lending → Lending → Type 0
 MayBecome t before Free = (u : Ticket) → ticket_at before ≡ Some u → u.number ≡ t.number
 MayBecome t before (Waits u run slept) = (before ≡ Waits u run slept) × (waits_by t before ≡ false)

@@ -1,5 +1,5 @@
 -- Waits, by callers that are lent to them.
-use Rattle.std.specs.Prelude.{◌≡◌, ◌⊎◌, ◌+◌, ◌&&◌, ◌||◌, ℕ, Bool, true, false, not, List}
+use Rattle.std.specs.Prelude.{◌≡◌, ◌⊎◌, ◌&&◌, ◌||◌, ℕ, Bool, true, false, not, List}
 use Rattle.std.specs.Prelude.{Option, Some, None, if◌then◌else◌, find, is_some, length}
 use Rattle.std.specs.Prelude.{slice_index_or, slice_set}
 use Rattle.std.specs.List.{list_any, position, range_with_len}
@@ -278,8 +278,8 @@ TellsTime true before after = (names_completions after ≡ true) × NamesMore be
 TellsTime false before after = after ≡ before
 
 -- The ticket is ended, and what its caller does is this from then on.
-pub record EndsBy (t : Ticket) (run : Option WorkerId) (callers : List Lending) (old new : Boarded) (before after : Wakes)
-    : Type 0 where
+pub record EndsBy (t : Ticket) (run : Option WorkerId) (callers : List Lending) (old new : Boarded)
+    (before after : Wakes) : Type 0 where
   pub ended : Dispatched
   pub then_ended : Wakes
   pub then_settled : Wakes

@@ -63,11 +63,7 @@ pub(crate) fn less_drains(drains: u64, call: Call) -> u64
     requires { (if is_drain call then 1 else 0) ≤ drains }
     ensures { result + (if is_drain call then 1 else 0) ≡ drains }
 {
-    if call.is_drain() {
-        drains - 1
-    } else {
-        drains
-    }
+    if call.is_drain() { drains - 1 } else { drains }
 }
 
 /// Names whoever sleeps until something is completed, as whoever keeps the time does, if a drain has ended.

@@ -220,8 +220,8 @@ impl Board {
     }
 
     /// A wait begins by this call: flush, drain, destroy, flush_item, flush_delayed or cancel_sync. A caller is lent to
-    /// it. If a run waits, its worker is told, and the run sleeps meanwhile, if it is awake. A wait of no run goes on by
-    /// a ticket that was left, if that is as good as a new one.
+    /// it. If a run waits, its worker is told, and the run sleeps meanwhile, if it is awake. A wait of no run goes on
+    /// by a ticket that was left, if that is as good as a new one.
     pub fn begin(
         &mut self,
         run: Option<WorkerId>,

@@ -1,7 +1,7 @@
 //! Waits end, or are left.
 
-ghost use Rattle.std.specs.Prelude.{◌≡◌, ◌<◌, IfErr, IfOk, IfSome, None, OnErr, Some, false, is_some, length, slice_set};
-ghost use Rattle.std.specs.Prelude.{true};
+ghost use Rattle.std.specs.Prelude.{◌≡◌, ◌<◌, IfErr, IfOk, IfSome, None, OnErr, Some, false, is_some, length};
+ghost use Rattle.std.specs.Prelude.{slice_set, true};
 ghost use Rattle.cmwq_core.specs.History.{is_done_waiting};
 ghost use Rattle.cmwq_core.specs.Plans.{IsPlan};
 ghost use Rattle.cmwq_dispatch.specs.Asleep.{IsUpAgain};

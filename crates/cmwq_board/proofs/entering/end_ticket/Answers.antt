@@ -1,4 +1,4 @@
-use Rattle.std.specs.Prelude.{◌∷◌, ◌+◌, if◌then◌else◌}
+use Rattle.std.specs.Prelude.{◌+◌, if◌then◌else◌}
 use Rattle.std.proofs.Common.{ap, arith, ◌∙◌}
 use Rattle.cmwq_dispatch.specs.Dispatched.{past_now}
 use Rattle.cmwq_model.specs.Prelude.{is_drain}

@@ -1,11 +1,11 @@
-use Rattle.std.specs.Prelude.{◌≡◌, ◌∷◌, Contains, None, Some, drop, find}
+use Rattle.std.specs.Prelude.{find}
 use Rattle.std.proofs.Common.{ap, arith, ◌∙◌, sym}
 use Rattle.std.proofs.lemmas.Option.{slice_get_within}
 use Rattle.cmwq_core.specs.Common.{unended_tickets_fit}
 use Rattle.cmwq_model.specs.Prelude.{past_of, unended_tickets}
 use Rattle.cmwq_refinement.specs.Tickets.{tickets_held}
 use Rattle.cmwq_board.specs.Left.{is_sought}
-use Rattle.cmwq_board.proofs.Sought.{drop_get, drop_none, find_first, find_next, held_few, held_unended}
+use Rattle.cmwq_board.proofs.Sought.{drop_none, find_first, find_next, held_few, held_unended}
 use Rattle.cmwq_board.proofs.left.sought_of.Goals as goal
 
 pub is_sought-requires-clause-unended : goal.is_sought-requires-clause-unended

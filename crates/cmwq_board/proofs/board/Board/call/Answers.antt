@@ -1,4 +1,3 @@
-use Rattle.std.specs.Prelude.{◌≡◌}
 use Rattle.std.proofs.Common.{ap, ◌∙◌, sym, subst}
 use Rattle.cmwq_core.specs.History.{next_entry}
 use Rattle.cmwq_dispatch.specs.Dispatched.{past_now}

@@ -1,16 +1,15 @@
-use Rattle.std.specs.Prelude.{◌≡◌, ◌<◌, ◌≤◌, ◌+◌, List, Some, false, length, slice_index_or, slice_set}
-use Rattle.std.proofs.Common.{ap, arith, ◌∙◌, refl, sym, subst}
+use Rattle.std.specs.Prelude.{◌≡◌, ◌<◌, Some, false, length, slice_index_or, slice_set}
+use Rattle.std.proofs.Common.{ap, arith, ◌∙◌, sym, subst}
 use Rattle.cmwq_core.specs.History.{History, past_in}
 use Rattle.cmwq_dispatch.specs.Dispatched.{Dispatched, past_now}
-use Rattle.cmwq_model.specs.Prelude.{is_drain, ticket_of}
+use Rattle.cmwq_model.specs.Prelude.{ticket_of}
 use Rattle.cmwq_model.specs.declared.entry.Entry.{Entry}
 use Rattle.cmwq_model.specs.declared.id.CallerId.{CallerId}
 use Rattle.cmwq_model.specs.declared.id.Who.TheVariants.{Caller}
 use Rattle.cmwq_state.specs.Tails.{Tailed}
 use Rattle.cmwq_board.specs.Boarded.{Boarded, firing_for, past_of_board}
-use Rattle.cmwq_board.specs.Lent.{AreLent, EndsTicketOf, MayBecome, caller_of, unended_drains}
-use Rattle.cmwq_board.specs.Waits.{Settles, caller_at, lending_at}
-use Rattle.cmwq_board.specs.declared.lending.Lending.{Lending}
+use Rattle.cmwq_board.specs.Lent.{EndsTicketOf, MayBecome, caller_of, unended_drains}
+use Rattle.cmwq_board.specs.Waits.{caller_at, lending_at}
 use Rattle.cmwq_board.specs.declared.lending.Lending.TheVariants.{Free}
 use Rattle.cmwq_board.proofs.Places.{board_now, caller_there, drain_may_fire, ended_places, left_ended}
 use Rattle.cmwq_board.proofs.board.Board.ends.Goals as goal

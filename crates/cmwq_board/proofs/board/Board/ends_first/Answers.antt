@@ -1,12 +1,12 @@
 use Rattle.std.specs.Prelude.{◌≡◌, ◌<◌, ◌≤◌, Some, length, true}
-use Rattle.std.proofs.Common.{ap, ◌∙◌, sym, subst, true≢false}
+use Rattle.std.proofs.Common.{◌∙◌, sym, subst, true≢false}
 use Rattle.cmwq_core.specs.History.{is_done_waiting}
 use Rattle.cmwq_model.specs.Prelude.{ticket_of}
 use Rattle.cmwq_model.specs.declared.id.CallerId.{CallerId}
 use Rattle.cmwq_model.specs.declared.id.Who.TheVariants.{Caller}
 use Rattle.cmwq_board.specs.Boarded.{Boarded, layout_of, past_of_board}
 use Rattle.cmwq_board.specs.Lent.{MayBecome}
-use Rattle.cmwq_board.specs.Waits.{caller_at, lending_at, place_with, sought_at}
+use Rattle.cmwq_board.specs.Waits.{lending_at}
 use Rattle.cmwq_board.specs.declared.left.Sought.TheVariants.{Ready}
 use Rattle.cmwq_board.specs.declared.lending.Lending.{Lending}
 use Rattle.cmwq_board.proofs.Places.{caller_there}

@@ -1,8 +1,7 @@
-use Rattle.std.specs.Prelude.{◌≡◌, Some, find}
 use Rattle.std.specs.Option.{option_or}
 use Rattle.std.proofs.Common.{ap, arith, ◌∙◌, sym}
 use Rattle.cmwq_board.specs.Waits.{first_free, may_be_lent}
-use Rattle.cmwq_board.proofs.Sought.{find_ends, find_here, find_later}
+use Rattle.cmwq_board.proofs.Sought.{find_here, find_later}
 use Rattle.cmwq_board.proofs.board.Board.lent_place.Goals as goal
 
 pub returns-then-may_be_lent : goal.returns-then-may_be_lent

@@ -1,4 +1,4 @@
-use Rattle.std.specs.Prelude.{◌≡◌, ◌≤◌, ◌<◌, IsTrue, Some, length, true}
+use Rattle.std.specs.Prelude.{◌≡◌, ◌≤◌, length, true}
 use Rattle.std.proofs.Common.{ap, ◌∙◌, sym, subst}
 use Rattle.cmwq_dispatch.specs.Dispatched.{Dispatched}
 use Rattle.cmwq_model.specs.Prelude.{fits}

@@ -1,11 +1,9 @@
 use Rattle.std.specs.Prelude.{◌≡◌, ◌<◌, None, Some, false, length, slice_index_or, slice_set}
-use Rattle.std.proofs.Common.{ap, ◌∙◌, refl, sym, subst}
-use Rattle.std.proofs.lemmas.Bool.{and_parts}
+use Rattle.std.proofs.Common.{◌∙◌, refl, sym, subst}
 use Rattle.cmwq_dispatch.specs.Dispatched.{past_now}
 use Rattle.cmwq_model.specs.Prelude.{ticket_of}
 use Rattle.cmwq_model.specs.declared.id.Who.TheVariants.{Caller}
-use Rattle.cmwq_board.specs.Boarded.{Boarded, board_of, layout_of, past_of_board}
-use Rattle.cmwq_board.specs.Left.{is_free}
+use Rattle.cmwq_board.specs.Boarded.{Boarded, past_of_board}
 use Rattle.cmwq_board.specs.Lent.{caller_of}
 use Rattle.cmwq_board.specs.Waits.{caller_at, lending_at}
 use Rattle.cmwq_board.specs.declared.left.Sought.TheVariants.{For}
