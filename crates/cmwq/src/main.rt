@@ -3,8 +3,10 @@
 #![tactic(auto)]
 
 mod hint;
+mod packed;
 
 use crate::hint::Hinting;
+use crate::packed::packer_of;
 use clap::error::ErrorKind;
 use cmwq_base::{BufferedSink, FromStd, Sink, Source};
 use cmwq_cli::{Asked, Schedules, Word, word_of};
@@ -145,6 +147,19 @@ fn run<S: Source, P: Source, O: Sink, E: Sink, T: Threads + Wait + Clock + Sync>
 
 /// Tells why a word ended with another status than 0, where what it read says so.
 fn explain<E: Sink>(alloc: Global, word: Word, status: u8, bytes: &[u8], errors: &mut E) {
+    match packer_of(bytes) {
+        Some(name) if status == REFUSED_INPUT => {
+            tell(
+                errors,
+                format_args!("the input is compressed by {name}: decompress it first"),
+            );
+        }
+        _ => explain_words(alloc, word, status, bytes, errors),
+    }
+}
+
+/// Tells the same of an input that is not compressed.
+fn explain_words<E: Sink>(alloc: Global, word: Word, status: u8, bytes: &[u8], errors: &mut E) {
     match word {
         Word::Step { .. } => explain_calls(alloc, "step", status, bytes, errors),
         Word::Check { front } => explain_history(alloc, "check", status, bytes, front, errors),
