@@ -12,7 +12,7 @@ from . import _fork  # noqa: F401 (it is told of forks)
 from . import _library as library
 from ._library import lib
 from ._options import QueueOptions, shapes_of
-from ._report import report
+from ._report import let_go, report
 from ._run import Run
 from ._shell import ABORT, END, Shell, here, open_shells
 from ._threads import Clock, Journal, Worker
@@ -254,7 +254,11 @@ class Hub(arguments.Single):
             try:
                 self._on_error(item, why)
             except BaseException as other:
+                other.__traceback__ = other.__traceback__ and other.__traceback__.tb_next
                 report("on_error of %s has raised", self, other)
+                let_go(other)
+            finally:
+                del self, item  # this frame is below those of the hook
 
     def _each(self, call: Callable[[Queue, Optional[float]], None], timeout: Optional[float]) -> None:
         deadline = arguments.deadline(timeout)

@@ -96,6 +96,7 @@ class Worker:
         why.__traceback__ = why.__traceback__ and why.__traceback__.tb_next
         item._error = why, why.__traceback__
         item._queue._hub._note(item, why)
+        del item
         let_go(why)
 
     def _end_run(self, run: Run) -> None:

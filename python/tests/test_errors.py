@@ -125,6 +125,7 @@ class Errors(Case):
         def hook(item, why):
             locals_seen.append("thing" in why.__traceback__.tb_frame.f_locals)
             kept.append(why)
+            raise ValueError("two")
 
         hub = self.hub(on_error=hook)
         item = hub.item(work)
@@ -139,7 +140,7 @@ class Errors(Case):
         self.assertEqual((raised.exception.errors, locals_seen), (tuple(kept), [True]))
         del item, hub, raised
         self.assertTrue(until(lambda: not any(it() for it in gone), 5), [it() for it in gone])
-        self.assertEqual(len(self.logged), 1)  # a record of the log keeps nothing either
+        self.assertEqual(len(self.logged), 2)  # the records of the log keep nothing either
         text = "".join(traceback.format_exception(type(kept[0]), kept[0], kept[0].__traceback__))
         self.assertRegex(text, r'(?s)in deeper\n.*KeyError: .a.\n.*During handling.*in work\n.*ValueError: one\n$')
 
