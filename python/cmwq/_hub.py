@@ -178,7 +178,7 @@ class Hub(arguments.Single):
         head, written = ctypes.create_string_buffer(64 * (2 + len(names))), ctypes.c_size_t()
         library.done(lib.cmwq_head(ctypes.byref(shape), shapes, len(names), head, len(head), ctypes.byref(written)))
         self._names, self._errors = names, []  # type: List[str], List[BaseException]
-        self._handles: "weakref.WeakValueDictionary[str, Queue]" = weakref.WeakValueDictionary()
+        self._handles: Dict[str, "weakref.ref[Queue]"] = {}
         self._is_told = False
         self._shell = Shell(shape, shapes, keep, tick, history)
         try:
@@ -231,9 +231,10 @@ class Hub(arguments.Single):
         if arguments.text("name", name) not in self._names:
             known = ", ".join(map(repr, self._names))
             raise errors.Invalid(f"name={arguments.shown(name)} is not that of a queue: {known}")
-        found = self._handles.get(name)
+        found = self._handles[name]() if name in self._handles else None
         if found is None:
-            found = self._handles.setdefault(name, Queue(self, name, self._names.index(name)))
+            found = Queue(self, name, self._names.index(name))
+            self._handles[name] = weakref.ref(found)  # a callback of it could swallow what a signal handler raises
         return found
 
     def item(self, work: Callable[[Run], Any], cpu: Optional[int] = None) -> Item:

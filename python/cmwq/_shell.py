@@ -25,6 +25,10 @@ from ._library import NONE, OK, lib, step
 # How many full buffers of entries may wait to be written before calls wait for the journal.
 MOST_FULL = 4
 
+# How long a call sleeps at most until it looks again, in seconds. A signal that comes just before the main thread
+# sleeps doesn't wake it.
+AWAKE = 1.0
+
 # The statuses at which the library has written whom to wake, and those at which a wait goes on.
 MADE: FrozenSet[int] = frozenset((OK, library.WAITS, library.RESTS, library.OVER, library.LOOK_AGAIN))
 OPEN: FrozenSet[int] = frozenset((library.WAITS, library.LOOK_AGAIN))
@@ -69,6 +73,14 @@ def outcome(reply: int) -> int:
     return library.told(reply) if reply in library.REFUSALS else reply
 
 
+def rest(bell: "Bell[Any]", seconds: Optional[float]) -> None:
+    """Sleeps until there is a token, which is taken, or the time has passed."""
+    try:
+        bell.get(timeout=seconds)
+    except queue.Empty:
+        pass
+
+
 class Gong:
     """What threads sleep by until a condition holds. Unlike a threading.Condition it has no lock that an exception
     could leave behind."""
@@ -85,8 +97,8 @@ class Gong:
         while not is_over():
             bell: "Bell[Any]" = Bell()
             self._bells.append(bell)
-            if not is_over():
-                bell.get()
+            while bell.empty() and not is_over():
+                rest(bell, AWAKE)
 
 
 class Record:
@@ -343,10 +355,7 @@ class Shell:
 
     def sleep(self, place: int, left: Optional[float] = None) -> None:
         """Sleeps as this party, which the board has told to sleep, until it is named or the time has passed."""
-        try:
-            self.bells[place].get(timeout=left if left is None else min(left, threading.TIMEOUT_MAX))
-        except queue.Empty:
-            pass
+        rest(self.bells[place], left)
 
     def state_of(self, number: int) -> library.ItemState:
         state = library.ItemState()
@@ -619,7 +628,7 @@ class Shell:
             if status == library.WAITS:
                 if self.owed:  # this may be a signal handler, or a finalizer, that has come into such a call
                     self.wake_all()
-                self.sleep(self.first_caller + party, left)
+                self.sleep(self.first_caller + party, AWAKE if left is None else min(left, AWAKE))
             else:
                 time.sleep(0)
         return library.OVER if call.is_left else status

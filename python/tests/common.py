@@ -16,6 +16,9 @@ sys.path.insert(0, PACKAGE)
 
 import cmwq  # noqa: E402
 
+# a wake that is lost is not made up for by a later look
+cmwq._shell.AWAKE = 3600.0
+
 REPOSITORY = os.path.dirname(os.path.dirname(HERE))
 
 SEEDS = int(os.environ.get("CMWQ_SEEDS", "40"))

@@ -1,4 +1,5 @@
 """Signal handlers that raise, and handlers that make calls: nobody is forgotten, and nothing is kept."""
+import _thread
 import ctypes
 import itertools
 import random
@@ -260,6 +261,25 @@ except KeyboardInterrupt:
                 gate.go.release()
                 self.assertTrue(until(lambda: not item.running))
                 hub.flush(timeout=10)
+        judged(self.text)
+
+    def test_interrupts_that_wake_nobody(self):
+        """As one that comes just before the main thread sleeps."""
+        before = signal.signal(signal.SIGINT, signal.default_int_handler)
+        self.addCleanup(signal.signal, signal.SIGINT, before)
+        self.addCleanup(setattr, cmwq._shell, "AWAKE", cmwq._shell.AWAKE)
+        cmwq._shell.AWAKE = 0.5
+        hub, gate = self.hub(workers=1, waits=9), Gate()
+        item = hub.item(gate)
+        item.queue()
+        self.assertTrue(until(lambda: item.running))
+        for call in (item.flush, hub.flush, item.cancel_sync, hub.drain, lambda: item.flush(60), hub.shutdown):
+            begun = time.monotonic()
+            threading.Timer(0.05, _thread.interrupt_main).start()
+            self.assertRaises(KeyboardInterrupt, call)
+            self.assertLess(time.monotonic() - begun, 10)
+        gate.go.release()
+        hub.shutdown()
         judged(self.text)
 
     @unittest.skipIf(sys.version_info < (3, 10), "an exception may come between the end of `with` and its exit")

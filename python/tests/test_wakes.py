@@ -65,7 +65,7 @@ class Wakes(Case):
                 if place >= shell.first_caller:
                     late.append(place)
                     gate.go.release()
-                    until(lambda: not item.running)
+                    self.assertTrue(until(lambda: not shell.bells[place].empty()))
                 sleep(place, left)
 
             shell.sleep = slow
