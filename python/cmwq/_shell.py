@@ -73,12 +73,13 @@ def outcome(reply: int) -> int:
     return library.told(reply) if reply in library.REFUSALS else reply
 
 
-def rest(bell: "Bell[Any]", seconds: Optional[float]) -> None:
-    """Sleeps until there is a token, which is taken, or the time has passed."""
+def rest(bell: "Bell[Any]", seconds: Optional[float]) -> bool:
+    """Sleeps until there is a token, which is taken, or the time has passed. Returns whether there was one."""
     try:
         bell.get(timeout=seconds)
+        return True
     except queue.Empty:
-        pass
+        return False
 
 
 class Gong:
@@ -97,8 +98,8 @@ class Gong:
         while not is_over():
             bell: "Bell[Any]" = Bell()
             self._bells.append(bell)
-            while bell.empty() and not is_over():
-                rest(bell, AWAKE)
+            while not is_over() and not rest(bell, AWAKE):
+                pass
 
 
 class Record:
