@@ -107,6 +107,12 @@ EDITS = (
         "",
     ),
     (
+        "the clock is not told of the end of a drain",
+        "shell",
+        "if (wakes->clock) cmwq_hub_name_(hub, hub->clock);",
+        "",
+    ),
+    (
         "the clock is not told of a delay",
         "shell",
         "reply->number < hub->due)\n"

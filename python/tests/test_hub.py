@@ -117,6 +117,19 @@ class Hubs(Case):
             self.assertEqual(told, ["free", "held"])
         judged(self.text)
 
+    def test_waits_that_time_out_take_no_caller(self):
+        with self.hub(waits=2) as hub:
+            gate = Gate()
+            slow, idle = hub.item(gate), hub.item(lambda run: None)
+            slow.queue()
+            for _ in range(200):
+                self.assertRaises(cmwq.TimedOut, slow.flush, 0)
+                self.assertRaises(cmwq.TimedOut, hub.drain, 0)
+            self.assertFalse(idle.cancel_sync())
+            gate.go.release()
+            hub.drain(timeout=10)
+        self.assertLess(judged(self.text), 40)  # a thread that polls makes one entry
+
     def test_waits_with_a_time_limit(self):
         with self.hub() as hub:
             gate, told = Gate(), []

@@ -363,6 +363,27 @@ fn waits_with_a_time_limit() -> Result<()> {
 }
 
 #[test]
+fn waits_that_time_out_take_no_caller() -> Result<()> {
+    let _dog = watchdog();
+    let text = Text::default();
+    let all = Workqueues::builder().queue("a", max_active(4)).waits(2).history(text.clone()).build()?;
+    let queue = all.queue("a")?;
+    let (go, work) = gate();
+    let (slow, idle) = (queue.item(work)?, queue.item(|_| {})?);
+    slow.queue()?;
+    for _ in 0..500 {
+        assert!(matches!(slow.flush_timeout(Duration::ZERO), Err(Error::TimedOut)));
+        assert!(matches!(queue.drain_timeout(Duration::ZERO), Err(Error::TimedOut)));
+    }
+    assert!(!idle.cancel_sync()?);
+    go.send(()).unwrap();
+    queue.drain()?;
+    all.shutdown()?;
+    assert!(text.judge() < 40); // a thread that polls makes one entry
+    Ok(())
+}
+
+#[test]
 fn timers_go_on_after_a_drain_that_was_left() -> Result<()> {
     let _dog = watchdog();
     let (text, soon) = (Text::default(), Duration::from_millis(20));
