@@ -138,7 +138,7 @@ const _: () = {
     use std::mem::size_of;
     assert!(size_of::<Shape>() == 24 && size_of::<QueueShape>() == 6 && size_of::<Who>() == 3);
     assert!(size_of::<Call>() == 24 && size_of::<Reply>() == 24 && size_of::<Entry>() == 56);
-    assert!(size_of::<Wakes>() == 34 && size_of::<ItemState>() == 24 && size_of::<Handle>() == 16);
+    assert!(size_of::<Wakes>() == 35 && size_of::<ItemState>() == 24 && size_of::<Handle>() == 16);
 };
 
 macro_rules! numbered {
