@@ -351,11 +351,11 @@ static void test_timeouts(void)
         CHECK(cmwq_flush_work(&hub, 0, 0) == -CMWQ_TIMED_OUT);
     for (int k = 0; k < 20; k++) {
         CHECK(cmwq_flush_workqueue(&hub, 0, 0) == -CMWQ_TIMED_OUT && cmwq_cancel_work_sync(&hub, 1, CMWQ_FOREVER) == 0);
-        CHECK(cmwq_queue_work_on(&hub, 0, (uint16_t)(2 + k % 2), 0) >= 0 && cmwq_flush_work(&hub, 0, 0) == -CMWQ_TIMED_OUT);
+        CHECK(cmwq_queue_work_on(&hub, 0, 0, 2 + (unsigned)k % 2) >= 0 && cmwq_flush_work(&hub, 0, 0) == -CMWQ_TIMED_OUT);
     }
     CHECK(cmwq_drain_workqueue(&hub, 0, 0) == -CMWQ_TIMED_OUT && cmwq_drain_workqueue(&hub, 0, 1) == -CMWQ_TIMED_OUT);
     CHECK(cmwq_cancel_work_sync(&hub, 0, 0) == -CMWQ_TIMED_OUT && cmwq_cancel_work_sync(&hub, 0, 1) == -CMWQ_TIMED_OUT);
-    CHECK(cmwq_queue_work_on(&hub, 0, 0, 0) == 0 && cmwq_queue_work_on(&hub, 0, 1, 0) == -CMWQ_IS_DRAINING);
+    CHECK(cmwq_queue_work_on(&hub, 0, 0, 0) == 0 && cmwq_queue_work_on(&hub, 0, 0, 1) == -CMWQ_IS_DRAINING);
     __atomic_store_n(&gate_open, true, __ATOMIC_RELEASE);
     /* the hub ends their tickets then */
     CHECK(cmwq_drain_workqueue(&hub, 0, CMWQ_FOREVER) == 1 && cmwq_cancel_work_sync(&hub, 0, CMWQ_FOREVER) == 0);
@@ -376,6 +376,7 @@ static void test_delays(void)
 {
     struct cmwq_options options = made(note_time);
 
+    works[1].run = wait_at_gate;
     options.tick_ns = 3000000;
     options.journal = keep;
     open_hub(options);
@@ -395,9 +396,8 @@ static void test_delays(void)
     while (cmwq_work_busy(&hub, 0))
         usleep(100);
     /* a drain holds back a timer that is due, and one that isn't yet when its queue is empty: the clock is told then */
-    works[1].run = wait_at_gate;
-    CHECK(cmwq_queue_work_on(&hub, 0, 1, 0) == 1 && cmwq_queue_delayed_work_on(&hub, 0, 0, 0, 1) == 1);
-    CHECK(cmwq_queue_delayed_work_on(&hub, 0, 2, 0, 30) == 1 && cmwq_drain_workqueue(&hub, 0, 0) == -CMWQ_TIMED_OUT);
+    CHECK(cmwq_queue_work_on(&hub, 0, 0, 1) == 1 && cmwq_queue_delayed_work_on(&hub, 0, 0, 0, 1) == 1);
+    CHECK(cmwq_queue_delayed_work_on(&hub, 0, 0, 2, 30) == 1 && cmwq_drain_workqueue(&hub, 0, 0) == -CMWQ_TIMED_OUT);
     usleep(10000);
     __atomic_store_n(&gate_open, true, __ATOMIC_RELEASE);
     while (cmwq_work_busy(&hub, 0) || cmwq_work_busy(&hub, 2))

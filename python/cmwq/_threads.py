@@ -12,8 +12,7 @@ from ._report import let_go, report
 from ._run import Run
 from ._shell import ABORT, LOOK, MADE, MOST_FULL, NOBODY, Bell, Call, Lines, Record, Shell, here, open_shells, ring
 
-# How long entries are kept at most before they are written, and how often the clock looks at the timers after a drain
-# was left, since nobody is told when that drain ends. In seconds.
+# How long entries are kept at most before they are written, in seconds.
 QUIET = 0.05
 
 

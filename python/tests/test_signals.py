@@ -198,6 +198,7 @@ class Signals(Case):
     def test_a_program_that_is_interrupted_in_its_shutdown(self):
         said = run_program("""
 import cmwq, os, signal, threading, time
+signal.signal(signal.SIGINT, signal.default_int_handler)  # which is ignored in the background of a shell
 ending, hub = threading.Event(), cmwq.Hub(workers=1)
 
 def interrupts(run):
