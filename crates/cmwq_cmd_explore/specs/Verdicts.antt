@@ -45,6 +45,7 @@ status_of verdicts.Unplayable = 1
 status_of verdicts.OtherShape = 1
 status_of (verdicts.TooDeep n) = 2
 status_of (verdicts.Strays n) = 3
+status_of verdicts.GoesOn = 3
 status_of (verdicts.LeftOut n) = 4
 status_of (verdicts.Refused n) = 6
 status_of (verdicts.RefusedIn n) = 6
@@ -145,10 +146,12 @@ SaysSeeds start moves first times pct verdict =
 
 -- ---- histories
 
--- What a verdict on a history says: a schedule leaves it, or none leaves more than so many entries of it.
+-- What a verdict on a history says: a schedule leaves it, or none leaves it, and none leaves more than so many of its
+-- first entries.
 abbrev pub SaysHistory : Stand → List Entry → Verdict → Type 0
 SaysHistory start history verdicts.AllEnd = (path : List ℕ) × Leaves start history path
 SaysHistory start history (verdicts.Strays n) = LeaveAtMost start history n
+SaysHistory start history verdicts.GoesOn = LeaveAtMost start history (length history)
 SaysHistory start history verdict = Unit {0}
 
 -- ---- tasks

@@ -209,7 +209,7 @@ fn play_path<S: Source, P: Source, O: Sink, E: Sink>(
 
 /// Reads a history and a script, and writes the moves of the schedule that left the history. Returns the exit status: 0
 /// there is one, 1 refused input, or a history of another shape, 3 no schedule leaves the history, and the first entry
-/// that none leaves is told, 8 none was found by so many tries of a move.
+/// that none leaves is told, if it is not left by all that go on, 8 none was found by so many tries of a move.
 pub fn run_follow<S: Source, P: Source, O: Sink, E: Sink>(
     alloc: Global,
     input: &mut S,
@@ -264,6 +264,10 @@ pub(crate) fn tell_verdict<E: Sink>(verdict: Verdict, errors: &mut E) -> u8
         Verdict::Strays(entries) => tell(
             errors,
             format_args!("no schedule of the script leaves entry {entries} of the history"),
+        ),
+        Verdict::GoesOn => tell(
+            errors,
+            "each schedule of the script that leaves the entries of the history goes on in the same move",
         ),
         Verdict::TooDeep(moves) => tell(
             errors,

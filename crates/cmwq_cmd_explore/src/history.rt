@@ -1,7 +1,6 @@
 //! The schedule that left a history.
 
-ghost use Rattle.std.specs.Prelude.{◌≡◌, List, IfOk};
-ghost use Rattle.cmwq_model.specs.declared.entry.Entry.{Entry};
+ghost use Rattle.std.specs.Prelude.{◌≡◌, IfOk};
 ghost use Rattle.cmwq_json_script.specs.Scripts.{run_of};
 ghost use Rattle.cmwq_play.specs.Stands.{Stand};
 ghost use Rattle.cmwq_play.specs.Starts.{first_stand, start_of};
@@ -60,19 +59,20 @@ fn tell_followed<'a, O: Sink>(
     alloc: Global,
     setup: &'a Setup<'a>,
     followed: &Followed,
+    entries: &[Entry],
     output: &mut O,
 ) -> Result<Verdict, Fault>
-    ensures { (start : Stand) (history : List Entry)
-        → IfPath followed.now (λ path. Leaves start history path)
-        → IfBreaks followed.now (λ most. LeaveAtMost start history most)
-        → IfOk result (λ verdict. SaysHistory start history verdict) }
+    ensures { (start : Stand) → IfPath followed.now (λ path. Leaves start entries.now path)
+        → IfBreaks followed.now (λ most. LeaveAtMost start entries.now most)
+        → IfOk result (λ verdict. SaysHistory start entries.now verdict) }
 {
     match followed {
         Followed::Path(path) => {
             tell_way(alloc, setup, path, output)?;
             Ok(Verdict::AllEnd)
         }
-        Followed::Breaks(entries) => Ok(Verdict::Strays(*entries as u64)),
+        Followed::Breaks(most) if *most == entries.len() => Ok(Verdict::GoesOn),
+        Followed::Breaks(most) => Ok(Verdict::Strays(*most as u64)),
         Followed::Unknown => Ok(Verdict::Bounded),
     }
 }
@@ -88,7 +88,7 @@ fn follow_history<'a, O: Sink>(
     ensures { IfOk result (λ verdict. SaysHistory (start_of setup.now) entries.now verdict) }
 {
     let followed = follow(alloc, setup, entries, moves)?;
-    tell_followed(alloc, setup, &followed, output)
+    tell_followed(alloc, setup, &followed, entries, output)
 }
 
 /// Finds the schedule of a script that left a history, and writes its moves.

@@ -24,8 +24,10 @@ pub(crate) enum Verdict {
     Unplayable,
     /// A history has another shape than the script.
     OtherShape,
-    /// No schedule leaves more of a history than so many entries.
+    /// No schedule leaves more first entries of a history than so many.
     Strays(u64),
+    /// Those that leave all of its entries go on in the same move.
+    GoesOn,
 }
 
 /// How many of the schedules that were played came to each end, and in how many of those that ended something was
@@ -68,7 +70,7 @@ impl Verdict {
             Verdict::AllEnd => 0,
             Verdict::Unplayable | Verdict::OtherShape => 1,
             Verdict::TooDeep(_) => 2,
-            Verdict::Strays(_) => 3,
+            Verdict::Strays(_) | Verdict::GoesOn => 3,
             Verdict::LeftOut(_) => 4,
             Verdict::Refused(_) | Verdict::RefusedIn(_) => 6,
             Verdict::Stuck => 7,

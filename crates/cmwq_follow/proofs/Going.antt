@@ -1,7 +1,7 @@
 -- How a search for a schedule goes on.
 use Rattle.std.proofs.Common.{ℕ, ◌≡◌, ◌+◌, ◌≤◌, ◌++◌, ◌∷◌, [], List, length, true, false, refl, sym, subst, ap}
-use Rattle.std.proofs.Common.{◌∙◌, arith, max, suc, zero, ⊎_elim, ◌⊎◌, inl, inr}
-use Rattle.std.proofs.Common.{Option, Some, None, is_some}
+use Rattle.std.proofs.Common.{◌<◌, ◌∙◌, arith, max, suc, take, zero, ⊎_elim, ◌⊎◌, inl, inr}
+use Rattle.std.proofs.Common.{Bool, Option, Some, None, is_some}
 use Rattle.std.specs.Prelude.{MatchOption, option_to_list}
 use Rattle.std.proofs.lemmas.List.{length-append}
 use Rattle.std.proofs.Math.Nat.{le-max_left, le-max_right}
@@ -12,16 +12,27 @@ use Rattle.cmwq_play.specs.Stands.{Stand, may, moved}
 use Rattle.cmwq_play.specs.declared.setup.Setup.{Setup}
 unfoldable use Rattle.cmwq_play.specs.Starts.{start_of}
 use Rattle.cmwq_play.proofs.Moving.{may_within}
-use Rattle.cmwq_explore.proofs.Searching.{false_or}
 use Rattle.cmwq_play.proofs.Paths.{after_more, path_push}
 use Rattle.cmwq_key.proofs.Staying.{schedules_add}
-use Rattle.cmwq_follow.proofs.Prefixes.{all_of, prefixes}
-use Rattle.cmwq_follow.specs.Followed.{LeaveAtMost, Leaves}
+use Rattle.cmwq_follow.proofs.Prefixes.{all_of, front_agrees, no_longer, prefixes, same_agree}
+use Rattle.cmwq_follow.specs.Followed.{IfBreaks, LeaveAtMost, Leaves}
 use Rattle.cmwq_follow.specs.Ways.{IsDeadEnd, IsTrying, IsUnderWay, Leads, NoneLeft}
+use Rattle.cmwq_follow.specs.declared.search.Followed.{Followed}
+use Rattle.cmwq_follow.specs.declared.search.Followed.TheVariants as followed
 use Rattle.cmwq_follow.specs.declared.search.Way.{Way}
 unfoldable use Rattle.cmwq_follow.specs.Ways.{NoneLeftAlong}
 use Rattle.cmwq_follow.specs.declared.search.Tried.{Tried}
 use Rattle.cmwq_follow.specs.declared.search.Tried.TheVariants as tried
+
+pub false_or : (b : Bool) → b ≡ true → b ≡ false → ⊥
+false_or true is not = cc
+false_or false is not = cc
+
+one_is_less : (k n : ℕ) → (k ≤ n) ⊎ (n ≤ k)
+one_is_less zero n = inl (omega arith)
+one_is_less (suc k) zero = inr (omega arith)
+one_is_less (suc k) (suc n) =
+    ⊎_elim (λ (less : k ≤ n). inl (omega arith)) (λ (less : n ≤ k). inr (omega arith)) (one_is_less k n)
 
 -- one move only adds entries
 pub move_adds : (p : Stand) (k : ℕ) → IsPrefix p.history.entries (moved p k).history.entries
@@ -29,15 +40,34 @@ move_adds p k = schedules_add p (k ∷ [])
 
 -- a stand in which nobody is left adds nothing to what was left there
 pub none_from : (history : List Entry) (q : Stand) (most : ℕ) → length q.history.entries ≤ most
-    → NoneLeft history most q tried.Nobody → LeaveAtMost q history most
-none_from history q most few none [] goes front = few
-none_from history q most few none (k ∷ more) goes front = none k (omega arith) goes.0 more goes.1 front
+    → (q.history.entries ≡ history → ⊥) → NoneLeft history most q tried.Nobody → LeaveAtMost q history most
+none_from history q most few part none [] goes = (part, λ n within same. omega (arith, few, within))
+none_from history q most few part none (k ∷ more) goes = none k tt goes.0 more goes.1
 
--- nor does one whose history is another
-pub none_other : (history : List Entry) (q : Stand) (most : ℕ) → (IsPrefix q.history.entries history → ⊥)
-    → LeaveAtMost q history most
-none_other history q most other schedule goes front =
-    absurd (other (prefixes q.history.entries _ history (schedules_add q schedule) front))
+-- what is told of so many entries is true of more
+pub higher : (history : List Entry) (q : Stand) (most more : ℕ) → most ≤ more → LeaveAtMost q history most
+    → LeaveAtMost q history more
+higher history q most more up none schedule goes =
+    let here = none schedule goes in (here.0, λ n within same. let few = here.1 n within same in omega (arith, few, up))
+
+-- a stand with an entry that is none of the history's leaves no more than those before it
+pub none_beyond : (history : List Entry) (q : Stand) (agreeing : ℕ)
+    → ((n : ℕ) → n ≤ length q.history.entries → IsPrefix (take n q.history.entries) history → n ≤ agreeing)
+    → agreeing < length q.history.entries → LeaveAtMost q history agreeing
+none_beyond history q agreeing most part schedule goes =
+    let here = q.history.entries in
+    let there = (after q schedule).history.entries in
+    let adds : IsPrefix here there = schedules_add q schedule in
+    let long : length here ≤ length there = no_longer here there adds in
+    let not_all : (n : ℕ) → length here ≤ n → IsPrefix (take n there) history → ⊥ =
+    λ n all agree. let few = most (length here) (omega arith)
+    (front_agrees here there history (length here) n adds (omega arith) all agree) in absurd (omega (arith, few, part)) in (
+      λ same. not_all (length there) long (same_agree there history same),
+      λ n within agree. ⊎_elim (λ (all : length here ≤ n). absurd (not_all n all agree))
+          (λ (less : n ≤ length here). most n less
+          (front_agrees here there history n n adds less (omega arith) agree))
+          (one_is_less (length here) n),
+    )
 
 -- ---- the stands of a way
 
@@ -93,37 +123,63 @@ same_or_later (suc k) (suc j) from =
     ⊎_elim (λ (same : k ≡ j). inl (ap suc same)) (λ (later : k + 1 ≤ j). inr (omega arith))
     (same_or_later k j (omega arith))
 
--- the others are left where this party was tried in its turn
-pub in_turn : (history : List Entry) (m : ℕ) (p : Stand) (k : ℕ) → LeaveAtMost (moved p k) history m
-    → NoneLeft history m p (tried.Before (k + 1)) → NoneLeft history m p (tried.Before k)
-in_turn history m p k this others j from is =
-    ⊎_elim (λ (same : k ≡ j). subst (λ i. LeaveAtMost (moved p i) history m) same this)
-    (λ (later : k + 1 ≤ j). others j later is) (same_or_later k j from)
+same_or_other : (k j : ℕ) → (k ≡ j) ⊎ (k ≡ j → ⊥)
+same_or_other zero zero = inl refl
+same_or_other zero (suc j) = inr (λ same. absurd (omega (arith, same)))
+same_or_other (suc k) zero = inr (λ same. absurd (omega (arith, same)))
+same_or_other (suc k) (suc j) =
+    ⊎_elim (λ (same : k ≡ j). inl (ap suc same))
+    (λ (other : k ≡ j → ⊥). inr (λ same. other (omega (arith, same)))) (same_or_other k j)
 
--- and where it may not move
-pub may_not : (history : List Entry) (m : ℕ) (p : Stand) (k : ℕ) → may p k ≡ false
-    → NoneLeft history m p (tried.Before (k + 1)) → NoneLeft history m p (tried.Before k)
-may_not history m p k stays others j from is =
-    ⊎_elim (λ (same : k ≡ j). absurd (false_or (may p j) is (subst (λ i. may p i ≡ false) same stays)))
-    (λ (later : k + 1 ≤ j). others j later is) (same_or_later k j from)
+module _ (history : List Entry) (m : ℕ) (p : Stand) where
+  by_another : (k j : ℕ) → (may p k ≡ true → LeaveAtMost (moved p k) history m) → k ≡ j → may p j ≡ true
+      → LeaveAtMost (moved p j) history m
+  by_another k j this same is =
+      subst (λ i. LeaveAtMost (moved p i) history m) same (this (subst (λ i. may p i ≡ true) (sym same) is))
 
--- there is no party of a greater number
-pub nobody_left : (history : List Entry) (m : ℕ) (p : Stand) (k : ℕ) → length p.callers + length p.workers ≤ k
-    → NoneLeft history m p (tried.Before k)
-nobody_left history m p k all j from is = absurd (let within = may_within p j is in omega arith)
+  -- all are left where the likely party was not tried
+  likely_first : (likely : ℕ) → (may p likely ≡ true → LeaveAtMost (moved p likely) history m)
+      → NoneLeft history m p (tried.Others likely 0) → NoneLeft history m p tried.Nobody
+  likely_first likely this others j left is =
+      ⊎_elim (λ (same : likely ≡ j). by_another likely j this same is)
+      (λ (other : likely ≡ j → ⊥). others j (omega arith, λ same. other (sym same)) is) (same_or_other likely j)
+
+  -- the others are left where this party was tried in its turn
+  in_turn : (likely next : ℕ) → (may p next ≡ true → LeaveAtMost (moved p next) history m)
+      → NoneLeft history m p (tried.Others likely (next + 1)) → NoneLeft history m p (tried.Others likely next)
+  in_turn likely next this others j left is =
+      ⊎_elim (λ (same : next ≡ j). by_another next j this same is)
+      (λ (later : next + 1 ≤ j). others j (later, left.1) is) (same_or_later next j left.0)
+
+  -- the likely one has no turn of its own
+  no_turn : (likely next : ℕ) → next ≡ likely → NoneLeft history m p (tried.Others likely (next + 1))
+      → NoneLeft history m p (tried.Others likely next)
+  no_turn likely next here others j left is =
+      ⊎_elim (λ (same : next ≡ j). absurd (left.1 (sym same ∙ here)))
+      (λ (later : next + 1 ≤ j). others j (later, left.1) is) (same_or_later next j left.0)
+
+  -- there is no party of a greater number
+  pub nobody_left : (likely next : ℕ) → length p.callers + length p.workers ≤ next
+      → NoneLeft history m p (tried.Others likely next)
+  nobody_left likely next all j left is =
+      absurd (let within = may_within p j is in let from = left.0 in omega arith)
 
 -- ---- the search
 
 -- the search begins
-pub begun : (start : Stand) (history : List Entry) → start.history.entries ≡ []
+pub begun : (start : Stand) (history : List Entry) → start.history.entries ≡ [] → 0 < length history
     → Leads start history 0 [] (tried.Nobody ∷ []) start
 unfolding NoneLeftAlong
-begun start history fresh =
+begun start history fresh some =
+    let part : start.history.entries ≡ history → ⊥ =
+    λ same. let none : length history ≡ 0 = ap length (sym same ∙ fresh) in absurd (omega (arith, none, some)) in
     record {
       goes = (tt, refl);
       left = (history, ap (λ xs. xs ++ history) fresh);
+      part = part;
       long = refl;
-      rest = λ m less none. none_from history start m (subst (λ xs. length xs ≤ m) (sym fresh) (omega arith)) none;
+      rest = λ m less none.
+          none_from history start m (subst (λ xs. length xs ≤ m) (sym fresh) (omega arith)) part none;
     }
 
 front_long : (path : List ℕ) (front : List Tried) (t : Tried) → length (front ++ t ∷ []) ≡ length path + 1
@@ -138,30 +194,43 @@ module _ {start : Stand} {history : List Entry} {most : ℕ} where
   -- in the last stand others are left
   pub left_others : (path : List ℕ) (front : List Tried) (t u : Tried) (p : Stand)
       → Leads start history most path (front ++ t ∷ []) p
-      → ((m : ℕ) → NoneLeft history m p u → NoneLeft history m p t)
+      → ((m : ℕ) → most ≤ m → NoneLeft history m p u → NoneLeft history m p t)
       → Leads start history most path (front ++ u ∷ []) p
   left_others path front t u p w others =
       let here = front_long path front t w.long in
       record {
         goes = w.goes;
         left = w.left;
+        part = w.part;
         long = length-append front (u ∷ []) ∙ ap (λ n. n + 1) here;
         rest = λ m less none.
             let parts = along_last history m start path front u here none in
             w.rest m less (along_join history m start path front t here parts.0
             (subst (λ s. NoneLeft history m s t) w.goes.1
-            (others m (subst (λ s. NoneLeft history m s u) (sym w.goes.1) parts.1))));
+            (others m less (subst (λ s. NoneLeft history m s u) (sym w.goes.1) parts.1))));
+      }
+
+  -- more entries than before were found
+  raised : (path : List ℕ) (tries : List Tried) (p : Stand) (more : ℕ) → Leads start history most path tries p
+      → most ≤ more → Leads start history more path tries p
+  raised path tries p more w up =
+      record {
+        goes = w.goes;
+        left = w.left;
+        part = w.part;
+        long = w.long;
+        rest = λ m less none. w.rest m (omega (arith, less, up)) none;
       }
 
   -- one of them moves
   pub goes_on : (path longer : List ℕ) (front : List Tried) (tries : List Tried) (t u : Tried) (p q : Stand)
       (k more : ℕ)
       → Leads start history most path (front ++ t ∷ []) p → may p k ≡ true → q ≡ moved p k
-      → IsPrefix q.history.entries history
+      → IsPrefix q.history.entries history → (q.history.entries ≡ history → ⊥)
       → ((m : ℕ) → LeaveAtMost (moved p k) history m → NoneLeft history m p u → NoneLeft history m p t)
       → longer ≡ path ++ k ∷ [] → tries ≡ front ++ u ∷ [] ++ tried.Nobody ∷ [] → most ≤ more
       → length q.history.entries ≤ more → Leads start history more longer tries q
-  goes_on path longer front tries t u p q k more w is to left others pushed tried_more higher few =
+  goes_on path longer front tries t u p q k more w is to left part others pushed tried_more higher few =
       let here = front_long path front t w.long in
       let goes = path_push start p q path longer k w.goes is to pushed in
       let last : length (front ++ u ∷ []) ≡ length path + 1 = length-append front (u ∷ []) ∙ ap (λ n. n + 1) here in
@@ -169,6 +238,7 @@ module _ {start : Stand} {history : List Entry} {most : ℕ} where
       record {
         goes = goes;
         left = left;
+        part = part;
         long = ap length tried_more ∙ length-append (front ++ u ∷ []) (tried.Nobody ∷ [])
             ∙ ap (λ n. n + 1) (last ∙ sym long);
         rest = λ m less none.
@@ -177,7 +247,7 @@ module _ {start : Stand} {history : List Entry} {most : ℕ} where
             let before = along_move history m start path k (front ++ u ∷ []) last
             (subst (λ ks. NoneLeftAlong history m start ks (front ++ u ∷ [])) pushed parts.0) in
             let these = along_last history m start path front u here before in
-            let child = none_from history q m (omega arith)
+            let child = none_from history q m (omega arith) part
             (subst (λ s. NoneLeft history m s tried.Nobody) (sym goes.1) parts.1) in
             w.rest m (omega arith) (along_join history m start path front t here these.0
             (subst (λ s. NoneLeft history m s t) w.goes.1
@@ -199,6 +269,11 @@ module _ {start : Stand} {history : List Entry} {most : ℕ} where
       record {
         goes = (schedule_front start path k (subst (IsSchedule start) pushed w.goes.0), there);
         left = prefixes q.history.entries p.history.entries history adds w.left;
+        part = λ same.
+            let least = no_longer q.history.entries p.history.entries adds in
+            let greatest = no_longer p.history.entries history w.left in
+            let all = ap length same in
+            w.part (all_of p.history.entries history w.left (omega (arith, least, greatest, all)));
         long = here ∙ long;
         rest = λ m less none.
             w.rest m less (along_join history m start longer front t here
@@ -230,42 +305,92 @@ fresh s = refl
 
 -- the search begins with no move
 pub begun_as : (start : Stand) (history : List Entry) (path : List ℕ) (tries : List Tried)
-    → start.history.entries ≡ [] → path ≡ [] → tries ≡ tried.Nobody ∷ [] → Leads start history 0 path tries start
-begun_as start history path tries fresh none one =
+    → start.history.entries ≡ [] → 0 < length history → path ≡ [] → tries ≡ tried.Nobody ∷ []
+    → Leads start history 0 path tries start
+begun_as start history path tries fresh some none one =
     subst (λ ks. Leads start history 0 ks tries start) (sym none)
-    (subst (λ ts. Leads start history 0 [] ts start) (sym one) (begun start history fresh))
+    (subst (λ ts. Leads start history 0 [] ts start) (sym one) (begun start history fresh some))
+
+-- ---- who is tried
+
+-- the likely party
+pub trying_likely : (start : Stand) (history : List Entry) (way : Way) (p : Stand) (likely : ℕ) (old front : List Tried)
+    → Leads start history way.most way.path.items old p → old ≡ front ++ tried.Nobody ∷ []
+    → way.tries.items ≡ front ++ tried.Others likely 0 ∷ [] → IsTrying start history way p likely
+trying_likely start history way p likely old front w last now =
+    record {
+      front = front;
+      before = tried.Nobody;
+      noted = tried.Others likely 0;
+      leads = subst (λ ts. Leads start history way.most way.path.items ts p) last w;
+      tries = now;
+      others = λ m this none. likely_first history m p likely this none;
+    }
+
+-- another one
+pub trying_next : (start : Stand) (history : List Entry) (way : Way) (p : Stand) (likely next : ℕ)
+    (old front : List Tried) → Leads start history way.most way.path.items old p
+    → old ≡ front ++ tried.Others likely next ∷ [] → way.tries.items ≡ front ++ tried.Others likely (next + 1) ∷ []
+    → IsTrying start history way p next
+trying_next start history way p likely next old front w last now =
+    record {
+      front = front;
+      before = tried.Others likely next;
+      noted = tried.Others likely (next + 1);
+      leads = subst (λ ts. Leads start history way.most way.path.items ts p) last w;
+      tries = now;
+      others = λ m this none. in_turn history m p likely next this none;
+    }
+
+-- nobody, as it would be the likely one's turn
+pub passed_over : (start : Stand) (history : List Entry) (most : ℕ) (path : List ℕ) (p : Stand) (likely next : ℕ)
+    (old new front : List Tried) → Leads start history most path old p
+    → old ≡ front ++ tried.Others likely next ∷ [] → next ≡ likely
+    → new ≡ front ++ tried.Others likely (next + 1) ∷ [] → Leads start history most path new p
+passed_over start history most path p likely next old new front w last here now =
+    subst (λ ts. Leads start history most path ts p) (sym now)
+    (left_others path front (tried.Others likely next) (tried.Others likely (next + 1)) p
+    (subst (λ ts. Leads start history most path ts p) last w)
+    (λ m less none. no_turn history m p likely next here none))
 
 -- ---- what a try comes to
 
 -- the move was tried in vain
-pub tried_in_vain : (start : Stand) (history : List Entry) (way : Way) (p : Stand) (party : ℕ)
-    → IsTrying start history way p party → (may p party ≡ true → IsPrefix (moved p party).history.entries history → ⊥)
-    → IsUnderWay start history way p
-tried_in_vain start history way p party t other =
-    subst (λ ts. Leads start history way.most way.path.items ts p) (sym t.tries)
-    (left_others way.path.items t.front t.before t.noted p t.leads
-    (λ m none. t.others m (λ is. none_other history (moved p party) m (other is)) none))
+pub tried_in_vain : (start : Stand) (history : List Entry) (way : Way) (p : Stand) (party more : ℕ)
+    → IsTrying start history way p party → way.most ≤ more
+    → (may p party ≡ true → LeaveAtMost (moved p party) history more)
+    → Leads start history more way.path.items way.tries.items p
+tried_in_vain start history way p party more t up none =
+    subst (λ ts. Leads start history more way.path.items ts p) (sym t.tries)
+    (left_others way.path.items t.front t.before t.noted p
+    (raised way.path.items (t.front ++ t.before ∷ []) p more t.leads up)
+    (λ m less others. t.others m (λ is. higher history (moved p party) more m less (none is)) others))
 
 -- it was taken
 pub tried_on : (start : Stand) (history : List Entry) (way new : Way) (p q : Stand) (party left : ℕ)
     → IsTrying start history way p party → may p party ≡ true → q ≡ moved p party
-    → IsPrefix q.history.entries history → new.path.items ≡ way.path.items ++ party ∷ []
+    → IsPrefix q.history.entries history → (q.history.entries ≡ history → ⊥)
+    → new.path.items ≡ way.path.items ++ party ∷ []
     → new.tries.items ≡ way.tries.items ++ tried.Nobody ∷ [] → new.most ≡ max way.most left
     → left ≡ length q.history.entries → IsUnderWay start history new q
-tried_on start history way new p q party left t is to front pushed tries most long =
+tried_on start history way new p q party left t is to front part pushed tries most long =
     goes_on way.path.items new.path.items t.front new.tries.items t.before t.noted p q party new.most t.leads is to front
-    (λ m child none. t.others m (λ _. child) none) pushed (tries ∙ ap (λ ts. ts ++ tried.Nobody ∷ []) t.tries)
+    part (λ m child none. t.others m (λ _. child) none) pushed
+    (tries ∙ ap (λ ts. ts ++ tried.Nobody ∷ []) t.tries)
     (subst (λ n. way.most ≤ n) (sym most) (le-max_left way.most left))
     (subst (λ n. length q.history.entries ≤ n) (sym most)
     (subst (λ n. n ≤ max way.most left) long (le-max_right way.most left)))
 
 -- and left the whole history
-pub left_all : (start : Stand) (history : List Entry) (way : Way) (q : Stand) → IsUnderWay start history way q
-    → length q.history.entries ≡ length history → Leaves start history way.path.items
-left_all start history way q w long =
+pub left_all : (start : Stand) (history : List Entry) (way new : Way) (p q : Stand) (party : ℕ)
+    → IsTrying start history way p party → may p party ≡ true → q ≡ moved p party
+    → IsPrefix q.history.entries history → new.path.items ≡ way.path.items ++ party ∷ []
+    → length q.history.entries ≡ length history → Leaves start history new.path.items
+left_all start history way new p q party t is to front pushed long =
+    let goes = path_push start p q way.path.items new.path.items party t.leads.goes is to pushed in
     record {
-      goes = w.goes.0;
-      left = ap (λ (s : Stand). s.history.entries) (sym w.goes.1) ∙ all_of q.history.entries history w.left long;
+      goes = goes.0;
+      left = ap (λ (s : Stand). s.history.entries) (sym goes.1) ∙ all_of q.history.entries history front long;
     }
 
 -- ---- what is taken from the end of a list
@@ -289,13 +414,19 @@ leaves_nothing start [] path fresh long none =
 leaves_nothing start (e ∷ history) path fresh long none = absurd (omega arith)
 
 -- all were tried where the last one was the last party
-pub dead_end : (start : Stand) (history : List Entry) (way back : Way) (p : Stand) (party : ℕ)
+pub dead_end : (start : Stand) (history : List Entry) (way back : Way) (p : Stand) (likely next : ℕ)
     → Leads start history back.most back.path.items way.tries.items p
-    → way.tries.items ≡ back.tries.items ++ tried.Before party ∷ []
-    → length p.callers + length p.workers ≤ party → IsDeadEnd start history back p
-dead_end start history way back p party w last all =
+    → way.tries.items ≡ back.tries.items ++ tried.Others likely next ∷ []
+    → length p.callers + length p.workers ≤ next → IsDeadEnd start history back p
+dead_end start history way back p likely next w last all =
     record {
-      last = tried.Before party;
+      last = tried.Others likely next;
       leads = subst (λ ts. Leads start history back.most back.path.items ts p) last w;
-      nobody = λ m. nobody_left history m p party all;
+      nobody = λ m. nobody_left history m p likely next all;
     }
+
+-- what is told of a break follows from what is known of it
+pub breaks_so : (f : Followed) {P Q : ℕ → Type 0} → ((most : ℕ) → P most → Q most) → IfBreaks f P → IfBreaks f Q
+breaks_so (followed.Path path) so told = tt
+breaks_so (followed.Breaks most) so told = so most told
+breaks_so followed.Unknown so told = tt

@@ -63,3 +63,43 @@ front_longer xs ys k d less other p same =
 -- a beginning that is as long is the whole
 pub all_of : (xs ys : List Entry) → IsPrefix xs ys → length xs ≡ length ys → xs ≡ ys
 all_of xs ys p same = sym (prefix_taken xs ys p) ∙ ap (λ n. take n ys) same ∙ whole ys
+
+-- ---- how many entries are the same
+
+-- those of a beginning, where those of a list that goes on are more
+pub front_agrees : (xs ys zs : List Entry) (k n : ℕ) → IsPrefix xs ys → k ≤ length xs → k ≤ n → IsPrefix (take n ys) zs
+    → IsPrefix (take k xs) zs
+front_agrees xs ys zs zero n p within less q = (zs, refl)
+front_agrees xs ys zs (suc k) zero p within less q = absurd (omega arith)
+front_agrees [] ys zs (suc k) (suc n) p within less q = absurd (omega arith)
+front_agrees (x ∷ xs) ys zs (suc k) (suc n) p within less q =
+    let inner = front_agrees xs (xs ++ p.0) (take n (xs ++ p.0) ++ q.0) k n (p.0, refl) (omega arith) (omega arith)
+    (q.0, refl) in
+    (inner.0, ap (λ ws. x ∷ ws) inner.1 ∙ ap (λ ws. take (suc n) ws ++ q.0) p.1 ∙ q.1)
+
+-- all, where the lists are the same
+pub same_agree : (xs zs : List Entry) → xs ≡ zs → IsPrefix (take (length xs) xs) zs
+same_agree xs zs same = ([], append-nil (take (length xs) xs) ∙ whole xs ∙ same)
+
+-- where all are the same, the list is a beginning
+pub all_agree : (xs zs : List Entry) (n : ℕ) → n ≡ length xs → IsPrefix (take n xs) zs → IsPrefix xs zs
+all_agree xs zs n all p = subst (λ ws. IsPrefix ws zs) (ap (λ k. take k xs) all ∙ whole xs) p
+
+agree_at : (xs zs : List Entry) (n k : ℕ) (d : Entry) → k < n → n ≤ length xs → IsPrefix (take n xs) zs
+    → get_or xs k d ≡ get_or zs k d
+agree_at xs zs zero k d less within p = absurd (omega arith)
+agree_at [] zs (suc n) k d less within p = absurd (omega arith)
+agree_at (x ∷ xs) zs (suc n) zero d less within p = ap (λ ws. get_or ws 0 d) p.1
+agree_at (x ∷ xs) zs (suc n) (suc k) d less within p =
+    agree_at xs (take n xs ++ p.0) n k d (omega arith) (omega arith) (p.0, refl)
+    ∙ ap (λ ws. get_or ws (suc k) d) p.1
+
+at_most : (n k : ℕ) → (k < n → ⊥) → n ≤ k
+at_most zero k never = omega arith
+at_most (suc n) zero never = absurd (never (omega arith))
+at_most (suc n) (suc k) never = let inner = at_most n k (λ less. never (omega (arith, less))) in omega (arith, inner)
+
+-- nor more than those before an entry that differs
+pub differ_at : (xs zs : List Entry) (n k : ℕ) (d : Entry) → (get_or xs k d ≡ get_or zs k d → ⊥) → n ≤ length xs
+    → IsPrefix (take n xs) zs → n ≤ k
+differ_at xs zs n k d differ within p = at_most n k (λ less. differ (agree_at xs zs n k d less within p))

@@ -1,5 +1,5 @@
 -- Which histories schedules leave.
-use Rattle.std.specs.Prelude.{◌≡◌, ◌≤◌, ℕ, List, length}
+use Rattle.std.specs.Prelude.{◌≡◌, ◌≤◌, ℕ, List, length, take}
 use mathlib.Core.List.{IsPrefix}
 use Rattle.cmwq_model.specs.declared.entry.Entry.{Entry}
 use Rattle.cmwq_play.specs.Searches.{IsSchedule, after}
@@ -12,11 +12,13 @@ pub record Leaves (start : Stand) (history : List Entry) (schedule : List ℕ) :
   pub goes : IsSchedule start schedule
   pub left : (after start schedule).history.entries ≡ history
 
--- each schedule that leaves a beginning of this history leaves so many entries of it at most
+-- No schedule leaves this history, and of none more first entries than so many are those of this history, also where a
+-- move left others behind them.
 abbrev pub LeaveAtMost : Stand → List Entry → ℕ → Type 0
 LeaveAtMost start history most =
-    (schedule : List ℕ) → IsSchedule start schedule → IsPrefix (after start schedule).history.entries history
-    → length (after start schedule).history.entries ≤ most
+    (schedule : List ℕ) → IsSchedule start schedule → ((after start schedule).history.entries ≡ history → ⊥)
+    × ((n : ℕ) → n ≤ length (after start schedule).history.entries
+    → IsPrefix (take n (after start schedule).history.entries) history → n ≤ most)
 
 abbrev pub IfPath : Followed → (List ℕ → Type 0) → Type 0
 IfPath (followed.Path path) P = P path.items

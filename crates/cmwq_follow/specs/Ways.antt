@@ -10,15 +10,15 @@ use Rattle.cmwq_follow.specs.declared.search.Tried.{Tried}
 use Rattle.cmwq_follow.specs.declared.search.Tried.TheVariants as tried
 use Rattle.cmwq_follow.specs.Followed.{LeaveAtMost}
 
--- the first party that was not tried in its turn
-abbrev pub first_left : Tried → ℕ
-first_left tried.Nobody = 0
-first_left (tried.Before party) = party
+-- a party is left: neither the likely one nor one before the next
+abbrev pub IsLeft : Tried → ℕ → Type 0
+IsLeft tried.Nobody party = Unit {0}
+IsLeft (tried.Others likely next) party = (next ≤ party) × (party ≡ likely → ⊥)
 
 -- nothing is found from this stand by a move of those who are left
 abbrev pub NoneLeft : List Entry → ℕ → Stand → Tried → Type 0
 NoneLeft history most p t =
-    (k : ℕ) → first_left t ≤ k → may p k ≡ true → LeaveAtMost (moved p k) history most
+    (k : ℕ) → IsLeft t k → may p k ≡ true → LeaveAtMost (moved p k) history most
 
 -- nor from any stand of the way through these moves: in the first one, those of the first are left, and so on
 unfoldable pub NoneLeftAlong : List Entry → ℕ → Stand → List ℕ → List Tried → Type 0
@@ -27,12 +27,13 @@ NoneLeftAlong history most p [] (t ∷ tries) = NoneLeft history most p t
 NoneLeftAlong history most p (k ∷ path) (t ∷ tries) =
     NoneLeft history most p t × NoneLeftAlong history most (moved p k) path tries
 
--- The way leads to where the search stands, and what was left there is a beginning of the history. It is known of each
--- stand of the way who was tried. If nothing is found by those who are left, nothing is found at all.
+-- The way leads to where the search stands, and what was left there is a part of the history, from its beginning. It is
+-- known of each stand of the way who was tried. If nothing is found by those who are left, nothing is found at all.
 pub record Leads (start : Stand) (history : List Entry) (most : ℕ) (path : List ℕ) (tries : List Tried) (p : Stand) :
     Type 0 where
   pub goes : IsPathTo start path p
   pub left : IsPrefix p.history.entries history
+  pub part : p.history.entries ≡ history → ⊥
   pub long : length tries ≡ length path + 1
   pub rest : (m : ℕ) → most ≤ m → NoneLeftAlong history m start path tries → LeaveAtMost start history m
 

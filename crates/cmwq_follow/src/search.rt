@@ -1,6 +1,6 @@
 //! The search for the schedule that left a history.
 
-ghost use Rattle.std.specs.Prelude.{◌≡◌, ◌++◌, ◌∷◌, true, false, max, [], List, IfOk};
+ghost use Rattle.std.specs.Prelude.{◌≡◌, ◌<◌, ◌≤◌, ◌++◌, ◌∷◌, ℕ, [], List, length, take, IfOk};
 ghost use mathlib.Core.List.{IsPrefix};
 ghost use Rattle.cmwq_model.specs.declared.entry.Entry.{Entry};
 ghost use Rattle.cmwq_play.specs.Searches.{after};
@@ -22,7 +22,7 @@ use std::mem;
 pub enum Followed {
     /// The schedule with these moves left it.
     Path(Vec<usize>),
-    /// No schedule leaves a longer beginning of it than of so many entries.
+    /// No schedule leaves more of its first entries than so many.
     Breaks(usize),
     /// So many moves were tried, and there may be others.
     Unknown,
@@ -43,8 +43,8 @@ enum Step {
 #[derive(Clone, Copy)]
 enum Tried {
     Nobody,
-    /// One who was likely, and each party before this one.
-    Before(usize),
+    /// The likely one, and of the others each before the next.
+    Others { likely: usize, next: usize },
 }
 
 /// The way of a search, which leads from the start to where it stands.
@@ -96,29 +96,32 @@ fn likely(play: &Play<'_>, entry: &Entry) -> usize {
     }
 }
 
-/// Whether what a move added goes on as the history does.
-fn goes_on(play: &Play<'_>, next: &Play<'_>, history: &[Entry]) -> bool
-    ensures same { result ≡ true → IsPrefix play.now.history.entries history.now
+/// How many first entries are those of the history, where a move added some to a beginning of it.
+fn agreeing(play: &Play<'_>, next: &Play<'_>, history: &[Entry]) -> usize
+    ensures within { IsPrefix play.now.history.entries next.now.history.entries
+        → result ≤ length next.now.history.entries }
+    ensures same { IsPrefix play.now.history.entries history.now
         → IsPrefix play.now.history.entries next.now.history.entries
-        → IsPrefix next.now.history.entries history.now }
-    ensures differs { result ≡ false → IsPrefix next.now.history.entries history.now → ⊥ }
+        → IsPrefix (take result next.now.history.entries) history.now }
+    ensures most { (n : ℕ) → n ≤ length next.now.history.entries
+        → IsPrefix (take n next.now.history.entries) history.now → n ≤ result }
 {
     let made = next.history();
-    if made.len() > history.len() {
-        return false;
-    }
     for k in play.history().len()..made.len() {
+        if k >= history.len() {
+            return k;
+        }
         if !is_same_entry(&made[k], &history[k]) {
-            return false;
+            return k;
         }
     }
-    true
+    made.len()
 }
 
 impl Way {
     /// Before the first move.
     fn new(alloc: Global) -> Result<Way, AllocError>
-        ensures { (start : Stand) (history : List Entry) → start.history.entries ≡ []
+        ensures { (start : Stand) (history : List Entry) → start.history.entries ≡ [] → 0 < length history
             → IfOk result (λ way. IsUnderWay start history way start) }
     {
         let mut tries = Vec::new(alloc);
@@ -173,15 +176,14 @@ fn go_back<'a>(setup: &'a Setup<'a>, play: &mut Play<'a>, way: &mut Way) -> Resu
     Ok(Step::Goes)
 }
 
-/// Notes a move, after which the history is as long as this.
-fn note(way: &mut Way, party: usize, left: usize) -> Result<(), AllocError>
+/// Notes a move.
+fn note(way: &mut Way, party: usize) -> Result<(), AllocError>
     ensures path { IfOk result (λ _. way.new.path.items ≡ way.old.path.items ++ party ∷ []) }
     ensures tries { IfOk result (λ _. way.new.tries.items ≡ way.old.tries.items ++ tried.Nobody ∷ []) }
-    ensures most { IfOk result (λ _. way.new.most ≡ max way.old.most left) }
+    ensures most { IfOk result (λ _. way.new.most ≡ way.old.most) }
 {
     way.path.push(party)?;
     way.tries.push(Tried::Nobody)?;
-    way.most = way.most.max(left);
     Ok(())
 }
 
@@ -210,13 +212,15 @@ fn try_move<'a>(
         .copy_after(play, trial.kept.min(play.history().len()))?;
     trial.kept = play.history().len();
     trial.play.make_move(party)?;
-    if !goes_on(play, &trial.play, history) {
+    let same = agreeing(play, &trial.play, history);
+    way.most = way.most.max(same);
+    let made = trial.play.history().len();
+    if same < made {
         return Ok(Step::Goes);
     }
     mem::swap(play, &mut trial.play);
-    let left = play.history().len();
-    note(way, party, left)?;
-    Ok(if left == history.len() {
+    note(way, party)?;
+    Ok(if same == history.len() {
         Step::Whole
     } else {
         Step::Goes
@@ -254,15 +258,23 @@ fn advance<'a>(
     };
     match tried {
         Tried::Nobody => {
-            way.tries.push(Tried::Before(0))?;
-            let party = likely_next(play, history);
-            try_move(play, trial, way, party, history)
+            let likely = likely_next(play, history);
+            way.tries.push(Tried::Others { likely, next: 0 })?;
+            try_move(play, trial, way, likely, history)
         }
-        Tried::Before(party) if party < play.parties() => {
-            way.tries.push(Tried::Before(party + 1))?;
-            try_move(play, trial, way, party, history)
+        Tried::Others { likely, next } if next < play.parties() => {
+            let later = next + 1;
+            way.tries.push(Tried::Others {
+                likely,
+                next: later,
+            })?;
+            if next == likely {
+                Ok(Step::Goes)
+            } else {
+                try_move(play, trial, way, next, history)
+            }
         }
-        Tried::Before(_) => go_back(setup, play, way),
+        Tried::Others { .. } => go_back(setup, play, way),
     }
 }
 

@@ -1,6 +1,6 @@
 use Rattle.std.proofs.Common.{take}
 use mathlib.Core.List.{IsPrefix}
-use Rattle.cmwq_follow.proofs.search.goes_on.Given as goal
+use Rattle.cmwq_follow.proofs.search.agreeing.Given as goal
 
 abbrev pub invariant-loop-k : goal.invariant-loop-k
 invariant-loop-k l =
