@@ -4,7 +4,9 @@ ghost use Rattle.std.specs.Prelude.{◌≡◌, IfOk};
 ghost use Rattle.cmwq_json_script.specs.Scripts.{run_of};
 ghost use Rattle.cmwq_cmd_explore.specs.Verdicts.{SaysAll};
 
-use crate::report::{flush, write_cut_off, write_found, write_parties, write_path, write_refused};
+use crate::report::{
+    firsts_of, flush, write_cut_off, write_found, write_parties, write_path, write_refused,
+};
 use crate::seeds::write_play;
 use crate::verdict::{Ends, Verdict};
 use crate::watching::Watching;
@@ -64,6 +66,7 @@ struct Found<'a> {
 
 /// Writes what was found, and a schedule that gets stuck.
 fn tell_stuck<'a, O: Sink>(
+    alloc: Global,
     setup: &'a Setup<'a>,
     play: &mut Play<'a>,
     moves: &[usize],
@@ -71,9 +74,10 @@ fn tell_stuck<'a, O: Sink>(
     output: &mut O,
 ) -> Result<(), Fault> {
     play.play_path(setup, moves)?;
+    let firsts = firsts_of(alloc, play)?;
     write_found(output, found.progress, &found.ends)?;
     write_path(output, "stuck", play, moves)?;
-    write_parties(output, "", play)?;
+    write_parties(output, "", play, &firsts)?;
     write_play(output, setup.script().version, play)
 }
 
@@ -119,7 +123,7 @@ fn tell_shown<'a, O: Sink>(
     output: &mut O,
 ) -> Result<(), Fault> {
     match shown {
-        Shown::Stuck(moves) => tell_stuck(setup, play, moves, found, output),
+        Shown::Stuck(moves) => tell_stuck(alloc, setup, play, moves, found, output),
         Shown::CutOff(moves) => tell_cut_off(alloc, setup, play, moves, found, output),
         Shown::Refusing(moves) => tell_refusing(setup, play, moves, found, output),
         Shown::None => {

@@ -6,6 +6,7 @@ ghost use Rattle.cmwq_play.specs.Searches.{IsPathTo};
 ghost use Rattle.cmwq_play.specs.Starts.{first_stand, start_of};
 ghost use Rattle.cmwq_cmd_explore.specs.Verdicts.{SaysPath, is_refused};
 
+use crate::report::firsts_of;
 use crate::seeds::{tell_parties, write_played};
 use crate::verdict::Verdict;
 use cmwq_io::{Sink, Source, tell};
@@ -77,9 +78,10 @@ fn play_text<'a, E: Sink>(
     let Some(moves) = play.play_path(setup, &path)? else {
         return Ok(None);
     };
+    let firsts = firsts_of(alloc, play)?;
     let name = play.name_of(path[moves]);
     let wrong = tell_wrong(errors, Wrong::Move { moves, name });
-    tell_parties(errors, play, play.standing());
+    tell_parties(errors, play, &firsts, play.standing());
     Ok(Some(wrong))
 }
 
@@ -116,7 +118,7 @@ fn play_and_write<'a, P: Source, O: Sink, E: Sink>(
 {
     match play_file(alloc, setup, play, path, errors)? {
         Some(verdict) => Ok(verdict),
-        None => write_played(play, setup.script().version, output, errors),
+        None => write_played(alloc, play, setup.script().version, output, errors),
     }
 }
 

@@ -1,6 +1,8 @@
 //! What is written of schedules. It takes no memory, so that a report is whole, or has not begun.
 
-ghost use Rattle.std.specs.Prelude.{◌<◌};
+ghost use Rattle.std.specs.Prelude.{◌<◌, IfOk};
+ghost use Rattle.cmwq_core.specs.History.{past_in};
+ghost use Rattle.cmwq_obstacle.specs.Firsts.{AreFirsts};
 
 use crate::verdict::Ends;
 use arrayvec::ArrayString;
@@ -8,8 +10,9 @@ use cmwq_explore::{Progress, Return};
 use cmwq_io::{Sink, flush_all, write_all};
 use cmwq_json::Fault;
 use cmwq_model::{ItemId, Queueing, WorkerId};
-use cmwq_obstacle::{Obstacle, obstacle_of};
+use cmwq_obstacle::{Firsts, Obstacle, obstacle_of};
 use cmwq_play::{Party, PartyName, Play, Refused};
+use std::alloc::Global;
 use std::fmt;
 use std::fmt::{Display, Formatter, Write};
 
@@ -166,12 +169,23 @@ pub(crate) fn write_refused<O: Sink>(output: &mut O, play: &Play<'_>) -> Result<
     }
 }
 
+/// The first items of a play's places, of which a report of what everybody waits for tells. They are found before it
+/// begins, since they take memory.
+pub(crate) fn firsts_of(alloc: Global, play: &Play<'_>) -> Result<Firsts, Fault>
+    ensures { IfOk result (λ firsts. AreFirsts play.now.history.layout (past_in play.now.history) firsts) }
+{
+    Ok(Firsts::new(alloc, play.state(), play.shape())?)
+}
+
 /// What everybody waits for who has something left, each on a line with this before it.
 pub(crate) fn write_parties<O: Sink>(
     output: &mut O,
     before: &str,
     play: &Play<'_>,
-) -> Result<(), Fault> {
+    firsts: &Firsts,
+) -> Result<(), Fault>
+    requires { AreFirsts play.now.history.layout (past_in play.now.history) firsts.now }
+{
     for k in 0..play.callers().len() {
         write_party(output, before, Party::caller(play, k))?;
     }
@@ -179,7 +193,7 @@ pub(crate) fn write_parties<O: Sink>(
         write_party(output, before, Party::worker(play, k))?;
     }
     for item in 0..play.shape().counts().items {
-        write_unstarted(output, before, play, ItemId(item))?;
+        write_unstarted(output, before, play, firsts, ItemId(item))?;
     }
     Ok(())
 }
@@ -244,14 +258,16 @@ fn write_unstarted<O: Sink>(
     output: &mut O,
     before: &str,
     play: &Play<'_>,
+    firsts: &Firsts,
     item: ItemId,
 ) -> Result<(), Fault>
-    requires { item.0 < play.now.history.layout.items }
+    requires firsts { AreFirsts play.now.history.layout (past_in play.now.history) firsts.now }
+    requires item { item.0 < play.now.history.layout.items }
 {
     let Some(party) = Party::unstarted(play, item) else {
         return Ok(());
     };
-    let obstacle = obstacle_of(play.state(), play.shape(), item);
+    let obstacle = obstacle_of(play.state(), play.shape(), firsts, item);
     let holder = match obstacle {
         Some(Obstacle::Held(worker)) => worker_name(play, worker),
         _ => None,

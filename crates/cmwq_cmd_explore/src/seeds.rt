@@ -4,6 +4,7 @@ ghost use Rattle.std.specs.Prelude.{◌≡◌, true, false, length, max, IfErr, 
 ghost use Rattle.cmwq_model.specs.Prelude.{IsLegal};
 ghost use Rattle.cmwq_core.specs.History.{past_in};
 ghost use Rattle.cmwq_json_script.specs.Scripts.{run_of};
+ghost use Rattle.cmwq_obstacle.specs.Firsts.{AreFirsts};
 ghost use Rattle.cmwq_play.specs.Starts.{first_stand, start_of};
 ghost use Rattle.cmwq_explore.specs.declared.chance.Chooser.TheVariants as choosers;
 ghost use Rattle.cmwq_cmd_explore.specs.Players.{HasPlayed, IsPlayer, IsSamePlayer, start_in, version_in};
@@ -11,7 +12,9 @@ ghost use Rattle.cmwq_cmd_explore.specs.Verdicts.{HasWritten, SaysSeed, SaysSeed
 ghost use Rattle.cmwq_cmd_explore.specs.Verdicts.{is_refused, moves_in, standing_of};
 
 use crate::explore::Seeding;
-use crate::report::{flush, write_cut_off, write_parties, write_refused, write_seed, write_seeds};
+use crate::report::{
+    firsts_of, flush, write_cut_off, write_parties, write_refused, write_seed, write_seeds,
+};
 use crate::verdict::{Ends, Verdict};
 use crate::watching::Watching;
 use cmwq_explore::{Chooser, Seeds, StuckSeed, Tally, first_return, play_by, play_seeds};
@@ -19,6 +22,7 @@ use cmwq_history::write_history;
 use cmwq_io::Sink;
 use cmwq_json::Fault;
 use cmwq_json_script::Script;
+use cmwq_obstacle::Firsts;
 use cmwq_play::{Play, Setup, Standing};
 use std::alloc::Global;
 
@@ -114,14 +118,22 @@ impl<'a> Player<'a> {
 }
 
 /// Tells what everybody waits for, unless the play ended. What can't be told changes nothing.
-pub(crate) fn tell_parties<E: Sink>(errors: &mut E, play: &Play<'_>, standing: Standing) {
+pub(crate) fn tell_parties<E: Sink>(
+    errors: &mut E,
+    play: &Play<'_>,
+    firsts: &Firsts,
+    standing: Standing,
+)
+    requires { AreFirsts play.now.history.layout (past_in play.now.history) firsts.now }
+{
     if standing != Standing::Ended {
-        let _ = write_parties(errors, "cmwq: ", play);
+        let _ = write_parties(errors, "cmwq: ", play, firsts);
     }
 }
 
 /// Writes the history of a play, and what everybody waits for if it didn't end.
 pub(crate) fn write_played<O: Sink, E: Sink>(
+    alloc: Global,
     play: &Play<'_>,
     version: u8,
     output: &mut O,
@@ -131,7 +143,8 @@ pub(crate) fn write_played<O: Sink, E: Sink>(
         verdict) }
 {
     let standing = play.standing();
-    tell_parties(errors, play, standing);
+    let firsts = firsts_of(alloc, play)?;
+    tell_parties(errors, play, &firsts, standing);
     write_play(output, version, play)?;
     Ok(verdict_of_play(play, standing))
 }
@@ -150,7 +163,13 @@ fn write_seed_of<'a, O: Sink, E: Sink>(
     match player.chooser(pct)? {
         Ok(chooser) => {
             player.play_seed(seed, chooser)?;
-            write_played(&player.play, player.setup.script().version, output, errors)
+            write_played(
+                player.alloc,
+                &player.play,
+                player.setup.script().version,
+                output,
+                errors,
+            )
         }
         Err(verdict) => Ok(verdict),
     }
@@ -291,8 +310,9 @@ fn tell_stuck<'a, O: Sink>(
     output: &mut O,
 ) -> Result<(), Fault> {
     player.play_seed(shown.seed, chooser)?;
+    let firsts = firsts_of(player.alloc, &player.play)?;
     figures.write_with(output, "stuck", shown)?;
-    write_parties(output, "", &player.play)?;
+    write_parties(output, "", &player.play, &firsts)?;
     write_play(output, player.setup.script().version, &player.play)
 }
 

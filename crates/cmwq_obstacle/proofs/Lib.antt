@@ -1,3 +1,4 @@
+pub mod FirstItems
 pub mod Holding
 pub mod Ranges
 pub mod Unstarted

@@ -5,10 +5,10 @@ use Rattle.std.proofs.Common.{find, refl, sym, subst, arith, add-one}
 use Rattle.std.specs.List.{list_any, range_with_len}
 
 module _ (t : ℕ → Bool) where
-  here : (x : ℕ) (xs : List ℕ) → t x ≡ true → find t (x ∷ xs) ≡ Some x
+  pub here : (x : ℕ) (xs : List ℕ) → t x ≡ true → find t (x ∷ xs) ≡ Some x
   here x xs is = rw is refl
 
-  later : (x : ℕ) (xs : List ℕ) → t x ≡ false → find t (x ∷ xs) ≡ find t xs
+  pub later : (x : ℕ) (xs : List ℕ) → t x ≡ false → find t (x ∷ xs) ≡ find t xs
   later x xs not = rw not refl
 
   not_first : (x : ℕ) (xs : List ℕ) → find t (x ∷ xs) ≡ None → t x ≡ false

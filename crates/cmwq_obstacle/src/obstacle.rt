@@ -4,8 +4,10 @@ ghost use Rattle.std.specs.Prelude.{◌≡◌, ◌<◌, not, Contains, find};
 ghost use Rattle.std.specs.List.{list_any};
 ghost use Rattle.cmwq_model.specs.Prelude.{indices, is_holding, is_idle, is_intensive, past_of, pool_at, still_open};
 ghost use Rattle.cmwq_refinement.specs.Places.{IsQueueingThere};
+ghost use Rattle.cmwq_obstacle.specs.Firsts.{AreFirsts};
 ghost use Rattle.cmwq_obstacle.specs.Obstacles as spec;
 
+use crate::firsts::Firsts;
 use crate::places::{active_beside, first_active};
 use cmwq_model::{ItemId, PoolId, Queueing, Shape, WorkerId};
 use cmwq_state::State;
@@ -128,8 +130,9 @@ fn of_pool(state: &State, shape: &Shape, queueing: Queueing, pool: PoolId) -> Op
 }
 
 /// What keeps an open queueing that is not active.
-fn of_inactive(state: &State, shape: &Shape, queueing: Queueing) -> Obstacle
+fn of_inactive(state: &State, shape: &Shape, firsts: &Firsts, queueing: Queueing) -> Obstacle
     requires shape { shape.now ≡ state.now.layout }
+    requires firsts { AreFirsts state.now.layout (past_of state.now.entries) firsts.now }
     requires there { IsQueueingThere state.now.layout queueing }
     ensures { result ≡ spec.of_inactive state.now.layout (past_of state.now.entries) queueing }
 {
@@ -137,20 +140,32 @@ fn of_inactive(state: &State, shape: &Shape, queueing: Queueing) -> Obstacle
         return Obstacle::Frozen;
     }
     Obstacle::NoPlace {
-        first: first_active(state, shape, queueing.place, pool_of(shape, queueing)),
+        first: first_active(
+            state,
+            shape,
+            firsts,
+            queueing.place,
+            pool_of(shape, queueing),
+        ),
         active: active_beside(state, shape, queueing),
     }
 }
 
 /// What keeps an open queueing.
-pub(crate) fn of_queueing(state: &State, shape: &Shape, queueing: Queueing) -> Option<Obstacle>
+pub(crate) fn of_queueing(
+    state: &State,
+    shape: &Shape,
+    firsts: &Firsts,
+    queueing: Queueing,
+) -> Option<Obstacle>
     requires shape { shape.now ≡ state.now.layout }
+    requires firsts { AreFirsts state.now.layout (past_of state.now.entries) firsts.now }
     requires open { Contains (still_open (past_of state.now.entries)) queueing }
     requires there { IsQueueingThere state.now.layout queueing }
     ensures { result ≡ spec.obstacle state.now.layout (past_of state.now.entries) queueing }
 {
     if !state.is_active(queueing) {
-        return Some(of_inactive(state, shape, queueing));
+        return Some(of_inactive(state, shape, firsts, queueing));
     }
     if state.is_running(queueing.item) {
         return Some(Obstacle::ItemRuns);
@@ -160,13 +175,14 @@ pub(crate) fn of_queueing(state: &State, shape: &Shape, queueing: Queueing) -> O
 
 /// Why what an item has queued has not started. None if nothing of it is queued, or if an idle worker of its pool would
 /// start it next.
-pub fn obstacle_of(state: &State, shape: &Shape, item: ItemId) -> Option<Obstacle>
+pub fn obstacle_of(state: &State, shape: &Shape, firsts: &Firsts, item: ItemId) -> Option<Obstacle>
     requires shape { shape.now ≡ state.now.layout }
+    requires firsts { AreFirsts state.now.layout (past_of state.now.entries) firsts.now }
     requires item { item.0 < state.now.layout.items }
     ensures { result ≡ spec.obstacle_of state.now.layout (past_of state.now.entries) item.0 }
 {
     // it shows that the history is legal, so that what is queued fits its shape
     let _owing = state.owing();
     let queueing = state.unstarted(item)?;
-    of_queueing(state, shape, queueing)
+    of_queueing(state, shape, firsts, queueing)
 }

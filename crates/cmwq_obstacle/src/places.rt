@@ -1,13 +1,14 @@
 //! What takes the places of a queue on a CPU.
 
 ghost use Rattle.std.specs.Prelude.{◌≡◌, ◌<◌, IfSome, find};
-ghost use Rattle.std.specs.List.{range_with_len};
 ghost use Rattle.cmwq_model.specs.Active.{same_place};
 ghost use Rattle.cmwq_model.specs.Prelude.{indices, past_of};
 ghost use Rattle.cmwq_refinement.specs.Places.{IsQueueingThere};
 ghost use Rattle.cmwq_state.specs.Pwqs.{active_on};
+ghost use Rattle.cmwq_obstacle.specs.Firsts.{AreFirsts, IsPlaceThere};
 ghost use Rattle.cmwq_obstacle.specs.Obstacles as spec;
 
+use crate::firsts::Firsts;
 use cmwq_model::{ItemId, MOST_CPUS, Place, PoolId, Queueing, Shape, WorkerId};
 use cmwq_state::State;
 
@@ -49,48 +50,24 @@ fn runner(state: &State, shape: &Shape, place: Place, pool: PoolId) -> Option<u8
     None
 }
 
-/// Whether what the item has queued is active at the place.
-fn is_listed_there(state: &State, place: Place, item: ItemId) -> bool
-    requires { item.0 < state.now.layout.items }
-    ensures { result ≡ spec.is_listed_there state.now.layout (past_of state.now.entries) place item.0 }
-{
-    match state.unstarted(item) {
-        Some(queueing) => is_same(place, queueing.place) && state.is_active(queueing),
-        None => false,
-    }
-}
-
-/// The first item whose queueing has not started and is active at the place.
-fn listed(state: &State, shape: &Shape, place: Place) -> Option<u16>
-    requires { shape.now ≡ state.now.layout }
-    ensures is { result
-        ≡ find (spec.is_listed_there state.now.layout (past_of state.now.entries) place)
-        (range_with_len 0 state.now.layout.items) }
-    ensures there { IfSome result (λ item. item < state.now.layout.items) }
-{
-    for item in 0..shape.counts().items {
-        if is_listed_there(state, place, ItemId(item)) {
-            return Some(item);
-        }
-    }
-    None
-}
-
 /// The first queueing that is active at a place of this pool.
 pub(crate) fn first_active(
     state: &State,
     shape: &Shape,
+    firsts: &Firsts,
     place: Place,
     pool: PoolId,
 ) -> Option<Queueing>
     requires shape { shape.now ≡ state.now.layout }
+    requires firsts { AreFirsts state.now.layout (past_of state.now.entries) firsts.now }
+    requires place { IsPlaceThere state.now.layout place }
     requires cpu { pool.cpu.0 < state.now.layout.cpus }
     ensures { result ≡ spec.first_active state.now.layout (past_of state.now.entries) place pool }
 {
     if let Some(index) = runner(state, shape, place, pool) {
         return state.queueing_run(WorkerId { pool, index });
     }
-    match listed(state, shape, place) {
+    match firsts.at(state, shape, place) {
         Some(item) => state.unstarted(ItemId(item)),
         None => None,
     }

@@ -198,7 +198,12 @@ fn row_keeping_item(standing: &Standing<'_>, number: usize) -> Option<usize>
     ensures there { IfSome result (λ number. number < worker_rows standing.now.layout) }
 {
     let shape = standing.shape();
-    match keeper_of(standing.state(), shape, item_at(shape, number)) {
+    match keeper_of(
+        standing.state(),
+        shape,
+        standing.firsts(),
+        item_at(shape, number),
+    ) {
         Some(run) => row_running(standing, run.number),
         None => None,
     }

@@ -18,6 +18,7 @@ use crate::write::write_rows;
 use cmwq_base::{Refusal, Shape, Sink, Source, WriteFault, flush_all, write_all};
 use cmwq_core::Judge;
 use cmwq_history::{View, run_front_view};
+use cmwq_obstacle::Firsts;
 use std::alloc::Global;
 
 fn write_sections<W: Sink>(sink: &mut W, standing: &Standing<'_>) -> Result<(), WriteFault>
@@ -71,14 +72,16 @@ impl<W: Sink> View<W> for OpenView {
 
     fn write(
         &self,
-        _: Global,
+        alloc: Global,
         beginnings: &Beginnings,
         shape: &Shape,
         judge: &Judge,
         _: u8,
         sink: &mut W,
     ) -> Result<(), Refusal> {
-        write_standing(sink, &Standing::new(shape, judge, beginnings))
+        let firsts = Firsts::new(alloc, judge.state(), shape)?;
+        let standing = Standing::new(shape, judge, beginnings, &firsts);
+        write_standing(sink, &standing)
     }
 }
 

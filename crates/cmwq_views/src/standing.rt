@@ -4,6 +4,7 @@ ghost use Rattle.cmwq_model.specs.Prelude.{most_cpus, now, past_of, unended_tick
 ghost use Rattle.cmwq_model.specs.Prelude.{width};
 ghost use Rattle.cmwq_model.specs.Tickets.{most_tickets};
 ghost use Rattle.cmwq_model.specs.Widths.{is_shut_down};
+ghost use Rattle.cmwq_obstacle.specs.Firsts.{AreFirsts};
 ghost use Rattle.cmwq_obstacle.specs.declared.obstacle.Obstacle.TheVariants as obstacles;
 ghost use Rattle.cmwq_views.specs.Page.{line_of_entries, worker_of_row};
 ghost use Rattle.cmwq_views.specs.Lent.{worker_rows};
@@ -31,7 +32,7 @@ use crate::write::Rows;
 use cmwq_base::{Shape, WorkerId};
 use cmwq_core::Judge;
 use cmwq_model::{Call, Number, Place, Queueing, Ticket};
-use cmwq_obstacle::{Obstacle, obstacle_of};
+use cmwq_obstacle::{Firsts, Obstacle, obstacle_of};
 use cmwq_state::State;
 use std::marker::Model;
 
@@ -65,18 +66,21 @@ pub(crate) const SECTIONS: [Section; 5] = [
     Section::Waits,
 ];
 
-/// What stands at the end of a legal history, when it began, and the shape. Contracts see the history.
+/// What stands at the end of a legal history, when it began, which items are the first of their places, and the shape.
+/// Contracts see the history.
 #[derive(Drop)]
 pub(crate) struct Standing<'a> {
     shape: &'a Shape,
     state: &'a State,
     beginnings: &'a Beginnings,
+    firsts: &'a Firsts,
 }
 
 impl<'a> Model for Standing<'a> {
     ghost use Rattle.std.specs.Prelude.{◌≡◌};
     ghost use Rattle.cmwq_model.specs.Prelude.{past_of};
     ghost use Rattle.cmwq_core.specs.Judged.{Judged};
+    ghost use Rattle.cmwq_obstacle.specs.Firsts.{AreFirsts};
     ghost use Rattle.cmwq_views.specs.Since.{AreBeginnings};
 
     ghost Value = { Judged };
@@ -84,7 +88,8 @@ impl<'a> Model for Standing<'a> {
     ghost view = { λ s. record { layout = s.state.now.layout; entries = s.state.now.entries } };
 
     ghost invariant = { λ s. (s.shape.now ≡ s.state.now.layout)
-        × AreBeginnings s.state.now.layout (past_of s.state.now.entries) s.beginnings.now };
+        × AreBeginnings s.state.now.layout (past_of s.state.now.entries) s.beginnings.now
+        × AreFirsts s.state.now.layout (past_of s.state.now.entries) s.firsts.now };
 }
 
 impl<'a> Standing<'a> {
@@ -93,15 +98,18 @@ impl<'a> Standing<'a> {
         shape: &'a Shape,
         judge: &'a Judge,
         beginnings: &'a Beginnings,
+        firsts: &'a Firsts,
     ) -> Standing<'a>
         requires shape { shape.now ≡ judge.now.layout }
         requires beginnings { AreBeginnings judge.now.layout (past_of judge.now.entries) beginnings.now }
+        requires firsts { AreFirsts judge.now.layout (past_of judge.now.entries) firsts.now }
         ensures { result ≡ judge.now }
     {
         Standing {
             shape,
             state: judge.state(),
             beginnings,
+            firsts,
         }
     }
 
@@ -116,6 +124,13 @@ impl<'a> Standing<'a> {
         ensures entries { result.now.entries ≡ self.now.entries }
     {
         self.state
+    }
+
+    /// The first item that takes a place of each queue on each CPU.
+    pub(crate) fn firsts(&self) -> &Firsts
+        ensures { AreFirsts self.now.layout (past_of self.now.entries) result.now }
+    {
+        self.firsts
     }
 
     /// The last entry of this worker, item or caller that does this.
@@ -608,7 +623,7 @@ fn pending_line(standing: &Standing<'_>, number: usize) -> Row
             queueing,
             standing.last(Deed::Queue, number),
             state.is_active(queueing),
-            obstacle_of(state, shape, item),
+            obstacle_of(state, shape, standing.firsts(), item),
         ),
         None => Row::new(),
     }
