@@ -130,8 +130,8 @@ struct slot {
     bool orphan; // no handle is left, but it is pending or runs
 };
 
-// A hub holds the memory for all that its handles do later, so that these take none. The lock of the hub in C is that of
-// all that follows, so that a child of a fork does not find it held. No function is called or dropped under it.
+// A hub holds the memory for all that its handles do later, so that these take none. All that follows is under the lock
+// of the hub in C, so that a child of a fork does not find it held. No function is called or dropped under it.
 struct hub {
     cmwq_hub of{};
     std::unique_ptr<slot[]> slots;
@@ -166,7 +166,7 @@ struct hub {
         }
     }
 
-    // Lets what is queued end, joins, and drops the functions, which may have handles of their own. Where another thread
+    // Lets what is queued end, joins, and drops the functions, which may have handles of their own. If another thread
     // closes it, that one drops them.
     int end()
     {

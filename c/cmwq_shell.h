@@ -438,7 +438,7 @@ static inline void cmwq_hub_stop_(struct cmwq_hub *hub)
     cmwq_hub_name_(hub, hub->clock);
 }
 
-/* Leaves it to the clock's thread to call this, which closes the hub. It may be made in a run. Return: whether it will */
+/* Has the clock's thread call then(data), which closes the hub. A run may ask for it. Return: whether it is called */
 static inline bool cmwq_hub_leave_(struct cmwq_hub *hub, void (*then)(void *data), void *data)
 {
     bool will;

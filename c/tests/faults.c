@@ -351,7 +351,8 @@ static void test_timeouts(void)
         CHECK(cmwq_flush_work(&hub, 0, 0) == -CMWQ_TIMED_OUT);
     for (int k = 0; k < 20; k++) {
         CHECK(cmwq_flush_workqueue(&hub, 0, 0) == -CMWQ_TIMED_OUT && cmwq_cancel_work_sync(&hub, 1, CMWQ_FOREVER) == 0);
-        CHECK(cmwq_queue_work_on(&hub, 0, 0, 2 + (unsigned)k % 2) >= 0 && cmwq_flush_work(&hub, 0, 0) == -CMWQ_TIMED_OUT);
+        CHECK(cmwq_queue_work_on(&hub, 0, 0, 2 + (unsigned)k % 2) >= 0);
+        CHECK(cmwq_flush_work(&hub, 0, 0) == -CMWQ_TIMED_OUT);
     }
     CHECK(cmwq_drain_workqueue(&hub, 0, 0) == -CMWQ_TIMED_OUT && cmwq_drain_workqueue(&hub, 0, 1) == -CMWQ_TIMED_OUT);
     CHECK(cmwq_cancel_work_sync(&hub, 0, 0) == -CMWQ_TIMED_OUT && cmwq_cancel_work_sync(&hub, 0, 1) == -CMWQ_TIMED_OUT);

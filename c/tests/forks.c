@@ -1,6 +1,6 @@
 /*
- * Forks: in a child each hub is closed, says so, and frees nothing that it may not. A child that is forked while other threads make calls finds no lock
- * held. The parent's hubs go on, and their histories are legal.
+ * Forks: in a child each hub is closed, says so, and frees nothing that it may not. A child that is forked while other
+ * threads make calls finds no lock held. The parent's hubs go on, and their histories are legal.
  */
 #define _GNU_SOURCE
 #include "cmwq_hub.h"
@@ -48,10 +48,12 @@ static void join_child(int status)
 /* What every call returns in a child. */
 static void try_closed(struct cmwq_hub *of)
 {
-    CHECK(cmwq_queue_work_on(of, 0, 0, 0) == -CMWQ_CLOSED && cmwq_queue_delayed_work_on(of, 0, 0, 1, 5) == -CMWQ_CLOSED);
+    CHECK(cmwq_queue_work_on(of, 0, 0, 0) == -CMWQ_CLOSED);
+    CHECK(cmwq_queue_delayed_work_on(of, 0, 0, 1, 5) == -CMWQ_CLOSED);
     CHECK(cmwq_flush_work(of, 0, CMWQ_FOREVER) == -CMWQ_CLOSED && cmwq_drain_workqueue(of, 0, 10) == -CMWQ_CLOSED);
     CHECK(cmwq_work_busy(of, 0) == -CMWQ_CLOSED && cmwq_worker_sleeping(of) == -CMWQ_CLOSED);
-    CHECK(cmwq_hub_close(of) == -CMWQ_CLOSED && cmwq_hub_close(of) == -CMWQ_CLOSED && cmwq_queue_work_on(of, 0, 0, 0) == -CMWQ_CLOSED);
+    CHECK(cmwq_hub_close(of) == -CMWQ_CLOSED && cmwq_hub_close(of) == -CMWQ_CLOSED);
+    CHECK(cmwq_queue_work_on(of, 0, 0, 0) == -CMWQ_CLOSED);
 }
 
 /* Forks. A child that hangs is ended. Return: whether this is the child */
@@ -102,7 +104,9 @@ static void count(struct cmwq_run *run, void *data)
 
 static struct cmwq_options made(void (*work)(struct cmwq_run *run, void *data))
 {
-    struct cmwq_options options = {.queues = queues, .queue_count = 1, .works = works, .items = ITEMS, .workers = 2, .journal = keep};
+    struct cmwq_options options = {
+        .queues = queues, .queue_count = 1, .works = works, .items = ITEMS, .workers = 2, .journal = keep,
+    };
 
     for (int k = 0; k < ITEMS; k++)
         works[k] = (struct cmwq_work){work, NULL};
@@ -142,7 +146,8 @@ static void test_rest(void)
             if (MAY_OPEN) {
                 written = ran = 0;
                 open_hub(options);
-                CHECK(cmwq_queue_work_on(&hub, 0, 0, 0) == 1 && cmwq_flush_work(&hub, 0, CMWQ_FOREVER) >= 0 && ran == 1);
+                CHECK(cmwq_queue_work_on(&hub, 0, 0, 0) == 1);
+                CHECK(cmwq_flush_work(&hub, 0, CMWQ_FOREVER) >= 0 && ran == 1);
                 close_hub();
             }
             if (round != 2)
@@ -150,7 +155,8 @@ static void test_rest(void)
             end_child();
         }
         join_child(FINE);
-        CHECK(cmwq_work_busy(&hub, 1) == 1 && cmwq_queue_work_on(&hub, 0, 0, 0) == 1 && cmwq_flush_work(&hub, 0, CMWQ_FOREVER) >= 0);
+        CHECK(cmwq_work_busy(&hub, 1) == 1 && cmwq_queue_work_on(&hub, 0, 0, 0) == 1);
+        CHECK(cmwq_flush_work(&hub, 0, CMWQ_FOREVER) >= 0);
         close_hub();
         CHECK(cmwq_queue_work_on(&other, 0, 0, 0) == 1);
     }
@@ -169,7 +175,8 @@ static void *call(void *at)
 
     while (!__atomic_load_n(&ended, __ATOMIC_ACQUIRE)) {
         CHECK(cmwq_queue_work_on(&hub, 0, 0, item) >= 0 && cmwq_flush_work(&hub, item, CMWQ_FOREVER) >= 0);
-        CHECK(cmwq_mod_delayed_work_on(&hub, 0, 0, item, 1) >= 0 && cmwq_cancel_work_sync(&hub, item, CMWQ_FOREVER) >= 0);
+        CHECK(cmwq_mod_delayed_work_on(&hub, 0, 0, item, 1) >= 0);
+        CHECK(cmwq_cancel_work_sync(&hub, item, CMWQ_FOREVER) >= 0);
     }
     return NULL;
 }
@@ -218,7 +225,8 @@ static void test_inside(void)
 
     open_hub(options);
     for (unsigned item = 0; item < 2; item++) {
-        CHECK(cmwq_queue_work_on(&hub, 0, 0, item) == 1 && cmwq_flush_work(&hub, item, CMWQ_FOREVER) >= 0 && ran == item + 1);
+        CHECK(cmwq_queue_work_on(&hub, 0, 0, item) == 1);
+        CHECK(cmwq_flush_work(&hub, item, CMWQ_FOREVER) >= 0 && ran == item + 1);
         join_child(0);
     }
     close_hub();

@@ -73,7 +73,10 @@ static uint32_t count_looks(cmwq_board *board, uint16_t item, cmwq_item *state)
 #define CHECK(holds) do { if (!(holds)) { std::fprintf(stderr, "%d: %s\n", __LINE__, #holds); std::abort(); } } while (0)
 #define REFUSED(call, kind) do { try { call; CHECK(!#call); } catch (const kind &) {} } while (0)
 #define REFUSED_AS(call, status) \
-    do { try { call; CHECK(!#call); } catch (const cmwq::failure &failure) { CHECK(failure.code() == status); } } while (0)
+    do {                                                        \
+        try { call; CHECK(!#call); }                            \
+        catch (const cmwq::failure &failure) { CHECK(failure.code() == status); } \
+    } while (0)
 using namespace std::chrono_literals;
 
 template <class Holds> static void wait_until(Holds holds) { while (!holds()) std::this_thread::sleep_for(1ms); }
@@ -301,9 +304,11 @@ static void limits()
     auto with = [](uint64_t most) { cmwq::workqueues all(cmwq::shape{}.items(1).queue("a", cmwq::max_active(most))); };
     with(1);
     with(512);
-    for (uint64_t most : {uint64_t(0), uint64_t(513), uint64_t(65535), uint64_t(65537), uint64_t(65536 + 512), uint64_t(1) << 32 | 1, ~uint64_t(0)})
+    const uint64_t bad[] = {0, 513, 65535, 65537, 65536 + 512, uint64_t(1) << 32 | 1, ~uint64_t(0)};
+    for (uint64_t most : bad)
         REFUSED_AS(with(most), CMWQ_REFUSED);
-    REFUSED(cmwq::shape{}.queue("a", cmwq::max_active(1)).queue("b", cmwq::max_active(1)).queue("a", cmwq::max_active(2)), std::invalid_argument);
+    auto twice = cmwq::shape{}.queue("a", cmwq::max_active(1)).queue("b", cmwq::max_active(1));
+    REFUSED(twice.queue("a", cmwq::max_active(2)), std::invalid_argument);
     REFUSED_AS(cmwq::shape{}.tick(-1ns), CMWQ_REFUSED);
     for (unsigned items : {0u, 65536u, 65537u, ~0u}) {
         cmwq::shape shape;
@@ -442,15 +447,20 @@ static void dropped_functions_call()
 static void serve()
 {
     std::atomic<unsigned> runs{0};
-    cmwq::workqueues all(cmwq::shape{}.items(4).workers(2).queue("a", cmwq::max_active(2)).queue("b", cmwq::max_active(1).high()));
+    auto shape = cmwq::shape{}.items(4).workers(2);
+    shape.queue("a", cmwq::max_active(2)).queue("b", cmwq::max_active(1).high());
+    cmwq::workqueues all(shape);
     cmwq::queue a = all.queue("a"), b = all.queue("b");
     for (unsigned k = 0; k < 6; k++) {
-        cmwq::item item = a.make([&runs, k, text = std::string(50, 'x')](cmwq::run &run) { run.block([&] { runs += k; }); });
+        cmwq::item item = a.make([&runs, k, text = std::string(50, 'x')](cmwq::run &run) {
+            run.block([&] { runs += k; });
+        });
         item.queue();
         item.flush();
     }
     {
-        cmwq::item one = b.make([](cmwq::run &) {}), two = a.make([](cmwq::run &) { throw std::runtime_error("on purpose"); });
+        cmwq::item one = b.make([](cmwq::run &) {});
+        cmwq::item two = a.make([](cmwq::run &) { throw std::runtime_error("on purpose"); });
         one.queue_delayed(1ms);
         two.queue();
         one.cancel_sync();
@@ -466,7 +476,9 @@ static long refuse(std::atomic<long> &left)
         long before = blocks;
         bool thrown = false;
         left = many;
-        try { serve(); } catch (const std::bad_alloc &) { thrown = true; } catch (const cmwq::failure &) { thrown = true; }
+        try { serve(); }
+        catch (const std::bad_alloc &) { thrown = true; }
+        catch (const cmwq::failure &) { thrown = true; }
         bool ended = left >= 0;
         left = -1;
         CHECK(blocks == before && !(ended && thrown));

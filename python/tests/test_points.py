@@ -155,14 +155,15 @@ class Points(Case):
         scene.hub.shutdown()
         return [*scene.calls()]
 
-    def test_a_handler_raises(self):
+    def at_each_point(self, comes):
+        """Makes each call with what comes in at each of its points. Returns the number of all points."""
         counts = []
         for name in self.names():
             scene = Scene(self)
             before, call = scene.calls()[name]
             for point in itertools.count():
                 before()
-                came = interrupted(point, call)
+                came = comes(scene, point, call)
                 with self.subTest(call=name, point=point):
                     scene.settle()
                 if not came:
@@ -170,32 +171,24 @@ class Points(Case):
             counts.append(point)
             scene.hub.shutdown()
             judged(self.text)
-        print(f"{sum(counts)} points")
         self.assertGreater(min(counts), 3)
+        return sum(counts)
+
+    def test_a_handler_raises(self):
+        print(self.at_each_point(lambda scene, point, call: interrupted(point, call)), "points")
 
     def test_a_handler_waits_for_what_it_interrupts(self):
         """Both calls end, each of the waits too."""
-        counts = []
-        for name in self.names():
-            scene = Scene(self)
-            before, call = scene.calls()[name]
-
+        def waits(scene, point, call):
             def handler():
-                scene.go.set()  # noqa: B023
-                call()  # noqa: B023
-                scene.item.flush(timeout=20)  # noqa: B023
-                scene.queue.flush(timeout=20)  # noqa: B023
+                scene.go.set()
+                call()
+                scene.item.flush(timeout=20)
+                scene.queue.flush(timeout=20)
 
-            for point in itertools.count():
-                before()
-                came = comes_in(point, call, handler)
-                scene.settle()
-                if not came:
-                    break
-            counts.append(point)
-            scene.hub.shutdown()
-            judged(self.text)
-        self.assertGreater(min(counts), 3)
+            return comes_in(point, call, handler)
+
+        self.at_each_point(waits)
 
     def test_a_handler_that_has_no_wait_left(self):
         """It is told so, and the wait that it has interrupted ends."""

@@ -1,11 +1,11 @@
-//! Thread pools that keep the promises of items, as a yardstick: an item runs once at a time, an item that is pending isn't queued again, and
-//! a caller can wait for all that it queued. They keep no history.
+//! Thread pools that keep the promises of items, as a yardstick: an item runs once at a time, an item that is pending
+//! isn't queued again, and a caller can wait for all that it queued. They keep no history.
 //!
-//! `pools POOL LOAD ROUNDS WORKERS ITEMS` prints how many runs there are in a second. POOL is `hand`, a queue under a lock; built with the
-//! feature `crates` also `threadpool`, `crossbeam`, `rayon` and `tokio`. LOAD is `self`, an item that queues itself, ROUNDS times;
-//! `fanout`, four callers, each of which queues its first item, which queues its others, and waits for all, ROUNDS times; or `stream`, four
-//! callers, each of which queues all its items and waits for them, ROUNDS times. Each caller has ITEMS items. By a sixth word each run
-//! works for so many microseconds.
+//! `pools POOL LOAD ROUNDS WORKERS ITEMS` prints how many runs there are in a second. POOL is `hand`, a queue under a
+//! lock; built with the feature `crates` also `threadpool`, `crossbeam`, `rayon` and `tokio`. LOAD is `self`, an item
+//! that queues itself, ROUNDS times; `fanout`, four callers, each of which queues its first item, which queues its
+//! others, and waits for all, ROUNDS times; or `stream`, four callers, each of which queues all its items and waits for
+//! them, ROUNDS times. Each caller has ITEMS items. By a sixth word each run works for so many microseconds.
 use std::collections::VecDeque;
 use std::sync::atomic::{AtomicU32, AtomicU64, Ordering::SeqCst};
 use std::sync::{Arc, Condvar, Mutex};
