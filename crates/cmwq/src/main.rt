@@ -2,10 +2,12 @@
 //! threads or plays their schedules in one. It reads a file or standard input, and writes standard output.
 #![tactic(auto)]
 
-mod hint;
+mod lines;
+mod noticing;
 mod packed;
 
-use crate::hint::Hinting;
+use crate::lines::{Failures, Lines};
+use crate::noticing::{Noticing, Reason};
 use crate::packed::packer_of;
 use clap::error::ErrorKind;
 use cmwq_base::{BufferedSink, FromStd, Sink, Source};
@@ -26,7 +28,7 @@ use serde_json::Value;
 use std::alloc::{AllocError, Global};
 use std::fmt::{self, Debug, Display, Formatter};
 use std::fs::File;
-use std::io::{self, IsTerminal, Stdin, Stdout};
+use std::io::{self, IsTerminal, Stderr, Stdin, Stdout};
 use std::process::ExitCode;
 use std::sync::Wait;
 use std::thread::{self, Builder, Threads};
@@ -120,6 +122,7 @@ fn run<S: Source, P: Source, O: Sink, E: Sink, T: Threads + Wait + Clock + Sync>
     is_terminal: bool,
     threads: &T,
 ) -> u8 {
+    let clock = if is_terminal { Some(threads) } else { None };
     match asked.word {
         Word::Step { live: false } => run_step(alloc, input, output, errors),
         Word::Step { live: true } => run_step_live(alloc, input, output, errors),
@@ -136,7 +139,7 @@ fn run<S: Source, P: Source, O: Sink, E: Sink, T: Threads + Wait + Clock + Sync>
         Word::Replay => run_replay(alloc, input, output, errors),
         Word::Run => run_run(threads, alloc, input, output, errors, asked.explain),
         Word::Explore { schedules } => match (task_of(schedules), schedules) {
-            (Some(task), _) => run_explore(alloc, input, output, errors, task, is_terminal),
+            (Some(task), _) => run_explore(alloc, input, output, errors, task, clock),
             (None, Schedules::Follow { moves }) => {
                 run_follow(alloc, input, other, output, errors, moves)
             }
@@ -202,16 +205,12 @@ impl Display for FileName<'_> {
     }
 }
 
-/// Tells why a file cannot be read: what the system says, where it is none of the usual reasons.
+/// Tells why a file cannot be read.
 fn not_opened(rt: &HostRuntime, name: &str, error: &io::Error) -> u8 {
-    let name = FileName(name);
-    let _ = match error.kind() {
-        io::ErrorKind::OutOfMemory => return no_memory(rt),
-        io::ErrorKind::NotFound => eprintln!(rt; "cmwq: {name}: no such file or directory"),
-        io::ErrorKind::PermissionDenied => eprintln!(rt; "cmwq: {name}: permission denied"),
-        io::ErrorKind::IsADirectory => eprintln!(rt; "cmwq: {name}: is a directory"),
-        _ => eprintln!(rt; "cmwq: {name}: {error}"),
-    };
+    if error.kind() == io::ErrorKind::OutOfMemory {
+        return no_memory(rt);
+    }
+    let _ = eprintln!(rt; "cmwq: {}: {}", FileName(name), Reason(*error));
     REFUSED_INPUT
 }
 
@@ -277,33 +276,67 @@ fn write_named<O: Sink>(
     Ok(())
 }
 
-/// Does what was asked. What is to be explained is kept while it is read; there is one type of source for both, and for
-/// files and standard input, so that each word is compiled once. What is to have names is kept too.
+/// What a word reads. There is one type of source for files and standard input, so that each word is compiled once.
+type Input = Noticing<Either<Stdin, File>>;
+
+/// Does what was asked.
 fn run_asked<T: Threads + Wait + Clock + Sync>(rt: &HostRuntime, asked: Asked, threads: &T) -> u8 {
-    let alloc = rt.alloc();
     let mut other = match open(rt, asked.other) {
-        Ok(other) => FromStd::new(other),
+        Ok(other) => Noticing::new(other),
         Err(error) => return not_opened(rt, asked.other.unwrap_or("-"), &error),
     };
-    let what = asked.other.and_then(|_| named_of(asked.word));
-    let Some(what) = what else {
-        return run_to(rt, asked, &mut other, Left(rt.stdout()), threads);
-    };
-    let mut errors = FromStd::new(rt.stderr());
-    let script = match script_of(alloc, &mut other, &mut errors) {
+    match asked.other.and_then(|_| named_of(asked.word)) {
+        None => run_to(rt, asked, &mut other, Left(rt.stdout()), threads),
+        Some(what) => run_named(rt, asked, what, &mut other, threads),
+    }
+}
+
+/// Does what was asked, and writes it with the names of a script. The text is kept until it is whole.
+fn run_named<T: Threads + Wait + Clock + Sync>(
+    rt: &HostRuntime,
+    asked: Asked,
+    what: Named,
+    names: &mut Input,
+    threads: &T,
+) -> u8 {
+    let alloc = rt.alloc();
+    let mut lines = Lines::new(rt.stderr(), false);
+    let script = script_of(
+        alloc,
+        &mut FromStd::new(&mut *names),
+        &mut FromStd::new(&mut lines),
+    );
+    let script = match script {
         Ok(script) => script,
-        Err(status) => return status,
+        Err(status) => {
+            lines.end(Failures {
+                input: names.error(),
+                output: None,
+            });
+            return status;
+        }
     };
     let mut text = Vec::new(alloc);
-    let status = run_to(rt, asked, &mut other, Right(&mut text), threads);
+    let status = run_to(rt, asked, names, Right(&mut text), threads);
     if text.is_empty() {
         return status;
     }
-    let mut output = FromStd::new(rt.stdout());
-    match write_named(alloc, &mut output, &script, what, text.as_slice()) {
+    let mut output = Noticing::new(rt.stdout());
+    let written = write_named(
+        alloc,
+        &mut FromStd::new(&mut output),
+        &script,
+        what,
+        text.as_slice(),
+    );
+    match written {
         Ok(()) => status,
         Err(fault) => {
-            tell(&mut errors, fault);
+            tell(&mut FromStd::new(&mut lines), fault);
+            lines.end(Failures {
+                input: None,
+                output: output.error(),
+            });
             fault_status(fault)
         }
     }
@@ -315,37 +348,65 @@ fn is_hinting(asked: &Asked<'_>) -> bool {
     !asked.explain && !is_of_other
 }
 
-/// Does what was asked, and writes to this output.
-fn run_to<P: Source, T: Threads + Wait + Clock + Sync>(
+/// Does what was asked, writes to this output, and tells why a stream failed.
+fn run_to<T: Threads + Wait + Clock + Sync>(
     rt: &HostRuntime,
     asked: Asked,
-    other: &mut P,
+    other: &mut Input,
     output: Either<Stdout, &mut Vec<u8>>,
     threads: &T,
 ) -> u8 {
-    let alloc = rt.alloc();
-    let input = match open(rt, asked.file) {
-        Ok(input) => FromStd::new(input),
+    let mut input = match open(rt, asked.file) {
+        Ok(input) => Noticing::new(input),
         Err(error) => return not_opened(rt, asked.file.unwrap_or("-"), &error),
     };
-    let mut errors = FromStd::new(Hinting::new(rt.stderr(), is_hinting(&asked)));
+    let mut output = Noticing::new(output);
+    let mut lines = Lines::new(rt.stderr(), is_hinting(&asked));
+    let status = run_over(
+        rt,
+        asked,
+        &mut input,
+        other,
+        &mut output,
+        &mut lines,
+        threads,
+    );
+    lines.end(Failures {
+        input: input.error().or(other.error()),
+        output: output.error(),
+    });
+    status
+}
+
+/// Does what was asked over these streams. What is to be explained is kept while it is read.
+fn run_over<T: Threads + Wait + Clock + Sync>(
+    rt: &HostRuntime,
+    asked: Asked,
+    input: &mut Input,
+    other: &mut Input,
+    output: &mut Noticing<Either<Stdout, &mut Vec<u8>>>,
+    lines: &mut Lines<Stderr>,
+    threads: &T,
+) -> u8 {
+    let alloc = rt.alloc();
+    let mut errors = FromStd::new(lines);
     let Ok(mut output) = BufferedSink::new(alloc, FromStd::new(output)) else {
         return no_memory(rt);
     };
+    let input = FromStd::new(input);
     let mut input = if asked.explain {
         Kept::new(alloc, input)
     } else {
         Kept::passing(alloc, input)
     };
-    let is_terminal = rt.stderr().is_terminal();
     let status = run(
         alloc,
         asked,
         &mut input,
-        other,
+        &mut FromStd::new(other),
         &mut output,
         &mut errors,
-        is_terminal,
+        rt.stderr().is_terminal(),
         threads,
     );
     match input.bytes() {

@@ -16,6 +16,7 @@ use cmwq_json::Fault;
 use cmwq_json_script::Script;
 use cmwq_play::{Play, Setup};
 use std::alloc::{AllocError, Global};
+use std::time::Clock;
 
 /// The moves of a way, the first one first.
 fn moves_of(alloc: Global, way: &[usize]) -> Result<Vec<usize>, AllocError> {
@@ -165,11 +166,11 @@ fn tell_found<O: Sink>(
 }
 
 /// Searches all schedules, and writes what was found.
-pub(crate) fn explore_all<O: Sink, E: Sink>(
+pub(crate) fn explore_all<O: Sink, E: Sink, C: Clock>(
     alloc: Global,
     script: &Script,
     limits: Limits,
-    watching: &mut Watching<'_, O, E>,
+    watching: &mut Watching<'_, O, E, C>,
 ) -> Result<Verdict, Fault>
     ensures { IfOk result (λ verdict. SaysAll (run_of script.now) verdict) }
 {
@@ -180,11 +181,11 @@ pub(crate) fn explore_all<O: Sink, E: Sink>(
 }
 
 /// Plays each schedule, and writes the history of each that ends.
-pub(crate) fn write_histories<O: Sink, E: Sink>(
+pub(crate) fn write_histories<O: Sink, E: Sink, C: Clock>(
     alloc: Global,
     script: &Script,
     moves: u64,
-    watching: &mut Watching<'_, O, E>,
+    watching: &mut Watching<'_, O, E, C>,
 ) -> Result<Verdict, Fault>
     ensures { IfOk result (λ verdict. SaysAll (run_of script.now) verdict) }
 {

@@ -22,6 +22,7 @@ use cmwq_json::{Fault, fault_status, read_value};
 use cmwq_json_script::{Script, read_script};
 use serde_json::Value;
 use std::alloc::Global;
+use std::time::Clock;
 
 /// How many moves are made at most of all schedules, where no other number is given.
 const MOVES: u64 = 100_000_000;
@@ -63,13 +64,13 @@ pub enum Task {
 }
 
 /// Does a task.
-fn explore_script<O: Sink, E: Sink>(
+fn explore_script<O: Sink, E: Sink, C: Clock>(
     alloc: Global,
     script: &Script,
     task: Task,
     output: &mut O,
     errors: &mut E,
-    shows_progress: bool,
+    clock: Option<&C>,
 ) -> Result<Verdict, Fault>
     ensures { IfOk result
         (λ verdict. Tells task (run_of script.now) (O.written output.old) (O.written output.new) verdict) }
@@ -83,7 +84,7 @@ fn explore_script<O: Sink, E: Sink>(
             times,
             seeding,
         } => {
-            let mut watching = Watching::new(output, errors, shows_progress, false);
+            let mut watching = Watching::new(alloc, output, errors, clock, false);
             explore_seeds(alloc, script, first, times, seeding, &mut watching)
         }
         Task::All {
@@ -91,7 +92,7 @@ fn explore_script<O: Sink, E: Sink>(
             is_plain,
             is_first,
         } => {
-            let mut watching = Watching::new(output, errors, shows_progress, false);
+            let mut watching = Watching::new(alloc, output, errors, clock, false);
             let limits = Limits {
                 moves: moves.unwrap_or(MOVES),
                 is_plain,
@@ -100,7 +101,7 @@ fn explore_script<O: Sink, E: Sink>(
             explore_all(alloc, script, limits, &mut watching)
         }
         Task::Histories { moves } => {
-            let mut watching = Watching::new(output, errors, shows_progress, true);
+            let mut watching = Watching::new(alloc, output, errors, clock, true);
             write_histories(alloc, script, moves.unwrap_or(MOVES), &mut watching)
         }
     }
@@ -127,19 +128,19 @@ fn script_in<S: Source>(alloc: Global, input: &mut S) -> Result<Script, Fault>
 }
 
 /// Reads a script, and explores it.
-fn explore<S: Source, O: Sink, E: Sink>(
+fn explore<S: Source, O: Sink, E: Sink, C: Clock>(
     alloc: Global,
     input: &mut S,
     output: &mut O,
     errors: &mut E,
     task: Task,
-    shows_progress: bool,
+    clock: Option<&C>,
 ) -> Result<Verdict, Fault>
     ensures { IfOk result (λ verdict. IfSome (S.left input.old)
         (OfRun (λ r. Tells task r (O.written output.old) (O.written output.new) verdict))) }
 {
     let script = script_in(alloc, input)?;
-    let verdict = explore_script(alloc, &script, task, output, errors, shows_progress);
+    let verdict = explore_script(alloc, &script, task, output, errors, clock);
     drop(script);
     verdict
 }
@@ -148,19 +149,19 @@ fn explore<S: Source, O: Sink, E: Sink>(
 /// history, of many the figures and the shortest schedule that got stuck. Returns the exit status: 0 all ended, 1
 /// refused input, 2 more priority changes than moves, 4 no memory, or of one seed calls left out, 5 a fault of reading
 /// or writing, 6 all ended, and waits were refused, 7 a schedule that got stuck, 8 none that got stuck but not all
-/// tried, 9 all ended, and a lock was misused. Shows how far it is, if it is to.
-pub fn run_explore<S: Source, O: Sink, E: Sink>(
+/// tried, 9 all ended, and a lock was misused. Shows how far it is by this clock, if there is one.
+pub fn run_explore<S: Source, O: Sink, E: Sink, C: Clock>(
     alloc: Global,
     input: &mut S,
     output: &mut O,
     errors: &mut E,
     task: Task,
-    shows_progress: bool,
+    clock: Option<&C>,
 ) -> u8
     ensures { is_told result ≡ true → IfSome (S.left input.old)
         (OfRun (SaysOf result task (O.written output.old) (O.written output.new))) }
 {
-    match explore(alloc, input, output, errors, task, shows_progress) {
+    match explore(alloc, input, output, errors, task, clock) {
         Ok(verdict) => tell_verdict(verdict, errors),
         Err(fault) => {
             tell(errors, fault);

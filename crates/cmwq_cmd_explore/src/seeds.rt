@@ -25,6 +25,7 @@ use cmwq_json_script::Script;
 use cmwq_obstacle::Firsts;
 use cmwq_play::{Play, Setup, Standing};
 use std::alloc::Global;
+use std::time::Clock;
 
 /// Writes the history of a play.
 pub(crate) fn write_play<O: Sink>(output: &mut O, version: u8, play: &Play<'_>) -> Result<(), Fault>
@@ -245,12 +246,12 @@ fn ends_of(tally: &Tally) -> Ends
 }
 
 /// Plays the schedules of so many seeds, and writes what came of them.
-fn write_seeds_of<'a, O: Sink, E: Sink>(
+fn write_seeds_of<'a, O: Sink, E: Sink, C: Clock>(
     player: &mut Player<'a>,
     first: u64,
     times: u64,
     pct: Option<u64>,
-    watching: &mut Watching<'_, O, E>,
+    watching: &mut Watching<'_, O, E, C>,
 ) -> Result<Verdict, Fault>
     ensures { IfOk result (λ verdict. SaysSeeds (start_in player.old) player.old.moves first times pct verdict) }
 {
@@ -371,13 +372,13 @@ fn tell_seeds<'a, O: Sink>(
 }
 
 /// The schedules of so many seeds of a setup.
-fn explore_many<'a, O: Sink, E: Sink>(
+fn explore_many<'a, O: Sink, E: Sink, C: Clock>(
     alloc: Global,
     setup: &'a Setup<'a>,
     first: u64,
     times: u64,
     seeding: Seeding,
-    watching: &mut Watching<'_, O, E>,
+    watching: &mut Watching<'_, O, E, C>,
 ) -> Result<Verdict, Fault>
     ensures { IfOk result (λ verdict. SaysSeeds (start_of setup.now) (moves_in (run_of setup.now.script.now) seeding)
         first times seeding.pct verdict) }
@@ -389,13 +390,13 @@ fn explore_many<'a, O: Sink, E: Sink>(
 }
 
 /// The schedules of so many seeds from the first on, in a play of their own.
-pub(crate) fn explore_seeds<O: Sink, E: Sink>(
+pub(crate) fn explore_seeds<O: Sink, E: Sink, C: Clock>(
     alloc: Global,
     script: &Script,
     first: u64,
     times: u64,
     seeding: Seeding,
-    watching: &mut Watching<'_, O, E>,
+    watching: &mut Watching<'_, O, E, C>,
 ) -> Result<Verdict, Fault>
     ensures { IfOk result (λ verdict. SaysSeeds (first_stand (run_of script.now)) (moves_in (run_of script.now) seeding)
         first times seeding.pct verdict) }

@@ -1,9 +1,10 @@
 //! How far a search, or the schedules of seeds, came. No contract reads it: it is shown, and changes nothing.
 
+use crate::seeds::StuckSeed;
 use cmwq_play::{Play, Standing};
 
-/// After how many moves somebody looks.
-const MOVES_A_LOOK: u64 = 1_000_000;
+/// After how many moves the watch looks. It has a clock for how often it shows something.
+const MOVES_A_LOOK: u64 = 1_024;
 
 /// How far a search, or the schedules of seeds, came.
 #[derive(Clone, Copy, Debug)]
@@ -17,15 +18,23 @@ pub struct Progress {
     /// How many times a schedule was played that ended, and how many times one that got stuck.
     pub ended: u64,
     pub stuck: u64,
+    /// A shortest schedule of a seed that got stuck.
+    pub shortest: Option<StuckSeed>,
     next_look: u64,
 }
 
-/// Who looks on.
+/// Watches a search, or the schedules of seeds.
 pub trait Watch {
-    /// So far it is now.
+    /// The search or the schedules have come so far.
     fn looks(&mut self, progress: &Progress);
 
-    /// A play may not go on.
+    /// A search goes on after a move of this party.
+    fn goes_on(&mut self, party: usize);
+
+    /// A search goes back to before the last move after which it went on.
+    fn goes_back(&mut self);
+
+    /// A play of a search may not go on.
     fn ends(&mut self, play: &Play<'_>, standing: Standing);
 }
 
@@ -37,6 +46,7 @@ impl Progress {
             moves: 0,
             ended: 0,
             stuck: 0,
+            shortest: None,
             next_look: MOVES_A_LOOK,
         }
     }

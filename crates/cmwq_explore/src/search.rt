@@ -242,7 +242,9 @@ impl<'a> Search<'a> {
             return Ok(());
         }
         let key = self.kept_key()?;
+        watch.goes_on(party);
         let child = self.visit(setup, play, depth, watch)?;
+        watch.goes_back();
         finding.join(self.alloc, &child, party, marks)?;
         self.keep(key, child)
     }

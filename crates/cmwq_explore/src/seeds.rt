@@ -162,6 +162,7 @@ pub fn play_seeds<'a, W: Watch>(
         tally.count(standing, played);
         tally.note(play, standing, played);
         progress.count_end(standing);
+        progress.shortest = tally.shortest;
         progress.count_moves(moves, watch);
     }
     tally.moves = progress.moves;
