@@ -1,0 +1,4 @@
+pub mod Firsts
+pub mod Places
+pub mod Overtaking
+pub mod Needed

@@ -1,0 +1,10 @@
+//! In which order a pool starts what is active. These are theorems over the definitions alone, which no running code
+//! needs.
+#![tactic(auto)]
+
+mod laws;
+
+pub use laws::{
+    active_stand, as_many_may_start, few_start_before, items_stay_free, none_overtakes,
+    nothing_comes_between, premises_are_needed, starts_take_first,
+};
