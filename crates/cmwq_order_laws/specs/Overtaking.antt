@@ -16,7 +16,7 @@ pub record StandsBehind (s : Layout) (past : List Entry) (p : PoolId) (ahead : L
   pub behind : List Queueing
   pub worklist_is : worklist s past p ≡ ahead ++ x ∷ behind
 
--- So does each that is active and has not started, in the pool of its queue and its CPU.
+-- Each queueing that is active and has not started stands so, in the pool of its queue and its CPU.
 abbrev pub ActiveStand : Type 0
 ActiveStand = (s : Layout) (past : List Entry) (x : Queueing) → Contains (queueings past) x
     → is_active s past x ≡ true → is_started past x.number ≡ false
@@ -24,7 +24,8 @@ ActiveStand = (s : Layout) (past : List Entry) (x : Queueing) → Contains (queu
 
 -- ---- which queueing starts next
 
--- It has this number, it stands in the worklist, and its item does not run. The items of all that are ahead of it run.
+-- The queueing with this number stands in the worklist, and its item does not run. The items of all that are ahead of it
+-- run.
 pub record IsFirstFree (s : Layout) (past : List Entry) (p : PoolId) (n : ℕ) : Type 0 where
   pub queueing : Queueing
   pub ahead : List Queueing
@@ -33,7 +34,7 @@ pub record IsFirstFree (s : Layout) (past : List Entry) (p : PoolId) (n : ℕ) :
   pub is_free : item_runs past queueing.item.0 ≡ false
   pub others_run : AllByRecursion (λ y. item_runs past y.item.0 ≡ true) ahead
 
--- A worker of a pool that starts a queueing starts that one.
+-- Where a worker of a pool starts a queueing, it is that one.
 abbrev pub StartsTakeFirst : Type 0
 StartsTakeFirst = (s : Layout) (past : List Entry) (e : Entry) (p : PoolId) (n : ℕ) → IsLegal s (e ∷ past)
     → is_in_pool p e.who ≡ true → starts n e ≡ true → IsFirstFree s past p n
