@@ -1,5 +1,5 @@
-//! The lines of standard error. That of a refused input says which flag tells more of it, and that of a stream that failed
-//! says why it did.
+//! The lines of standard error. That of a refused input says which flag tells more of it, and that of a stream that
+//! failed says why it did.
 
 use crate::noticing::Reason;
 use std::io::{self, ErrorKind, Write};
@@ -45,8 +45,8 @@ pub(crate) struct Failures {
     pub(crate) output: Option<io::Error>,
 }
 
-/// A writer of lines, each of which is written at once. It adds the hint to those of refused inputs, where it is to. The
-/// line of a stream that failed is held back until it is known why.
+/// A writer of lines, each of which is written at once. It adds the hint to those of refused inputs, where it is to.
+/// The line of a stream that failed is held back until it is known why.
 #[derive(Drop)]
 pub(crate) struct Lines<W> {
     inner: W,

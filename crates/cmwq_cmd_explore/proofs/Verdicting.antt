@@ -1,5 +1,5 @@
 -- What a verdict says of what was found.
-use Rattle.std.proofs.Common.{ℕ, ◌≡◌, ◌<◌, ◌≤◌, Bool, true, false, if◌then◌else◌, List, Option, Some, None, nat_lt}
+use Rattle.std.proofs.Common.{ℕ, ◌≡◌, ◌<◌, Bool, true, false, if◌then◌else◌, List, Option, Some, None, nat_lt}
 use Rattle.std.proofs.Common.{refl, sym}
 use Rattle.std.proofs.Common.{arith, subst, reverse, ◌∙◌}
 use Rattle.std.specs.Prelude.{IfSome}

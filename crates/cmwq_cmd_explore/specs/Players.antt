@@ -1,5 +1,5 @@
 -- One who plays the schedules of seeds.
-use Rattle.std.specs.Prelude.{◌≡◌, ℕ, length, Option}
+use Rattle.std.specs.Prelude.{◌≡◌, ℕ, length}
 use Rattle.std.specs.Option.{unwrap_or}
 use Rattle.cmwq_json_script.specs.Scripts.{run_of}
 use Rattle.cmwq_explore.specs.declared.chance.Chooser.{Chooser}

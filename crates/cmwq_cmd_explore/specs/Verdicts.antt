@@ -1,6 +1,6 @@
 -- What `explore` says of a script.
-use Rattle.std.specs.Prelude.{◌≡◌, ◌+◌, ◌-◌, ◌<◌, ◌≤◌, ◌^◌, ◌||◌, ◌==◌, ℕ, Bool, true, false, if◌then◌else◌, List, length}
-use Rattle.std.specs.Prelude.{Option, Some, None, Ok, min, max, nat_lt}
+use Rattle.std.specs.Prelude.{◌≡◌, ◌+◌, ◌-◌, ◌<◌, ◌≤◌, ◌^◌, ◌||◌, ◌==◌, ℕ, Bool, true, false, if◌then◌else◌, List}
+use Rattle.std.specs.Prelude.{length, Option, None, Ok, min, max, nat_lt}
 use Rattle.std.specs.Io.KnownBytes.{Appends}
 use Rattle.std.specs.Option.{unwrap_or}
 use Rattle.cmwq_model.specs.Prelude.{IsLegal}
@@ -14,10 +14,11 @@ use Rattle.cmwq_json.specs.Inputs.{Says}
 use Rattle.cmwq_json_script.specs.Runs.{Run, run_said}
 use Rattle.cmwq_play.specs.declared.play.Standing.{Standing}
 use Rattle.cmwq_play.specs.declared.play.Standing.TheVariants as standings
+use Rattle.cmwq_explore.specs.declared.finding.Finding.{Finding}
 use Rattle.cmwq_explore.specs.declared.seeds.Tally.{Tally}
 use Rattle.cmwq_play.specs.Stands.{Stand}
 use Rattle.cmwq_play.specs.Searches.{AllEnd, GetsStuck, IsPathTo}
-use Rattle.cmwq_explore.specs.Chances.{IsPlay, chosen_by}
+use Rattle.cmwq_explore.specs.Chances.{chosen_by}
 use Rattle.cmwq_explore.specs.Seeds.{StandsAs, TellsSeeds}
 use Rattle.cmwq_play.specs.Starts.{first_stand, most_moves}
 use Rattle.cmwq_cmd_explore.specs.declared.explore.Seeding.{Seeding}
@@ -37,6 +38,27 @@ verdict_of e =
     else if nat_lt 0 e.with_misuse then verdicts.Misused
     else if nat_lt 0 e.with_refusals then verdicts.RefusedIn e.with_refusals
     else verdicts.AllEnd
+
+-- how many of the schedules that a search found, or of the seeds that were played, came to each end
+abbrev pub ends_found : Finding → Ends
+ends_found f = record {
+  ended = f.ended;
+  stuck = f.stuck;
+  cut = f.cut;
+  short_of_room = f.short_of_room;
+  with_refusals = f.with_refusals;
+  with_misuse = f.with_misuse;
+}
+
+abbrev pub ends_counted : Tally → Ends
+ends_counted t = record {
+  ended = t.ended;
+  stuck = t.stuck;
+  cut = t.cut;
+  short_of_room = t.short_of_room;
+  with_refusals = t.with_refusals;
+  with_misuse = t.with_misuse;
+}
 
 -- the exit status
 abbrev pub status_of : Verdict → ℕ

@@ -2,7 +2,7 @@
 
 ghost use Rattle.std.specs.Prelude.{◌≡◌, IfOk};
 ghost use Rattle.cmwq_json_script.specs.Scripts.{run_of};
-ghost use Rattle.cmwq_cmd_explore.specs.Verdicts.{SaysAll};
+ghost use Rattle.cmwq_cmd_explore.specs.Verdicts.{SaysAll, ends_found};
 
 use crate::report::{
     firsts_of, flush, write_cut_off, write_found, write_parties, write_path, write_refused,
@@ -27,7 +27,7 @@ fn moves_of(alloc: Global, way: &[usize]) -> Result<Vec<usize>, AllocError> {
 
 /// The ends of the schedules that were found.
 fn ends_of(finding: &Finding) -> Ends
-    ensures { (result.stuck ≡ finding.now.stuck) × (result.cut ≡ finding.now.cut) }
+    ensures { result ≡ ends_found finding.now }
 {
     Ends {
         ended: finding.ended,

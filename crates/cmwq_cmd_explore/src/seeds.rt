@@ -9,7 +9,7 @@ ghost use Rattle.cmwq_play.specs.Starts.{first_stand, start_of};
 ghost use Rattle.cmwq_explore.specs.declared.chance.Chooser.TheVariants as choosers;
 ghost use Rattle.cmwq_cmd_explore.specs.Players.{HasPlayed, IsPlayer, IsSamePlayer, start_in, version_in};
 ghost use Rattle.cmwq_cmd_explore.specs.Verdicts.{HasWritten, SaysSeed, SaysSeeds, Writes};
-ghost use Rattle.cmwq_cmd_explore.specs.Verdicts.{is_refused, moves_in, standing_of};
+ghost use Rattle.cmwq_cmd_explore.specs.Verdicts.{ends_counted, is_refused, moves_in, standing_of};
 
 use crate::explore::Seeding;
 use crate::report::{
@@ -233,7 +233,7 @@ fn shown_of(tally: &Tally) -> Shown {
 
 /// The ends of the schedules of seeds.
 fn ends_of(tally: &Tally) -> Ends
-    ensures { (result.stuck ≡ tally.now.stuck) × (result.cut ≡ tally.now.cut) }
+    ensures { result ≡ ends_counted tally.now }
 {
     Ends {
         ended: tally.ended,

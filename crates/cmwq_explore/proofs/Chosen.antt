@@ -1,11 +1,8 @@
 -- One move more of those that a seed chooses, and one more who may move.
-use Rattle.std.proofs.Common.{ℕ, zero, suc, ◌≡◌, ◌<◌, ◌+◌, true, false, List, [], ◌∷◌, ◌++◌, length, ◌==◌, Bool, refl}
-use Rattle.std.proofs.Common.{sym, ap, ◌∙◌, arith, add-one}
+use Rattle.std.proofs.Common.{ℕ, zero, suc, ◌≡◌, ◌<◌, true, false, List, [], ◌∷◌, length, ◌==◌, Bool, refl}
+use Rattle.std.proofs.Common.{sym, ap, ◌∙◌, arith}
 use Rattle.std.proofs.lemmas.Bool.{eqb-true}
-use Rattle.std.specs.List.{filter, range_with_len}
-use Rattle.std.proofs.lemmas.List.{append-nil}
-use Rattle.std.proofs.lemmas.List.Elements.{filter-append}
-use Rattle.cmwq_play.specs.Stands.{Stand, may, moved, movers_of}
+use Rattle.cmwq_play.specs.Stands.{Stand, moved, movers_of}
 use Rattle.cmwq_explore.specs.Chances.{after_draw, chosen, chosen_by}
 
 -- ---- moves of which so many are to be made

@@ -1,17 +1,17 @@
 -- What is found of the stands after moves, and so of the stand before them.
-use Rattle.std.proofs.Common.{ℕ, zero, suc, ◌≡◌, ◌<◌, ◌≤◌, ◌+◌, ◌-◌, ◌^◌, Bool, true, false, List, [], ◌∷◌, ◌++◌}
-use Rattle.std.proofs.Common.{length, Option, Some, None, add-one, refl, subst, sym, ap, ◌∙◌, arith, min, max, nat_lt}
+use Rattle.std.proofs.Common.{ℕ, zero, suc, ◌≡◌, ◌<◌, ◌≤◌, ◌+◌, ◌-◌, Bool, true, false, List, [], ◌∷◌, ◌++◌}
+use Rattle.std.proofs.Common.{length, Some, None, refl, subst, sym, ap, ◌∙◌, arith, nat_lt}
 use Rattle.std.proofs.Common.{get_or, map, ◌||◌, below_more}
 use Rattle.std.proofs.lemmas.Bool.{le-ltb, leb-false, leb-true, lt-ltb, ltb-false, ltb-true}
 use Rattle.std.proofs.lemmas.List.{length-append, reverse-append}
 use Rattle.std.specs.List.{list_any}
-use Rattle.std.specs.Prelude.{All, Contains, IfSome, reverse, option_map}
+use Rattle.std.specs.Prelude.{All, Contains, IfSome, reverse}
 use Rattle.cmwq_explore.specs.declared.finding.Finding.{Finding}
 use Rattle.cmwq_play.specs.declared.play.Standing.{Standing}
 use Rattle.cmwq_play.specs.declared.play.Standing.TheVariants as standings
 use Rattle.cmwq_play.specs.Stands.{Stand, IsDone, may, moved}
-use Rattle.cmwq_play.specs.Searches.{AllEnd, AllEndAfter, GetsStuck, NoneStuck, NoneStuckAfter, Rests}
-use Rattle.cmwq_explore.specs.Findings.{HasAtLeast, HasEnded, HasStuck, Joins, JoinsMove, Tells, TellsAfter, TellsAll}
+use Rattle.cmwq_play.specs.Searches.{AllEnd, GetsStuck, NoneStuck, Rests}
+use Rattle.cmwq_explore.specs.Findings.{HasAtLeast, HasEnded, HasStuck, JoinsMove, Tells, TellsAfter, TellsAll}
 use Rattle.cmwq_explore.specs.Findings.{Way, is_shorter, longer_by, no_finding, shorter, sum, way_of}
 use Rattle.cmwq_explore.proofs.Searching.{all_known, all_tried, false_or}
 
@@ -206,8 +206,8 @@ pub joined : (depth : ℕ) (old new : Finding) (p : Stand) (movers : List ℕ) (
 joined depth old new p movers k is before joins =
     let party = get_or movers k 0 in
     let child = joins.0 in
-    let tells = joins.1 in
-    let adds = joins.2 in
+    let tells = joins.2 in
+    let adds = joins.3 in
     let within = tells.within in
     let was = before.within in
     let height = adds.height in

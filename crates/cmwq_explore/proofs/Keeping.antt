@@ -1,12 +1,13 @@
 -- What was found of a state is true of each that is alike.
-use Rattle.std.proofs.Common.{ℕ, ◌≡◌, ◌≤◌, ◌∙◌, ◌++◌, ◌∷◌, [], Bool, true, false, List, Option, Some, None, refl, subst}
-use Rattle.std.proofs.Common.{sym, arith, cond}
+use Rattle.std.proofs.Common.{ℕ, ◌≡◌, ◌<◌, ◌≤◌, ◌∙◌, ◌++◌, ◌∷◌, [], Bool, true, false, List, Option, Some, None, refl}
+use Rattle.std.proofs.Common.{subst, sym, arith, cond}
 use Rattle.std.proofs.lemmas.Option.{same_Some}
 use Rattle.std.proofs.lemmas.Slice.Eq.{bytes_eq-Decides}
 use Rattle.std.specs.Bool.{Decides}
 use Rattle.std.specs.Str.{bytes_eq}
 use Rattle.std.specs.Prelude.{IfSome, reverse}
 use Rattle.cmwq_explore.specs.declared.finding.Finding.{Finding}
+use Rattle.cmwq_explore.specs.declared.finding.Marks.{Marks}
 use Rattle.cmwq_explore.specs.declared.seen.Seen.{Seen}
 use Rattle.cmwq_key.specs.Alike.{AreAlike, IsStand}
 use Rattle.cmwq_explore.specs.declared.search.Search.{Search}
@@ -37,16 +38,16 @@ told_alike depth f p q a tells = record {
 
 pub put_known : (start : Stand) (old new : Seen) (key : Key) (f : Finding)
     → ((other : Key) → found_of new other ≡ cond (is_same_key key other) (Some f) (found_of old other))
-    → KnowsAll start old → KnowsOf start key.items f → KnowsAll start new
-put_known start old new key f puts known knows other g found =
+    → KnowsAll start old → f.cut ≡ 0 → KnowsOf start key.items f → KnowsAll start new
+put_known start old new key f puts known whole knows other g found =
     here (bytes_eq key.items other.items) refl (bytes_eq-Decides key.items other.items)
   where
     here : (b : Bool) → bytes_eq key.items other.items ≡ b → Decides b (key.items ≡ other.items)
-        → KnowsOf start other.items g
+        → (g.cut ≡ 0) × KnowsOf start other.items g
     here true is same =
         let one : Some f ≡ Some g = sym (rw is at (puts other)) ∙ found in
-        subst (λ (h : Finding). KnowsOf start other.items h) (same_Some f g one)
-        (subst (λ (k : List ℕ). KnowsOf start k f) (same.0 refl) knows)
+        subst (λ (h : Finding). (h.cut ≡ 0) × KnowsOf start other.items h) (same_Some f g one)
+        (whole, subst (λ (k : List ℕ). KnowsOf start k f) (same.0 refl) knows)
     here false not same = known other g (sym (rw not at (puts other)) ∙ found)
 
 -- ---- searches
@@ -80,14 +81,23 @@ within_more depth more f p less tells = record {
 }
 
 -- what is known of a state that came again is added
-pub joined_seen : (start p q : Stand) (seen : Seen) (depth party : ℕ) (old new : Finding) → KnowsAll start seen
-    → IsReached start q → q ≡ moved p party → JoinsSeen seen q depth party old new → JoinsMove depth p party old new
-joined_seen start p q seen depth party old new knows reached moves (key, child, keyed, found, within, joins) = (
+pub joined_seen : (start p q : Stand) (seen : Seen) (depth party : ℕ) (marks : Marks) (old new : Finding)
+    → KnowsAll start seen → IsReached start q → q ≡ moved p party → JoinsSeen seen q depth party marks old new
+    → JoinsMove depth p party old new
+joined_seen start p q seen depth party marks old new knows reached moves (key, child, keyed, found, within, joins) = (
   child,
+  marks,
   subst (Tells depth child) moves
-      (within_more child.height depth child q within (knows key child found q reached (sym keyed))),
+      (within_more child.height depth child q within ((knows key child found).1 q reached (sym keyed))),
   joins,
 )
+
+-- and nothing more is cut off
+pub seen_is_whole : (start q : Stand) (seen : Seen) (depth party : ℕ) (marks : Marks) (old new : Finding)
+    → KnowsAll start seen → JoinsSeen seen q depth party marks old new → 0 < new.cut → 0 < old.cut
+seen_is_whole start q seen depth party marks old new knows (key, child, keyed, found, within, joins) some =
+    let whole = (knows key child found).0 in
+    omega (arith, joins.cut, whole)
 
 -- where each key is one of which something is known
 pub each_kept : {X : Type 0} {P : X → Type 0} (Q : X → Type 0) (key : Option X) → IfSome key P

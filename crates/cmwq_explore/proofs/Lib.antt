@@ -1,4 +1,5 @@
 pub mod Chosen
+pub mod Cutting
 pub mod Joining
 pub mod Keeping
 pub mod Searching

@@ -1,14 +1,13 @@
 -- Steps one after another, and what is known once all who may move were tried.
-use Rattle.std.proofs.Common.{ℕ, zero, suc, ◌≡◌, ◌<◌, ◌+◌, Bool, true, false, List, [], ◌∷◌, ◌++◌, length, get_or, take}
-use Rattle.std.proofs.Common.{add-one, refl, subst, sym, ap, ◌∙◌, arith, ◌-◌, ◌==◌, Result, Ok, Err}
-use Rattle.std.proofs.Math.Seq.{take-suc}
+use Rattle.std.proofs.Common.{ℕ, zero, suc, ◌≡◌, ◌<◌, Bool, true, false, List, [], ◌∷◌, length, get_or}
+use Rattle.std.proofs.Common.{refl, subst, ◌∙◌, arith, ◌-◌, ◌==◌, Result, Ok, Err}
 use Rattle.std.proofs.lemmas.List.{get_or_default}
 use Rattle.std.proofs.lemmas.List.Elements.{All-get_or}
 use Rattle.std.proofs.lemmas.Bool.Decides.{nat_tests}
 use Rattle.std.specs.Prelude.{All, Contains, IfOk}
 use Rattle.cmwq_play.specs.Stands.{Stand, IsDone, may, moved}
-use Rattle.cmwq_play.specs.Searches.{AllEnd, AllEndAfter, AllEndOrOneIsStuck, GetsStuck, IsPathTo, IsSchedule}
-use Rattle.cmwq_play.specs.Searches.{NoneStuck, IsFine, NoneStuckAfter, StuckAreLong, after}
+use Rattle.cmwq_play.specs.Searches.{AllEnd, AllEndAfter, AllEndOrOneIsStuck, GetsStuck}
+use Rattle.cmwq_play.specs.Searches.{NoneStuck, IsFine, NoneStuckAfter, StuckAreLong}
 
 false_unless : (b : Bool) → (b ≡ true → ⊥) → b ≡ false
 false_unless true never = absurd (never refl)

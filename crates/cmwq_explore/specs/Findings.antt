@@ -1,6 +1,8 @@
 -- What a search finds out of the schedules from one stand on.
 use Rattle.std.specs.Prelude.{◌≡◌, ◌+◌, ◌-◌, ◌<◌, ◌≤◌, ◌^◌, ℕ, min, max, if◌then◌else◌, List, [], ◌∷◌, ◌++◌, length}
 use Rattle.std.specs.Prelude.{reverse, nat_le, nat_lt, Bool, false, Option, Some, None, option_map, IfSome}
+use Rattle.cmwq_explore.specs.declared.finding.Marks.{Marks}
+use Rattle.cmwq_play.specs.declared.noted.Noted.{Noted}
 use Rattle.std.specs.Option.{option_map_or}
 use Rattle.std.specs.declared.alloc.Global.{Global}
 use Rattle.std.specs.declared.vec.Vec.{Vec}
@@ -89,14 +91,40 @@ pub record TellsAfter (depth : ℕ) (f : Finding) (p : Stand) (movers : List ℕ
 abbrev pub TellsAll : ℕ → Finding → Stand → List ℕ → Type 0
 TellsAll depth f p movers = TellsAfter depth f p movers (length movers)
 
+-- what a move leaves out, has refused and misuses: what is noted after it, and not before it
+abbrev pub marks_between : Noted → Noted → Marks
+marks_between before after = record {
+  left_out = nat_lt before.left_out after.left_out;
+  refused = nat_lt before.refused after.refused;
+  misused = nat_lt before.misused after.misused;
+}
+
+-- the schedules of this finding in which something is found that a move may do: all that were played to their end, if
+-- the move before them does it, and else so many
+abbrev pub marked : Bool → Finding → ℕ → ℕ
+marked is_marked child after = if is_marked then sum child.ended child.stuck else after
+
+pub record CountsMarked (child : Finding) (marks : Marks) (old new : Finding) : Type 0 where
+  pub short : new.short_of_room ≡ sum old.short_of_room (marked marks.left_out child child.short_of_room)
+  pub refused : new.with_refusals ≡ sum old.with_refusals (marked marks.refused child child.with_refusals)
+  pub misused : new.with_misuse ≡ sum old.with_misuse (marked marks.misused child child.with_misuse)
+
+-- the way to a wait that is refused: over a move that has one refused, or to one after it
+abbrev pub refusing_of : Finding → Marks → Way
+refusing_of child marks = if marks.refused then Some [] else way_of child.refusing
+
 -- what was found of the stand after the move of this party is added
-pub record Joins (child : Finding) (party : ℕ) (old new : Finding) : Type 0 where
+pub record Joins (child : Finding) (party : ℕ) (marks : Marks) (old new : Finding) : Type 0 where
   pub height : new.height ≡ max old.height (child.height + 1)
   pub ended : new.ended ≡ sum old.ended child.ended
   pub stuck : new.stuck ≡ sum old.stuck child.stuck
   pub cut : new.cut ≡ sum old.cut child.cut
+  pub counts : CountsMarked child marks old new
   pub nearest : way_of new.nearest ≡ shorter (way_of old.nearest) (longer_by party (way_of child.nearest))
+  pub cutting : way_of new.cutting ≡ shorter (way_of old.cutting) (longer_by party (way_of child.cutting))
+  pub refusing : way_of new.refusing ≡ shorter (way_of old.refusing) (longer_by party (refusing_of child marks))
 
 -- and it is true of that stand
 abbrev pub JoinsMove : ℕ → Stand → ℕ → Finding → Finding → Type 0
-JoinsMove depth p party old new = (child : Finding) × Tells depth child (moved p party) × Joins child party old new
+JoinsMove depth p party old new =
+    (child : Finding) × (marks : Marks) × Tells depth child (moved p party) × Joins child party marks old new

@@ -1,4 +1,5 @@
 pub mod Chances
+pub mod Cuts
 pub mod Findings
 pub mod Seeds
 pub mod Seens

@@ -3,7 +3,6 @@ use Rattle.std.specs.Prelude.{◌≡◌, ◌+◌, ◌<◌, ◌≤◌, ℕ, Bool,
 use Rattle.std.specs.Prelude.{nat_le, Option, Some, None, IfSome}
 use Rattle.cmwq_play.specs.declared.play.Standing.{Standing}
 use Rattle.cmwq_play.specs.declared.play.Standing.TheVariants as standings
-use Rattle.cmwq_explore.specs.declared.seeds.Seeds.{Seeds}
 use Rattle.cmwq_explore.specs.declared.seeds.StuckSeed.{StuckSeed}
 use Rattle.cmwq_explore.specs.declared.seeds.Tally.{Tally}
 use Rattle.cmwq_explore.specs.Chances.{chosen_by, played}

@@ -5,6 +5,7 @@ use Rattle.std.specs.declared.vec.Vec.{Vec}
 use Rattle.std.specs.Cmp.Lexicographic.{pointwise}
 use Rattle.indexmap.specs.IndexMap.{get}
 use Rattle.cmwq_explore.specs.declared.finding.Finding.{Finding}
+use Rattle.cmwq_explore.specs.declared.finding.Marks.{Marks}
 use Rattle.cmwq_explore.specs.declared.seen.Seen.{Seen}
 use Rattle.cmwq_explore.specs.declared.search.Search.{Search}
 use Rattle.cmwq_play.specs.Searches.{IsReached}
@@ -27,8 +28,9 @@ found_of seen key = get is_same_key seen.findings key
 abbrev pub KnowsOf : Stand → List ℕ → Finding → Type 0
 KnowsOf start key f = (p : Stand) → IsReached start p → key_of p ≡ key → Tells f.height f p
 
+-- so it is with all that was found and is kept, of which nothing was cut off
 abbrev pub KnowsAll : Stand → Seen → Type 0
-KnowsAll start seen = (key : Key) (f : Finding) → found_of seen key ≡ Some f → KnowsOf start key.items f
+KnowsAll start seen = (key : Key) (f : Finding) → found_of seen key ≡ Some f → (f.cut ≡ 0) × KnowsOf start key.items f
 
 -- so it is with a search of schedules from here on, where one that looks for states that come again begins at a stand
 pub record IsSearch (start : Stand) (s : Search) : Type 0 where
@@ -40,6 +42,6 @@ abbrev pub IsKeyed : Stand → Search → Type 0
 IsKeyed p s = s.merges ≡ true → s.key.items ≡ key_of p
 
 -- what was found of a state with the key of this stand is added, after the move of this party
-abbrev pub JoinsSeen : Seen → Stand → ℕ → ℕ → Finding → Finding → Type 0
-JoinsSeen seen p depth party old new = (key : Key) × (child : Finding) × (key.items ≡ key_of p)
-    × (found_of seen key ≡ Some child) × (child.height ≤ depth) × Joins child party old new
+abbrev pub JoinsSeen : Seen → Stand → ℕ → ℕ → Marks → Finding → Finding → Type 0
+JoinsSeen seen p depth party marks old new = (key : Key) × (child : Finding) × (key.items ≡ key_of p)
+    × (found_of seen key ≡ Some child) × (child.height ≤ depth) × Joins child party marks old new

@@ -1,8 +1,8 @@
 //! What is known of the schedules from one state on.
 
 ghost use Rattle.std.specs.Prelude.{◌≡◌, ◌<◌, ◌+◌, ◌-◌, ◌^◌, max, IfOk};
-ghost use Rattle.cmwq_explore.specs.Findings.{HasEnded, HasStuck, Joins, is_shorter, longer_by, no_finding, shorter};
-ghost use Rattle.cmwq_explore.specs.Findings.{sum, way_of};
+ghost use Rattle.cmwq_explore.specs.Findings.{CountsMarked, HasEnded, HasStuck, Joins, is_shorter, longer_by, marked};
+ghost use Rattle.cmwq_explore.specs.Findings.{marks_between, no_finding, shorter, sum, way_of};
 ghost use Rattle.cmwq_play.specs.declared.play.Standing.TheVariants as standings;
 
 use cmwq_play::{Noted, Standing};
@@ -46,7 +46,9 @@ pub(crate) struct Marks {
 
 impl Marks {
     /// What was noted between these two.
-    pub(crate) fn between(before: &Noted, after: &Noted) -> Marks {
+    pub(crate) fn between(before: &Noted, after: &Noted) -> Marks
+        ensures { result ≡ marks_between before.now after.now }
+    {
         Marks {
             left_out: after.left_out > before.left_out,
             refused: after.refused > before.refused,
@@ -85,7 +87,9 @@ fn is_shorter(way: &Way, moves: usize) -> bool
 
 /// So many of a child's schedules: all that were played to their end where the move itself is marked, and else those
 /// that are marked after it.
-fn marked(is_marked: bool, child: &Finding, after: u64) -> u64 {
+fn marked(is_marked: bool, child: &Finding, after: u64) -> u64
+    ensures { result ≡ marked is_marked child.now after }
+{
     if is_marked {
         child.ended.saturating_add(child.stuck)
     } else {
@@ -116,6 +120,7 @@ impl Finding {
     pub(crate) fn at_end(alloc: Global, standing: Standing, holds_a_lock: bool) -> Finding
         ensures ended { standing ≡ standings.Ended → HasEnded result }
         ensures stuck { standing ≡ standings.Stuck → HasStuck result }
+        ensures whole { result.cut ≡ 0 }
     {
         let with_misuse = u64::from(holds_a_lock);
         match standing {
@@ -151,14 +156,13 @@ impl Finding {
         marks: Marks,
     ) -> Result<(), AllocError>
         requires { child.now.height < 2 ^ 64 - 1 }
-        ensures { IfOk result (λ _. Joins child.now party self.old self.new) }
+        ensures { IfOk result (λ _. Joins child.now party marks self.old self.new) }
     {
         self.count(child, marks);
         keep_shorter(alloc, &mut self.nearest, &child.nearest, party)?;
         keep_shorter(alloc, &mut self.cutting, &child.cutting, party)?;
         if marks.refused {
-            self.refusing = Some(copy_of(alloc, &[party])?);
-            return Ok(());
+            return keep_shorter(alloc, &mut self.refusing, &Some(Vec::new(alloc)), party);
         }
         keep_shorter(alloc, &mut self.refusing, &child.refusing, party)
     }
@@ -169,7 +173,9 @@ impl Finding {
         ensures cut { self.new.cut ≡ sum self.old.cut child.now.cut }
         ensures ended { self.new.ended ≡ sum self.old.ended child.now.ended }
         ensures stuck { self.new.stuck ≡ sum self.old.stuck child.now.stuck }
-        ensures nearest { self.new.nearest ≡ self.old.nearest }
+        ensures marked { CountsMarked child.now marks self.old self.new }
+        ensures ways { (self.new.nearest ≡ self.old.nearest) × (self.new.cutting ≡ self.old.cutting)
+            × (self.new.refusing ≡ self.old.refusing) }
     {
         let short = marked(marks.left_out, child, child.short_of_room);
         let refusals = marked(marks.refused, child, child.with_refusals);

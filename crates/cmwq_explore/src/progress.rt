@@ -1,4 +1,6 @@
-//! How far a search, or the schedules of seeds, came. No contract reads it: it is shown, and changes nothing.
+//! How far a search, or the schedules of seeds, came.
+
+ghost use Rattle.cmwq_explore.specs.Cuts.{HasGoneOn};
 
 use crate::seeds::StuckSeed;
 use cmwq_play::{Play, Standing};
@@ -52,7 +54,9 @@ impl Progress {
     }
 
     /// So many moves more were made.
-    pub(crate) fn count_moves<W: Watch>(&mut self, moves: u64, watch: &mut W) {
+    pub(crate) fn count_moves<W: Watch>(&mut self, moves: u64, watch: &mut W)
+        ensures { HasGoneOn self.old self.new }
+    {
         self.moves = self.moves.saturating_add(moves);
         if self.moves >= self.next_look {
             self.next_look = self.moves.saturating_add(MOVES_A_LOOK);
@@ -61,7 +65,9 @@ impl Progress {
     }
 
     /// A schedule was played that stands so at its end.
-    pub(crate) fn count_end(&mut self, standing: Standing) {
+    pub(crate) fn count_end(&mut self, standing: Standing)
+        ensures { HasGoneOn self.old self.new }
+    {
         match standing {
             Standing::Ended => self.ended = self.ended.saturating_add(1),
             Standing::Stuck => self.stuck = self.stuck.saturating_add(1),

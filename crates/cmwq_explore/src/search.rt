@@ -1,11 +1,12 @@
 //! All schedules of a script, depth first. A state that comes again is not searched again, if that is asked for.
 
-ghost use Rattle.std.specs.Prelude.{◌≡◌, ◌<◌, ◌+◌, ◌-◌, ◌^◌, ℕ, true, false, length, All, IfOk, IfSome};
+ghost use Rattle.std.specs.Prelude.{◌≡◌, ◌⊎◌, ◌<◌, ◌+◌, ◌-◌, ◌^◌, ℕ, true, false, length, All, IfOk, IfSome};
 ghost use Rattle.std.specs.Prelude.{map};
 ghost use Rattle.std.specs.List.{list_any};
 ghost use Rattle.cmwq_json_script.specs.Scripts.{run_of};
 ghost use Rattle.cmwq_play.specs.Stands as spec;
 ghost use Rattle.cmwq_key.specs.Alike.{IsStand, names_ticket};
+ghost use Rattle.cmwq_explore.specs.Cuts.{HasLonger, IsLater, IsLimited, IsSameSearch, MayCut};
 ghost use Rattle.cmwq_explore.specs.Findings.{JoinsMove, Tells, TellsAll};
 ghost use Rattle.cmwq_play.specs.Searches.{IsReached, AllEndOrOneIsStuck, Rests, StuckAreLong};
 ghost use Rattle.cmwq_explore.specs.Seens.{IsKeyed, IsSearch, JoinsSeen, KnowsOf};
@@ -54,7 +55,8 @@ struct Search<'a> {
 impl<'a> Search<'a> {
     /// No state was searched yet.
     fn new(alloc: Global, limits: Limits, merges: bool) -> Search<'a>
-        ensures { (start : spec.Stand) → (merges ≡ true → IsStand start) → IsSearch start result }
+        ensures search { (start : spec.Stand) → (merges ≡ true → IsStand start) → IsSearch start result }
+        ensures limits { result.limits ≡ limits }
     {
         Search {
             alloc,
@@ -70,28 +72,31 @@ impl<'a> Search<'a> {
 
     /// One state more is searched.
     fn count_state(&mut self)
-        ensures { (self.new.seen ≡ self.old.seen) × (self.new.merges ≡ self.old.merges) }
+        ensures { IsSameSearch self.old self.new }
     {
         self.progress.states = self.progress.states.saturating_add(1);
     }
 
     /// A state came again.
     fn count_again(&mut self)
-        ensures { (self.new.seen ≡ self.old.seen) × (self.new.merges ≡ self.old.merges) }
+        ensures { IsSameSearch self.old self.new }
     {
         self.progress.again = self.progress.again.saturating_add(1);
     }
 
     /// Whether no move more is to be made.
-    fn is_at_limit(&self) -> bool {
+    fn is_at_limit(&self) -> bool
+        ensures { result ≡ true → IsLimited self.now.limits self.now.progress }
+    {
         self.progress.moves >= self.limits.moves
             || (self.limits.is_first && self.progress.stuck > 0)
     }
 
     /// A schedule may not go on.
     fn end<W: Watch>(&mut self, play: &Play<'a>, watch: &mut W) -> Finding
-        ensures same { (self.new.seen ≡ self.old.seen) × (self.new.merges ≡ self.old.merges) }
+        ensures same { IsSameSearch self.old self.new }
         ensures tells { Rests play.now → (depth : ℕ) → Tells depth result play.now }
+        ensures whole { result.cut ≡ 0 }
     {
         let standing = play.standing_still();
         watch.ends(play, standing);
@@ -101,7 +106,7 @@ impl<'a> Search<'a> {
 
     /// Sees that there is a play that is not used.
     fn have_spare(&mut self, setup: &'a Setup<'a>) -> Result<(), AllocError>
-        ensures same { (self.new.seen ≡ self.old.seen) × (self.new.merges ≡ self.old.merges) }
+        ensures same { IsSameSearch self.old self.new }
         ensures some { IfOk result (λ _. 0 < length self.new.spare.items) }
     {
         if self.spare.is_empty() {
@@ -113,7 +118,7 @@ impl<'a> Search<'a> {
 
     /// A copy of this play.
     fn copy_of(&mut self, setup: &'a Setup<'a>, play: &Play<'a>) -> Result<Play<'a>, AllocError>
-        ensures same { (self.new.seen ≡ self.old.seen) × (self.new.merges ≡ self.old.merges) }
+        ensures same { IsSameSearch self.old self.new }
         ensures copy { IfOk result (λ copy. copy ≡ play.now) }
     {
         self.have_spare(setup)?;
@@ -134,7 +139,9 @@ impl<'a> Search<'a> {
         requires search { IsSearch (start_of setup.now) self.old }
         requires reached { IsReached (start_of setup.now) play.old }
         ensures search { IfOk result (λ _. IsSearch (start_of setup.now) self.new) }
+        ensures later { IfOk result (λ _. IsLater self.old self.new) }
         ensures tells { IfOk result (λ finding. Tells depth finding play.old) }
+        ensures cut { IfOk result (λ finding. 0 < finding.cut → MayCut depth play.old self.new) }
     {
         self.count_state();
         let movers = play.movers()?;
@@ -165,7 +172,9 @@ impl<'a> Search<'a> {
         requires some { 0 < length movers.now }
         requires deep { depth < 2 ^ 64 - 1 }
         ensures search { IfOk result (λ _. IsSearch (start_of setup.now) self.new) }
+        ensures later { IfOk result (λ _. IsLater self.old self.new) }
         ensures tells { IfOk result (λ finding. TellsAll (depth + 1) finding play.old movers.now) }
+        ensures cut { IfOk result (λ finding. 0 < finding.cut → MayCut (depth + 1) play.old self.new) }
     {
         let mut finding = Finding::nothing();
         let last = movers.len() - 1;
@@ -204,8 +213,11 @@ impl<'a> Search<'a> {
         requires may { spec.may play.old party ≡ true }
         requires deep { depth < 2 ^ 64 - 1 }
         ensures search { IfOk result (λ _. IsSearch (start_of setup.now) self.new) }
+        ensures later { IfOk result (λ _. IsLater self.old self.new) }
         ensures play { IfOk result (λ _. is_last ≡ false → play.new ≡ play.old) }
         ensures joins { IfOk result (λ _. JoinsMove depth play.old party finding.old finding.new) }
+        ensures cut { IfOk result
+            (λ _. 0 < finding.new.cut → (0 < finding.old.cut) ⊎ MayCut (depth + 1) play.old self.new) }
     {
         if is_last {
             return self.go_on(setup, play, depth, party, finding, watch);
@@ -232,7 +244,10 @@ impl<'a> Search<'a> {
         requires may { spec.may play.old party ≡ true }
         requires deep { depth < 2 ^ 64 - 1 }
         ensures search { IfOk result (λ _. IsSearch (start_of setup.now) self.new) }
+        ensures later { IfOk result (λ _. IsLater self.old self.new) }
         ensures joins { IfOk result (λ _. JoinsMove depth play.old party finding.old finding.new) }
+        ensures cut { IfOk result
+            (λ _. 0 < finding.new.cut → (0 < finding.old.cut) ⊎ MayCut (depth + 1) play.old self.new) }
     {
         let before = *play.noted();
         play.make_move(party)?;
@@ -259,11 +274,11 @@ impl<'a> Search<'a> {
         finding: &mut Finding,
     ) -> Result<bool, AllocError>
         requires { depth < 2 ^ 64 - 1 }
-        ensures same { (self.new.seen ≡ self.old.seen) × (self.new.merges ≡ self.old.merges) }
+        ensures same { IsSameSearch self.old self.new }
         ensures key { IfOk result (λ is. is ≡ false → IsKeyed play.now self.new) }
         ensures kept { IfOk result (λ is. is ≡ false → finding.new ≡ finding.old) }
         ensures joins { IfOk result (λ is. is ≡ true
-            → JoinsSeen self.old.seen play.now depth party finding.old finding.new) }
+            → JoinsSeen self.old.seen play.now depth party marks finding.old finding.new) }
     {
         if !self.merges {
             return Ok(false);
@@ -293,8 +308,9 @@ impl<'a> Search<'a> {
 
     /// Keeps what was found of the state with this key, if there is one, unless something was cut off there.
     fn keep(&mut self, key: Option<Key>, finding: Finding) -> Result<(), AllocError>
-        ensures { (start : spec.Stand) → IsSearch start self.old
+        ensures search { (start : spec.Stand) → IsSearch start self.old
             → IfSome key (λ key. KnowsOf start key.items finding) → IfOk result (λ _. IsSearch start self.new) }
+        ensures later { IsLater self.old self.new }
     {
         match key {
             Some(key) if finding.cut == 0 => self.seen.put(key, finding),
@@ -309,7 +325,9 @@ impl<'a> Search<'a> {
         watch: &mut W,
     ) -> Result<Finding, AllocError>
         requires { IsSearch (start_of setup.now) self.old }
-        ensures { IfOk result (λ finding. Tells MOST_MOVES finding (start_of setup.now)) }
+        ensures later { IfOk result (λ _. IsLater self.old self.new) }
+        ensures tells { IfOk result (λ finding. Tells MOST_MOVES finding (start_of setup.now)) }
+        ensures cut { IfOk result (λ finding. 0 < finding.cut → MayCut MOST_MOVES (start_of setup.now) self.new) }
     {
         let mut play = Play::new(self.alloc, setup)?;
         let found = self.visit(setup, &mut play, MOST_MOVES, watch);
@@ -327,7 +345,9 @@ fn search_from<'a, W: Watch>(
     watch: &mut W,
 ) -> Result<(Finding, Progress), AllocError>
     requires { merges ≡ true → IsStand (start_of setup.now) }
-    ensures { IfOk result (λ r. Tells MOST_MOVES r.0 (start_of setup.now)) }
+    ensures tells { IfOk result (λ r. Tells MOST_MOVES r.0 (start_of setup.now)) }
+    ensures cut { IfOk result
+        (λ r. 0 < r.0.cut → IsLimited limits r.1 ⊎ HasLonger MOST_MOVES (start_of setup.now)) }
 {
     let mut search = Search::new(alloc, limits, merges);
     let found = search.visit_all(setup, watch);
@@ -368,7 +388,8 @@ fn may_merge(script: &Script, limits: Limits) -> bool
 
 /// Tries all schedules of a script, depth first, within the limits, and returns what was found of them, and how far it
 /// came. Unless the search is plain, a state that comes again is not searched again: what was found of it counts once
-/// more for each way to it. States are the same if they differ in nothing but the numbers of entries.
+/// more for each way to it. States are the same if they differ in nothing but the numbers of entries. Something is cut
+/// off only if the search came to a limit, or if a schedule has more than `MOST_MOVES` moves.
 ///
 /// # Errors
 /// Want of memory.
@@ -378,7 +399,9 @@ pub fn search_all<W: Watch>(
     limits: Limits,
     watch: &mut W,
 ) -> Result<(Finding, Progress), AllocError>
-    ensures { IfOk result (λ r. Tells MOST_MOVES r.0 (first_stand (run_of script.now))) }
+    ensures tells { IfOk result (λ r. Tells MOST_MOVES r.0 (first_stand (run_of script.now))) }
+    ensures cut { IfOk result
+        (λ r. 0 < r.0.cut → IsLimited limits r.1 ⊎ HasLonger MOST_MOVES (first_stand (run_of script.now))) }
 {
     let setup = Setup::new(alloc, script)?;
     let found = search_from(alloc, &setup, limits, may_merge(script, limits), watch);

@@ -1,7 +1,8 @@
 //! The first item that takes a place of each queue on each CPU. It is found once for all, since to look for it at each
 //! item that waits would take the square of the items.
 
-ghost use Rattle.std.specs.Prelude.{◌≡◌, ◌*◌, ◌<◌, ◌≤◌, ◌∷◌, ℕ, List, Contains, find, length, replicate, IfOk, IfSome, None};
+ghost use Rattle.std.specs.Prelude.{◌≡◌, ◌*◌, ◌<◌, ◌≤◌, ◌∷◌, ℕ, List, Contains, find, length, replicate, IfOk, IfSome};
+ghost use Rattle.std.specs.Prelude.{None};
 ghost use Rattle.std.specs.List.{range_with_len};
 ghost use Rattle.cmwq_model.specs.Prelude.{most_cpus, past_of, still_open};
 ghost use Rattle.cmwq_obstacle.specs.Firsts.{AreFirsts, AreFirstsOf, IsPlaceThere, active_place, listed_at, row_of};

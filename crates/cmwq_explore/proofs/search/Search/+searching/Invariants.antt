@@ -1,4 +1,5 @@
 use Rattle.std.proofs.Common.{◌≡◌, ◌+◌, ◌*◌, ◌<◌, length}
+use Rattle.cmwq_explore.specs.Cuts.{IsLater, MayCut}
 use Rattle.cmwq_explore.specs.Findings.{TellsAfter}
 use Rattle.cmwq_explore.specs.Seens.{IsSearch}
 use Rattle.cmwq_play.specs.Starts.{start_of}
@@ -19,6 +20,8 @@ decreases-go_on g l = 4 * l.depth + 1
 abbrev pub invariant-visit_after-loop-k : goal.invariant-visit_after-loop-k
 invariant-visit_after-loop-k g l = record {
   search : IsSearch (start_of l.setup) l.self;
+  later : IsLater l.fn.self l.self;
+  cut : 0 < l.finding.cut → MayCut (l.depth + 1) l.fn.play l.self;
   play : l.k < length l.movers → l.play ≡ l.fn.play;
   tells : TellsAfter (l.depth + 1) l.finding l.fn.play l.movers l.k;
 }
