@@ -291,7 +291,7 @@ module _ (s : Layout) (past : List Entry) (e : Entry) (legal : IsLegal s (e ∷ 
         ap (λ b. (y.item.0 == w.run.item.0) && b)
         (ahead_moved (length past) x y (within x here) (within y there)))))
 
-    places_moved : (ws : List RunWait) (x : Queueing) → In x (now c).opened
+    pub places_moved : (ws : List RunWait) (x : Queueing) → In x (now c).opened
         → have_all_places (next c) ws (move (length past) x) ≡ have_all_places (now c) ws x
     places_moved ws x here =
         ap₂ nat_le (max_same s past e x.place.queue.0 keeps)

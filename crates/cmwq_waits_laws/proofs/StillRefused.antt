@@ -38,14 +38,14 @@ unfolding serving_from
 served_below [] q n b is = absurd (cc is)
 served_below (e ∷ past) q n b is = grind (arith, nat_tests, served_below past q n b)
 
-abbrev move_ticket : ℕ → Ticket → Ticket
+abbrev pub move_ticket : ℕ → Ticket → Ticket
 move_ticket last t = record { caller = t.caller; call = t.call; number = moved last t.number }
 
-same_ticket : (last : ℕ) (t : Ticket) → t.number < last → move_ticket last t ≡ t
+pub same_ticket : (last : ℕ) (t : Ticket) → t.number < last → move_ticket last t ≡ t
 same_ticket last t less =
     ap (λ n. record { caller = t.caller; call = t.call; number = n }) (moved_old last t.number less)
 
-new_ticket : (past : List Entry) (e : Entry) (c : Call)
+pub new_ticket : (past : List Entry) (e : Entry) (c : Call)
     → move_ticket (length past) (next_ticket past c) ≡ next_ticket (e ∷ past) c
 new_ticket past e c =
     ap (λ n. record { caller = record { 0 = 0 }; call = c; number = n }) (moved_new (length past))
@@ -149,7 +149,7 @@ module _ (s : Layout) (past : List Entry) (e : Entry) (legal : IsLegal s (e ∷ 
     holds_alike (call.FlushDelayed i) x less = grind (arith, nat_tests)
     holds_alike d x less = refl
 
-    own_alike : (run : Queueing) → In run (still_open past)
+    pub own_alike : (run : Queueing) → In run (still_open past)
         → awaits (e ∷ past) (next_ticket (e ∷ past) c) run ≡ awaits past (next_ticket past c) run
     own_alike run here =
         ap₂ (λ a b. a || (cancels_sync run.item.0 c && b)) (holds_alike c run (open_known past run here))

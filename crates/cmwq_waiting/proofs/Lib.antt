@@ -1,0 +1,11 @@
+pub mod Waits
+pub mod Lent
+pub mod Refused
+pub mod AllowedAsleep
+pub mod Trapping
+pub mod Allowed
+pub mod Pools
+pub mod Rest
+pub mod AtRest
+pub mod Hanging
+pub mod Examples

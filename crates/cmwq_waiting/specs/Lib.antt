@@ -1,0 +1,4 @@
+pub mod Waits
+pub mod Deadlocks
+pub mod Rest
+pub mod Examples

@@ -1,0 +1,116 @@
+//! The waits of a history.
+
+ghost use Rattle.cmwq_waiting.specs.Deadlocks.{AllowedAsleepToo, AllowedTrapNone, DeadlocksLast, EntriesTrapNone};
+ghost use Rattle.cmwq_waiting.specs.Deadlocks.{NoDeadlockComesUp, RefusalsAreRefused, RefusedNeverEnd};
+ghost use Rattle.cmwq_waiting.specs.Examples.{NarrowingTraps, WhoWaits};
+ghost use Rattle.cmwq_waiting.specs.Rest.{AtRestNoneRuns, AtRestWaitsAreDeadlock, HubsNeverHang, OnlyFrozenAreOpen};
+ghost use Rattle.cmwq_waiting.specs.Waits.{EntriesGoOn, LentTicketsAreWaits, PairsAddOne, SleepsAddNone};
+ghost use Rattle.cmwq_waiting.specs.Waits.{WaitsAreApart, WaitsAreAsleep, WaitsAreWaiting};
+
+// ---- who waits
+
+/// Each run that waits is what its worker runs, and sleeps.
+pub fn waits_are_asleep()
+    ensures { WaitsAreAsleep }
+{}
+
+/// Each run that waits is open and has started, and its ticket is unended.
+pub fn waits_are_waiting()
+    ensures { WaitsAreWaiting }
+{}
+
+/// No run waits twice.
+pub fn waits_are_apart()
+    ensures { WaitsAreApart }
+{}
+
+/// An entry that begins no wait takes out those whose run makes it or whose ticket it ends, and no others.
+pub fn entries_go_on()
+    ensures { EntriesGoOn }
+{}
+
+/// A sleep alone changes nothing.
+pub fn sleeps_add_none()
+    ensures { SleepsAddNone }
+{}
+
+/// A sleep and the call of a lent caller that follows add one wait, and end none.
+pub fn pairs_add_one()
+    ensures { PairsAddOne }
+{}
+
+/// If lent callers are given tickets only right after a run fell asleep, and runs that wait make no entry, then a run
+/// waits for each unended ticket of a lent caller.
+pub fn lent_tickets_are_waits()
+    ensures { LentTicketsAreWaits }
+{}
+
+/// Worked examples: which runs wait.
+pub fn who_waits()
+    ensures { WhoWaits }
+{}
+
+// ---- waits that could never end
+
+/// A wait is refused where it would wait for its own run or could never end, and nowhere else.
+pub fn refusals_are_refused()
+    ensures { RefusalsAreRefused }
+{}
+
+/// A wait that is not refused is not refused either once its run has fallen asleep.
+pub fn allowed_asleep_too()
+    ensures { AllowedAsleepToo }
+{}
+
+/// Waits that are held up by one another never end, unless an entry lets them go.
+pub fn deadlocks_last()
+    ensures { DeadlocksLast }
+{}
+
+/// If a wait is refused and begun all the same, it never ends, unless an entry lets it go.
+pub fn refused_never_end()
+    ensures { RefusedNeverEnd }
+{}
+
+/// An entry that begins no wait makes no deadlock, unless it makes a queue narrower or queues what is waited for.
+pub fn entries_trap_none()
+    ensures { EntriesTrapNone }
+{}
+
+/// A wait that begins and was not refused makes no deadlock, unless its call queues what is waited for.
+pub fn allowed_trap_none()
+    ensures { AllowedTrapNone }
+{}
+
+/// No waits are a deadlock if none was refused and no entry may trap them.
+pub fn no_deadlock_comes_up()
+    ensures { NoDeadlockComesUp }
+{}
+
+/// A worked example: a queue gets narrower, and that traps a wait which could have ended.
+pub fn narrowing_traps()
+    ensures { NarrowingTraps }
+{}
+
+// ---- rest
+
+/// Where no run is under way and no worker would start anything, what is open is on a queue that a freeze shuts down.
+pub fn only_frozen_are_open()
+    ensures { OnlyFrozenAreOpen }
+{}
+
+/// At rest, where each run waits and no queue is shut down, all waits together are a deadlock.
+pub fn at_rest_waits_are_deadlock()
+    ensures { AtRestWaitsAreDeadlock }
+{}
+
+/// So no run is under way there, if no waits are a deadlock.
+pub fn at_rest_none_runs()
+    ensures { AtRestNoneRuns }
+{}
+
+/// A hub does not hang by itself: if it is at rest, each run waits by it, no wait was refused or trapped, and no queue
+/// is shut down, then nothing is open.
+pub fn hubs_never_hang()
+    ensures { HubsNeverHang }
+{}
