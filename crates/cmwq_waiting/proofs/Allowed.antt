@@ -73,7 +73,7 @@ untold : (r : Reply) → gives_ticket r ≡ true → width_told r ≡ None
 untold (reply.Width n) given = absurd (cc given)
 untold r given = grind (arith, given)
 
-no_width : (s : Layout) (past : List Entry) (e : Entry) (q : ℕ) → width_told e.reply ≡ None
+pub no_width : (s : Layout) (past : List Entry) (e : Entry) (q : ℕ) → width_told e.reply ≡ None
     → max_active s (e ∷ past) q ≡ max_active s past q
 unfolding max_active
 no_width s past e q none = by (sets_max e.call q)

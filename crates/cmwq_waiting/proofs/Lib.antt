@@ -9,3 +9,5 @@ pub mod Rest
 pub mod AtRest
 pub mod Hanging
 pub mod Examples
+pub mod Deciding
+pub mod Needed

@@ -3,6 +3,7 @@
 ghost use Rattle.cmwq_waiting.specs.Deadlocks.{AllowedAsleepToo, AllowedTrapNone, DeadlocksLast, EntriesTrapNone};
 ghost use Rattle.cmwq_waiting.specs.Deadlocks.{NoDeadlockComesUp, RefusalsAreRefused, RefusedNeverEnd};
 ghost use Rattle.cmwq_waiting.specs.Examples.{NarrowingTraps, WhoWaits};
+ghost use Rattle.cmwq_waiting.specs.Needed.{PremisesAreMet, PremisesAreNeeded};
 ghost use Rattle.cmwq_waiting.specs.Rest.{AtRestNoneRuns, AtRestWaitsAreDeadlock, HubsNeverHang, OnlyFrozenAreOpen};
 ghost use Rattle.cmwq_waiting.specs.Waits.{EntriesGoOn, LentTicketsAreWaits, PairsAddOne, SleepsAddNone};
 ghost use Rattle.cmwq_waiting.specs.Waits.{WaitsAreApart, WaitsAreAsleep, WaitsAreWaiting};
@@ -113,4 +114,14 @@ pub fn at_rest_none_runs()
 /// is shut down, then nothing is open.
 pub fn hubs_never_hang()
     ensures { HubsNeverHang }
+{}
+
+/// A worked example: a run waits, its wait ends, and the history meets all premises of the law above.
+pub fn premises_are_met()
+    ensures { PremisesAreMet }
+{}
+
+/// Without any one of these premises something may be open.
+pub fn premises_are_needed()
+    ensures { PremisesAreNeeded }
 {}
