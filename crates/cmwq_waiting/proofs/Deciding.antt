@@ -5,18 +5,12 @@ use Rattle.std.specs.Prelude.{◌&&◌, Contains, is_some}
 use Rattle.std.specs.List.{list_any}
 use Rattle.std.specs.Option.{option_map_or}
 use Rattle.std.proofs.lemmas.Bool.{and_from, and_parts, both_ways, false_from_ne_true}
-use Rattle.cmwq_lemmas.proofs.Passing.{counted_any}
-use Rattle.cmwq_lemmas.proofs.Members.{In, any_in, contained_in, in_any}
+use Rattle.cmwq_lemmas.proofs.Members.{any_in, contained_in}
 unfoldable use Rattle.cmwq_model.specs.Prelude.{IsLegal}
 use Rattle.cmwq_model.specs.Prelude.{Layout, is_frozen, is_started, opening, still_open, workers}
 use Rattle.cmwq_model.specs.Widths.{width_told}
 use Rattle.cmwq_model.specs.declared.entry.Entry.{Entry}
-use Rattle.cmwq_model.specs.declared.id.Who.TheVariants.{Worker}
-use Rattle.cmwq_model.specs.declared.id.WorkerId.{WorkerId}
 use Rattle.cmwq_model.specs.declared.record.Queueing.{Queueing}
-use Rattle.cmwq_state.specs.Tables.{IsThere}
-use Rattle.cmwq_theory_steps.proofs.ItemRuns.{same_worker-true}
-use Rattle.cmwq_theory_steps.proofs.Points.{is_worker, worker_once}
 use Rattle.cmwq_theory_wakes.specs.Readiness.{is_unready}
 use Rattle.cmwq_theory_wakes.specs.Starting.{would_start}
 use Rattle.cmwq_waits.specs.HeldUp.{awaits}
@@ -28,6 +22,7 @@ use Rattle.cmwq_waiting.specs.Deadlocks.{queues}
 use Rattle.cmwq_waiting.specs.Rest.{EachRunWaits, IsAtRest, NoneShutDown}
 use Rattle.cmwq_waiting.specs.Waits.{wait_begun, waits_of}
 use Rattle.cmwq_waiting.proofs.Allowed.{no_width}
+use Rattle.cmwq_waiting.proofs.Few.{there_in}
 use Rattle.cmwq_waiting.proofs.Refused.{refusals_are_refused}
 
 -- ---- of each entry
@@ -102,12 +97,6 @@ none_traps first s (e ∷ past) all =
         absurd (both_ways _ none (ap (λ o. option_map_or (queues_awaited first past e) o false) opened ∙ some))
 
 -- ---- rest
-
-there_in : (s : Layout) (w : WorkerId) → IsThere s (Worker w) → In w (workers s)
-there_in s w there =
-    let k = in_any (is_worker w) (workers s)
-    (counted_any (is_worker w) (workers s) (omega (arith, worker_once s w there.0 there.1))) in
-    subst (λ v. In v (workers s)) (same_worker-true k.0 w k.2) k.1
 
 pub at_rest : (first : ℕ) (s : Layout) (past : List Entry) → list_any (would_start s past) (workers s) ≡ false
     → list_any (λ (w : RunWait). not (is_unready past w.ticket.number w.ticket.call)) (waits_of first past) ≡ false

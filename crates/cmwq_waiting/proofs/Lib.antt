@@ -1,4 +1,5 @@
 pub mod Waits
+pub mod Few
 pub mod Lent
 pub mod Refused
 pub mod AllowedAsleep
@@ -8,6 +9,6 @@ pub mod Pools
 pub mod Rest
 pub mod AtRest
 pub mod Hanging
-pub mod Examples
 pub mod Deciding
 pub mod Needed
+pub mod Examples

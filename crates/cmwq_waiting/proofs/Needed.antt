@@ -18,7 +18,7 @@ unfoldable use Rattle.cmwq_waiting.proofs.Deciding.{each_entry}
 use Rattle.cmwq_waiting.proofs.Deciding.{all_allowed, all_wait, at_rest, none_frozen, none_traps}
 
 -- a history that its calls give
-told : (s : Layout) (entries : List Entry)
+pub told : (s : Layout) (entries : List Entry)
     → AllByRecursion (λ (c : Who × Call). fits s c.0 c.1 ≡ true) (map call_made entries)
     → (steps s 100 (map call_made entries)).past ≡ past_of entries → IsLegal s (past_of entries)
 told s entries fit gives = subst (IsLegal s) gives (steps_are_legal s 100 (map call_made entries) fit)

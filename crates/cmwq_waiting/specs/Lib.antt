@@ -1,5 +1,5 @@
 pub mod Waits
 pub mod Deadlocks
 pub mod Rest
-pub mod Examples
 pub mod Needed
+pub mod Examples

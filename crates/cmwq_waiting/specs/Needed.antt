@@ -113,24 +113,32 @@ abbrev pub for_itself : List Entry
 for_itself =
     started ++ entry (normal 0 0) 1 sleep reply.Slept ∷ entry (caller 1) 0 (flush_item 0) (reply.Ticket 3) ∷ []
 
--- The run of item 0 and item 1 have both places of the queue, so item 2 is inactive, for which the run waits. The queue
--- gets narrower, and item 1 finishes. Now the run alone has all places.
-abbrev pub narrowed : List Entry
-narrowed =
+-- The run of item 0 and item 1 have both places of the queue, so item 2 is inactive, for which the run waits.
+abbrev pub two_places : List Entry
+two_places =
     started
     ++ entry (caller 0) 1 (queue 1 0 0) (reply.Yes 2) ∷ entry (caller 0) 2 (queue 2 0 0) (reply.Yes 3)
     ∷ entry (normal 0 0) 1 sleep reply.Slept ∷ entry (caller 1) 0 (flush_item 2) (reply.Ticket 5)
-    ∷ entry (normal 0 1) 0 take (reply.Started 2) ∷ entry (caller 0) 3 (set_max 0 1) (reply.Width 1)
-    ∷ entry (normal 0 1) 1 finish (reply.Finished 2) ∷ []
+    ∷ entry (normal 0 1) 0 take (reply.Started 2) ∷ []
 
--- The run of item 0 drains queue 1, on which item 1 runs on the other CPU. That run queues item 2 on the first CPU,
--- whose only worker has the run of item 0.
-abbrev pub queued_in_drain : List Entry
-queued_in_drain =
+-- The queue gets narrower, and item 1 finishes. Now the run alone has all places.
+abbrev pub narrowed : List Entry
+narrowed =
+    two_places
+    ++ entry (caller 0) 3 (set_max 0 1) (reply.Width 1) ∷ entry (normal 0 1) 1 finish (reply.Finished 2) ∷ []
+
+-- The run of item 0 drains queue 1, on which item 1 runs on the other CPU.
+abbrev pub draining : List Entry
+draining =
     entry (caller 0) 0 (queue 0 0 0) (reply.Yes 0) ∷ entry (normal 0 0) 0 take (reply.Started 0)
     ∷ entry (caller 0) 1 (queue 1 1 1) (reply.Yes 2) ∷ entry (normal 1 0) 0 take (reply.Started 2)
-    ∷ entry (normal 0 0) 1 sleep reply.Slept ∷ entry (caller 1) 0 (drain 1) (reply.Ticket 5)
-    ∷ entry (normal 1 0) 1 (queue 2 1 0) (reply.Yes 6) ∷ entry (normal 1 0) 2 finish (reply.Finished 2) ∷ []
+    ∷ entry (normal 0 0) 1 sleep reply.Slept ∷ entry (caller 1) 0 (drain 1) (reply.Ticket 5) ∷ []
+
+-- That run queues item 2 on the first CPU, whose only worker has the run of item 0.
+abbrev pub queued_in_drain : List Entry
+queued_in_drain =
+    draining
+    ++ entry (normal 1 0) 1 (queue 2 1 0) (reply.Yes 6) ∷ entry (normal 1 0) 2 finish (reply.Finished 2) ∷ []
 
 -- an item is queued on a frozen queue
 abbrev pub frozen : List Entry

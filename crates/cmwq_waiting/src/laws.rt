@@ -2,11 +2,11 @@
 
 ghost use Rattle.cmwq_waiting.specs.Deadlocks.{AllowedAsleepToo, AllowedTrapNone, DeadlocksLast, EntriesTrapNone};
 ghost use Rattle.cmwq_waiting.specs.Deadlocks.{NoDeadlockComesUp, RefusalsAreRefused, RefusedNeverEnd};
-ghost use Rattle.cmwq_waiting.specs.Examples.{NarrowingTraps, WhoWaits};
+ghost use Rattle.cmwq_waiting.specs.Examples.{EntriesMayTrap, WhoWaits};
 ghost use Rattle.cmwq_waiting.specs.Needed.{PremisesAreMet, PremisesAreNeeded};
 ghost use Rattle.cmwq_waiting.specs.Rest.{AtRestNoneRuns, AtRestWaitsAreDeadlock, HubsNeverHang, OnlyFrozenAreOpen};
 ghost use Rattle.cmwq_waiting.specs.Waits.{EntriesGoOn, LentTicketsAreWaits, PairsAddOne, SleepsAddNone};
-ghost use Rattle.cmwq_waiting.specs.Waits.{WaitsAreApart, WaitsAreAsleep, WaitsAreWaiting};
+ghost use Rattle.cmwq_waiting.specs.Waits.{WaitsAreApart, WaitsAreAsleep, WaitsAreFew, WaitsAreWaiting};
 
 // ---- who waits
 
@@ -23,6 +23,11 @@ pub fn waits_are_waiting()
 /// No run waits twice.
 pub fn waits_are_apart()
     ensures { WaitsAreApart }
+{}
+
+/// There are at most as many waits as workers whose runs sleep.
+pub fn waits_are_few()
+    ensures { WaitsAreFew }
 {}
 
 /// An entry that begins no wait takes out those whose run makes it or whose ticket it ends, and no others.
@@ -88,9 +93,9 @@ pub fn no_deadlock_comes_up()
     ensures { NoDeadlockComesUp }
 {}
 
-/// A worked example: a queue gets narrower, and that traps a wait which could have ended.
-pub fn narrowing_traps()
-    ensures { NarrowingTraps }
+/// Worked examples: a queue gets narrower, or a run queues in a drain, and that makes a deadlock of a wait.
+pub fn entries_may_trap()
+    ensures { EntriesMayTrap }
 {}
 
 // ---- rest
