@@ -16,7 +16,7 @@ use Rattle.cmwq_lemmas.proofs.Lists.{All_each, count_by-cons, count_by-filter, f
 use Rattle.cmwq_lemmas.proofs.Members.{In, all_in, any_in, contained_in, filter_in, found, in_any, in_contained}
 use Rattle.cmwq_lemmas.proofs.Members.{in_filter}
 use Rattle.cmwq_lemmas.proofs.Members.{in_mapped, of_in}
-unfoldable use Rattle.cmwq_model.specs.Prelude.{IsLegal, is_active, queueings, width}
+unfoldable use Rattle.cmwq_model.specs.Prelude.{IsLegal, is_active, width}
 use Rattle.cmwq_model.specs.Prelude.{Layout, cancels_sync, has_run, holds_up, is_ahead, is_below_max_active}
 use Rattle.cmwq_model.specs.Prelude.{is_started, item_run, item_runs, max_active, pool_at, queueing_at, same_pool}
 use Rattle.cmwq_model.specs.Prelude.{still_open}

@@ -8,6 +8,7 @@ pub mod Allowed
 pub mod Pools
 pub mod Rest
 pub mod AtRest
+pub mod Over
 pub mod Hanging
 pub mod Deciding
 pub mod Needed

@@ -10,7 +10,7 @@ use Rattle.std.proofs.lemmas.Option.{same_Some}
 use Rattle.cmwq_lemmas.proofs.Lists.{filter_all}
 use Rattle.cmwq_lemmas.proofs.Members.{In, all_in, contained_in, in_append, in_contained, in_filter, filter_in, in_left}
 use Rattle.cmwq_lemmas.proofs.Members.{in_option, in_right, option_in}
-unfoldable use Rattle.cmwq_model.specs.Prelude.{IsLegal, is_asleep, last_start, queueings}
+unfoldable use Rattle.cmwq_model.specs.Prelude.{IsLegal, is_asleep, queueings}
 use Rattle.cmwq_model.specs.Prelude.{Layout, ticket_in, unended_tickets, worker_of, gives_ticket}
 use Rattle.cmwq_model.specs.Prelude.{asleep_after, is_by, is_done, item_of, queueing_at, run, same_who}
 use Rattle.cmwq_model.specs.Prelude.{has_number, item_at, opens, place_wanted, queued_at, runs_awake, ticket_for}

@@ -1,10 +1,10 @@
--- What is left open where a history is at rest.
-use Rattle.std.specs.Prelude.{◌≡◌, ℕ, true, false, List, [], Contains, IsTrue}
+-- What is left open where a history is at rest, and once a hub is over.
+use Rattle.std.specs.Prelude.{◌≡◌, ℕ, true, false, List, [], Contains, IsTrue, ◌++◌, Bool}
 use Rattle.std.specs.List.{list_any}
-use Rattle.cmwq_model.specs.Prelude.{IsLegal, Layout, is_layout, is_started, still_open}
+use Rattle.cmwq_model.specs.Prelude.{IsLegal, Layout, is_layout, is_started, still_open, is_active}
 use Rattle.cmwq_model.specs.Widths.{is_shut_down}
 use Rattle.cmwq_model.specs.declared.entry.Entry.{Entry}
-use Rattle.cmwq_model.specs.declared.id.Who.TheVariants.{Worker}
+use Rattle.cmwq_model.specs.declared.id.Who.TheVariants.{Worker, Caller}
 use Rattle.cmwq_model.specs.declared.id.WorkerId.{WorkerId}
 use Rattle.cmwq_model.specs.declared.record.Queueing.{Queueing}
 use Rattle.cmwq_state.specs.Tables.{IsThere}
@@ -14,8 +14,12 @@ use Rattle.cmwq_waits.specs.HeldUp.{IsDeadlock}
 use Rattle.cmwq_waits.specs.Refused.{is_of_run}
 use Rattle.cmwq_waits.specs.declared.run_wait.RunWait.{RunWait}
 use Rattle.cmwq_waits_laws.specs.Lasting.{scene_of}
+use Rattle.cmwq_theory_steps.specs.Histories.{OfEachEntry}
+use Rattle.cmwq_model.specs.declared.call.Call.{Call}
+use Rattle.cmwq_model.specs.declared.id.CallerId.{CallerId}
 use Rattle.cmwq_waiting.specs.Deadlocks.{NoDeadlock, NoneMayTrap, WaitsWereAllowed}
 use Rattle.cmwq_waiting.specs.Waits.{waits_of}
+use Rattle.cmwq_model.specs.declared.call.Call.TheVariants as call
 
 -- ---- rest
 
@@ -64,3 +68,26 @@ abbrev pub HubsNeverHang : Type 0
 HubsNeverHang = (first : ℕ) (s : Layout) (past : List Entry) → IsTrue (is_layout s) → IsLegal s past
     → WaitsWereAllowed first s past → NoneMayTrap first s past → IsAtRest first s past → EachRunWaits first past
     → NoneShutDown s past → still_open past ≡ []
+
+-- ---- once a hub is over
+
+-- No active queueing is open, and callers do nothing but end tickets.
+abbrev pub NoneActive : Layout → List Entry → Type 0
+NoneActive s past = (x : Queueing) → Contains (still_open past) x → is_active s past x ≡ false
+
+abbrev pub ends_ticket : Call → Bool
+ends_ticket (call.End n) = true
+ends_ticket c = false
+
+abbrev pub CallersOnlyEnd : List Entry → Type 0
+CallersOnlyEnd = OfEachEntry (λ past e. (c : CallerId) → e.who ≡ Caller c → ends_ticket e.call ≡ true)
+
+-- Then what is open stays open and inactive, and nothing more is queued.
+abbrev pub OverStaysOver : Type 0
+OverStaysOver = (s : Layout) (past later : List Entry) → IsLegal s (later ++ past) → NoneActive s past
+    → CallersOnlyEnd later → (still_open (later ++ past) ≡ still_open past) × NoneActive s (later ++ past)
+
+-- So a ticket that is not ready never gets ready.
+abbrev pub UnreadyStayUnready : Type 0
+UnreadyStayUnready = (s : Layout) (past later : List Entry) → IsLegal s (later ++ past) → NoneActive s past
+    → CallersOnlyEnd later → (n : ℕ) (c : Call) → is_unready past n c ≡ true → is_unready (later ++ past) n c ≡ true

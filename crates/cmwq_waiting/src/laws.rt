@@ -5,6 +5,7 @@ ghost use Rattle.cmwq_waiting.specs.Deadlocks.{NoDeadlockComesUp, RefusalsAreRef
 ghost use Rattle.cmwq_waiting.specs.Examples.{EntriesMayTrap, WhoWaits};
 ghost use Rattle.cmwq_waiting.specs.Needed.{PremisesAreMet, PremisesAreNeeded};
 ghost use Rattle.cmwq_waiting.specs.Rest.{AtRestNoneRuns, AtRestWaitsAreDeadlock, HubsNeverHang, OnlyFrozenAreOpen};
+ghost use Rattle.cmwq_waiting.specs.Rest.{OverStaysOver, UnreadyStayUnready};
 ghost use Rattle.cmwq_waiting.specs.Waits.{EntriesGoOn, LentTicketsAreWaits, PairsAddOne, SleepsAddNone};
 ghost use Rattle.cmwq_waiting.specs.Waits.{WaitsAreApart, WaitsAreAsleep, WaitsAreFew, WaitsAreWaiting};
 
@@ -129,4 +130,17 @@ pub fn premises_are_met()
 /// Without any one of these premises something may be open.
 pub fn premises_are_needed()
     ensures { PremisesAreNeeded }
+{}
+
+// ---- once a hub is over
+
+/// Once no active queueing is open and callers do nothing but end tickets, what is open stays open and inactive, and
+/// nothing more is queued.
+pub fn over_stays_over()
+    ensures { OverStaysOver }
+{}
+
+/// So a ticket that is not ready then never gets ready.
+pub fn unready_stay_unready()
+    ensures { UnreadyStayUnready }
 {}
