@@ -1,7 +1,6 @@
 -- A wait that is not refused makes no deadlock.
-use Rattle.std.proofs.Common.{◌≡◌, ◌∙◌, ◌∷◌, ◌++◌, ◌≤◌, ℕ, Bool, true, false, List, [], Some, None, ap, ap₂, arith}
-use Rattle.std.proofs.Common.{count_by, filter, inl, length, refl, subst, sym, ⊎_elim}
-use Rattle.std.proofs.Common.{append-nil, cond}
+use Rattle.std.proofs.Common.{◌≡◌, ◌∙◌, ◌∷◌, ◌++◌, ◌≤◌, Bool, List, None, Some, ℕ, ap, append-nil, ap₂, arith, cond}
+use Rattle.std.proofs.Common.{count_by, false, filter, inl, length, refl, subst, sym, true, ⊎_elim, []}
 use Rattle.std.specs.Prelude.{◌&&◌, ◌||◌, if◌then◌else◌, nat_le, option_and_then, option_map}
 use Rattle.std.specs.List.{list_any, sum_by}
 use Rattle.std.specs.Option.{option_map_or}
@@ -10,9 +9,10 @@ use Rattle.std.proofs.lemmas.List.Elements.{filter-append}
 use Rattle.std.proofs.lemmas.Option.{same_Some}
 use Rattle.cmwq_lemmas.proofs.Members.{In, any_in, contained_in, in_any, in_append, in_contained, in_left, in_right}
 unfoldable use Rattle.cmwq_model.specs.Prelude.{IsLegal, max_active}
-use Rattle.cmwq_model.specs.Widths.{width_told, sets_max}
-use Rattle.cmwq_model.specs.Prelude.{Layout, cancels_sync, gives_ticket, holds_up, is_at, is_started}
-use Rattle.cmwq_model.specs.Prelude.{opens, still_open, ticket_for, ticket_in, unended_tickets}
+use Rattle.cmwq_model.specs.Prelude.{Layout, cancels_sync, gives_ticket, holds_up, is_active, is_at, is_started}
+use Rattle.cmwq_model.specs.Prelude.{item_of, opens, place_wanted, queued_at, still_open, ticket_for, ticket_in}
+use Rattle.cmwq_model.specs.Prelude.{unended_tickets}
+use Rattle.cmwq_model.specs.Widths.{sets_max, width_told}
 use Rattle.cmwq_model.specs.declared.call.Call.{Call}
 use Rattle.cmwq_model.specs.declared.entry.Entry.{Entry}
 use Rattle.cmwq_model.specs.declared.id.Who.{Who}
@@ -21,27 +21,26 @@ use Rattle.cmwq_model.specs.declared.record.Queueing.{Queueing}
 use Rattle.cmwq_model.specs.declared.record.Ticket.{Ticket}
 use Rattle.cmwq_model.specs.declared.reply.Reply.{Reply}
 use Rattle.cmwq_model.specs.declared.reply.Reply.TheVariants as reply
-use Rattle.cmwq_theory_steps.proofs.Causes.{Cause, cause_of}
 use Rattle.cmwq_theory_steps.proofs.Causes as cause
+use Rattle.cmwq_theory_steps.proofs.Causes.{Cause, cause_of}
+use Rattle.cmwq_theory_steps.proofs.Reasons.{sleep_reason}
 use Rattle.cmwq_waits.specs.HeldUp.{IsDeadlock, Scene, awaits, has_run_of, have_all_places, have_all_workers}
 use Rattle.cmwq_waits.specs.HeldUp.{is_ahead_of_item, is_held_up, is_held_up_by, is_in, is_kept, members}
-use Rattle.cmwq_waits.proofs.GoOn.{is_running}
-use Rattle.cmwq_waiting.specs.Deadlocks.{AllowedTrapNone, MayTrap, NoDeadlock, RefusesIn, narrows, queues}
-use Rattle.cmwq_waiting.specs.Waits.{wait_begun, waits_of}
-use Rattle.cmwq_waiting.proofs.AllowedAsleep.{allowed_asleep_too}
 use Rattle.cmwq_waits.specs.Refused.{CouldNeverEnd, Refuses, is_other, is_turned_away, next_ticket, next_wait}
 use Rattle.cmwq_waits.specs.Refused.{scene_after, waits_with}
 use Rattle.cmwq_waits.specs.declared.run_wait.RunWait.{RunWait}
+use Rattle.cmwq_waits.proofs.GoOn.{is_running}
 use Rattle.cmwq_waits_laws.specs.Lasting.{scene_of}
 use Rattle.cmwq_waits_laws.proofs.Alike.{HaveSameRuns, last_alike, members_alike, places_alike, runs_alike}
 use Rattle.cmwq_waits_laws.proofs.Alike.{workers_alike}
 use Rattle.cmwq_waits_laws.proofs.Kept.{Way, all_places, all_workers, by_way, its_run, way}
 use Rattle.cmwq_waits_laws.proofs.Made.{quiet, same_opened}
+use Rattle.cmwq_waiting.specs.Deadlocks.{AllowedTrapNone, MayTrap, NoDeadlock, RefusesIn, narrows, queues}
+use Rattle.cmwq_waiting.specs.Waits.{wait_begun, waits_of}
+use Rattle.cmwq_waiting.proofs.AllowedAsleep.{allowed_asleep_too}
 use Rattle.cmwq_waiting.proofs.Trapping.{entries_trap_none, held_back, holds_back, inactive_back}
-use Rattle.cmwq_theory_steps.proofs.Reasons.{sleep_reason}
-use Rattle.cmwq_model.specs.Prelude.{is_active, item_of, place_wanted, queued_at}
-use Rattle.cmwq_waiting.proofs.Waits.{gives, in_waits, workers_begin_none, others_than, pairs_add_one, sleeps_add_none}
-use Rattle.cmwq_waiting.proofs.Waits.{waits_are_waiting}
+use Rattle.cmwq_waiting.proofs.Waits.{gives, in_waits, others_than, pairs_add_one, sleeps_add_none, waits_are_waiting}
+use Rattle.cmwq_waiting.proofs.Waits.{workers_begin_none}
 
 -- a call that is turned away gives no ticket
 not_turned : (s : Layout) (past : List Entry) (who : Who) (c : Call) (r : Reply) → Cause s past who c r

@@ -1,13 +1,11 @@
 -- A wait that is not refused is not refused either once its run has fallen asleep.
-use Rattle.std.proofs.Common.{◌≡◌, ◌∙◌, ◌∷◌, ◌==◌, ◌≤◌, ◌<◌, ℕ, Bool, true, false, List, [], Some, None, Option, ap}
-use Rattle.std.proofs.Common.{arith}
-use Rattle.std.proofs.Common.{filter, inl, inr, length, refl, subst, sym, suc, ⊎_elim}
+use Rattle.std.proofs.Common.{◌≡◌, ◌∙◌, ◌∷◌, ◌==◌, ◌≤◌, ◌<◌, Bool, List, None, Option, Some, ℕ, ap, arith, false}
+use Rattle.std.proofs.Common.{filter, inl, inr, length, refl, subst, suc, sym, true, ⊎_elim, []}
 use Rattle.std.specs.Prelude.{◌&&◌, Contains, nat_le}
 use Rattle.std.proofs.lemmas.Bool.{and_from, and_parts, both_ways, cases_lt, false_from_ne_true, or_cases}
 use Rattle.std.proofs.lemmas.Bool.Decides.{nat_tests}
 use Rattle.cmwq_lemmas.proofs.Members.{In, any_in, contained_in, in_any, in_append, in_contained, in_filter, in_left}
-use Rattle.cmwq_lemmas.proofs.Members.{in_map, in_right}
-use Rattle.cmwq_lemmas.proofs.Members.{of_in}
+use Rattle.cmwq_lemmas.proofs.Members.{in_map, in_right, of_in}
 unfoldable use Rattle.cmwq_model.specs.Prelude.{IsLegal, is_active, queueings}
 use Rattle.cmwq_model.specs.Prelude.{Layout, cancels_sync, holds_up, is_live, is_started, is_within, serving_from}
 use Rattle.cmwq_model.specs.Prelude.{still_open, unended_tickets}
@@ -17,22 +15,20 @@ use Rattle.cmwq_model.specs.declared.entry.Entry.{Entry}
 use Rattle.cmwq_model.specs.declared.record.Queueing.{Queueing}
 use Rattle.cmwq_model.specs.declared.record.Ticket.{Ticket}
 use Rattle.cmwq_model.specs.declared.reply.Reply.TheVariants as reply
+use Rattle.cmwq_theory_steps.specs.Endings.{survives}
 use Rattle.cmwq_theory_steps.proofs.Active.{not_active_yet}
 use Rattle.cmwq_theory_steps.proofs.Fresh.{not_started_yet}
-use Rattle.cmwq_theory_steps.specs.Endings.{survives}
 use Rattle.cmwq_theory_steps.proofs.Given.{IsGiven, unended_given}
 use Rattle.cmwq_theory_steps.proofs.Joined.{stays_active}
 use Rattle.cmwq_theory_steps.proofs.TicketSteps.{not_served_yet}
 use Rattle.cmwq_waits.specs.HeldUp.{AreWaiting, NeverEnds, awaits, has_run_of, have_all_places, have_all_workers}
-use Rattle.cmwq_waits.specs.HeldUp.{is_held_up}
-use Rattle.cmwq_waits.specs.HeldUp.{is_held_up_by, is_in, is_kept, members}
+use Rattle.cmwq_waits.specs.HeldUp.{is_held_up, is_held_up_by, is_in, is_kept, members}
 use Rattle.cmwq_waits.specs.Refused.{is_other, next_ticket, next_wait, scene_after, waits_with}
 use Rattle.cmwq_waits.specs.declared.run_wait.RunWait.{RunWait}
 use Rattle.cmwq_waits_laws.proofs.Alike.{HaveSameRuns, last_alike, members_alike, places_alike, runs_alike}
 use Rattle.cmwq_waits_laws.proofs.Alike.{workers_alike}
 use Rattle.cmwq_waits_laws.proofs.Asleep.{move, moved, moved_new, moved_old, moved_opened, now, old_or_new}
-use Rattle.cmwq_waits_laws.proofs.Asleep.{places_moved}
-use Rattle.cmwq_waits_laws.proofs.Asleep.{same_serving, same_started, same_turned, within}
+use Rattle.cmwq_waits_laws.proofs.Asleep.{places_moved, same_serving, same_started, same_turned, within}
 use Rattle.cmwq_waits_laws.proofs.Kept.{Way, all_places, all_workers, by_way, its_run, way}
 use Rattle.cmwq_waits_laws.proofs.Staying.{open_known, stays_open}
 use Rattle.cmwq_waits_laws.proofs.StillRefused.{move_ticket, new_ticket, own_alike, same_ticket}

@@ -1,9 +1,8 @@
 -- At rest the waits of runs are a deadlock, where each run waits and nothing is frozen.
-use Rattle.std.proofs.Common.{◌≡◌, ◌∙◌, ◌∷◌, ◌==◌, ◌≤◌, ◌<◌, ◌+◌, ◌⊎◌, ℕ, Bool, true, false, List, [], Some, None}
-use Rattle.std.proofs.Common.{Option, ap, ap₂, arith, not}
-use Rattle.std.proofs.Common.{count_by, eq-eqb, filter, find, inl, inr, length, map, refl, subst, sym, suc, zero}
-use Rattle.std.proofs.Common.{⊎_elim}
-use Rattle.std.specs.Prelude.{◌&&◌, ◌||◌, Contains, if◌then◌else◌, is_some, option_and_then, option_map}
+use Rattle.std.proofs.Common.{◌≡◌, ◌∙◌, ◌∷◌, ◌==◌, ◌≤◌, ◌<◌, ◌+◌, ◌⊎◌, Bool, List, None, Option, Some, ℕ, ap, ap₂}
+use Rattle.std.proofs.Common.{arith, count_by, eq-eqb, false, filter, find, inl, inr, length, map, not, refl, subst}
+use Rattle.std.proofs.Common.{suc, sym, true, zero, ⊎_elim, []}
+use Rattle.std.specs.Prelude.{◌&&◌, ◌||◌, if◌then◌else◌, Contains, is_some, option_and_then, option_map}
 use Rattle.std.specs.List.{list_any, sum_by}
 use Rattle.std.specs.Option.{option_map_or}
 use Rattle.std.proofs.lemmas.Bool.{and_from, and_parts, both_ways, false_from_ne_true, le-leb}
@@ -14,12 +13,10 @@ use Rattle.std.proofs.lemmas.Option.{same_Some}
 use Rattle.cmwq_lemmas.proofs.Filters.{count_by-wider}
 use Rattle.cmwq_lemmas.proofs.Lists.{All_each, count_by-cons, count_by-filter, filter_all, filter_shorter}
 use Rattle.cmwq_lemmas.proofs.Members.{In, all_in, any_in, contained_in, filter_in, found, in_any, in_contained}
-use Rattle.cmwq_lemmas.proofs.Members.{in_filter}
-use Rattle.cmwq_lemmas.proofs.Members.{in_mapped, of_in}
+use Rattle.cmwq_lemmas.proofs.Members.{in_filter, in_mapped, of_in}
 unfoldable use Rattle.cmwq_model.specs.Prelude.{IsLegal, is_active, width}
-use Rattle.cmwq_model.specs.Prelude.{Layout, cancels_sync, has_run, holds_up, is_ahead, is_below_max_active}
-use Rattle.cmwq_model.specs.Prelude.{is_started, item_run, item_runs, max_active, pool_at, queueing_at, same_pool}
-use Rattle.cmwq_model.specs.Prelude.{still_open}
+use Rattle.cmwq_model.specs.Prelude.{Layout, cancels_sync, has_run, holds_up, is_ahead, is_below_max_active, is_started}
+use Rattle.cmwq_model.specs.Prelude.{item_run, item_runs, max_active, pool_at, queueing_at, same_pool, still_open}
 use Rattle.cmwq_model.specs.Prelude.{worker_at}
 use Rattle.cmwq_model.specs.declared.call.Call.{Call}
 use Rattle.cmwq_model.specs.declared.call.Call.TheVariants as call
@@ -39,14 +36,14 @@ use Rattle.cmwq_theory_steps.proofs.ItemRuns.{one_worker}
 use Rattle.cmwq_theory_steps.proofs.ItemSteps.{items_are_run}
 use Rattle.cmwq_theory_steps.proofs.Rising.{open_rise, rising_filter}
 use Rattle.cmwq_theory_wakes.specs.Readiness.{is_unready}
-use Rattle.cmwq_waits.specs.HeldUp.{has_run_of, have_all_places, have_all_workers, is_in_pool, is_kept, is_of_item}
-use Rattle.cmwq_waits.specs.HeldUp.{is_held_up, is_held_up_by, is_in, members, places_ahead}
+use Rattle.cmwq_waits.specs.HeldUp.{has_run_of, have_all_places, have_all_workers, is_held_up, is_held_up_by, is_in}
+use Rattle.cmwq_waits.specs.HeldUp.{is_in_pool, is_kept, is_of_item, members, places_ahead}
 use Rattle.cmwq_waits.specs.declared.run_wait.RunWait.{RunWait}
 use Rattle.cmwq_waits_laws.specs.Lasting.{scene_of}
 use Rattle.cmwq_waits_laws.proofs.Apart.{is_run}
 use Rattle.cmwq_waiting.specs.Rest.{AtRestNoneRuns, AtRestWaitsAreDeadlock, EachRunWaits, NoneShutDown, NoneStarts}
 use Rattle.cmwq_waiting.specs.Waits.{waits_of}
-use Rattle.cmwq_waiting.proofs.Rest.{not_below, occupied, place_of, run_at, its_wait}
+use Rattle.cmwq_waiting.proofs.Rest.{its_wait, not_below, occupied, place_of, run_at}
 use Rattle.cmwq_waiting.proofs.Waits.{runs_by}
 
 -- ---- counts
@@ -323,7 +320,7 @@ module _ (first : ℕ) (s : Layout) (past : List Entry) (legal : IsLegal s past)
 
     wide : width s past q ≡ max_active s past q
     unfolding width
-    wide = ap (λ b. if b then 0 else max_active s past q) (none_shut q)
+    wide = ap (λ b. if b then 0 else max_active s past q) (none_shut x (in_contained (still_open past) x here))
 
     abbrev theirs : Queueing → Bool
     theirs y = has_run_of ws y.item.0 && is_ahead x y

@@ -1,6 +1,6 @@
 -- Premises of the law that a hub does not hang by itself, as tests that can be computed.
-use Rattle.std.proofs.Common.{◌≡◌, ◌∙◌, ◌∷◌, ℕ, Bool, true, false, List, [], Option, Some, None, ap, arith}
-use Rattle.std.proofs.Common.{refl, subst, sym, not}
+use Rattle.std.proofs.Common.{◌≡◌, ◌∙◌, ◌∷◌, Bool, List, None, Option, Some, ℕ, ap, arith, false, not, refl, subst, sym}
+use Rattle.std.proofs.Common.{true, []}
 use Rattle.std.specs.Prelude.{◌&&◌, Contains, is_some}
 use Rattle.std.specs.List.{list_any}
 use Rattle.std.specs.Option.{option_map_or}
@@ -133,4 +133,4 @@ all_wait first past none x here started = by (list_any (is_of_run x.number) (wai
 -- ---- nothing is frozen
 
 pub none_frozen : (s : Layout) (past : List Entry) → is_frozen past ≡ false → NoneShutDown s past
-none_frozen s past thawed q = grind (arith, thawed)
+none_frozen s past thawed x here = grind (arith, thawed)

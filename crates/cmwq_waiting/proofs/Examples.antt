@@ -1,12 +1,12 @@
 -- Which runs wait in small histories, and which entries trap them, by computation.
-use Rattle.std.proofs.Common.{◌≡◌, ◌∷◌, ◌++◌, ℕ, Bool, List, [], true, false, refl, subst, sym, ap, ⊎_elim}
-use Rattle.std.proofs.Common.{cond, inl, ◌∙◌}
+use Rattle.std.proofs.Common.{◌≡◌, ◌∷◌, ◌++◌, ◌∙◌, Bool, List, ℕ, ap, cond, false, inl, refl, subst, sym, true, ⊎_elim}
+use Rattle.std.proofs.Common.{[]}
 use Rattle.std.specs.Prelude.{Contains}
 use Rattle.std.proofs.lemmas.Bool.{both_ways, false_from_ne_true}
 use Rattle.cmwq_lemmas.proofs.Members.{In, contained_in, in_contained}
-use Rattle.cmwq_model_examples.proofs.Definitions.{definitions}
 use Rattle.cmwq_model.specs.Prelude.{Layout, past_of}
 use Rattle.cmwq_model.specs.declared.entry.Entry.{Entry}
+use Rattle.cmwq_model_examples.proofs.Definitions.{definitions}
 use Rattle.cmwq_waits.specs.HeldUp.{IsDeadlock, is_held_up, members}
 use Rattle.cmwq_waits.specs.declared.run_wait.RunWait.{RunWait}
 use Rattle.cmwq_waits_laws.specs.Lasting.{scene_of}

@@ -1,6 +1,6 @@
 -- There are at most as many waits as workers whose runs sleep.
-use Rattle.std.proofs.Common.{◌≡◌, ◌∙◌, ◌∷◌, ◌<◌, ◌≤◌, true, false, List, [], Some, ap, arith}
-use Rattle.std.proofs.Common.{filter, inl, inr, length, not, refl, subst, suc, sym, ⊎_elim}
+use Rattle.std.proofs.Common.{◌≡◌, ◌∙◌, ◌∷◌, ◌<◌, ◌≤◌, List, Some, ap, arith, false, filter, inl, inr, length, not}
+use Rattle.std.proofs.Common.{refl, subst, suc, sym, true, ⊎_elim, []}
 use Rattle.std.specs.Prelude.{is_some, option_and_then}
 use Rattle.std.proofs.lemmas.Bool.{and_from, false_from_ne_true}
 use Rattle.std.proofs.lemmas.List.Sums.{length-filter}
@@ -11,8 +11,8 @@ use Rattle.cmwq_lemmas.proofs.Passing.{counted_any}
 use Rattle.cmwq_model.specs.Prelude.{IsLegal, Layout, queueing_at, run, runs_asleep, same_worker, workers}
 use Rattle.cmwq_model.specs.declared.entry.Entry.{Entry}
 use Rattle.cmwq_model.specs.declared.id.PoolId.{PoolId}
-use Rattle.cmwq_model.specs.declared.id.WorkerId.{WorkerId}
 use Rattle.cmwq_model.specs.declared.id.Who.TheVariants.{Worker}
+use Rattle.cmwq_model.specs.declared.id.WorkerId.{WorkerId}
 use Rattle.cmwq_model.specs.declared.record.Queueing.{Queueing}
 use Rattle.cmwq_state.specs.Tables.{IsThere}
 use Rattle.cmwq_theory_steps.specs.ItemQueueings.{queueing_run}

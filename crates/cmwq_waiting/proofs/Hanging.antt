@@ -1,5 +1,5 @@
 -- Where each wait was allowed and nothing may trap waits, none is a deadlock, and so a hub does not hang by itself.
-use Rattle.std.proofs.Common.{◌≡◌, ◌∷◌, ◌∙◌, ℕ, Bool, true, false, List, Option, Some, None, refl, [], sym}
+use Rattle.std.proofs.Common.{◌≡◌, ◌∷◌, ◌∙◌, Bool, List, None, Option, Some, ℕ, false, refl, sym, true, []}
 use Rattle.std.specs.Prelude.{if◌then◌else◌}
 use Rattle.cmwq_lemmas.proofs.Members.{contained_in, in_contained, none_in}
 unfoldable use Rattle.cmwq_model.specs.Prelude.{IsLegal}
@@ -8,8 +8,8 @@ use Rattle.cmwq_model.specs.declared.entry.Entry.{Entry}
 use Rattle.cmwq_waits.specs.declared.run_wait.RunWait.{RunWait}
 use Rattle.cmwq_waiting.specs.Deadlocks.{NoDeadlock, NoDeadlockComesUp}
 use Rattle.cmwq_waiting.specs.Rest.{HubsNeverHang}
-use Rattle.cmwq_waiting.specs.Waits.{IsPair, is_lent, wait_begun, wait_by}
 unfoldable use Rattle.cmwq_waiting.specs.Waits.{waits_of}
+use Rattle.cmwq_waiting.specs.Waits.{IsPair, is_lent, wait_begun, wait_by}
 use Rattle.cmwq_waiting.proofs.Allowed.{allowed_trap_none}
 use Rattle.cmwq_waiting.proofs.AtRest.{at_rest_none_runs}
 use Rattle.cmwq_waiting.proofs.Rest.{only_frozen_are_open}
@@ -59,4 +59,4 @@ hubs_never_hang first s past sound legal allowed calm rest each none_shut =
     let alive = no_deadlock_comes_up first s past legal allowed calm in
     let none = at_rest_none_runs first s past legal rest each none_shut alive in
     let shut = only_frozen_are_open s past sound legal rest.workers none x (in_contained (still_open past) x here) in
-    absurd (cc (sym shut, none_shut x.place.queue.0)))
+    absurd (cc (sym shut, none_shut x (in_contained (still_open past) x here))))

@@ -1,13 +1,11 @@
 -- The unended tickets of lent callers are those for which runs wait.
-use Rattle.std.proofs.Common.{◌≡◌, ◌∙◌, ◌∷◌, ◌==◌, ◌<◌, ℕ, Bool, true, false, List, [], Some, None, Option, ap, ap₂}
-use Rattle.std.proofs.Common.{arith, not}
-use Rattle.std.proofs.Common.{filter, length, option_to_list, refl, subst, sym, eqb-true, ⊎_elim}
+use Rattle.std.proofs.Common.{◌≡◌, ◌∙◌, ◌∷◌, ◌==◌, ◌<◌, Bool, List, None, Option, Some, ℕ, ap, ap₂, arith, eqb-true}
+use Rattle.std.proofs.Common.{false, filter, length, not, option_to_list, refl, subst, sym, true, ⊎_elim, []}
 use Rattle.std.specs.Prelude.{◌&&◌, if◌then◌else◌, is_some}
 use Rattle.std.proofs.lemmas.Bool.{false_from_ne_true}
 use Rattle.std.proofs.lemmas.Option.{same_Some}
 use Rattle.cmwq_lemmas.proofs.Members.{In, contained_in, filter_in, in_append, in_contained, in_filter, in_left}
-use Rattle.cmwq_lemmas.proofs.Members.{in_option}
-use Rattle.cmwq_lemmas.proofs.Members.{in_right, option_in}
+use Rattle.cmwq_lemmas.proofs.Members.{in_option, in_right, option_in}
 unfoldable use Rattle.cmwq_model.specs.Prelude.{IsLegal, tickets}
 use Rattle.cmwq_model.specs.Prelude.{gives_ticket, is_unended, ticket_for, ticket_in, unended_tickets}
 use Rattle.cmwq_model.specs.declared.entry.Entry.{Entry}
@@ -19,8 +17,8 @@ use Rattle.cmwq_theory_steps.specs.TicketSteps.{is_ended_by, is_kept, ticket_end
 use Rattle.cmwq_theory_steps.proofs.TicketSteps.{one_ticket_ends, ticket_number, unended_go_on}
 use Rattle.cmwq_waits.specs.Registered.{is_for}
 use Rattle.cmwq_waits.specs.declared.run_wait.RunWait.{RunWait}
-use Rattle.cmwq_waiting.specs.Waits.{LentTicketsAreWaits, WaitsFor, is_lent, laid, wait_begun, wait_by, waits_on}
 unfoldable use Rattle.cmwq_waiting.specs.Waits.{waits_of}
+use Rattle.cmwq_waiting.specs.Waits.{LentTicketsAreWaits, WaitsFor, is_lent, laid, wait_begun, wait_by, waits_on}
 use Rattle.cmwq_waiting.proofs.Waits.{gives}
 
 -- ---- tickets differ in their numbers

@@ -1,18 +1,23 @@
 -- The worked histories of the law that a hub does not hang by itself, by computation.
-use Rattle.std.proofs.Common.{◌≡◌, ◌++◌, List, true, map, refl, subst}
+use Rattle.std.proofs.Common.{◌≡◌, ◌++◌, List, arith, false, map, refl, subst, true, ⊎_elim, []}
 use Rattle.std.specs.List.{AllByRecursion}
-use Rattle.cmwq_model_examples.proofs.Definitions.{definitions}
-use Rattle.cmwq_model_examples.specs.Words.{call_made}
-use Rattle.cmwq_model.specs.Prelude.{IsLegal, Layout, fits, past_of, steps}
+use Rattle.cmwq_lemmas.proofs.Members.{contained_in}
+use Rattle.cmwq_model.specs.Prelude.{IsLegal, Layout, fits, is_active, past_of, steps, still_open}
 use Rattle.cmwq_model.specs.declared.call.Call.{Call}
 use Rattle.cmwq_model.specs.declared.entry.Entry.{Entry}
 use Rattle.cmwq_model.specs.declared.id.Who.{Who}
+use Rattle.cmwq_model.specs.declared.record.Queueing.{Queueing}
+use Rattle.cmwq_model_examples.specs.Words.{call_made}
+use Rattle.cmwq_model_examples.proofs.Definitions.{definitions}
 use Rattle.cmwq_theory_laws.proofs.OneEntry.{steps_are_legal}
 unfoldable use Rattle.cmwq_waits.specs.Refused.{left_of}
-use Rattle.cmwq_waiting.specs.Needed.{Holds, IsNeeded, Premise, PremisesAreMet, PremisesAreNeeded, Story}
-use Rattle.cmwq_waiting.specs.Needed.{ended, for_itself, freezable, frozen, narrowed, one_queue, queued}
-use Rattle.cmwq_waiting.specs.Needed.{queued_in_drain, retired, running, started, two_queues, waiting, without_workers}
 use Rattle.cmwq_waiting.specs.Needed as premise
+use Rattle.cmwq_waiting.specs.Needed.{Holds, IsNeeded, LentPremisesAreNeeded, OverPremisesAreNeeded, Premise}
+use Rattle.cmwq_waiting.specs.Needed.{PremisesAreMet, PremisesAreNeeded, Story, active, alone, ended, finishing}
+use Rattle.cmwq_waiting.specs.Needed.{for_itself, freezable, frozen, inactive, narrowed, one_queue, queued}
+use Rattle.cmwq_waiting.specs.Needed.{queued_in_drain, retired, running, started, taking_back, two_queues, waiting}
+use Rattle.cmwq_waiting.specs.Needed.{without_workers, woken}
+use Rattle.cmwq_waiting.specs.Rest.{NoneActive}
 unfoldable use Rattle.cmwq_waiting.specs.Waits.{waits_of}
 unfoldable use Rattle.cmwq_waiting.proofs.Deciding.{each_entry}
 use Rattle.cmwq_waiting.proofs.Deciding.{all_allowed, all_wait, at_rest, none_frozen, none_traps}
@@ -228,4 +233,59 @@ premises_are_needed = record {
   ready = ready;
   acting = acting;
   shut_down = shut_down;
+}
+
+-- ---- the law of a hub that is over
+
+none_active : NoneActive freezable (past_of inactive)
+unfolding definitions
+none_active x here =
+    ⊎_elim (λ is. subst (λ (y : Queueing). is_active freezable (past_of inactive) y ≡ false) is refl)
+    (λ none. absurd none) (contained_in (still_open (past_of inactive)) x here)
+
+pub over_premises_are_needed : OverPremisesAreNeeded
+unfolding definitions
+over_premises_are_needed = record {
+  active_ends = record {
+    legal = told (one_queue 2) (active ++ finishing) (refl, (refl, (refl, (refl, tt)))) refl;
+    unready = refl;
+    ready = refl;
+  };
+  only_ends = (λ c is. absurd (cc is), (λ c is. absurd (cc is), tt));
+  inactive_ends = record {
+    legal = told freezable (inactive ++ taking_back) (refl, (refl, (refl, (refl, tt)))) refl;
+    unready = refl;
+    ready = refl;
+  };
+  none_active = none_active;
+}
+
+-- ---- the law of the tickets of lent callers
+
+pub lent_premises_are_needed : LentPremisesAreNeeded
+unfolding definitions waits_of
+lent_premises_are_needed = record {
+  alone_waits_none = record {
+    legal = told (one_queue 2) alone (refl, tt) refl;
+    unended = (0, omega arith, refl);
+    lent = refl;
+    none = refl;
+  };
+  waiters_make_none = (λ w here. absurd (contained_in [] w here), tt);
+  woken_waits_none = record {
+    legal = told (one_queue 2) woken (refl, (refl, (refl, (refl, (refl, (refl, tt)))))) refl;
+    unended = (0, omega arith, refl);
+    lent = refl;
+    none = refl;
+  };
+  lent_follow = (
+    λ lent given. absurd (cc lent),
+    (
+      λ lent given. refl,
+      (
+        λ lent given. absurd (cc lent),
+        (λ lent given. absurd (cc lent), (λ lent given. absurd (cc lent), (λ lent given. absurd (cc lent), tt))),
+      ),
+    ),
+  );
 }

@@ -1,14 +1,14 @@
 -- Once no active queueing is open and callers only end tickets, what is open stays as it is.
-use Rattle.std.proofs.Common.{◌≡◌, ◌∙◌, ◌∷◌, ◌++◌, ℕ, Bool, true, false, List, [], Some, None, Option, ap, ap₂, arith}
-use Rattle.std.proofs.Common.{append-nil, count_by, not, option_to_list, refl, subst, sym}
-use Rattle.std.specs.Prelude.{◌&&◌, ◌||◌, IsTrue, if◌then◌else◌, is_some, nat_lt, option_and_then, option_map}
+use Rattle.std.proofs.Common.{◌≡◌, ◌∙◌, ◌∷◌, ◌++◌, Bool, List, None, Option, Some, ℕ, ap, append-nil, ap₂, arith}
+use Rattle.std.proofs.Common.{count_by, false, not, option_to_list, refl, subst, sym, true, []}
+use Rattle.std.specs.Prelude.{◌&&◌, ◌||◌, if◌then◌else◌, IsTrue, is_some, nat_lt, option_and_then, option_map}
 use Rattle.std.proofs.lemmas.Bool.{both_ways}
 use Rattle.cmwq_lemmas.proofs.Lists.{filter_all, find_none}
 use Rattle.cmwq_lemmas.proofs.Members.{In, all_in, contained_in, in_contained, of_in}
 unfoldable use Rattle.cmwq_model.specs.Prelude.{IsLegal, answer, cancel_answer}
-use Rattle.cmwq_model.specs.Prelude.{Layout, fits, has_run, is_ahead, is_below_max_active, is_live, is_workers, item_of}
-use Rattle.cmwq_model.specs.Prelude.{may_call, opening, opens, place_wanted, queued_at, queueing_at, run}
-use Rattle.cmwq_model.specs.Prelude.{runs_awake, still_open, taken_back_answer, unstarted_queueing, is_booked}
+use Rattle.cmwq_model.specs.Prelude.{Layout, fits, has_run, is_ahead, is_below_max_active, is_booked, is_live}
+use Rattle.cmwq_model.specs.Prelude.{is_workers, item_of, may_call, opening, opens, place_wanted, queued_at}
+use Rattle.cmwq_model.specs.Prelude.{queueing_at, run, runs_awake, still_open, taken_back_answer, unstarted_queueing}
 use Rattle.cmwq_model.specs.Widths.{keeps_widths}
 use Rattle.cmwq_model.specs.declared.call.Call.{Call}
 use Rattle.cmwq_model.specs.declared.call.Call.TheVariants as call

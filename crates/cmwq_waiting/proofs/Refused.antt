@@ -1,5 +1,5 @@
 -- Waits that are refused, by the history alone.
-use Rattle.std.proofs.Common.{◌≡◌, ◌∙◌, ◌∷◌, ◌++◌, ap, List, [], Some, subst, sym}
+use Rattle.std.proofs.Common.{◌≡◌, ◌∙◌, ◌∷◌, ◌++◌, List, Some, ap, subst, sym, []}
 unfoldable use Rattle.cmwq_model.specs.Prelude.{IsLegal}
 use Rattle.cmwq_model.specs.Prelude.{Layout}
 use Rattle.cmwq_model.specs.declared.entry.Entry.{Entry}

@@ -1,53 +1,53 @@
 -- What lasts where a history is at rest.
-use Rattle.std.proofs.Common.{◌≡◌, ◌∙◌, ◌∷◌, ◌<◌, ℕ, Bool, true, false, List, [], Some, None, Option, ap, arith, not}
-use Rattle.std.proofs.Common.{count_by, eq-eqb, find, inl, refl, sym, length, suc, zero, subst, eqb-true, ◌≤◌}
-use Rattle.std.specs.Prelude.{Contains, is_some, nat_lt, option_and_then, IsTrue, slice_index_or, if◌then◌else◌, min}
+use Rattle.std.proofs.Common.{◌≡◌, ◌∙◌, ◌∷◌, ◌<◌, ◌≤◌, Bool, List, None, Option, Some, ℕ, ap, arith, count_by, eq-eqb}
+use Rattle.std.proofs.Common.{eqb-true, false, find, inl, length, not, refl, subst, suc, sym, true, zero, []}
+use Rattle.std.specs.Prelude.{if◌then◌else◌, Contains, IsTrue, is_some, min, nat_lt, option_and_then, slice_index_or}
+use Rattle.std.specs.List.{list_all}
+use Rattle.std.specs.Option.{option_map_or}
 use Rattle.std.proofs.lemmas.Bool.{and_from, and_parts, both_ways, false_from_ne_true}
 use Rattle.std.proofs.lemmas.Bool.Decides.{nat_tests}
+use Rattle.std.proofs.lemmas.Option.{same_Some}
 use Rattle.cmwq_lemmas.proofs.Lists.{count_by-none, find_none}
-use Rattle.cmwq_lemmas.proofs.Members.{In, all_in, contained_in, filter_in, in_contained, in_filter, of_in, in_any}
-unfoldable use Rattle.cmwq_model.specs.Prelude.{IsLegal, is_active, next, queueings, runnable, width, max_active}
-use Rattle.cmwq_model.specs.Prelude.{Layout, has_run, indices, is_asleep, is_below_max_active, is_holding, is_listed}
-use Rattle.cmwq_model.specs.Prelude.{is_live, is_started, is_startable, item_run, item_runs, pool_at}
-use Rattle.cmwq_model.specs.Prelude.{queueing_at, run, runs_awake, same_pool, still_open, worker_at, worklist}
-use Rattle.cmwq_model.specs.Prelude.{is_layout, is_queue, no_queue, has_numbers}
-use Rattle.cmwq_model.specs.Widths.{is_shut_down, width_told, sets_max, width_set}
+use Rattle.cmwq_lemmas.proofs.Members.{In, all_in, contained_in, filter_in, in_any, in_contained, in_filter, of_in}
+unfoldable use Rattle.cmwq_model.specs.Prelude.{IsLegal, is_active, max_active, next, queueings, runnable, width}
+use Rattle.cmwq_model.specs.Prelude.{Layout, has_numbers, has_run, indices, is_asleep, is_below_max_active, is_holding}
+use Rattle.cmwq_model.specs.Prelude.{is_layout, is_listed, is_live, is_queue, is_startable, is_started, item_run}
+use Rattle.cmwq_model.specs.Prelude.{item_runs, no_queue, pool_at, queueing_at, run, runs_awake, same_pool, still_open}
+use Rattle.cmwq_model.specs.Prelude.{worker_at, worklist}
+use Rattle.cmwq_model.specs.Widths.{is_shut_down, sets_max, width_set, width_told}
+use Rattle.cmwq_model.specs.declared.call.Call.{Call}
 use Rattle.cmwq_model.specs.declared.entry.Entry.{Entry}
 use Rattle.cmwq_model.specs.declared.id.PoolId.{PoolId}
-use Rattle.cmwq_model.specs.declared.id.WorkerId.{WorkerId}
+use Rattle.cmwq_model.specs.declared.id.Who.{Who}
 use Rattle.cmwq_model.specs.declared.id.Who.TheVariants.{Worker}
+use Rattle.cmwq_model.specs.declared.id.WorkerId.{WorkerId}
 use Rattle.cmwq_model.specs.declared.record.Queueing.{Queueing}
 use Rattle.cmwq_model.specs.declared.record.Start.{Start}
+use Rattle.cmwq_model.specs.declared.reply.Reply.{Reply}
+use Rattle.cmwq_model.specs.declared.shape.QueueShape.{QueueShape}
 use Rattle.cmwq_theory_steps.specs.ItemQueueings.{queueing_run}
 use Rattle.cmwq_theory_steps.specs.Places.{is_on, open_on}
 use Rattle.cmwq_theory_steps.proofs.Active.{open_ranked, ways}
+use Rattle.cmwq_theory_steps.proofs.Causes as cause
+use Rattle.cmwq_theory_steps.proofs.Causes.{Cause, cause_of}
+use Rattle.cmwq_theory_steps.proofs.Ended.{found_open}
 use Rattle.cmwq_theory_steps.proofs.ItemSteps.{items_are_run}
 use Rattle.cmwq_theory_steps.proofs.Joined.{active_go_on}
 use Rattle.cmwq_theory_steps.proofs.Pools.{runs_are_in_pools}
 use Rattle.cmwq_theory_steps.proofs.Ranks.{Ranked, is_below}
+use Rattle.cmwq_theory_steps.proofs.Reasons.{legal_fits}
+use Rattle.cmwq_theory_steps.proofs.StartsListed.{IsFound}
 use Rattle.cmwq_theory_steps.proofs.Worklist.{worklist_is}
 use Rattle.cmwq_theory_wakes.specs.Starting.{allows_start, worker_is_idle}
-use Rattle.cmwq_waits.specs.Registered.{is_run_of}
-use Rattle.cmwq_waits.proofs.GoOn.{is_running}
-use Rattle.cmwq_waits.specs.declared.run_wait.RunWait.{RunWait}
-use Rattle.std.specs.List.{list_all}
-use Rattle.std.specs.Option.{option_map_or}
-use Rattle.cmwq_model.specs.declared.shape.QueueShape.{QueueShape}
-use Rattle.cmwq_model.specs.declared.id.Who.{Who}
-use Rattle.cmwq_model.specs.declared.call.Call.{Call}
-use Rattle.cmwq_model.specs.declared.reply.Reply.{Reply}
-use Rattle.cmwq_theory_steps.proofs.Causes.{Cause, cause_of}
-use Rattle.cmwq_theory_steps.proofs.Reasons.{legal_fits}
-use Rattle.cmwq_theory_steps.proofs.Ended.{found_open}
-use Rattle.cmwq_theory_steps.proofs.StartsListed.{IsFound}
 use Rattle.cmwq_refinement.proofs.PlacesFit.{open_there}
-use Rattle.std.proofs.lemmas.Option.{same_Some}
 use Rattle.cmwq_waits.specs.Refused.{is_of_run}
-use Rattle.cmwq_waiting.specs.Rest.{EachRunWaits, NoneRuns, OnlyFrozenAreOpen, NoneStarts}
+use Rattle.cmwq_waits.specs.Registered.{is_run_of}
+use Rattle.cmwq_waits.specs.declared.run_wait.RunWait.{RunWait}
+use Rattle.cmwq_waits.proofs.GoOn.{is_running}
+use Rattle.cmwq_waiting.specs.Rest.{EachRunWaits, NoneRuns, NoneStarts, OnlyFrozenAreOpen}
 use Rattle.cmwq_waiting.specs.Waits.{waits_of}
 use Rattle.cmwq_waiting.proofs.Pools.{IdleOrAll, all_enlisted, idle_or_all, one_idle}
 use Rattle.cmwq_waiting.proofs.Waits.{awake_does_not, waits_are_waiting}
-use Rattle.cmwq_theory_steps.proofs.Causes as cause
 
 -- ---- lists
 

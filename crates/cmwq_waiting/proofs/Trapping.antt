@@ -1,8 +1,7 @@
 -- An entry that begins no wait makes no deadlock, unless it makes a queue narrower or queues what is waited for.
-use Rattle.std.proofs.Common.{◌≡◌, ◌∙◌, ◌∷◌, ◌==◌, ◌≤◌, ℕ, Bool, true, false, List, [], Some, None, Option, ap, arith}
-use Rattle.std.proofs.Common.{not}
-use Rattle.std.proofs.Common.{count_by, eqb-true, eq-eqb, filter, length, option_to_list, refl, subst, sym, ⊎_elim}
-use Rattle.std.specs.Prelude.{◌&&◌, Contains, if◌then◌else◌, nat_le}
+use Rattle.std.proofs.Common.{◌≡◌, ◌∙◌, ◌∷◌, ◌==◌, ◌≤◌, Bool, List, None, Option, Some, ℕ, ap, arith, count_by, eq-eqb}
+use Rattle.std.proofs.Common.{eqb-true, false, filter, length, not, option_to_list, refl, subst, sym, true, ⊎_elim, []}
+use Rattle.std.specs.Prelude.{◌&&◌, if◌then◌else◌, Contains, nat_le}
 use Rattle.std.specs.List.{list_any, sum_by}
 use Rattle.std.specs.Option.{option_or}
 use Rattle.std.proofs.lemmas.Bool.{and_from, and_parts, both_ways, false_from_ne_true, le-leb, leb-true, or_cases}
@@ -10,27 +9,24 @@ use Rattle.std.proofs.lemmas.Bool.Decides.{nat_tests}
 use Rattle.cmwq_lemmas.proofs.Filters.{filter_same, filter_twice}
 use Rattle.cmwq_lemmas.proofs.Lists.{count_append, count_by-cons, count_by-none}
 use Rattle.cmwq_lemmas.proofs.Members.{In, all_in, any_in, contained_in, filter_in, in_any, in_append, in_contained}
-use Rattle.cmwq_lemmas.proofs.Members.{in_filter}
-use Rattle.cmwq_lemmas.proofs.Members.{in_option}
+use Rattle.cmwq_lemmas.proofs.Members.{in_filter, in_option}
 use Rattle.cmwq_lemmas.proofs.Truth.{same_bools}
 unfoldable use Rattle.cmwq_model.specs.Prelude.{IsLegal, is_active, serving_from}
 use Rattle.cmwq_model.specs.Prelude.{Layout, cancels_sync, holds_up, is_cancel_sync_of, is_cancelling, is_live}
-use Rattle.cmwq_model.specs.Prelude.{is_started, is_unstarted, is_within, max_active, opening, queueings, still_open}
-use Rattle.cmwq_model.specs.Prelude.{unended_tickets}
-use Rattle.cmwq_model.specs.Prelude.{is_served_after}
+use Rattle.cmwq_model.specs.Prelude.{is_served_after, is_started, is_unstarted, is_within, max_active, opening}
+use Rattle.cmwq_model.specs.Prelude.{queueings, still_open, unended_tickets}
 use Rattle.cmwq_model.specs.declared.call.Call.{Call}
 use Rattle.cmwq_model.specs.declared.call.Call.TheVariants as call
 use Rattle.cmwq_model.specs.declared.entry.Entry.{Entry}
 use Rattle.cmwq_model.specs.declared.record.Queueing.{Queueing}
 use Rattle.cmwq_model.specs.declared.record.Ticket.{Ticket}
-use Rattle.cmwq_theory_laws.proofs.Cancelling.{cancelling_idle}
 use Rattle.cmwq_theory_steps.specs.Endings.{survives}
 use Rattle.cmwq_theory_steps.proofs.Endings.{open_go_on}
 use Rattle.cmwq_theory_steps.proofs.Joined.{stays_active}
 use Rattle.cmwq_theory_steps.proofs.Rising.{opening_number}
+use Rattle.cmwq_theory_laws.proofs.Cancelling.{cancelling_idle}
 use Rattle.cmwq_waits.specs.HeldUp.{IsDeadlock, Scene, awaits, has_run_of, have_all_places, have_all_workers}
-use Rattle.cmwq_waits.specs.HeldUp.{is_ahead_of_item}
-use Rattle.cmwq_waits.specs.HeldUp.{is_held_up, is_held_up_by, is_in, is_kept, members, places_ahead}
+use Rattle.cmwq_waits.specs.HeldUp.{is_ahead_of_item, is_held_up, is_held_up_by, is_in, is_kept, members, places_ahead}
 use Rattle.cmwq_waits.specs.declared.run_wait.RunWait.{RunWait}
 use Rattle.cmwq_waits.proofs.Greatest.{same_run}
 use Rattle.cmwq_waits.proofs.Loops.{le_or_lt}

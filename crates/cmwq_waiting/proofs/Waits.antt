@@ -1,24 +1,23 @@
 -- The waits of a history, from entry to entry.
-use Rattle.std.proofs.Common.{◌≡◌, ◌∙◌, ◌∷◌, ◌++◌, ◌==◌, ℕ, Bool, true, false, List, [], Some, None, Option, ap, arith}
-use Rattle.std.proofs.Common.{filter, length, not}
-use Rattle.std.proofs.Common.{ap₂, find, refl, subst, sym, option_to_list, inl, inr, ⊎_elim, suc, append-nil, eq-eqb}
-use Rattle.std.proofs.Common.{eqb-true, get_or}
-use Rattle.std.specs.Prelude.{Contains, option_and_then, option_map, if◌then◌else◌, ◌<◌, ◌&&◌}
+use Rattle.std.proofs.Common.{◌≡◌, ◌∙◌, ◌∷◌, ◌++◌, ◌==◌, Bool, List, None, Option, Some, ℕ, ap, append-nil, ap₂, arith}
+use Rattle.std.proofs.Common.{eq-eqb, eqb-true, false, filter, find, get_or, inl, inr, length, not, option_to_list}
+use Rattle.std.proofs.Common.{refl, subst, suc, sym, true, ⊎_elim, []}
+use Rattle.std.specs.Prelude.{if◌then◌else◌, ◌<◌, ◌&&◌, Contains, option_and_then, option_map}
 use Rattle.std.proofs.lemmas.Bool.{false_from_ne_true}
 use Rattle.std.proofs.lemmas.List.Kept.{AllPairs-cons, AllPairs-filter}
 use Rattle.std.proofs.lemmas.Option.{same_Some}
 use Rattle.cmwq_lemmas.proofs.Lists.{filter_all}
-use Rattle.cmwq_lemmas.proofs.Members.{In, all_in, contained_in, in_append, in_contained, in_filter, filter_in, in_left}
+use Rattle.cmwq_lemmas.proofs.Members.{In, all_in, contained_in, filter_in, in_append, in_contained, in_filter, in_left}
 use Rattle.cmwq_lemmas.proofs.Members.{in_option, in_right, option_in}
 unfoldable use Rattle.cmwq_model.specs.Prelude.{IsLegal, is_asleep, queueings}
-use Rattle.cmwq_model.specs.Prelude.{Layout, ticket_in, unended_tickets, worker_of, gives_ticket}
-use Rattle.cmwq_model.specs.Prelude.{asleep_after, is_by, is_done, item_of, queueing_at, run, same_who}
-use Rattle.cmwq_model.specs.Prelude.{has_number, item_at, opens, place_wanted, queued_at, runs_awake, ticket_for}
+use Rattle.cmwq_model.specs.Prelude.{Layout, asleep_after, gives_ticket, has_number, is_by, is_done, item_at, item_of}
+use Rattle.cmwq_model.specs.Prelude.{opens, place_wanted, queued_at, queueing_at, run, runs_awake, same_who, ticket_for}
+use Rattle.cmwq_model.specs.Prelude.{ticket_in, unended_tickets, worker_of}
 use Rattle.cmwq_model.specs.declared.entry.Entry.{Entry}
 use Rattle.cmwq_model.specs.declared.id.CallerId.{CallerId}
-use Rattle.cmwq_model.specs.declared.id.WorkerId.{WorkerId}
 use Rattle.cmwq_model.specs.declared.id.Who.{Who}
 use Rattle.cmwq_model.specs.declared.id.Who.TheVariants.{Caller, Worker}
+use Rattle.cmwq_model.specs.declared.id.WorkerId.{WorkerId}
 use Rattle.cmwq_model.specs.declared.record.Queueing.{Queueing}
 use Rattle.cmwq_model.specs.declared.record.Ticket.{Ticket}
 use Rattle.cmwq_model.specs.declared.reply.Reply.{Reply}
@@ -26,24 +25,24 @@ use Rattle.cmwq_model.specs.declared.reply.Reply.TheVariants as reply
 use Rattle.cmwq_theory_steps.specs.ItemQueueings.{queueing_run}
 use Rattle.cmwq_theory_steps.specs.RunSteps.{run_after}
 use Rattle.cmwq_theory_steps.specs.TicketSteps.{is_ended_by, is_kept, ticket_asked, ticket_ended}
+use Rattle.cmwq_theory_steps.proofs.Causes.{cause_of}
 use Rattle.cmwq_theory_steps.proofs.ItemRuns.{one_worker, same_worker-true, same_worker_itself}
+use Rattle.cmwq_theory_steps.proofs.Reasons.{sleep_reason}
 use Rattle.cmwq_theory_steps.proofs.RunSteps.{workers_run_on}
 use Rattle.cmwq_theory_steps.proofs.RunsActive.{found_known, found_number}
-use Rattle.cmwq_theory_steps.proofs.Reasons.{sleep_reason}
-use Rattle.cmwq_theory_steps.proofs.Causes.{cause_of}
 use Rattle.cmwq_theory_steps.proofs.StartsListed.{queueing_at-older}
 use Rattle.cmwq_theory_steps.proofs.TicketSteps.{one_ticket_ends, unended_go_on}
 use Rattle.cmwq_waits.specs.Refused.{AreApart, is_other}
 use Rattle.cmwq_waits.specs.Registered.{is_for, is_run_of}
 use Rattle.cmwq_waits.specs.declared.run_wait.RunWait.{RunWait}
-use Rattle.cmwq_waits.proofs.Greatest.{later_apart}
 use Rattle.cmwq_waits.proofs.GoOn.{is_running}
+use Rattle.cmwq_waits.proofs.Greatest.{later_apart}
 use Rattle.cmwq_waits.proofs.Held.{both}
 use Rattle.cmwq_waits.proofs.Loops.{at_place}
+unfoldable use Rattle.cmwq_waiting.specs.Waits.{waits_of}
 use Rattle.cmwq_waiting.specs.Waits.{EntriesGoOn, IsAsleepFor, IsPair, PairsAddOne, SleepsAddNone, WaitsAreApart}
 use Rattle.cmwq_waiting.specs.Waits.{WaitsAreAsleep, WaitsAreWaiting, is_lent, is_sleep, laid, sleeper, wait_begun}
 use Rattle.cmwq_waiting.specs.Waits.{wait_by, waits_on}
-unfoldable use Rattle.cmwq_waiting.specs.Waits.{waits_of}
 
 -- ---- what a pair is made of
 

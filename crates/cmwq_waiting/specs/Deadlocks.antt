@@ -1,5 +1,5 @@
 -- Waits that could never end, by the history alone, and which entries can make a deadlock of waits that were none.
-use Rattle.std.specs.Prelude.{◌≡◌, ◌++◌, ◌∷◌, ◌<◌, ℕ, Bool, true, false, List, [], Option, Some, None, Contains}
+use Rattle.std.specs.Prelude.{◌≡◌, ◌++◌, ◌∷◌, ◌<◌, Bool, Contains, List, None, Option, Some, ℕ, false, true, []}
 use Rattle.cmwq_model.specs.Prelude.{IsLegal, Layout, max_active, opening, still_open}
 use Rattle.cmwq_model.specs.declared.call.Call.{Call}
 use Rattle.cmwq_model.specs.declared.entry.Entry.{Entry}

@@ -1,15 +1,19 @@
--- Examples of the law that a hub does not hang by itself. One history meets all its premises. And each premise is
--- needed: in a history in which only that one does not hold, something is open.
-use Rattle.std.specs.Prelude.{◌++◌, ◌≡◌, ◌∷◌, ℕ, false, List, [], IsTrue}
-use Rattle.cmwq_model.specs.Prelude.{IsLegal, Layout, is_layout, past_of, still_open}
+-- Examples of the laws. One history meets all premises of the law that a hub does not hang by itself. And each premise
+-- is needed: in a history in which only that one does not hold, something is open. So it is with two other laws.
+use Rattle.std.specs.Prelude.{◌++◌, ◌≡◌, ◌∷◌, Contains, IsTrue, List, ℕ, false, true, []}
+use Rattle.cmwq_model.specs.Prelude.{IsLegal, Layout, is_layout, past_of, still_open, unended_tickets}
+use Rattle.cmwq_model.specs.declared.call.Call.{Call}
 use Rattle.cmwq_model.specs.declared.entry.Entry.{Entry}
+use Rattle.cmwq_model.specs.declared.id.Who.TheVariants.{Caller}
+use Rattle.cmwq_model.specs.declared.record.Ticket.{Ticket}
 use Rattle.cmwq_model.specs.declared.reply.Reply.TheVariants as reply
-use Rattle.cmwq_model_examples.specs.Words.{caller, drain, end, entry, finish, flush_item, freeze, normal, queue}
-use Rattle.cmwq_model_examples.specs.Words.{retire, set_max, sleep, system, take, wake, wq, wqf}
+use Rattle.cmwq_model_examples.specs.Words.{caller, cancel, drain, end, entry, finish, flush, flush_item, freeze}
+use Rattle.cmwq_model_examples.specs.Words.{normal, queue, retire, set_max, sleep, system, take, wake, wq, wqf}
+use Rattle.cmwq_theory_wakes.specs.Readiness.{is_unready}
 use Rattle.cmwq_waits.specs.declared.run_wait.RunWait.{RunWait}
 use Rattle.cmwq_waiting.specs.Deadlocks.{NoneMayTrap, WaitsWereAllowed}
-use Rattle.cmwq_waiting.specs.Rest.{EachRunWaits, IsAtRest, NoneShutDown}
-use Rattle.cmwq_waiting.specs.Waits.{waits_of}
+use Rattle.cmwq_waiting.specs.Rest.{CallersOnlyEnd, EachRunWaits, IsAtRest, NoneActive, NoneShutDown}
+use Rattle.cmwq_waiting.specs.Waits.{LentFollowSleeps, WaitersMakeNone, is_lent, waits_of}
 
 -- ---- the premises, of a layout and its entries, with the oldest first; callers from 1 on are lent
 
@@ -162,3 +166,59 @@ pub record PremisesAreNeeded : Type 0 where
   pub acting : IsNeeded waits (record { layout = one_queue 2; entries = started })
   -- a queue is frozen
   pub shut_down : IsNeeded unfrozen (record { layout = freezable; entries = frozen })
+
+-- ---- the law of a hub that is over
+
+-- A ticket of this call is not ready, and later it is.
+pub record GetsReady (s : Layout) (first later : List Entry) (n : ℕ) (c : Call) : Type 0 where
+  pub legal : IsLegal s (past_of later ++ past_of first)
+  pub unready : is_unready (past_of first) n c ≡ true
+  pub ready : is_unready (past_of later ++ past_of first) n c ≡ false
+
+-- an active queueing is open, which starts and finishes
+abbrev pub active : List Entry
+active = queued ++ entry (caller 1) 0 (flush 0) (reply.Ticket 1) ∷ []
+
+abbrev pub finishing : List Entry
+finishing =
+    entry (normal 0 0) 0 take (reply.StartedEnlist 0 1) ∷ entry (normal 0 0) 1 finish (reply.Finished 0) ∷ []
+
+-- what is open is inactive, and a caller takes it back
+abbrev pub inactive : List Entry
+inactive = frozen ++ entry (caller 1) 0 (flush 0) (reply.Ticket 2) ∷ []
+
+abbrev pub taking_back : List Entry
+taking_back = entry (caller 0) 2 (cancel 0) (reply.Cancelled 1) ∷ []
+
+-- Where one premise does not hold, a ticket gets ready.
+pub record OverPremisesAreNeeded : Type 0 where
+  pub active_ends : GetsReady (one_queue 2) active finishing 1 (flush 0)
+  pub only_ends : CallersOnlyEnd (past_of finishing)
+  pub inactive_ends : GetsReady freezable inactive taking_back 2 (flush 0)
+  pub none_active : NoneActive freezable (past_of inactive)
+
+-- ---- the law of the tickets of lent callers
+
+-- caller 1, which is lent, has an unended ticket, and no run waits
+pub record HasNoWait (entries : List Entry) (t : Ticket) : Type 0 where
+  pub legal : IsLegal (one_queue 2) (past_of entries)
+  pub unended : Contains (unended_tickets (past_of entries)) t
+  pub lent : is_lent 1 (Caller t.caller) ≡ true
+  pub none : waits_of 1 (past_of entries) ≡ []
+
+-- it was given the ticket while no run had fallen asleep
+abbrev pub alone : List Entry
+alone = entry (caller 1) 0 (flush 0) (reply.Ticket 0) ∷ []
+
+abbrev pub alone_ticket : Ticket
+alone_ticket = record { caller = record { 0 = 1 }; call = flush 0; number = 0 }
+
+-- the run that waits wakes before its ticket has ended
+abbrev pub woken : List Entry
+woken = waiting ++ entry (normal 0 0) 2 wake reply.Woke ∷ []
+
+pub record LentPremisesAreNeeded : Type 0 where
+  pub alone_waits_none : HasNoWait alone alone_ticket
+  pub waiters_make_none : WaitersMakeNone 1 (past_of alone)
+  pub woken_waits_none : HasNoWait woken its_wait.ticket
+  pub lent_follow : LentFollowSleeps 1 (past_of woken)

@@ -1,25 +1,25 @@
 -- What is left open where a history is at rest, and once a hub is over.
-use Rattle.std.specs.Prelude.{◌≡◌, ℕ, true, false, List, [], Contains, IsTrue, ◌++◌, Bool}
+use Rattle.std.specs.Prelude.{◌≡◌, ◌++◌, Bool, Contains, IsTrue, List, ℕ, false, true, []}
 use Rattle.std.specs.List.{list_any}
-use Rattle.cmwq_model.specs.Prelude.{IsLegal, Layout, is_layout, is_started, still_open, is_active}
+use Rattle.cmwq_model.specs.Prelude.{IsLegal, Layout, is_active, is_layout, is_started, still_open}
 use Rattle.cmwq_model.specs.Widths.{is_shut_down}
+use Rattle.cmwq_model.specs.declared.call.Call.{Call}
+use Rattle.cmwq_model.specs.declared.call.Call.TheVariants as call
 use Rattle.cmwq_model.specs.declared.entry.Entry.{Entry}
-use Rattle.cmwq_model.specs.declared.id.Who.TheVariants.{Worker, Caller}
+use Rattle.cmwq_model.specs.declared.id.CallerId.{CallerId}
+use Rattle.cmwq_model.specs.declared.id.Who.TheVariants.{Caller, Worker}
 use Rattle.cmwq_model.specs.declared.id.WorkerId.{WorkerId}
 use Rattle.cmwq_model.specs.declared.record.Queueing.{Queueing}
 use Rattle.cmwq_state.specs.Tables.{IsThere}
+use Rattle.cmwq_theory_steps.specs.Histories.{OfEachEntry}
 use Rattle.cmwq_theory_wakes.specs.Readiness.{is_unready}
 use Rattle.cmwq_theory_wakes.specs.Starting.{would_start}
 use Rattle.cmwq_waits.specs.HeldUp.{IsDeadlock}
 use Rattle.cmwq_waits.specs.Refused.{is_of_run}
 use Rattle.cmwq_waits.specs.declared.run_wait.RunWait.{RunWait}
 use Rattle.cmwq_waits_laws.specs.Lasting.{scene_of}
-use Rattle.cmwq_theory_steps.specs.Histories.{OfEachEntry}
-use Rattle.cmwq_model.specs.declared.call.Call.{Call}
-use Rattle.cmwq_model.specs.declared.id.CallerId.{CallerId}
 use Rattle.cmwq_waiting.specs.Deadlocks.{NoDeadlock, NoneMayTrap, WaitsWereAllowed}
 use Rattle.cmwq_waiting.specs.Waits.{waits_of}
-use Rattle.cmwq_model.specs.declared.call.Call.TheVariants as call
 
 -- ---- rest
 
@@ -41,9 +41,9 @@ abbrev pub EachRunWaits : ℕ → List Entry → Type 0
 EachRunWaits first past = (x : Queueing) → Contains (still_open past) x → is_started past x.number ≡ true
     → list_any (is_of_run x.number) (waits_of first past) ≡ true
 
--- no queue is shut down by a freeze
+-- nothing that is open is on a queue that a freeze shuts down
 abbrev pub NoneShutDown : Layout → List Entry → Type 0
-NoneShutDown s past = (q : ℕ) → is_shut_down s past q ≡ false
+NoneShutDown s past = (x : Queueing) → Contains (still_open past) x → is_shut_down s past x.place.queue.0 ≡ false
 
 -- ---- what is open there
 
@@ -52,7 +52,7 @@ abbrev pub OnlyFrozenAreOpen : Type 0
 OnlyFrozenAreOpen = (s : Layout) (past : List Entry) → IsTrue (is_layout s) → IsLegal s past → NoneStarts s past
     → NoneRuns past → (x : Queueing) → Contains (still_open past) x → is_shut_down s past x.place.queue.0 ≡ true
 
--- At rest, where each run waits and no queue is shut down, all waits together are a deadlock.
+-- At rest, where each run waits and nothing open is shut down, all waits together are a deadlock.
 abbrev pub AtRestWaitsAreDeadlock : Type 0
 AtRestWaitsAreDeadlock = (first : ℕ) (s : Layout) (past : List Entry) → IsLegal s past → IsAtRest first s past
     → EachRunWaits first past → NoneShutDown s past → IsDeadlock (scene_of s past) (waits_of first past) (λ n. true)
@@ -63,7 +63,7 @@ AtRestNoneRuns = (first : ℕ) (s : Layout) (past : List Entry) → IsLegal s pa
     → EachRunWaits first past → NoneShutDown s past → NoDeadlock first s past → NoneRuns past
 
 -- A hub does not hang by itself. In a legal history of a layout, each wait that began was allowed, and no entry may
--- trap waits. If it is at rest, each run waits by the hub, and no queue is shut down, then nothing is open.
+-- trap waits. If it is at rest, each run waits by the hub, and nothing open is shut down, then nothing is open.
 abbrev pub HubsNeverHang : Type 0
 HubsNeverHang = (first : ℕ) (s : Layout) (past : List Entry) → IsTrue (is_layout s) → IsLegal s past
     → WaitsWereAllowed first s past → NoneMayTrap first s past → IsAtRest first s past → EachRunWaits first past

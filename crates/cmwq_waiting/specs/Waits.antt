@@ -1,7 +1,7 @@
 -- Which runs wait, as a function of the history, and how that goes on from entry to entry.
-use Rattle.std.specs.Prelude.{◌++◌, ◌∷◌, ◌≡◌, ◌≤◌, ℕ, Bool, true, false, List, [], Option, Some, None, Contains}
-use Rattle.std.specs.Prelude.{count_by, filter, if◌then◌else◌, is_some, length, nat_le, option_and_then, option_map}
-use Rattle.std.specs.Prelude.{option_to_list}
+use Rattle.std.specs.Prelude.{◌++◌, ◌∷◌, ◌≡◌, ◌≤◌, if◌then◌else◌, Bool, Contains, List, None, Option, Some, ℕ, count_by}
+use Rattle.std.specs.Prelude.{false, filter, is_some, length, nat_le, option_and_then, option_map, option_to_list, true}
+use Rattle.std.specs.Prelude.{[]}
 use Rattle.cmwq_model.specs.Prelude.{IsLegal, Layout, gives_ticket, is_asleep, runs_asleep, ticket_in, unended_tickets}
 use Rattle.cmwq_model.specs.Prelude.{worker_of, workers}
 use Rattle.cmwq_model.specs.declared.entry.Entry.{Entry}

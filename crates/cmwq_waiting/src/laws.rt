@@ -3,7 +3,8 @@
 ghost use Rattle.cmwq_waiting.specs.Deadlocks.{AllowedAsleepToo, AllowedTrapNone, DeadlocksLast, EntriesTrapNone};
 ghost use Rattle.cmwq_waiting.specs.Deadlocks.{NoDeadlockComesUp, RefusalsAreRefused, RefusedNeverEnd};
 ghost use Rattle.cmwq_waiting.specs.Examples.{EntriesMayTrap, WhoWaits};
-ghost use Rattle.cmwq_waiting.specs.Needed.{PremisesAreMet, PremisesAreNeeded};
+ghost use Rattle.cmwq_waiting.specs.Needed.{LentPremisesAreNeeded, OverPremisesAreNeeded, PremisesAreMet};
+ghost use Rattle.cmwq_waiting.specs.Needed.{PremisesAreNeeded};
 ghost use Rattle.cmwq_waiting.specs.Rest.{AtRestNoneRuns, AtRestWaitsAreDeadlock, HubsNeverHang, OnlyFrozenAreOpen};
 ghost use Rattle.cmwq_waiting.specs.Rest.{OverStaysOver, UnreadyStayUnready};
 ghost use Rattle.cmwq_waiting.specs.Waits.{EntriesGoOn, LentTicketsAreWaits, PairsAddOne, SleepsAddNone};
@@ -50,6 +51,11 @@ pub fn pairs_add_one()
 /// waits for each unended ticket of a lent caller.
 pub fn lent_tickets_are_waits()
     ensures { LentTicketsAreWaits }
+{}
+
+/// Without either of these two premises a lent caller may have an unended ticket for which no run waits.
+pub fn lent_premises_are_needed()
+    ensures { LentPremisesAreNeeded }
 {}
 
 /// Worked examples: which runs wait.
@@ -106,7 +112,7 @@ pub fn only_frozen_are_open()
     ensures { OnlyFrozenAreOpen }
 {}
 
-/// At rest, where each run waits and no queue is shut down, all waits together are a deadlock.
+/// At rest, where each run waits and nothing open is shut down, all waits together are a deadlock.
 pub fn at_rest_waits_are_deadlock()
     ensures { AtRestWaitsAreDeadlock }
 {}
@@ -116,8 +122,8 @@ pub fn at_rest_none_runs()
     ensures { AtRestNoneRuns }
 {}
 
-/// A hub does not hang by itself: if it is at rest, each run waits by it, no wait was refused or trapped, and no queue
-/// is shut down, then nothing is open.
+/// A hub does not hang by itself: if it is at rest, each run waits by it, no wait was refused or trapped, and nothing
+/// that is open is on a queue that a freeze shuts down, then nothing is open.
 pub fn hubs_never_hang()
     ensures { HubsNeverHang }
 {}
@@ -143,4 +149,9 @@ pub fn over_stays_over()
 /// So a ticket that is not ready then never gets ready.
 pub fn unready_stay_unready()
     ensures { UnreadyStayUnready }
+{}
+
+/// If an active queueing is open, or a caller makes another call, a ticket that is not ready may get ready.
+pub fn over_premises_are_needed()
+    ensures { OverPremisesAreNeeded }
 {}
