@@ -134,7 +134,7 @@ module _ (s : Layout) (past : List Entry) (e : Entry) (legal : IsLegal s (e ∷ 
         by (all_workers unstarted is) =
             all_workers (unstarted_too unstarted) (sym (workers_alike vs ws same s x.place) ∙ is)
         by (all_places unstarted inactive is) =
-            all_places (unstarted_too unstarted) (inactive_back s past e legal before wide vs x there inactive)
+            all_places (unstarted_too unstarted) (inactive_back s past e legal before vs x there inactive)
             (sym (same_places ws x) ∙ sym (places_alike vs ws same after x) ∙ is)
 
     held_seen : (t : Ticket) → is_held_up after vs t ≡ true → is_held_up seen ws t ≡ true
@@ -164,8 +164,8 @@ sleeps_trap_none first s past e legal slept alive =
         workers_begin_none first past e why.0 why.1
 
     calm : MayTrap first s past e → ⊥
-    calm (narrows q less) =
-        absurd (omega (arith, less, no_width s past e q (ap width_told slept)))
+    calm (narrows w here x opened unstarted up less) =
+        absurd (omega (arith, less, no_width s past e x.place.queue.0 (ap width_told slept)))
     calm (queues w here x opened up) =
         absurd (cc (sym (ap (λ r. if opens r then option_and_then (λ i. option_map (queued_at past i)
         (place_wanted past e.call i)) (item_of e) else None) slept) ∙ opened))
@@ -259,9 +259,10 @@ allowed_trap_none first s past sleep call w legal is allowed calm alive p dead v
     older_dead none u there its =
         let u_old = subst (In u) old (contained_in (waits_of first now) u there) in
         subst (λ (us : List RunWait). is_held_up (scene_of s now) (members p us) u.ticket ≡ true) (sym old)
-        (held_back s now call legal legal.2 (wide s now call legal legal.2 given) (members p ws) u.ticket
+        (held_back s now call legal legal.2 (members p ws) u.ticket
         (contained_in (unended_tickets now) u.ticket
         (in_waits first s now legal.2 u (contained_in (waits_of first now) u there)).unended)
+        (λ x open_now unstarted up. wide s now call legal legal.2 given x.place.queue.0)
         (λ x opened up. calm (queues u there x opened up))
         (subst (λ (us : List RunWait). is_held_up (scene_of s (call ∷ now)) us u.ticket ≡ true) (without none)
         (after_all u (in_left ws (w ∷ []) u u_old) its)))

@@ -42,6 +42,7 @@ use Rattle.cmwq_waits.specs.declared.run_wait.RunWait.{RunWait}
 use Rattle.cmwq_waits_laws.specs.Lasting.{scene_of}
 use Rattle.cmwq_waits_laws.proofs.Apart.{is_run}
 use Rattle.cmwq_waiting.specs.Rest.{AtRestNoneRuns, AtRestWaitsAreDeadlock, EachRunWaits, NoneShutDown, NoneStarts}
+use Rattle.cmwq_waiting.specs.Rest.{NoneOpenAllReady}
 use Rattle.cmwq_waiting.specs.Waits.{waits_of}
 use Rattle.cmwq_waiting.proofs.Rest.{its_wait, not_below, occupied, place_of, run_at}
 use Rattle.cmwq_waiting.proofs.Waits.{runs_by}
@@ -174,6 +175,11 @@ is_awaited s past n (call.CancelSync i) legal unready =
     some None h = absurd (cc h)
     some (Some start) h = refl
 is_awaited s past n c legal unready = of_held past n c unready
+
+pub none_open_all_ready : NoneOpenAllReady
+none_open_all_ready s past legal none n c =
+    false_from_ne_true _ (λ unready. let k = is_awaited s past n c legal unready in
+    subst (In k.queueing) none k.here)
 
 -- ---- the waits keep it
 

@@ -88,8 +88,9 @@ none_traps first s (e ∷ past) all =
   where
     calm : not (is_some (width_told e.reply)) ≡ true
         → not (option_map_or (queues_awaited first past e) (opening past e) false) ≡ true → MayTrap first s past e → ⊥
-    calm untold quiet (narrows q less) =
-        let same = no_width s past e q (none_told (width_told e.reply) untold) in absurd (omega (arith, less, same))
+    calm untold quiet (narrows w here x opened unstarted up less) =
+        let same = no_width s past e x.place.queue.0 (none_told (width_told e.reply) untold) in
+        absurd (omega (arith, less, same))
     calm untold quiet (queues w here x opened up) =
         let some = any_in (λ (v : RunWait). awaits (e ∷ past) v.ticket x) (waits_of first past) w
         (contained_in (waits_of first past) w here) up in

@@ -1,4 +1,4 @@
--- An entry that begins no wait makes no deadlock, unless it makes a queue narrower or queues what is waited for.
+-- An entry that begins no wait makes no deadlock, unless it may trap waits.
 use Rattle.std.proofs.Common.{◌≡◌, ◌∙◌, ◌∷◌, ◌==◌, ◌≤◌, Bool, List, None, Option, Some, ℕ, ap, arith, count_by, eq-eqb}
 use Rattle.std.proofs.Common.{eqb-true, false, filter, length, not, option_to_list, refl, subst, sym, true, ⊎_elim, []}
 use Rattle.std.specs.Prelude.{◌&&◌, if◌then◌else◌, Contains, nat_le}
@@ -64,8 +64,11 @@ count_kept : (f g : Queueing → Bool) (xs : List Queueing) → count_by f (filt
 count_kept f g [] = omega arith
 count_kept f g (x ∷ xs) = grind (arith, count_by-cons f x xs, count_by-cons f x (filter g xs), count_kept f g xs)
 
-module _ (s : Layout) (past : List Entry) (e : Entry) (legal : IsLegal s (e ∷ past)) (before : IsLegal s past)
-    (wide : (q : ℕ) → max_active s past q ≤ max_active s (e ∷ past) q) where
+-- the queue of this queueing gets no narrower
+abbrev pub IsNoNarrower : Layout → List Entry → Entry → Queueing → Type 0
+IsNoNarrower s past e x = max_active s past x.place.queue.0 ≤ max_active s (e ∷ past) x.place.queue.0
+
+module _ (s : Layout) (past : List Entry) (e : Entry) (legal : IsLegal s (e ∷ past)) (before : IsLegal s past) where
   abbrev now : Scene
   now = scene_of s past
 
@@ -109,13 +112,13 @@ module _ (s : Layout) (past : List Entry) (e : Entry) (legal : IsLegal s (e ∷ 
         f : Queueing → Bool
         f = is_ahead_of_item x w.run.item.0
 
-    places_back : (x : Queueing) → In x (still_open past) → have_all_places next set x ≡ true
-        → have_all_places now set x ≡ true
-    places_back x here all =
+    places_back : (x : Queueing) → In x (still_open past) → IsNoNarrower s past e x
+        → have_all_places next set x ≡ true → have_all_places now set x ≡ true
+    places_back x here wide all =
         le-leb (max_active s past x.place.queue.0) (sum_by (places_ahead now x) set)
         (omega (
           arith,
-          wide x.place.queue.0,
+          wide,
           leb-true (max_active s (e ∷ past) x.place.queue.0) (sum_by (places_ahead next x) set) all,
           sum_by_each (places_ahead next x) (places_ahead now x) set (λ w there. count_back x here w),
         ))
@@ -129,9 +132,10 @@ module _ (s : Layout) (past : List Entry) (e : Entry) (legal : IsLegal s (e ∷ 
         false_from_ne_true _ (λ active. both_ways _ none (stays_active s past e x active
         (in_filter (is_live (e ∷ past)) (queueings (e ∷ past)) x there).1))
 
-    kept_back : (x : Queueing) → In x (still_open past) → In x (still_open (e ∷ past)) → is_kept next set x ≡ true
+    kept_back : (x : Queueing) → In x (still_open past) → In x (still_open (e ∷ past))
+        → (is_started past x.number ≡ false → IsNoNarrower s past e x) → is_kept next set x ≡ true
         → is_kept now set x ≡ true
-    kept_back x here there kept =
+    kept_back x here there wide kept =
         by_way (has_run_of set x.item.0) (is_started past x.number) (have_all_workers s set x.place)
         (is_active s past x) (have_all_places now set x)
         (by (way (has_run_of set x.item.0) (is_started (e ∷ past) x.number) (have_all_workers s set x.place)
@@ -144,19 +148,23 @@ module _ (s : Layout) (past : List Entry) (e : Entry) (legal : IsLegal s (e ∷ 
         by (its_run is) = its_run is
         by (all_workers unstarted is) = all_workers (unstarted_back x.number unstarted) is
         by (all_places unstarted inactive is) =
-            all_places (unstarted_back x.number unstarted) (inactive_back x there inactive) (places_back x here is)
+            let none = unstarted_back x.number unstarted in
+            all_places none (inactive_back x there inactive) (places_back x here (wide none) is)
 
     pub held_back : (t : Ticket) → In t (unended_tickets past)
+        → ((x : Queueing) → In x (still_open past) → is_started past x.number ≡ false → awaits past t x ≡ true
+        → IsNoNarrower s past e x)
         → ((x : Queueing) → opening past e ≡ Some x → awaits (e ∷ past) t x ≡ true → ⊥)
         → is_held_up next set t ≡ true → is_held_up now set t ≡ true
-    held_back t unended apart held =
+    held_back t unended wide apart held =
         let k = in_any (is_held_up_by next set t) (still_open (e ∷ past)) held in
         let x = k.0 in
         let parts = and_parts (awaits (e ∷ past) t x) (is_kept next set x) k.2 in
         ⊎_elim
         (λ old. let here = (in_filter (survives past e) (still_open past) x old).0 in
+        let was = awaits_back t unended x here parts.0 in
         any_in (is_held_up_by now set t) (still_open past) x here
-        (and_from _ _ (awaits_back t unended x here parts.0) (kept_back x here k.1 parts.1)))
+        (and_from _ _ was (kept_back x here k.1 (λ unstarted. wide x here unstarted was) parts.1)))
         (λ new. absurd (apart x (in_option (opening past e) x new) parts.0))
         (in_append (filter (survives past e) (still_open past)) (option_to_list (opening past e)) x
         (subst (In x) (open_go_on s past e legal) k.1))
@@ -217,10 +225,10 @@ entries_trap_none first s past e legal none calm alive p dead w here =
         let v_there = in_contained (waits_of first (e ∷ past)) v
         (subst (In v) (sym same) (filter_in on ws v v_was (stays v v_was k.1))) in
         let held = dead v v_there k.0 in
-        held_back s past e legal legal.2
-        (λ r. ⊎_elim (λ less. less) (λ more. absurd (calm (narrows r more)))
-        (le_or_lt (max_active s past r) (max_active s (e ∷ past) r)))
-        (members q ws) v.ticket
+        held_back s past e legal legal.2 (members q ws) v.ticket
         (contained_in (unended_tickets past) v.ticket (in_waits first s past legal.2 v v_was).unended)
+        (λ x here unstarted up. ⊎_elim (λ less. less)
+        (λ more. absurd (calm (narrows v was x (in_contained (still_open past) x here) unstarted up more)))
+        (le_or_lt (max_active s past x.place.queue.0) (max_active s (e ∷ past) x.place.queue.0)))
         (λ x opens up. calm (queues v was x opens up))
         (subst (λ (vs : List RunWait). is_held_up (scene_of s (e ∷ past)) vs v.ticket ≡ true) (sym members_same) held)

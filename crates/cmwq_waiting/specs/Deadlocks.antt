@@ -1,6 +1,6 @@
 -- Waits that could never end, by the history alone, and which entries can make a deadlock of waits that were none.
 use Rattle.std.specs.Prelude.{◌≡◌, ◌++◌, ◌∷◌, ◌<◌, Bool, Contains, List, None, Option, Some, ℕ, false, true, []}
-use Rattle.cmwq_model.specs.Prelude.{IsLegal, Layout, max_active, opening, still_open}
+use Rattle.cmwq_model.specs.Prelude.{IsLegal, Layout, is_started, max_active, opening, still_open}
 use Rattle.cmwq_model.specs.declared.call.Call.{Call}
 use Rattle.cmwq_model.specs.declared.entry.Entry.{Entry}
 use Rattle.cmwq_model.specs.declared.record.Queueing.{Queueing}
@@ -56,10 +56,12 @@ abbrev pub NoDeadlock : ℕ → Layout → List Entry → Type 0
 NoDeadlock first s past = (p : ℕ → Bool) → IsDeadlock (scene_of s past) (waits_of first past) p → (w : RunWait)
     → Contains (waits_of first past) w → p w.run.number ≡ false
 
--- An entry may trap waits that go on already: if it makes a queue narrower, or if it queues what one of them waits for
--- from then on.
+-- An entry may trap waits that go on already: if it makes a queue narrower on which one of them waits for something
+-- that has not started, or if it queues what one of them waits for from then on.
 pub data MayTrap (first : ℕ) (s : Layout) (past : List Entry) (e : Entry) : Type 0 where
-  narrows : (q : ℕ) → max_active s (e ∷ past) q < max_active s past q → MayTrap first s past e
+  narrows : (w : RunWait) → Contains (waits_of first past) w → (x : Queueing) → Contains (still_open past) x
+      → is_started past x.number ≡ false → awaits past w.ticket x ≡ true
+      → max_active s (e ∷ past) x.place.queue.0 < max_active s past x.place.queue.0 → MayTrap first s past e
   queues : (w : RunWait) → Contains (waits_of first past) w → (x : Queueing) → opening past e ≡ Some x
       → awaits (e ∷ past) w.ticket x ≡ true → MayTrap first s past e
 

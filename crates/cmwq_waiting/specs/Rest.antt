@@ -69,6 +69,11 @@ HubsNeverHang = (first : ℕ) (s : Layout) (past : List Entry) → IsTrue (is_la
     → WaitsWereAllowed first s past → NoneMayTrap first s past → IsAtRest first s past → EachRunWaits first past
     → NoneShutDown s past → still_open past ≡ []
 
+-- Where nothing is open, each ticket is ready.
+abbrev pub NoneOpenAllReady : Type 0
+NoneOpenAllReady = (s : Layout) (past : List Entry) → IsLegal s past → still_open past ≡ [] → (n : ℕ) (c : Call)
+    → is_unready past n c ≡ false
+
 -- ---- once a hub is over
 
 -- No active queueing is open, and callers do nothing but end tickets.

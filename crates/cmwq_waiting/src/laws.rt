@@ -5,8 +5,8 @@ ghost use Rattle.cmwq_waiting.specs.Deadlocks.{NoDeadlockComesUp, RefusalsAreRef
 ghost use Rattle.cmwq_waiting.specs.Examples.{EntriesMayTrap, WhoWaits};
 ghost use Rattle.cmwq_waiting.specs.Needed.{LentPremisesAreNeeded, OverPremisesAreNeeded, PremisesAreMet};
 ghost use Rattle.cmwq_waiting.specs.Needed.{PremisesAreNeeded};
-ghost use Rattle.cmwq_waiting.specs.Rest.{AtRestNoneRuns, AtRestWaitsAreDeadlock, HubsNeverHang, OnlyFrozenAreOpen};
-ghost use Rattle.cmwq_waiting.specs.Rest.{OverStaysOver, UnreadyStayUnready};
+ghost use Rattle.cmwq_waiting.specs.Rest.{AtRestNoneRuns, AtRestWaitsAreDeadlock, HubsNeverHang, NoneOpenAllReady};
+ghost use Rattle.cmwq_waiting.specs.Rest.{OnlyFrozenAreOpen, OverStaysOver, UnreadyStayUnready};
 ghost use Rattle.cmwq_waiting.specs.Waits.{EntriesGoOn, LentTicketsAreWaits, PairsAddOne, SleepsAddNone};
 ghost use Rattle.cmwq_waiting.specs.Waits.{WaitsAreApart, WaitsAreAsleep, WaitsAreFew, WaitsAreWaiting};
 
@@ -85,12 +85,13 @@ pub fn refused_never_end()
     ensures { RefusedNeverEnd }
 {}
 
-/// An entry that begins no wait makes no deadlock, unless it makes a queue narrower or queues what is waited for.
+/// An entry that begins no wait makes no deadlock, unless it makes a queue narrower on which a run waits for what has
+/// not started, or queues what a run waits for.
 pub fn entries_trap_none()
     ensures { EntriesTrapNone }
 {}
 
-/// A wait that begins and was not refused makes no deadlock, unless its call queues what is waited for.
+/// A wait that begins and was not refused makes no deadlock, unless its call queues what another run waits for.
 pub fn allowed_trap_none()
     ensures { AllowedTrapNone }
 {}
@@ -128,12 +129,17 @@ pub fn hubs_never_hang()
     ensures { HubsNeverHang }
 {}
 
-/// A worked example: a run waits, its wait ends, and the history meets all premises of the law above.
+/// Where nothing is open, each ticket is ready.
+pub fn none_open_all_ready()
+    ensures { NoneOpenAllReady }
+{}
+
+/// A worked example: a run waits, its wait ends, and the history meets all premises of `hubs_never_hang`.
 pub fn premises_are_met()
     ensures { PremisesAreMet }
 {}
 
-/// Without any one of these premises something may be open.
+/// Without any one of these premises something may be left open.
 pub fn premises_are_needed()
     ensures { PremisesAreNeeded }
 {}
