@@ -1,105 +1,155 @@
 -- What one trial more leaves.
-use Rattle.std.proofs.Common.{◌≡◌, ◌∙◌, ℕ, arith, refl, inl, inr, sym, subst}
-use Rattle.std.specs.Prelude.{◌⊎◌, ◌+◌, ◌<◌, ◌≤◌, Option, Some, None, IfSome}
+use Rattle.std.proofs.Common.{◌≡◌, ◌∙◌, ◌∷◌, [], ℕ, Bool, true, false, List, arith, refl, sym, subst, length, ap}
+use Rattle.std.proofs.Common.{nat_lt}
+use Rattle.std.proofs.lemmas.Bool.{ltb-false, ltb-true}
+use Rattle.std.proofs.lemmas.List.Elements.{Contains-append_right, Contains-get_or}
+use Rattle.std.specs.Prelude.{◌+◌, ◌-◌, ◌≤◌, Option, Some, None, IfSome, Contains, filter}
 use Rattle.cmwq_model.specs.Prelude.{Layout}
-use Rattle.cmwq_trial.specs.Counting.{AreTrials, IsReliableOf, IsShorter, IsUnder, first_of}
+use Rattle.cmwq_trial.specs.Counting.{AreFailures, AreTrials, HaveAsMany, IsReliableOf, IsShortest, entries_of}
+use Rattle.cmwq_trial.specs.Counting.{fewest_entries, first_in, first_of, has_stopped, is_stuck, one_if, shortest_after}
 use Rattle.cmwq_trial.specs.Failing.{seed_of}
 use Rattle.cmwq_trial.specs.declared.failure.Failure.{Failure}
+use Rattle.cmwq_trial.specs.declared.failure.Failure.TheVariants.{Stopped, Stuck}
 use Rattle.cmwq_trial.specs.declared.counting.Trials.{Trials}
 
--- the first failure, if so many trials came to their end
-abbrev pub IsFirst : Layout → ℕ → ℕ → ℕ → Failure → Type 0
-IsFirst s from many ended f = IsUnder s from many f × (seed_of f ≤ from + ended) × (ended < many)
+-- ---- failures
 
--- the shortest one, beside this first one
-abbrev pub IsShortest : Layout → ℕ → ℕ → Option Failure → Failure → Type 0
-IsShortest s from many first f = IsUnder s from many f × IsShorter f first
+failures_more : (s : Layout) (from n : ℕ) (failures : List Failure) → AreFailures s from n failures
+    → AreFailures s from (n + 1) failures
+failures_more s from n [] are = tt
+failures_more s from n (f ∷ older) (reliable, after, before, rest) = (reliable, after, omega arith, rest)
 
-more : (P Q : Failure → Type 0) (o : Option Failure) → IfSome o P → ((f : Failure) → P f → Q f) → IfSome o Q
-more P Q None p h = tt
-more P Q (Some f) p h = h f p
+failures_next : (s : Layout) (from n : ℕ) (f : Failure) (failures : List Failure) → AreFailures s from n failures
+    → IsReliableOf s f → seed_of f ≡ from + n → AreFailures s from (n + 1) (f ∷ failures)
+failures_next s from n f failures are reliable seed =
+    let same : n ≡ seed_of f - from = omega (arith, seed) in (
+      reliable,
+      omega (arith, seed),
+      omega (arith, seed),
+      subst (λ (m : ℕ). AreFailures s from m failures) same are,
+    )
 
-under_more : (s : Layout) (from n : ℕ) (f : Failure) → IsUnder s from n f → IsUnder s from (n + 1) f
-under_more s from n f x = record {
-  reliable = x.reliable;
-  after = x.after;
-  before = (let p = x.before in omega (arith, p));
-}
+filter_more : (p : Failure → Bool) (f : Failure) (failures : List Failure)
+    → length (filter p (f ∷ failures)) ≡ length (filter p failures) + one_if (p f)
+filter_more p f failures = here (p f) refl
+  where
+    here : (b : Bool) → p f ≡ b → length (filter p (f ∷ failures)) ≡ length (filter p failures) + one_if b
+    here true is = rw is (omega arith)
+    here false not = rw not (omega arith)
 
-first_more : (s : Layout) (from n a b : ℕ) (f : Failure) → a ≤ b → b < n + 1 → IsFirst s from n a f
-    → IsFirst s from (n + 1) b f
-first_more s from n a b f le lt x = (under_more s from n f x.0, (let p = x.1 in omega (arith, p, le)), lt)
+both_ways : (failures : List Failure)
+    → length (filter is_stuck failures) + length (filter has_stopped failures) ≡ length failures
+both_ways [] = refl
+both_ways (f ∷ failures) =
+    let stuck = filter_more is_stuck f failures in
+    let stopped = filter_more has_stopped f failures in
+    let rest = both_ways failures in
+    let one = one_way f in
+    omega (arith, stuck, stopped, rest, one)
+  where
+    one_way : (f : Failure) → one_if (is_stuck f) + one_if (has_stopped f) ≡ 1
+    one_way (Stuck a b c) = refl
+    one_way (Stopped a b c) = refl
 
-shortest_more : (s : Layout) (from n : ℕ) (o : Option Failure) (f : Failure) → IsShortest s from n o f
-    → IsShortest s from (n + 1) o f
-shortest_more s from n o f x = (under_more s from n f x.0, x.1)
+-- each trial is counted once
+pub all_counted : (s : Layout) (from many : ℕ) (t : Trials) → AreTrials s from many t
+    → t.ended + t.stuck + t.stopped ≡ many
+all_counted s from many t x =
+    let ended = x.ended in
+    let stuck = x.stuck in
+    let stopped = x.stopped in
+    let both = both_ways x.failures in
+    omega (arith, ended, stuck, stopped, both)
 
--- a failure under the seed that comes next
-under_next : (s : Layout) (from n : ℕ) (f : Failure) → IsReliableOf s f → seed_of f ≡ from + n
-    → IsUnder s from (n + 1) f
-under_next s from n f reliable e = record {
-  reliable = reliable;
-  after = omega (arith, e);
-  before = omega (arith, e);
-}
+-- ---- the shortest
+
+-- where none is the first, none is the shortest, and the next one is the first
+shortest_first : (failures : List Failure) (f : Failure) (shortest : Option Failure)
+    → first_in failures ≡ None → IsShortest failures None shortest → IsShortest (f ∷ failures) (Some f) shortest
+shortest_first [] f None none is = is_first
+  where
+    is_first : HaveAsMany (entries_of f) (f ∷ [])
+    is_first = (omega arith, tt)
+shortest_first (g ∷ failures) f None none is = absurd (never (first_in failures) none)
+  where
+    never : (o : Option Failure) → first_of o g ≡ None → ⊥
+    never None e = cc e
+    never (Some h) e = cc e
+shortest_first failures f (Some g) none is = absurd is
+
+fewer_too : (n m : ℕ) (failures : List Failure) → n ≤ m → HaveAsMany m failures → HaveAsMany n failures
+fewer_too n m [] less have = tt
+fewer_too n m (f ∷ failures) less (one, rest) = (omega (arith, one), fewer_too n m failures less rest)
+
+shortest_next : (failures : List Failure) (f first : Failure) (shortest : Option Failure)
+    → IsShortest failures (Some first) shortest
+    → IsShortest (f ∷ failures) (Some first) (shortest_after first shortest f)
+shortest_next failures f first shortest is =
+    here shortest is (nat_lt (entries_of f) (fewest_entries first shortest)) refl
+  where
+    is_there : Contains (f ∷ failures) f
+    is_there = Contains-get_or (f ∷ failures) 0 f (omega arith)
+
+    here : (o : Option Failure) → IsShortest failures (Some first) o → (b : Bool)
+        → nat_lt (entries_of f) (fewest_entries first o) ≡ b
+        → IsShortest (f ∷ failures) (Some first) (shortest_after first o f)
+    here None have true less =
+        let lt = ltb-true (entries_of f) (entries_of first) less in
+        let fewer = fewer_too (entries_of f) (entries_of first) failures (omega (arith, lt)) have in
+        rw less (is_there, lt, (omega arith, fewer))
+    here None have false not =
+        let le = ltb-false (entries_of f) (entries_of first) not in
+        rw not (le, have)
+    here (Some g) (there, shorter, have) true less =
+        let lt = ltb-true (entries_of f) (entries_of g) less in
+        let fewer = fewer_too (entries_of f) (entries_of g) failures (omega (arith, lt)) have in
+        rw less (is_there, omega (arith, lt, shorter), (omega arith, fewer))
+    here (Some g) (there, shorter, have) false not =
+        let le = ltb-false (entries_of f) (entries_of g) not in
+        rw not (Contains-append_right (f ∷ []) failures g there, shorter, (le, have))
+
+-- ---- trials
 
 pub ended_more : (s : Layout) (from n : ℕ) (t u : Trials) → u.ended ≡ t.ended + 1 → u.stuck ≡ t.stuck
     → u.stopped ≡ t.stopped → u.first_failure ≡ t.first_failure → u.shortest_failure ≡ t.shortest_failure
     → AreTrials s from n t → AreTrials s from (n + 1) u
 ended_more s from n t u a b c d e x =
-    let counted = x.counted in
+    let ended = x.ended in
     record {
-      counted = omega (arith, a, b, c, counted);
-      whole = λ none. let all = x.whole (sym d ∙ none) in omega (arith, a, all);
-      first = subst (λ (o : Option Failure). IfSome o (IsFirst s from (n + 1) u.ended)) (sym d)
-          (more (IsFirst s from n t.ended) (IsFirst s from (n + 1) u.ended) t.first_failure x.first
-          (λ f p. first_more s from n t.ended u.ended f (omega (arith, a)) (let lt = p.2 in omega (arith, a, lt)) p));
-      shortest = subst (λ (o : Option Failure). IfSome u.shortest_failure (IsShortest s from (n + 1) o)) (sym d)
-          (subst (λ (o : Option Failure). IfSome o (IsShortest s from (n + 1) t.first_failure)) (sym e)
-          (more (IsShortest s from n t.first_failure) (IsShortest s from (n + 1) t.first_failure) t.shortest_failure
-          x.shortest (shortest_more s from n t.first_failure)));
+      failures = x.failures;
+      are = failures_more s from n x.failures x.are;
+      ended = omega (arith, a, ended);
+      stuck = b ∙ x.stuck;
+      stopped = c ∙ x.stopped;
+      first = d ∙ x.first;
+      shortest = rw d (rw e x.shortest);
     }
-
-first_there : (o : Option Failure) (f : Failure) → first_of o f ≡ None → ⊥
-first_there None f e = cc e
-first_there (Some g) f e = cc e
-
-first_is : (P : Failure → Type 0) (o : Option Failure) (f : Failure) → IfSome o P → (o ≡ None → P f)
-    → IfSome (first_of o f) P
-first_is P None f p q = q refl
-first_is P (Some g) f p q = p
-
-shorter_first : (f g : Failure) (o : Option Failure) → IsShorter f o → IsShorter f (first_of o g)
-shorter_first f g None x = absurd x
-shorter_first f g (Some h) x = x
-
-shortest_is : (s : Layout) (from n : ℕ) (first o p : Option Failure) (f : Failure)
-    → (p ≡ o) ⊎ ((p ≡ Some f) × IsShorter f first) → IfSome o (IsShortest s from n first)
-    → IsUnder s from (n + 1) f → IfSome p (IsShortest s from (n + 1) (first_of first f))
-shortest_is s from n first o p f (inl e) x y =
-    subst (λ (q : Option Failure). IfSome q (IsShortest s from (n + 1) (first_of first f))) (sym e)
-    (more (IsShortest s from n first) (IsShortest s from (n + 1) (first_of first f)) o x
-    (λ g z. (under_more s from n g z.0, shorter_first g f first z.1)))
-shortest_is s from n first o p f (inr (e, shorter)) x y =
-    subst (λ (q : Option Failure). IfSome q (IsShortest s from (n + 1) (first_of first f))) (sym e)
-    (y, shorter_first f f first shorter)
 
 pub failed_more : (s : Layout) (from n : ℕ) (t u : Trials) (f : Failure) → u.ended ≡ t.ended
-    → u.stuck + u.stopped ≡ t.stuck + t.stopped + 1 → u.first_failure ≡ first_of t.first_failure f
-    → (u.shortest_failure ≡ t.shortest_failure) ⊎ ((u.shortest_failure ≡ Some f) × IsShorter f t.first_failure)
+    → u.stuck ≡ t.stuck + one_if (is_stuck f) → u.stopped ≡ t.stopped + one_if (has_stopped f)
+    → u.first_failure ≡ first_of t.first_failure f
+    → (t.first_failure ≡ None → u.shortest_failure ≡ t.shortest_failure)
+    → IfSome t.first_failure (λ first. u.shortest_failure ≡ shortest_after first t.shortest_failure f)
     → IsReliableOf s f → seed_of f ≡ from + n → AreTrials s from n t → AreTrials s from (n + 1) u
-failed_more s from n t u f a b d e reliable seed x =
-    let counted = x.counted in
-    let fewer : u.ended < n + 1 = omega (arith, a, counted) in
-    let under = under_next s from n f reliable seed in
+failed_more s from n t u f a b c d e h reliable seed x =
+    let ended = x.ended in
     record {
-      counted = omega (arith, a, b, counted);
-      whole = λ none. absurd (first_there t.first_failure f (sym d ∙ none));
-      first = subst (λ (o : Option Failure). IfSome o (IsFirst s from (n + 1) u.ended)) (sym d)
-          (first_is (IsFirst s from (n + 1) u.ended) t.first_failure f
-          (more (IsFirst s from n t.ended) (IsFirst s from (n + 1) u.ended) t.first_failure x.first
-          (λ g p. first_more s from n t.ended u.ended g (omega (arith, a)) fewer p))
-          (λ none. (under, (let all = x.whole none in omega (arith, a, all, seed)), fewer)));
-      shortest = subst (λ (o : Option Failure). IfSome u.shortest_failure (IsShortest s from (n + 1) o)) (sym d)
-          (shortest_is s from n t.first_failure t.shortest_failure u.shortest_failure f e x.shortest under);
+      failures = f ∷ x.failures;
+      are = failures_next s from n f x.failures x.are reliable seed;
+      ended = omega (arith, a, ended);
+      stuck = b ∙ ap (λ m. m + one_if (is_stuck f)) x.stuck ∙ sym (filter_more is_stuck f x.failures);
+      stopped = c ∙ ap (λ m. m + one_if (has_stopped f)) x.stopped ∙ sym (filter_more has_stopped f x.failures);
+      first = d ∙ ap (λ o. first_of o f) x.first;
+      shortest = here t.first_failure refl;
     }
+  where
+    here : (o : Option Failure) → t.first_failure ≡ o → IsShortest (f ∷ x.failures) u.first_failure u.shortest_failure
+    here None none =
+        rw d (rw none (rw (e none) (shortest_first x.failures f t.shortest_failure (sym x.first ∙ none)
+        (subst (λ (o : Option Failure). IsShortest x.failures o t.shortest_failure) none x.shortest))))
+    here (Some first) some =
+        let after : u.shortest_failure ≡ shortest_after first t.shortest_failure f =
+        subst (λ (o : Option Failure). IfSome o (λ g. u.shortest_failure ≡ shortest_after g t.shortest_failure f)) some
+        h in
+        rw d (rw some (rw after (shortest_next x.failures f first t.shortest_failure
+        (subst (λ (o : Option Failure). IsShortest x.failures o t.shortest_failure) some x.shortest))))

@@ -1,8 +1,9 @@
 //! What came of many trials.
-ghost use Rattle.std.specs.Prelude.{◌≡◌, ◌⊎◌, ◌+◌, ◌-◌, ◌^◌, ◌<◌, ℕ, length, Some, IsTrue, IfErr, IfSome};
+ghost use Rattle.std.specs.Prelude.{◌≡◌, ◌+◌, ◌-◌, ◌^◌, ◌<◌, ℕ, Ok, Err, None, IfErr, IfSome};
 ghost use Rattle.cmwq_model.specs.Prelude.{Layout};
-ghost use Rattle.cmwq_trial.specs.Counting.{AreTrials, IsReliableOf, IsShorter, first_of};
-ghost use Rattle.cmwq_trial.specs.Failing.{history_of, seed_of};
+ghost use Rattle.cmwq_trial.specs.Counting.{AreTrials, IsReliableOf, fewest_entries, first_of, has_stopped, is_stuck};
+ghost use Rattle.cmwq_trial.specs.Counting.{one_if, shortest_after};
+ghost use Rattle.cmwq_trial.specs.Failing.{seed_of};
 
 use crate::failure::{Failure, Tried};
 
@@ -21,13 +22,13 @@ pub struct Trials {
     pub shortest_failure: Option<Failure>,
 }
 
-/// How many entries a failure has, or the most there may be where there is none.
-fn entries_of(failure: &Option<Failure>) -> usize
-    ensures { IfSome failure.now (λ f. result ≡ length (history_of f)) }
+/// How many entries the shorter one of the failures has that are kept.
+fn fewest_entries(first: &Failure, shortest: &Option<Failure>) -> usize
+    ensures { result ≡ fewest_entries first.now shortest.now }
 {
-    match failure {
-        Some(failure) => failure.history().len(),
-        None => usize::MAX,
+    match shortest {
+        Some(shortest) => shortest.history().len(),
+        None => first.history().len(),
     }
 }
 
@@ -45,25 +46,38 @@ impl Trials {
         }
     }
 
-    /// Whether a failure with so many entries is shorter than all so far.
-    fn is_shorter(&self, entries: usize) -> bool
-        ensures { IsTrue result → IfSome self.now.first_failure (λ first. entries < length (history_of first)) }
-    {
-        entries < entries_of(&self.first_failure) && entries < entries_of(&self.shortest_failure)
-    }
-
     /// One failure more is kept, if it is the first, or shorter than all.
     fn record_failure(&mut self, failure: Failure)
         ensures counts { (self.new.ended ≡ self.old.ended) × (self.new.stuck ≡ self.old.stuck)
             × (self.new.stopped ≡ self.old.stopped) }
         ensures first { self.new.first_failure ≡ first_of self.old.first_failure failure }
-        ensures shortest { (self.new.shortest_failure ≡ self.old.shortest_failure)
-            ⊎ ((self.new.shortest_failure ≡ Some failure) × IsShorter failure self.old.first_failure) }
+        ensures none { self.old.first_failure ≡ None → self.new.shortest_failure ≡ self.old.shortest_failure }
+        ensures shortest { IfSome self.old.first_failure
+            (λ first. self.new.shortest_failure ≡ shortest_after first self.old.shortest_failure failure) }
     {
-        if self.first_failure.is_none() {
-            self.first_failure = Some(failure);
-        } else if self.is_shorter(failure.history().len()) {
+        let is_shorter = match &self.first_failure {
+            None => {
+                self.first_failure = Some(failure);
+                return;
+            }
+            Some(first) => failure.history().len() < fewest_entries(first, &self.shortest_failure),
+        };
+        if is_shorter {
             self.shortest_failure = Some(failure);
+        }
+    }
+
+    /// One more failed, in this way.
+    fn count_failure(&mut self, failure: &Failure)
+        requires { self.old.ended + self.old.stuck + self.old.stopped < 2 ^ 64 - 1 }
+        ensures stuck { self.new.stuck ≡ self.old.stuck + one_if (is_stuck failure.now) }
+        ensures stopped { self.new.stopped ≡ self.old.stopped + one_if (has_stopped failure.now) }
+        ensures same { (self.new.ended ≡ self.old.ended) × (self.new.first_failure ≡ self.old.first_failure)
+            × (self.new.shortest_failure ≡ self.old.shortest_failure) }
+    {
+        match failure {
+            Failure::Stuck { .. } => self.stuck += 1,
+            Failure::Stopped { .. } => self.stopped += 1,
         }
     }
 
@@ -76,10 +90,7 @@ impl Trials {
         match outcome {
             Ok(_) => self.ended += 1,
             Err(failure) => {
-                match &failure {
-                    Failure::Stuck { .. } => self.stuck += 1,
-                    Failure::Stopped { .. } => self.stopped += 1,
-                }
+                self.count_failure(&failure);
                 self.record_failure(failure);
             }
         }

@@ -1,6 +1,7 @@
-use Rattle.std.proofs.Common.{◌≡◌, ◌-◌, ℕ, ap, arith, subst}
+use Rattle.std.proofs.Common.{◌≡◌, ◌-◌, ℕ, ap, arith, rules, subst}
 use Rattle.std.specs.declared.ops.Range.{Range}
 use Rattle.cmwq_trial.specs.Counting.{AreTrials}
+use Rattle.cmwq_trial.proofs.OneMore.{all_counted}
 use Rattle.cmwq_trial.proofs.seeds.try_all.Goals as goal
 
 -- no seed was tried yet
@@ -17,3 +18,9 @@ loop-seed-init g c =
           (λ (n : ℕ). AreTrials c.args.shape.now c.args.seeds.start n c.none-trials.result) none
           (c.none-trials.ensures c.args.shape.now c.args.seeds.start),
     )
+
+pub count-requires : goal.count-requires
+count-requires g c =
+    let many = c.loop-seed.seed-iterator.start - c.args.seeds.start in
+    let counted = all_counted c.args.shape.now c.args.seeds.start many c.loop-seed.trials c.loop-seed.invariant.3 in
+    search (rules, arith)
