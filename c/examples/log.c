@@ -1,7 +1,7 @@
 /*
- * A log service on a hub. Two writers gather lines on threads of their own. Each line puts off the item that writes the lines that wait to the open file;
- * when the file is full, that item queues another one, which closes it. The history is kept as a journal of format 3, which `cmwq check` and
- * cmwq_check() judge.
+ * A log service on a hub. Two writers gather lines on threads of their own. Each line puts off the item that writes the
+ * lines that wait to the open file; when the file is full, that item queues another one, which closes it. The history
+ * is kept as a journal of format 3, which `cmwq check` and cmwq_check() judge.
  */
 #include "cmwq_hub.h"
 
@@ -80,7 +80,8 @@ int main(void)
 {
     struct cmwq_queue queues[QUEUES] = {{.max_active = 1}, {.max_active = 1, .intensive = 1}};
     struct cmwq_work works[ITEMS] = {{write_lines, &lines}, {close_file, &lines}};
-    struct cmwq_options options = {.queues = queues, .queue_count = QUEUES, .works = works, .items = ITEMS, .workers = 2};
+    struct cmwq_options options = {
+        .queues = queues, .queue_count = QUEUES, .works = works, .items = ITEMS, .workers = 2};
     pthread_t writers[2];
     uint8_t verdict[CMWQ_LINE];
     size_t len = 0;

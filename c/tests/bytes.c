@@ -1,4 +1,5 @@
-/* Boards and lines: closed handles, handles closed twice, any numbers at all, too little space and too short buffers. At a fault nothing is written. */
+/* Boards and lines: closed handles, handles closed twice, any numbers at all, too little space and too short buffers.
+ * At a fault nothing is written. */
 #include "check.h"
 
 static struct cmwq_shape shape = {.room = 1 << 20, .keep = 0, .items = 3, .cpus = 2, .workers = 2, .callers = 4};
@@ -8,7 +9,14 @@ static struct cmwq_board board;
 static struct cmwq_lines lines;
 
 /* What the calls write, which is all 5 until one is done. */
-static struct { struct cmwq_reply reply; struct cmwq_wakes wakes; struct cmwq_item item; uint64_t number; uint16_t started; uint8_t party; } out, before;
+static struct {
+    struct cmwq_reply reply;
+    struct cmwq_wakes wakes;
+    struct cmwq_item item;
+    uint64_t number;
+    uint16_t started;
+    uint8_t party;
+} out, before;
 
 static void reset(void)
 {
@@ -18,7 +26,8 @@ static void reset(void)
 
 static bool is_done(uint32_t status)
 {
-    return status == CMWQ_OK || status == CMWQ_WAITS || status == CMWQ_RESTS || status == CMWQ_OVER || status == CMWQ_LOOK_AGAIN;
+    return status == CMWQ_OK || status == CMWQ_WAITS || status == CMWQ_RESTS || status == CMWQ_OVER ||
+           status == CMWQ_LOOK_AGAIN;
 }
 
 /* The status is one of these (bits), and nothing was written at another than a done one. */
@@ -31,7 +40,8 @@ static uint32_t wants(uint32_t status, uint64_t may)
 
 #define BIT(status) ((uint64_t)1 << (status))
 
-static const uint64_t call_faults = BIT(CMWQ_REFUSED) | BIT(CMWQ_FULL) | BIT(CMWQ_CROWDED) | BIT(CMWQ_STOPPED) | BIT(CMWQ_FAILED);
+static const uint64_t call_faults = BIT(CMWQ_REFUSED) | BIT(CMWQ_FULL) | BIT(CMWQ_CROWDED) | BIT(CMWQ_STOPPED) |
+                                    BIT(CMWQ_FAILED);
 
 static void closed(void)
 {
@@ -51,9 +61,11 @@ static void closed(void)
     wants(cmwq_board_item(&board, 0, &out.item), BIT(CMWQ_CLOSED));
     wants(cmwq_board_stop(&board, &out.wakes), BIT(CMWQ_CLOSED));
     wants(cmwq_board_fail(&board, &out.wakes), BIT(CMWQ_CLOSED));
-    CHECK(cmwq_board_time(&board) == 0 && cmwq_board_due(&board) == UINT64_MAX && cmwq_board_is_over(&board) && cmwq_board_len(&board) == 0);
+    CHECK(cmwq_board_time(&board) == 0 && cmwq_board_due(&board) == UINT64_MAX && cmwq_board_is_over(&board) &&
+          cmwq_board_len(&board) == 0);
     CHECK(cmwq_board_hand_out(&board, &lines) == CMWQ_CLOSED && cmwq_lines_open(&lines, &board) == CMWQ_CLOSED);
-    CHECK(cmwq_lines_write(&lines, text, sizeof text, &written) == CMWQ_CLOSED && written == 77 && cmwq_lines_forget(&lines) == CMWQ_CLOSED);
+    CHECK(cmwq_lines_write(&lines, text, sizeof text, &written) == CMWQ_CLOSED && written == 77 &&
+          cmwq_lines_forget(&lines) == CMWQ_CLOSED);
     cmwq_board_close(&board);
     cmwq_lines_close(&lines);
 }
@@ -104,17 +116,21 @@ static void texts(void)
     wants(cmwq_board_call(&board, &call, &out.reply, &out.wakes), BIT(CMWQ_CROWDED));
     CHECK(cmwq_board_hand_out(&board, &lines) == CMWQ_OK);
     wants(cmwq_board_call(&board, &call, &out.reply, &out.wakes), BIT(CMWQ_OK));
-    CHECK(cmwq_board_hand_out(&board, &lines) == CMWQ_REFUSED && cmwq_lines_write(&lines, text, 10, &written) == CMWQ_SHORT && written == 0);
+    CHECK(cmwq_board_hand_out(&board, &lines) == CMWQ_REFUSED &&
+          cmwq_lines_write(&lines, text, 10, &written) == CMWQ_SHORT && written == 0);
     for (int k = 0; k < 10; k++) { /* a line at a time */
         CHECK(cmwq_lines_write(&lines, text, 30, &written) == CMWQ_OK && written > 20 && text[written - 1] == '\n');
         CHECK(memcmp(text, k ? "c0 1 queue 0 0 0 = no\n" : "c0 0 queue 0 0 0 = yes 0\n", 4 - (k > 1)) == 0);
     }
     CHECK(cmwq_lines_write(&lines, text, sizeof text, &written) == CMWQ_OK && written == 0);
     CHECK(cmwq_board_hand_out(&board, &lines) == CMWQ_OK && cmwq_lines_forget(&lines) == CMWQ_OK);
-    CHECK(cmwq_lines_write(&lines, text, sizeof text, &written) == CMWQ_OK && written == 0 && cmwq_board_hand_out(&board, &lines) == CMWQ_OK);
+    CHECK(cmwq_lines_write(&lines, text, sizeof text, &written) == CMWQ_OK && written == 0 &&
+          cmwq_board_hand_out(&board, &lines) == CMWQ_OK);
     more.keep = 100;
-    CHECK(cmwq_board_open(&larger, &more, queues, 2, 2) == CMWQ_OK && cmwq_board_hand_out(&larger, &lines) == CMWQ_REFUSED);
-    CHECK(cmwq_lines_open(&other, &larger) == CMWQ_OK && cmwq_board_hand_out(&board, &other) == CMWQ_OK && cmwq_board_len(&board) == 11);
+    CHECK(cmwq_board_open(&larger, &more, queues, 2, 2) == CMWQ_OK &&
+          cmwq_board_hand_out(&larger, &lines) == CMWQ_REFUSED);
+    CHECK(cmwq_lines_open(&other, &larger) == CMWQ_OK && cmwq_board_hand_out(&board, &other) == CMWQ_OK &&
+          cmwq_board_len(&board) == 11);
     cmwq_board_close(&larger);
     cmwq_lines_close(&other);
     cmwq_lines_close(&other);
@@ -151,25 +167,31 @@ static void any_bytes(uint64_t seed)
             break;
         case 3:
             status = wants(cmwq_board_start(&board, &who, &out.started, &out.number, &out.wakes),
-                           BIT(CMWQ_OK) | BIT(CMWQ_RESTS) | BIT(CMWQ_OVER) | BIT(CMWQ_REFUSED) | BIT(CMWQ_CROWDED) | BIT(CMWQ_NOT_NOW));
+                           BIT(CMWQ_OK) | BIT(CMWQ_RESTS) | BIT(CMWQ_OVER) | BIT(CMWQ_REFUSED) | BIT(CMWQ_CROWDED) |
+                               BIT(CMWQ_NOT_NOW));
             break;
         case 4:
-            status = wants(cmwq_board_finish(&board, &who, &out.wakes),
-                           BIT(CMWQ_OK) | BIT(CMWQ_REFUSED) | BIT(CMWQ_FULL) | BIT(CMWQ_CROWDED) | BIT(CMWQ_FAILED) | BIT(CMWQ_NOT_NOW));
+            status = wants(cmwq_board_finish(&board, &who, &out.wakes), BIT(CMWQ_OK) | BIT(CMWQ_REFUSED) |
+                                                                            BIT(CMWQ_FULL) | BIT(CMWQ_CROWDED) |
+                                                                            BIT(CMWQ_FAILED) | BIT(CMWQ_NOT_NOW));
             break;
         case 5: case 6:
             status = wants(cmwq_board_begin(&board, &call, &out.party, &out.reply, &out.wakes),
-                           call_faults | BIT(CMWQ_OK) | BIT(CMWQ_WAITS) | BIT(CMWQ_NOT_NOW) | BIT(CMWQ_ITSELF) | BIT(CMWQ_DEADLOCK) | BIT(CMWQ_NO_CALLER));
+                           call_faults | BIT(CMWQ_OK) | BIT(CMWQ_WAITS) | BIT(CMWQ_NOT_NOW) | BIT(CMWQ_ITSELF) |
+                               BIT(CMWQ_DEADLOCK) | BIT(CMWQ_NO_CALLER));
             break;
         case 7:
-            status = wants(cmwq_board_end(&board, call.item & 255, &out.wakes), BIT(CMWQ_OK) | BIT(CMWQ_WAITS) | BIT(CMWQ_LOOK_AGAIN) | BIT(CMWQ_OVER) |
-                           BIT(CMWQ_REFUSED) | BIT(CMWQ_CROWDED) | BIT(CMWQ_FAILED) | BIT(CMWQ_NOT_NOW));
+            status = wants(cmwq_board_end(&board, call.item & 255, &out.wakes),
+                           BIT(CMWQ_OK) | BIT(CMWQ_WAITS) | BIT(CMWQ_LOOK_AGAIN) | BIT(CMWQ_OVER) | BIT(CMWQ_REFUSED) |
+                               BIT(CMWQ_CROWDED) | BIT(CMWQ_FAILED) | BIT(CMWQ_NOT_NOW));
             break;
         case 8:
-            status = wants(cmwq_board_leave(&board, call.item & 255, &out.wakes), BIT(CMWQ_OK) | BIT(CMWQ_REFUSED) | BIT(CMWQ_FAILED) | BIT(CMWQ_NOT_NOW));
+            status = wants(cmwq_board_leave(&board, call.item & 255, &out.wakes),
+                           BIT(CMWQ_OK) | BIT(CMWQ_REFUSED) | BIT(CMWQ_FAILED) | BIT(CMWQ_NOT_NOW));
             break;
         default:
-            status = wants(cmwq_board_advance(&board, call.item & 255, call.number & 1023, &out.number, &out.wakes), call_faults | BIT(CMWQ_OK));
+            status = wants(cmwq_board_advance(&board, call.item & 255, call.number & 1023, &out.number, &out.wakes),
+                           call_faults | BIT(CMWQ_OK));
             CHECK(status != CMWQ_OK || (out.number >= now && out.number == cmwq_board_time(&board)));
             now = cmwq_board_time(&board);
         }
@@ -181,7 +203,8 @@ static void any_bytes(uint64_t seed)
         if (k == 1500 && next_random(&seed) % 2)
             CHECK(cmwq_board_stop(&board, &out.wakes) == CMWQ_OK && out.wakes.all_workers && out.wakes.all_callers);
         if (k == 1800 && next_random(&seed) % 2)
-            CHECK(cmwq_board_fail(&board, &out.wakes) == CMWQ_OK && out.wakes.all_workers && cmwq_board_is_over(&board));
+            CHECK(cmwq_board_fail(&board, &out.wakes) == CMWQ_OK && out.wakes.all_workers &&
+                  cmwq_board_is_over(&board));
     }
     cmwq_lines_close(&lines);
     cmwq_board_close(&board);

@@ -1,4 +1,5 @@
-/* What a hub must survive: numbers out of bounds, no memory and no threads, two closes, no room, no space, a frozen queue, waits that can't end. */
+/* What a hub must survive: numbers out of bounds, no memory and no threads, two closes, no room, no space, a frozen
+ * queue, waits that can't end. */
 #define _GNU_SOURCE
 #include <pthread.h>
 #include <stdbool.h>
@@ -86,8 +87,10 @@ static bool keep(void *data, const char *part, size_t len)
 
     (void)data;
     CHECK(written + len <= TEXT && part[len - 1] == '\n');
-    CHECK(cmwq_queue_work_on(&hub, 0, 0, 0) == -CMWQ_NOT_NOW && cmwq_flush_work(&hub, 0, CMWQ_FOREVER) == -CMWQ_NOT_NOW);
-    CHECK(cmwq_cancel_work(&hub, 0) == -CMWQ_NOT_NOW && cmwq_work_busy(&hub, 0) == -CMWQ_NOT_NOW && cmwq_work_busy(&hub, ITEMS) == -CMWQ_NOT_NOW);
+    CHECK(cmwq_queue_work_on(&hub, 0, 0, 0) == -CMWQ_NOT_NOW &&
+          cmwq_flush_work(&hub, 0, CMWQ_FOREVER) == -CMWQ_NOT_NOW);
+    CHECK(cmwq_cancel_work(&hub, 0) == -CMWQ_NOT_NOW && cmwq_work_busy(&hub, 0) == -CMWQ_NOT_NOW &&
+          cmwq_work_busy(&hub, ITEMS) == -CMWQ_NOT_NOW);
     CHECK(cmwq_freeze_workqueues(&hub) == -CMWQ_NOT_NOW && cmwq_worker_sleeping(&hub) == -CMWQ_NOT_NOW);
     CHECK(cmwq_hub_close(&hub) == -CMWQ_NOT_NOW && cmwq_hub_open(&hub, &options) == -CMWQ_NOT_NOW);
     usleep(slow_us);
@@ -148,21 +151,31 @@ static void judge(void)
 
 static void refuse_numbers(struct cmwq_hub *of)
 {
-    static const unsigned items[] = {ITEMS, 255, 256, 60000, 65535, 65536, 65537, ~0u}, places[] = {2, 3, 64, 255, 256, 257, 65536, ~0u};
+    static const unsigned items[] = {ITEMS, 255, 256, 60000, 65535, 65536, 65537, ~0u},
+                          places[] = {2, 3, 64, 255, 256, 257, 65536, ~0u};
 
     for (int k = 0; k < 8; k++) {
         unsigned item = items[k], place = places[k];
 
-        CHECK(cmwq_queue_work_on(of, 0, 0, item) == -CMWQ_REFUSED && cmwq_queue_work_on(of, 0, place, 0) == -CMWQ_REFUSED);
-        CHECK(cmwq_queue_work_on(of, place, 0, 0) == -CMWQ_REFUSED && cmwq_queue_delayed_work_on(of, 0, 0, item, 1) == -CMWQ_REFUSED);
-        CHECK(cmwq_mod_delayed_work_on(of, 0, place, 0, 1) == -CMWQ_REFUSED && cmwq_cancel_work(of, item) == -CMWQ_REFUSED);
-        CHECK(cmwq_cancel_work_sync(of, item, CMWQ_FOREVER) == -CMWQ_REFUSED && cmwq_flush_work(of, item, CMWQ_FOREVER) == -CMWQ_REFUSED);
-        CHECK(cmwq_flush_delayed_work(of, item, CMWQ_FOREVER) == -CMWQ_REFUSED && cmwq_work_busy(of, item) == -CMWQ_REFUSED);
-        CHECK(cmwq_flush_workqueue(of, place, CMWQ_FOREVER) == -CMWQ_REFUSED && cmwq_drain_workqueue(of, place, CMWQ_FOREVER) == -CMWQ_REFUSED);
-        CHECK(cmwq_destroy_workqueue(of, place, CMWQ_FOREVER) == -CMWQ_REFUSED && cmwq_workqueue_set_max_active(of, place, 1) == -CMWQ_REFUSED);
+        CHECK(cmwq_queue_work_on(of, 0, 0, item) == -CMWQ_REFUSED &&
+              cmwq_queue_work_on(of, 0, place, 0) == -CMWQ_REFUSED);
+        CHECK(cmwq_queue_work_on(of, place, 0, 0) == -CMWQ_REFUSED &&
+              cmwq_queue_delayed_work_on(of, 0, 0, item, 1) == -CMWQ_REFUSED);
+        CHECK(cmwq_mod_delayed_work_on(of, 0, place, 0, 1) == -CMWQ_REFUSED &&
+              cmwq_cancel_work(of, item) == -CMWQ_REFUSED);
+        CHECK(cmwq_cancel_work_sync(of, item, CMWQ_FOREVER) == -CMWQ_REFUSED &&
+              cmwq_flush_work(of, item, CMWQ_FOREVER) == -CMWQ_REFUSED);
+        CHECK(cmwq_flush_delayed_work(of, item, CMWQ_FOREVER) == -CMWQ_REFUSED &&
+              cmwq_work_busy(of, item) == -CMWQ_REFUSED);
+        CHECK(cmwq_flush_workqueue(of, place, CMWQ_FOREVER) == -CMWQ_REFUSED &&
+              cmwq_drain_workqueue(of, place, CMWQ_FOREVER) == -CMWQ_REFUSED);
+        CHECK(cmwq_destroy_workqueue(of, place, CMWQ_FOREVER) == -CMWQ_REFUSED &&
+              cmwq_workqueue_set_max_active(of, place, 1) == -CMWQ_REFUSED);
     }
-    CHECK(cmwq_workqueue_set_max_active(of, 0, 0) == -CMWQ_REFUSED && cmwq_workqueue_set_max_active(of, 0, 1000) == 512);
-    CHECK(cmwq_queue_delayed_work_on(of, 0, 0, 0, UINT64_MAX) == -CMWQ_REFUSED && cmwq_queue_delayed_work_on(of, 0, 0, 0, UINT32_MAX + 1ull) == -CMWQ_REFUSED);
+    CHECK(cmwq_workqueue_set_max_active(of, 0, 0) == -CMWQ_REFUSED &&
+          cmwq_workqueue_set_max_active(of, 0, 1000) == 512);
+    CHECK(cmwq_queue_delayed_work_on(of, 0, 0, 0, UINT64_MAX) == -CMWQ_REFUSED &&
+          cmwq_queue_delayed_work_on(of, 0, 0, 0, UINT32_MAX + 1ull) == -CMWQ_REFUSED);
 }
 
 static void refuse_in_run(struct cmwq_run *run, void *data)
@@ -185,13 +198,16 @@ static void test_numbers(void)
     refuse_numbers(&hub);
     CHECK(cmwq_worker_sleeping(&hub) == -CMWQ_REFUSED && cmwq_hub_open(&hub, &options) == -CMWQ_NOT_NOW);
     CHECK(cmwq_queue_work_on(&hub, 0, 0, 1) == 1 && cmwq_flush_workqueue(&hub, 0, CMWQ_FOREVER) == 1 && ran == 1);
-    CHECK(results[0] == -CMWQ_NOT_NOW && results[1] == -CMWQ_ITSELF && results[2] == -CMWQ_ITSELF && results[3] == -CMWQ_ITSELF);
+    CHECK(results[0] == -CMWQ_NOT_NOW && results[1] == -CMWQ_ITSELF && results[2] == -CMWQ_ITSELF &&
+          results[3] == -CMWQ_ITSELF);
     CHECK(results[4] == -CMWQ_NO_TIMEOUT && results[5] == -CMWQ_IS_MISUSE);
     CHECK(cmwq_hub_close(&hub) == CMWQ_OK && cmwq_hub_close(&hub) == -CMWQ_CLOSED);
-    CHECK(cmwq_queue_work_on(&hub, 0, 0, 0) == -CMWQ_CLOSED && cmwq_flush_work(&hub, 0, 1) == -CMWQ_CLOSED && cmwq_work_busy(&hub, 0) == -CMWQ_CLOSED);
+    CHECK(cmwq_queue_work_on(&hub, 0, 0, 0) == -CMWQ_CLOSED && cmwq_flush_work(&hub, 0, 1) == -CMWQ_CLOSED &&
+          cmwq_work_busy(&hub, 0) == -CMWQ_CLOSED);
     CHECK(cmwq_hub_close(&other) == -CMWQ_CLOSED && cmwq_queue_work_on(&other, 0, 0, 0) == -CMWQ_CLOSED);
     for (int k = 0; k < 9; k++) {
-        static const unsigned numbers[9][5] = {{65, 1, 1, 1, 2}, {1, 65, 1, 1, 2}, {257, 1, 1, 1, 2}, {1, 257, 1, 1, 2}, {1, 1, 0, 1, 2}, {1, 1, 65536, 1, 2},
+        static const unsigned numbers[9][5] = {{65, 1, 1, 1, 2},    {1, 65, 1, 1, 2},  {257, 1, 1, 1, 2},
+                                               {1, 257, 1, 1, 2},   {1, 1, 0, 1, 2},   {1, 1, 65536, 1, 2},
                                                {1, 1, 65537, 1, 2}, {1, 1, 1, 255, 2}, {1, 1, 1, 1, 0}};
 
         wrong = options;
@@ -248,11 +264,15 @@ static void test_frozen(void)
         ran = 0;
         written = 0;
         open_hub(options);
-        CHECK(cmwq_freeze_workqueues(&hub) == 1 && cmwq_freeze_workqueues(&hub) == 0 && cmwq_queue_work_on(&hub, 0, 1, 0) == 1);
-        CHECK(cmwq_queue_delayed_work_on(&hub, 0, 0, 1, 1000000) == 1 && cmwq_work_busy(&hub, 0) == 1 && cmwq_work_busy(&hub, 1) == 1);
+        CHECK(cmwq_freeze_workqueues(&hub) == 1 && cmwq_freeze_workqueues(&hub) == 0 &&
+              cmwq_queue_work_on(&hub, 0, 1, 0) == 1);
+        CHECK(cmwq_queue_delayed_work_on(&hub, 0, 0, 1, 1000000) == 1 && cmwq_work_busy(&hub, 0) == 1 &&
+              cmwq_work_busy(&hub, 1) == 1);
         CHECK(cmwq_flush_work(&hub, 0, 20) == -CMWQ_TIMED_OUT && cmwq_flush_workqueue(&hub, 1, 0) == -CMWQ_TIMED_OUT);
-        CHECK(cmwq_drain_workqueue(&hub, 1, 0) == -CMWQ_TIMED_OUT && cmwq_queue_work_on(&hub, 0, 1, 2) == -CMWQ_IS_DRAINING);
-        CHECK(cmwq_destroy_workqueue(&hub, 0, CMWQ_FOREVER) == -CMWQ_HAS_TIMERS && cmwq_queue_work_on(&hub, 0, 0, 0) == 0);
+        CHECK(cmwq_drain_workqueue(&hub, 1, 0) == -CMWQ_TIMED_OUT &&
+              cmwq_queue_work_on(&hub, 0, 1, 2) == -CMWQ_IS_DRAINING);
+        CHECK(cmwq_destroy_workqueue(&hub, 0, CMWQ_FOREVER) == -CMWQ_HAS_TIMERS &&
+              cmwq_queue_work_on(&hub, 0, 0, 0) == 0);
         CHECK(cmwq_hub_close(&hub) == CMWQ_OK && ran == 1);
         judge();
     }
@@ -288,7 +308,8 @@ static void test_room(void)
     while (__atomic_load_n(&ran, __ATOMIC_RELAXED) < ITEMS)
         usleep(100);
     CHECK(cmwq_queue_work_on(&hub, 0, 0, 0) == -CMWQ_FULL && cmwq_flush_work(&hub, 0, 5) == -CMWQ_FULL);
-    CHECK(cmwq_queue_delayed_work_on(&hub, 0, 0, 0, 5) == -CMWQ_FULL && cmwq_hub_close(&hub) == CMWQ_OK && ran == ITEMS && results[0] == -CMWQ_FULL);
+    CHECK(cmwq_queue_delayed_work_on(&hub, 0, 0, 0, 5) == -CMWQ_FULL && cmwq_hub_close(&hub) == CMWQ_OK &&
+          ran == ITEMS && results[0] == -CMWQ_FULL);
     judge();
     /* nothing thaws it: the hub ends all the same */
     options = made(count);
@@ -517,7 +538,8 @@ static void test_items(void)
         ran = 0;
         open_hub(options);
         took = cmwq_hub_now_(&hub);
-        CHECK(cmwq_queue_work_on(&hub, 0, 0, options.items - 1) == 1 && cmwq_drain_workqueue(&hub, 0, CMWQ_FOREVER) == 1);
+        CHECK(cmwq_queue_work_on(&hub, 0, 0, options.items - 1) == 1 &&
+              cmwq_drain_workqueue(&hub, 0, CMWQ_FOREVER) == 1);
         took = cmwq_hub_now_(&hub) - took;
         least[k % 2] = took < least[k % 2] ? took : least[k % 2];
         CHECK(cmwq_hub_close(&hub) == CMWQ_OK && ran == 20000);

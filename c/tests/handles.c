@@ -1,4 +1,5 @@
-/* Closed handles, handles closed twice, buffers one byte short, numbers outside the shape, a full book, and a history that runs on. */
+/* Closed handles, handles closed twice, buffers one byte short, numbers outside the shape, a full book, and a history
+ * that runs on. */
 #include "check.h"
 
 static struct cmwq_shape shape = {.room = 50, .keep = 50, .items = 2, .cpus = 1, .workers = 2, .callers = 1};
@@ -31,16 +32,25 @@ static void closed_calls(struct cmwq_book *book)
     CHECK(cmwq_forget(book) == CMWQ_CLOSED);
     CHECK(!cmwq_ready(book, 0) && cmwq_len(book) == 0 && cmwq_room_left(book) == 0 && cmwq_first(book) == 0);
     CHECK(cmwq_open_count(book) == 0 && cmwq_active_count(book) == 0);
-    CHECK(bits == 77 && serial == 77 && written == 77 && memcmp(&reply, &reply0, sizeof reply) == 0 && memcmp(&entry, &entry0, sizeof entry) == 0);
+    CHECK(bits == 77 && serial == 77 && written == 77 && memcmp(&reply, &reply0, sizeof reply) == 0 &&
+          memcmp(&entry, &entry0, sizeof entry) == 0);
     CHECK(memcmp(out, out0, sizeof out) == 0 && book->live == before.live && book->at == before.at && !book->live);
 }
 
 static void refused_calls(struct cmwq_book *book)
 {
     struct cmwq_call outside[] = {
-        {.kind = 21}, {.kind = 255}, {.kind = CMWQ_QUEUE, .item = 2}, {.kind = CMWQ_QUEUE, .queue = 1}, {.kind = CMWQ_QUEUE, .cpu = 1},
-        {.kind = CMWQ_FIRE, .who = {CMWQ_CALLER, 1, 0}}, {.kind = CMWQ_FIRE, .who = {3, 0, 0}}, {.kind = CMWQ_TAKE},
-        {.kind = CMWQ_TAKE, .who = {CMWQ_WORKER, 2, 0}}, {.kind = CMWQ_TAKE, .who = {CMWQ_HIGH_WORKER, 0, 1}}, {.kind = CMWQ_SET_MAX, .number = 0},
+        {.kind = 21},
+        {.kind = 255},
+        {.kind = CMWQ_QUEUE, .item = 2},
+        {.kind = CMWQ_QUEUE, .queue = 1},
+        {.kind = CMWQ_QUEUE, .cpu = 1},
+        {.kind = CMWQ_FIRE, .who = {CMWQ_CALLER, 1, 0}},
+        {.kind = CMWQ_FIRE, .who = {3, 0, 0}},
+        {.kind = CMWQ_TAKE},
+        {.kind = CMWQ_TAKE, .who = {CMWQ_WORKER, 2, 0}},
+        {.kind = CMWQ_TAKE, .who = {CMWQ_HIGH_WORKER, 0, 1}},
+        {.kind = CMWQ_SET_MAX, .number = 0},
     };
     struct cmwq_who nobody[] = {{CMWQ_CALLER, 1, 0}, {CMWQ_WORKER, 2, 0}, {CMWQ_WORKER, 0, 1}, {3, 0, 0}};
     struct cmwq_reply reply = {0};
@@ -89,18 +99,25 @@ static void reads(struct cmwq_book *book)
     uint64_t serial;
     uint8_t bits;
 
-    CHECK(cmwq_bits(book, 1, &bits) == CMWQ_OK && bits == 1 && cmwq_open_count(book) == 1 && cmwq_active_count(book) == 1);
-    CHECK(cmwq_would(book, &flush, &reply) == CMWQ_OK && reply.kind == CMWQ_TICKET && reply.number == 1 && cmwq_len(book) == 1);
-    CHECK(cmwq_step(book, &flush, &reply) == CMWQ_OK && reply.kind == CMWQ_TICKET && reply.number == 1 && !cmwq_ready(book, 1));
-    CHECK(cmwq_step(book, &take, &reply) == CMWQ_OK && reply.kind == CMWQ_STARTED_ENLIST && reply.number == 0 && reply.other == 1);
+    CHECK(cmwq_bits(book, 1, &bits) == CMWQ_OK && bits == 1 && cmwq_open_count(book) == 1 &&
+          cmwq_active_count(book) == 1);
+    CHECK(cmwq_would(book, &flush, &reply) == CMWQ_OK && reply.kind == CMWQ_TICKET && reply.number == 1 &&
+          cmwq_len(book) == 1);
+    CHECK(cmwq_step(book, &flush, &reply) == CMWQ_OK && reply.kind == CMWQ_TICKET && reply.number == 1 &&
+          !cmwq_ready(book, 1));
+    CHECK(cmwq_step(book, &take, &reply) == CMWQ_OK && reply.kind == CMWQ_STARTED_ENLIST && reply.number == 0 &&
+          reply.other == 1);
     CHECK(cmwq_bits(book, 1, &bits) == CMWQ_OK && bits == 2);
     take.kind = CMWQ_FINISH;
-    CHECK(cmwq_step(book, &take, &reply) == CMWQ_OK && reply.kind == CMWQ_FINISHED && cmwq_ready(book, 1) && cmwq_open_count(book) == 0);
-    CHECK(cmwq_serial(book, &caller, &serial) == CMWQ_OK && serial == 2 && cmwq_serial(book, &worker, &serial) == CMWQ_OK && serial == 2);
+    CHECK(cmwq_step(book, &take, &reply) == CMWQ_OK && reply.kind == CMWQ_FINISHED && cmwq_ready(book, 1) &&
+          cmwq_open_count(book) == 0);
+    CHECK(cmwq_serial(book, &caller, &serial) == CMWQ_OK && serial == 2 &&
+          cmwq_serial(book, &worker, &serial) == CMWQ_OK && serial == 2);
     CHECK(cmwq_len(book) == 4 && cmwq_room_left(book) == 46 && cmwq_first(book) == 0);
 }
 
-/* Three entries are kept at once: the fourth wants that they be forgotten, and the answers are those of the whole history. */
+/* Three entries are kept at once: the fourth wants that they be forgotten, and the answers are those of the whole
+ * history. */
 static void runs_on(void)
 {
     struct cmwq_shape little = shape;
@@ -115,15 +132,18 @@ static void runs_on(void)
         uint32_t status = cmwq_step(&book, &tick, &reply);
 
         if (status == CMWQ_CROWDED) {
-            CHECK(n % 3 == 0 && cmwq_len(&book) == n && cmwq_entry(&book, n - 1, &entry) == CMWQ_OK && entry.serial == n - 1);
+            CHECK(n % 3 == 0 && cmwq_len(&book) == n && cmwq_entry(&book, n - 1, &entry) == CMWQ_OK &&
+                  entry.serial == n - 1);
             CHECK(cmwq_would(&book, &tick, &reply) == CMWQ_CROWDED);
-            CHECK(cmwq_forget(&book) == CMWQ_OK && cmwq_first(&book) == n && cmwq_entry(&book, n - 1, &entry) == CMWQ_REFUSED);
+            CHECK(cmwq_forget(&book) == CMWQ_OK && cmwq_first(&book) == n &&
+                  cmwq_entry(&book, n - 1, &entry) == CMWQ_REFUSED);
             status = cmwq_step(&book, &tick, &reply);
         }
         CHECK(status == CMWQ_OK && reply.kind == CMWQ_NOW && reply.number == 2 * n + 2);
     }
     CHECK(cmwq_forget(&book) == CMWQ_OK);
-    CHECK(cmwq_step(&book, &tick, &reply) == CMWQ_FULL && cmwq_would(&book, &tick, &reply) == CMWQ_FULL && cmwq_room_left(&book) == 0);
+    CHECK(cmwq_step(&book, &tick, &reply) == CMWQ_FULL && cmwq_would(&book, &tick, &reply) == CMWQ_FULL &&
+          cmwq_room_left(&book) == 0);
     cmwq_close(&book);
 }
 
@@ -131,7 +151,8 @@ int main(void)
 {
     struct cmwq_book book = {0};
     struct cmwq_shape wrong = shape;
-    static const char legal[] = "history 2\nshape 1 2 1 2 50\nwq 1 -\nc0 0 queue 1 0 0 = yes 0\n", verdict[] = "legal 1\n";
+    static const char legal[] = "history 2\nshape 1 2 1 2 50\nwq 1 -\nc0 0 queue 1 0 0 = yes 0\n",
+                      verdict[] = "legal 1\n";
     uint8_t out[CMWQ_LINE];
     size_t written = 77;
 
@@ -149,8 +170,10 @@ int main(void)
     cmwq_close(&book);
     closed_calls(&book);
     runs_on();
-    CHECK(cmwq_check((const uint8_t *)legal, sizeof legal - 1, out, sizeof verdict - 2, &written) == CMWQ_SHORT && written == 77);
-    CHECK(cmwq_check((const uint8_t *)legal, sizeof legal - 1, out, sizeof verdict - 1, &written) == CMWQ_OK && written == sizeof verdict - 1);
+    CHECK(cmwq_check((const uint8_t *)legal, sizeof legal - 1, out, sizeof verdict - 2, &written) == CMWQ_SHORT &&
+          written == 77);
+    CHECK(cmwq_check((const uint8_t *)legal, sizeof legal - 1, out, sizeof verdict - 1, &written) == CMWQ_OK &&
+          written == sizeof verdict - 1);
     CHECK(memcmp(out, verdict, written) == 0);
     CHECK(cmwq_check((const uint8_t *)legal, sizeof legal - 2, out, sizeof out, &written) == CMWQ_REFUSED);
     return 0;

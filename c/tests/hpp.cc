@@ -70,7 +70,13 @@ static uint32_t count_looks(cmwq_board *board, uint16_t item, cmwq_item *state)
 #undef pthread_create
 #include "cmwq.hpp"
 
-#define CHECK(holds) do { if (!(holds)) { std::fprintf(stderr, "%d: %s\n", __LINE__, #holds); std::abort(); } } while (0)
+#define CHECK(holds) \
+    do { \
+        if (!(holds)) { \
+            std::fprintf(stderr, "%d: %s\n", __LINE__, #holds); \
+            std::abort(); \
+        } \
+    } while (0)
 #define REFUSED(call, kind) do { try { call; CHECK(!#call); } catch (const kind &) {} } while (0)
 #define REFUSED_AS(call, status) \
     do {                                                        \
@@ -88,7 +94,13 @@ static size_t trial(unsigned seed)
     {
         std::mt19937 random(seed);
         cmwq::shape shape;
-        shape.cpus(unsigned(1 + random() % 2)).workers(unsigned(1 + random() % 4)).items(8).waits(3).keep(unsigned(2 + random() % 40)).tick(100us).history(text);
+        shape.cpus(unsigned(1 + random() % 2))
+            .workers(unsigned(1 + random() % 4))
+            .items(8)
+            .waits(3)
+            .keep(unsigned(2 + random() % 40))
+            .tick(100us)
+            .history(text);
         for (const char *name : {"a", "b"}) {
             auto options = cmwq::max_active(uint16_t(1 + random() % 3));
             shape.queue(name, random() % 2 ? options.intensive() : options);
@@ -114,32 +126,38 @@ static size_t trial(unsigned seed)
                     }
                 } catch (const cmwq::failure &failure) {
                     circles += failure.code() == CMWQ_DEADLOCK;
-                    CHECK(failure.code() >= CMWQ_STOPPED && failure.code() != CMWQ_FAILED && failure.code() != CMWQ_NO_TIMEOUT);
+                    CHECK(failure.code() >= CMWQ_STOPPED && failure.code() != CMWQ_FAILED &&
+                          failure.code() != CMWQ_NO_TIMEOUT);
                 }
             }
         } act{queues, items, circles};
         bool ready = false;
         items.reserve(8);
         for (unsigned k = 0; k < 8; k++)
-            items.push_back(queues[random() % 2].make([&, own = std::mt19937(seed * 100 + k), inside = 0](cmwq::run &run) mutable {
-                CHECK(++inside == 1);
-                runs++;
-                if (own() % 3 == 0) run.block([] { std::this_thread::yield(); });
-                for (unsigned n = own() % 3; n > 0; n--) act(own, true);
-                inside--;
-            }));
+            items.push_back(
+                queues[random() % 2].make([&, own = std::mt19937(seed * 100 + k), inside = 0](cmwq::run &run) mutable {
+                    CHECK(++inside == 1);
+                    runs++;
+                    if (own() % 3 == 0) run.block([] { std::this_thread::yield(); });
+                    for (unsigned n = own() % 3; n > 0; n--) act(own, true);
+                    inside--;
+                }));
         ready = true;
         CHECK(ready);
         std::vector<std::thread> callers;
         for (unsigned c = 0; c < 3; c++)
-            callers.emplace_back([&, c] { std::mt19937 own(seed * 1000 + c); for (int n = 0; n < 40; n++) act(own, false); });
+            callers.emplace_back([&, c] {
+                std::mt19937 own(seed * 1000 + c);
+                for (int n = 0; n < 40; n++) act(own, false);
+            });
         for (auto &caller : callers) caller.join();
         all.shutdown();
     }
     std::string history = text.str();
     uint8_t line[CMWQ_LINE];
     size_t len = 0;
-    uint32_t status = cmwq_check(reinterpret_cast<const uint8_t *>(history.data()), history.size(), line, sizeof line, &len);
+    uint32_t status = cmwq_check(reinterpret_cast<const uint8_t *>(history.data()), history.size(), line, sizeof line,
+                                 &len);
     if (status != CMWQ_OK) std::fprintf(stderr, "seed %u: %.*s\n", seed, int(len), reinterpret_cast<char *>(line));
     CHECK(status == CMWQ_OK);
     return circles;
@@ -163,7 +181,12 @@ static void items_come_and_go()
         queue.flush();
         cmwq::item d = queue.make([](cmwq::run &) {});
         try { queue.make([](cmwq::run &) {}); CHECK(false); } catch (const std::length_error &) {}
-        try { queue.make([](cmwq::run &) {}, 1); CHECK(false); } catch (const cmwq::failure &failure) { CHECK(failure.code() == CMWQ_REFUSED); }
+        try {
+            queue.make([](cmwq::run &) {}, 1);
+            CHECK(false);
+        } catch (const cmwq::failure &failure) {
+            CHECK(failure.code() == CMWQ_REFUSED);
+        }
     }
     queue.flush();
     CHECK(runs == 1000 && !queue.make([](cmwq::run &) {}).is_pending() && held.use_count() == 1);
@@ -183,7 +206,8 @@ static void waits_with_timeouts()
     });
     CHECK(item.queue());
     while (!item.is_running()) std::this_thread::sleep_for(1ms);
-    CHECK(!item.flush_for(10ms) && !a.flush_for(0ms) && !item.cancel_sync_for(1ms) && item.is_running() && !item.is_pending());
+    CHECK(!item.flush_for(10ms) && !a.flush_for(0ms) && !item.cancel_sync_for(1ms) && item.is_running() &&
+          !item.is_pending());
     open = true;
     CHECK(a.flush_for(10s) && code == CMWQ_NO_TIMEOUT);
     CHECK(again == 1); // the cancel went on without its caller, and kept the run from booking its item
@@ -499,9 +523,19 @@ int main(int argc, char **argv)
         bad.flush();
         try { all.shutdown(); CHECK(false); } catch (const std::runtime_error &) {}
         all.shutdown();
-        try { bad.queue(); CHECK(false); } catch (const cmwq::failure &failure) { CHECK(failure.code() == CMWQ_CLOSED); }
+        try {
+            bad.queue();
+            CHECK(false);
+        } catch (const cmwq::failure &failure) {
+            CHECK(failure.code() == CMWQ_CLOSED);
+        }
         try { all.queue("b"); CHECK(false); } catch (const std::out_of_range &) {}
-        try { cmwq::workqueues none(cmwq::shape{}); CHECK(false); } catch (const cmwq::failure &failure) { CHECK(failure.code() == CMWQ_REFUSED); }
+        try {
+            cmwq::workqueues none(cmwq::shape{});
+            CHECK(false);
+        } catch (const cmwq::failure &failure) {
+            CHECK(failure.code() == CMWQ_REFUSED);
+        }
     }
     items_come_and_go();
     waits_with_timeouts();

@@ -1,4 +1,5 @@
-/* Callers and workers at once on the hub: each queueing runs once, one item is never in two runs, each flush waits for what was queued before it. */
+/* Callers and workers at once on the hub: each queueing runs once, one item is never in two runs, each flush waits for
+ * what was queued before it. */
 #include "cmwq_hub.h"
 #include "check.h"
 #include <unistd.h>
@@ -70,7 +71,8 @@ int main(void)
 {
     struct cmwq_queue queues[2] = {{.max_active = 3}, {.max_active = 2, .high = 1, .intensive = 1}};
     struct cmwq_work works[ITEMS];
-    struct cmwq_options options = {.queues = queues, .queue_count = 2, .works = works, .items = ITEMS, .keep = 256, .journal = count_lines};
+    struct cmwq_options options = {
+        .queues = queues, .queue_count = 2, .works = works, .items = ITEMS, .keep = 256, .journal = count_lines};
     pthread_t threads[CALLERS];
     unsigned names[CALLERS];
 

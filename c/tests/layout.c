@@ -1,6 +1,6 @@
 /*
- * The structs lie as the crate has them: their sizes and the offsets of all fields are those that it proves, when this is compiled; and each field of a
- * call comes back from the entry as it went in, when it runs.
+ * The structs lie as the crate has them: their sizes and the offsets of all fields are those that it proves, when this
+ * is compiled; and each field of a call comes back from the entry as it went in, when it runs.
  */
 #include "check.h"
 #include "cmwq_layout.h" /* tools/c writes it from what the crate proves */
@@ -40,19 +40,28 @@ CMWQ_FIELDS_LinesHandle(LIES, cmwq_lines)
 
 static bool same_call(const struct cmwq_call *a, const struct cmwq_call *b)
 {
-    return a->ticket == b->ticket && a->number == b->number && a->item == b->item && a->kind == b->kind && a->queue == b->queue && a->cpu == b->cpu &&
-           a->who.kind == b->who.kind && a->who.index == b->who.index && a->who.cpu == b->who.cpu;
+    return a->ticket == b->ticket && a->number == b->number && a->item == b->item && a->kind == b->kind &&
+           a->queue == b->queue && a->cpu == b->cpu && a->who.kind == b->who.kind && a->who.index == b->who.index &&
+           a->who.cpu == b->who.cpu;
 }
 
 int main(void)
 {
     static const char *const lines[] = {
-        "w3h7 0 modify 255 63 2 4278190081 = misuse\n", "c63 0 end 1234567890123 = misuse\n", "c62 0 set_max 5 511 = width 511\n",
+        "w3h7 0 modify 255 63 2 4278190081 = misuse\n",
+        "c63 0 end 1234567890123 = misuse\n",
+        "c62 0 set_max 5 511 = width 511\n",
     };
-    struct cmwq_shape shape = {.room = (uint64_t)1 << 62, .keep = 7, .items = 256, .cpus = 4, .workers = 8, .callers = 64};
+    struct cmwq_shape shape = {
+        .room = (uint64_t)1 << 62, .keep = 7, .items = 256, .cpus = 4, .workers = 8, .callers = 64};
     struct cmwq_queue queues[64];
     struct cmwq_call calls[3] = {
-        {.number = 0xff000001u, .item = 255, .kind = CMWQ_MODIFY, .queue = 63, .cpu = 2, .who = {CMWQ_HIGH_WORKER, 7, 3}},
+        {.number = 0xff000001u,
+         .item = 255,
+         .kind = CMWQ_MODIFY,
+         .queue = 63,
+         .cpu = 2,
+         .who = {CMWQ_HIGH_WORKER, 7, 3}},
         {.ticket = 1234567890123u, .kind = CMWQ_END, .who = {CMWQ_CALLER, 63, 0}},
         {.number = 511, .queue = 5, .kind = CMWQ_SET_MAX, .who = {CMWQ_CALLER, 62, 0}},
     };
@@ -70,7 +79,8 @@ int main(void)
         CHECK(cmwq_step(&book, &calls[i], &reply) == CMWQ_OK);
         CHECK(cmwq_entry(&book, i, &entry) == CMWQ_OK);
         CHECK(same_call(&entry.call, &calls[i]) && entry.serial == 0);
-        CHECK(entry.reply.kind == reply.kind && entry.reply.number == reply.number && entry.reply.other == reply.other && entry.reply.item == reply.item);
+        CHECK(entry.reply.kind == reply.kind && entry.reply.number == reply.number &&
+              entry.reply.other == reply.other && entry.reply.item == reply.item);
         CHECK(cmwq_entry_line(&book, i, line, sizeof line, &len) == CMWQ_OK);
         CHECK(len == strlen(lines[i]) && memcmp(line, lines[i], len) == 0);
     }

@@ -1,4 +1,5 @@
-/* Each allocation refused in turn, over a heap of its own: the status says so, the handle is as it was, and no block is left. */
+/* Each allocation refused in turn, over a heap of its own: the status says so, the handle is as it was, and no block is
+ * left. */
 #include "check.h"
 
 struct block { bool ok; void *at; };
@@ -44,12 +45,14 @@ static void others(struct cmwq_book *book)
     size_t written;
 
     left = 0;
-    CHECK(cmwq_would(book, &call, &reply) == CMWQ_OK && cmwq_step(book, &call, &reply) == CMWQ_OK && reply.kind == CMWQ_YES);
+    CHECK(cmwq_would(book, &call, &reply) == CMWQ_OK && cmwq_step(book, &call, &reply) == CMWQ_OK &&
+          reply.kind == CMWQ_YES);
     CHECK(cmwq_step_line(book, (const uint8_t *)line, sizeof line - 1, out, sizeof out, &written) == CMWQ_OK);
     CHECK(cmwq_entry(book, 1, &entry) == CMWQ_OK && entry.reply.kind == CMWQ_TICKET);
     CHECK(cmwq_entry_line(book, 0, out, sizeof out, &written) == CMWQ_OK);
     CHECK(cmwq_bits(book, 0, &bits) == CMWQ_OK && cmwq_serial(book, &who, &serial) == CMWQ_OK && !cmwq_ready(book, 1));
-    CHECK(cmwq_open_count(book) == 1 && cmwq_active_count(book) == 1 && cmwq_room_left(book) == 998 && cmwq_first(book) == 0);
+    CHECK(cmwq_open_count(book) == 1 && cmwq_active_count(book) == 1 && cmwq_room_left(book) == 998 &&
+          cmwq_first(book) == 0);
     CHECK(cmwq_forget(book) == CMWQ_OK && cmwq_len(book) == 2 && left == 0);
 }
 

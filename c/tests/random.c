@@ -1,8 +1,10 @@
-/* random SEED CALLS: random calls by numbers. Writes the file of calls to `calls` and the history of those with room to `history`, for `cmwq step` beside it. */
+/* random SEED CALLS: random calls by numbers. Writes the file of calls to `calls` and the history of those with room to
+ * `history`, for `cmwq step` beside it. */
 #include "check.h"
 
-static const char *const names[] = {"queue", "delay", "modify", "cancel", "tick", "fire", "flush", "drain", "flush_item", "flush_delayed", "cancel_sync",
-                                    "end", "take", "finish", "sleep", "wake", "retire", "set_max", "freeze", "thaw", "destroy"};
+static const char *const names[] = {"queue", "delay",      "modify",        "cancel",      "tick",   "fire", "flush",
+                                    "drain", "flush_item", "flush_delayed", "cancel_sync", "end",    "take", "finish",
+                                    "sleep", "wake",       "retire",        "set_max",     "freeze", "thaw", "destroy"};
 
 static void spell(FILE *to, const struct cmwq_call *c)
 {
@@ -13,7 +15,8 @@ static void spell(FILE *to, const struct cmwq_call *c)
     fprintf(to, " %s", names[c->kind]);
     if (c->kind <= CMWQ_CANCEL || (c->kind >= CMWQ_FLUSH_ITEM && c->kind <= CMWQ_CANCEL_SYNC))
         fprintf(to, " %u", c->item);
-    if (c->kind < CMWQ_CANCEL || c->kind == CMWQ_FLUSH || c->kind == CMWQ_DRAIN || c->kind == CMWQ_SET_MAX || c->kind == CMWQ_DESTROY)
+    if (c->kind < CMWQ_CANCEL || c->kind == CMWQ_FLUSH || c->kind == CMWQ_DRAIN || c->kind == CMWQ_SET_MAX ||
+        c->kind == CMWQ_DESTROY)
         fprintf(to, " %u", c->queue);
     if (c->kind < CMWQ_CANCEL)
         fprintf(to, " %u", c->cpu);
@@ -44,12 +47,15 @@ int main(int argc, char **argv)
     shape.cpus = (uint8_t)(1 + next_random(&seed) % 2);
     shape.workers = (uint8_t)(1 + next_random(&seed) % 3);
     shape.callers = (uint8_t)(1 + next_random(&seed) % 5);
-    fprintf(to_calls, "shape %u %u %u %u %llu\n", shape.cpus, shape.workers, shape.callers, shape.items, (unsigned long long)shape.room);
-    fprintf(to_history, "history 2\nshape %u %u %u %u %llu\n", shape.cpus, shape.workers, shape.callers, shape.items, (unsigned long long)shape.room);
+    fprintf(to_calls, "shape %u %u %u %u %llu\n", shape.cpus, shape.workers, shape.callers, shape.items,
+            (unsigned long long)shape.room);
+    fprintf(to_history, "history 2\nshape %u %u %u %u %llu\n", shape.cpus, shape.workers, shape.callers, shape.items,
+            (unsigned long long)shape.room);
     for (unsigned q = 0; q < count; q++) {
         char flags[4] = "", *at = flags;
 
-        queues[q] = (struct cmwq_queue){(uint16_t)(1 + next_random(&seed) % 4), next_random(&seed) % 3 == 0, next_random(&seed) % 3 == 0, next_random(&seed) % 2};
+        queues[q] = (struct cmwq_queue){(uint16_t)(1 + next_random(&seed) % 4), next_random(&seed) % 3 == 0,
+                                        next_random(&seed) % 3 == 0, next_random(&seed) % 2};
         if (queues[q].high)
             *at++ = 'h';
         if (queues[q].intensive)
@@ -74,7 +80,8 @@ int main(int argc, char **argv)
         status = cmwq_step(&book, &call, &reply);
 
         CHECK(status == CMWQ_OK || status == CMWQ_FULL);
-        CHECK(first == status && (status != CMWQ_OK || (would.kind == reply.kind && would.number == reply.number && would.other == reply.other)));
+        CHECK(first == status && (status != CMWQ_OK || (would.kind == reply.kind && would.number == reply.number &&
+                                                        would.other == reply.other)));
         spell(to_calls, &call);
         if (status == CMWQ_OK && reply.kind >= CMWQ_TICKET && reply.kind <= CMWQ_TICKET_NO)
             tickets[known++ % 8] = reply.number;

@@ -1,6 +1,7 @@
 /*
- * replay FILE..: makes the calls of each history by lines, and again by the numbers of its entries: each gives the entry, byte for byte.
- * A file that isn't legal by cmwq_check is read up to its first wrong entry, and must be wrong there. Prints how many entries were made.
+ * replay FILE..: makes the calls of each history by lines, and again by the numbers of its entries: each gives the
+ * entry, byte for byte. A file that isn't legal by cmwq_check is read up to its first wrong entry, and must be wrong
+ * there. Prints how many entries were made.
  */
 #include "check.h"
 
@@ -60,12 +61,18 @@ static unsigned long replay(const char *name)
         line = strchr(line, '\n') + 1;
     CHECK(sscanf(line, "shape %u %u %u %u %llu", &cpus, &workers, &callers, &items, &room) == 5);
     /* the room of a history isn't judged: as much as there may be */
-    shape = (struct cmwq_shape){.room = (uint64_t)1 << 40, .keep = 100000, .items = (uint16_t)items, .cpus = (uint8_t)cpus,
-                                .workers = (uint8_t)workers, .callers = (uint8_t)callers};
+    shape = (struct cmwq_shape){.room = (uint64_t)1 << 40,
+                                .keep = 100000,
+                                .items = (uint16_t)items,
+                                .cpus = (uint8_t)cpus,
+                                .workers = (uint8_t)workers,
+                                .callers = (uint8_t)callers};
     line = strchr(line, '\n') + 1;
     for (; sscanf(line, "wq %u %7s", &max_active, flags) == 2; line = strchr(line, '\n') + 1)
-        queues[count++] = (struct cmwq_queue){(uint16_t)max_active, strchr(flags, 'h') != NULL, strchr(flags, 'i') != NULL, strchr(flags, 'f') != NULL};
-    CHECK(cmwq_open(&book, &shape, queues, count) == CMWQ_OK && cmwq_open(&by_number, &shape, queues, count) == CMWQ_OK);
+        queues[count++] = (struct cmwq_queue){(uint16_t)max_active, strchr(flags, 'h') != NULL,
+                                              strchr(flags, 'i') != NULL, strchr(flags, 'f') != NULL};
+    CHECK(cmwq_open(&book, &shape, queues, count) == CMWQ_OK &&
+          cmwq_open(&by_number, &shape, queues, count) == CMWQ_OK);
     /* a history of format 3 has a last line after its entries */
     for (; line < text + all && strncmp(line, "end ", 4) != 0; line = end + 1, made++) {
         struct cmwq_entry entry;
@@ -81,9 +88,12 @@ static unsigned long replay(const char *name)
         }
         CHECK(len == (size_t)(end + 1 - line) && memcmp(out, line, len) == 0);
         CHECK(cmwq_entry(&book, made, &entry) == CMWQ_OK && cmwq_would(&by_number, &entry.call, &reply) == CMWQ_OK);
-        CHECK(memcmp(&reply, &entry.reply, sizeof reply - 5) == 0 && cmwq_step(&by_number, &entry.call, &reply) == CMWQ_OK);
-        CHECK(reply.kind == entry.reply.kind && reply.number == entry.reply.number && reply.other == entry.reply.other && reply.item == entry.reply.item);
-        CHECK(cmwq_entry_line(&by_number, made, other, sizeof other, &number_len) == CMWQ_OK && number_len == len && memcmp(other, out, len) == 0);
+        CHECK(memcmp(&reply, &entry.reply, sizeof reply - 5) == 0 &&
+              cmwq_step(&by_number, &entry.call, &reply) == CMWQ_OK);
+        CHECK(reply.kind == entry.reply.kind && reply.number == entry.reply.number &&
+              reply.other == entry.reply.other && reply.item == entry.reply.item);
+        CHECK(cmwq_entry_line(&by_number, made, other, sizeof other, &number_len) == CMWQ_OK && number_len == len &&
+              memcmp(other, out, len) == 0);
     }
     CHECK(wrong_at == ~0ull || made == wrong_at);
     cmwq_close(&book);

@@ -1,7 +1,8 @@
 /*
- * The board in one thread: sim [SEEDS [FIRST]]. Workers and callers move in an order that follows from a seed, each for one hold of a lock. A Book
- * follows all entries, and after each move it is asked whether anybody sleeps who could go on and was not named. In the end nobody waits, and the history
- * is legal. Also freezes, destroys, waits that are left, wake-ups for nothing, stops, and rooms that run out.
+ * The board in one thread: sim [SEEDS [FIRST]]. Workers and callers move in an order that follows from a seed, each for
+ * one hold of a lock. A Book follows all entries, and after each move it is asked whether anybody sleeps who could go
+ * on and was not named. In the end nobody waits, and the history is legal. Also freezes, destroys, waits that are left,
+ * wake-ups for nothing, stops, and rooms that run out.
  */
 #include "check.h"
 
@@ -10,7 +11,14 @@ enum { ITEMS = 10, MOST = 64, TEXT = 1 << 16, ALL = 1 << 20 };
 enum state { READY, RESTS, RUNS, WAITS, GONE };
 
 /* A worker, or a caller of the user's own. @left: how often it moves yet. */
-struct party { enum state state; struct cmwq_who who; unsigned left; bool blocks, asleep, runs; uint8_t by; uint64_t ticket; };
+struct party {
+    enum state state;
+    struct cmwq_who who;
+    unsigned left;
+    bool blocks, asleep, runs;
+    uint8_t by;
+    uint64_t ticket;
+};
 
 static struct cmwq_board board;
 static struct cmwq_lines lines;
@@ -32,10 +40,11 @@ static void fail(const char *why, unsigned who)
 {
     size_t from = written > 3000 ? written - 3000 : 0;
 
-    fprintf(stderr, "seed %u: party %u (of %u workers and more): %s, after\n%.*s", seed, who, workers, why, (int)(written - from), (char *)history + from);
+    fprintf(stderr, "seed %u: party %u (of %u workers and more): %s, after\n%.*s", seed, who, workers, why,
+            (int)(written - from), (char *)history + from);
     for (unsigned p = 0; p < many; p++)
-        fprintf(stderr, "party %u: state %d, asleep %d, left %u, by %u, ticket %llu\n", p, (int)parties[p].state, parties[p].asleep, parties[p].left,
-                parties[p].by, (unsigned long long)parties[p].ticket);
+        fprintf(stderr, "party %u: state %d, asleep %d, left %u, by %u, ticket %llu\n", p, (int)parties[p].state,
+                parties[p].asleep, parties[p].left, parties[p].by, (unsigned long long)parties[p].ticket);
     fprintf(stderr, "stopped %d, %u active\n", stopped, cmwq_active_count(&book));
     exit(1);
 }
@@ -173,10 +182,13 @@ static void stop(void)
 /* A call of this party. */
 static void act(unsigned p)
 {
-    static const uint8_t singles[] = {CMWQ_QUEUE, CMWQ_QUEUE, CMWQ_QUEUE, CMWQ_QUEUE, CMWQ_QUEUE, CMWQ_MODIFY, CMWQ_DELAY, CMWQ_CANCEL};
-    static const uint8_t of_runs[] = {CMWQ_FLUSH_ITEM, CMWQ_FLUSH_ITEM, CMWQ_FLUSH_DELAYED, CMWQ_CANCEL_SYNC, CMWQ_FLUSH};
+    static const uint8_t singles[] = {CMWQ_QUEUE, CMWQ_QUEUE,  CMWQ_QUEUE, CMWQ_QUEUE,
+                                      CMWQ_QUEUE, CMWQ_MODIFY, CMWQ_DELAY, CMWQ_CANCEL};
+    static const uint8_t of_runs[] = {CMWQ_FLUSH_ITEM, CMWQ_FLUSH_ITEM, CMWQ_FLUSH_DELAYED, CMWQ_CANCEL_SYNC,
+                                      CMWQ_FLUSH};
     bool run = p < workers;
-    struct cmwq_call call = {.who = run && !parties[p].blocks ? parties[p].who : (struct cmwq_who){CMWQ_CALLER, (uint8_t)below(own), 0}};
+    struct cmwq_call call = {.who = run && !parties[p].blocks ? parties[p].who
+                                                              : (struct cmwq_who){CMWQ_CALLER, (uint8_t)below(own), 0}};
     unsigned kind = crowd && !run && below(3) ? 12 : below(15);
     struct cmwq_reply reply;
 
@@ -228,7 +240,8 @@ static void start(unsigned p)
         return;
     party->left = below(4);
     party->blocks = false;
-    CHECK(cmwq_board_item(&board, item, &state) == CMWQ_OK && state.runs && state.run == number && !memcmp(&state.worker, &party->who, 3));
+    CHECK(cmwq_board_item(&board, item, &state) == CMWQ_OK && state.runs && state.run == number &&
+          !memcmp(&state.worker, &party->who, 3));
 }
 
 static void finish(unsigned p)
@@ -262,12 +275,14 @@ static void moves(unsigned p)
         return;
     case RUNS:
         if (party->blocks && below(3)) {
-            CHECK(make((struct cmwq_call){.kind = CMWQ_WAKE, .who = party->who}, &reply) == CMWQ_OK && reply.kind == CMWQ_WOKE);
+            CHECK(make((struct cmwq_call){.kind = CMWQ_WAKE, .who = party->who}, &reply) == CMWQ_OK &&
+                  reply.kind == CMWQ_WOKE);
             party->blocks = false;
         } else if (party->left == 0 && !party->blocks) {
             finish(p);
         } else if (!party->blocks && below(4) == 0) {
-            party->blocks = make((struct cmwq_call){.kind = CMWQ_SLEEP, .who = party->who}, &reply) == CMWQ_OK && reply.kind == CMWQ_SLEPT;
+            party->blocks = make((struct cmwq_call){.kind = CMWQ_SLEEP, .who = party->who}, &reply) == CMWQ_OK &&
+                            reply.kind == CMWQ_SLEPT;
             party->left -= !party->blocks;
         } else if (party->left) {
             party->left--;
@@ -315,8 +330,9 @@ static void look(void)
         for (unsigned q = 0; q < workers; q++) {
             struct cmwq_call may = {.kind = CMWQ_TAKE, .who = parties[q].who};
 
-            other |= parties[q].who.kind == parties[p].who.kind && parties[q].who.cpu == parties[p].who.cpu && !parties[q].asleep &&
-                     (parties[q].state == READY || parties[q].state == RESTS) && cmwq_would(&book, &may, &reply) == CMWQ_OK && reply.kind != CMWQ_MISUSE;
+            other |= parties[q].who.kind == parties[p].who.kind && parties[q].who.cpu == parties[p].who.cpu &&
+                     !parties[q].asleep && (parties[q].state == READY || parties[q].state == RESTS) &&
+                     cmwq_would(&book, &may, &reply) == CMWQ_OK && reply.kind != CMWQ_MISUSE;
         }
         if (!other)
             fail("it rests and would start something, and was not named", p);
@@ -333,7 +349,8 @@ static void open_all(void)
         next_random(&random_state);
     queue_count = 1 + below(3);
     for (unsigned q = 0; q < queue_count; q++) {
-        queues[q] = (struct cmwq_queue){(uint16_t)(1 + below(3)), (uint8_t)below(2), (uint8_t)below(2), (uint8_t)below(2)};
+        queues[q] = (struct cmwq_queue){(uint16_t)(1 + below(3)), (uint8_t)below(2), (uint8_t)below(2),
+                                        (uint8_t)below(2)};
         widths[q] = queues[q].max_active;
     }
     crowd = below(8) == 0; /* so many flushes that some are in overflow */
@@ -342,7 +359,11 @@ static void open_all(void)
     may_stop = below(4) == 0;
     may_freeze = below(5) > 0;
     may_leave = below(2); /* what was left is ended where there is space for it beside the call's own entries */
-    shape = (struct cmwq_shape){.keep = may_leave ? 3 * ITEMS + lent : 0, .items = ITEMS, .cpus = (uint8_t)(1 + below(2)), .workers = (uint8_t)(1 + below(5)), .callers = (uint8_t)(own + lent)};
+    shape = (struct cmwq_shape){.keep = may_leave ? 3 * ITEMS + lent : 0,
+                                .items = ITEMS,
+                                .cpus = (uint8_t)(1 + below(2)),
+                                .workers = (uint8_t)(1 + below(5)),
+                                .callers = (uint8_t)(own + lent)};
     shape.room = may_freeze ? (uint64_t)1 << 40 : 50 + below(200);
     memset(parties, 0, sizeof parties);
     workers = 2u * shape.cpus * shape.workers;
@@ -351,7 +372,8 @@ static void open_all(void)
         unsigned pool = p / shape.workers;
 
         if (p < workers)
-            parties[p].who = (struct cmwq_who){pool % 2 ? CMWQ_HIGH_WORKER : CMWQ_WORKER, (uint8_t)(p % shape.workers), (uint8_t)(pool / 2)};
+            parties[p].who = (struct cmwq_who){pool % 2 ? CMWQ_HIGH_WORKER : CMWQ_WORKER, (uint8_t)(p % shape.workers),
+                                               (uint8_t)(pool / 2)};
         else
             parties[p].left = 5 + below(30);
     }
@@ -359,7 +381,8 @@ static void open_all(void)
     entries = 0;
     memset(&wakes, CMWQ_NOBODY, sizeof wakes);
     wakes.all_workers = wakes.all_callers = wakes.clock = 0;
-    CHECK(cmwq_board_open(&board, &shape, queues, queue_count, (uint8_t)lent) == CMWQ_OK && cmwq_lines_open(&lines, &board) == CMWQ_OK);
+    CHECK(cmwq_board_open(&board, &shape, queues, queue_count, (uint8_t)lent) == CMWQ_OK &&
+          cmwq_lines_open(&lines, &board) == CMWQ_OK);
     CHECK(cmwq_head(&shape, queues, queue_count, history, sizeof history, &written) == CMWQ_OK);
     shape.keep = 1 << 16;
     if (shape.keep > shape.room)
@@ -379,7 +402,8 @@ static void play(void)
 
         look();
         for (unsigned p = 0; p < many; p++)
-            if (may_move(p) || ((parties[p].state == WAITS || parties[p].state == RESTS) && below(50) == 0)) /* now and then for nothing */
+            if (may_move(p) || ((parties[p].state == WAITS || parties[p].state == RESTS) &&
+                                below(50) == 0)) /* now and then for nothing */
                 ready[count++] = p;
         due = cmwq_board_due(&board);
         if (due != UINT64_MAX && !stopped && !time_is_over && (count == 0 || below(20) == 0)) {
@@ -425,7 +449,8 @@ int main(int argc, char **argv)
                 fail("it is stuck", p);
         if (cmwq_open_count(&book) != 0)
             fail("something is left", 0);
-        written += (size_t)snprintf((char *)history + written, ALL - written, "end %llu\n", (unsigned long long)entries);
+        written += (size_t)snprintf((char *)history + written, ALL - written, "end %llu\n",
+                                    (unsigned long long)entries);
         if (cmwq_check(history, written, line, sizeof line, &len) != CMWQ_OK)
             fail((char *)line, 0);
         all += entries;
@@ -433,7 +458,7 @@ int main(int argc, char **argv)
         cmwq_board_close(&board);
         cmwq_close(&book);
     }
-    printf("%u schedules, %llu entries, %llu waits, %llu of them left, %llu refused\n", seeds, (unsigned long long)all, (unsigned long long)waits,
-           (unsigned long long)left_waits, (unsigned long long)refused);
+    printf("%u schedules, %llu entries, %llu waits, %llu of them left, %llu refused\n", seeds, (unsigned long long)all,
+           (unsigned long long)waits, (unsigned long long)left_waits, (unsigned long long)refused);
     return 0;
 }

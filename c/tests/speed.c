@@ -1,4 +1,5 @@
-/* speed CALLS: the load `wide queue, take and finish` by numbers. Prints the nanoseconds a call; with a second argument writes the file of the same calls there. */
+/* speed CALLS: the load `wide queue, take and finish` by numbers. Prints the nanoseconds a call; with a second argument
+ * writes the file of the same calls there. */
 #define _POSIX_C_SOURCE 199309L
 #include "check.h"
 #include <time.h>
@@ -34,9 +35,11 @@ int main(int argc, char **argv)
                 fprintf(to, "c0 queue %d 0 %d\n", i, i & 3);
         }
         for (int i = 0; i < 128; i++, made++) {
-            struct cmwq_call call = {.kind = i & 1 ? CMWQ_FINISH : CMWQ_TAKE, .who = {CMWQ_WORKER, 0, (uint8_t)(i / 2 & 3)}};
+            struct cmwq_call call = {.kind = i & 1 ? CMWQ_FINISH : CMWQ_TAKE,
+                                     .who = {CMWQ_WORKER, 0, (uint8_t)(i / 2 & 3)}};
 
-            CHECK(cmwq_step(&book, &call, &reply) == CMWQ_OK && reply.kind == (i & 1 ? CMWQ_FINISHED : reply.kind) && reply.kind != CMWQ_NOTHING);
+            CHECK(cmwq_step(&book, &call, &reply) == CMWQ_OK && reply.kind == (i & 1 ? CMWQ_FINISHED : reply.kind) &&
+                  reply.kind != CMWQ_NOTHING);
             if (to)
                 fprintf(to, "w%dn0 %s\n", i / 2 & 3, i & 1 ? "finish" : "take");
         }

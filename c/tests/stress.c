@@ -1,6 +1,7 @@
 /*
- * A hub with threads: stress [ROUNDS [FIRST [SECONDS]]]. Callers and runs make random calls and waits. Everything ends, no item is in two runs, each flush waits for
- * what was queued before it, and each history is legal. A round that does not end in time ends the test.
+ * A hub with threads: stress [ROUNDS [FIRST [SECONDS]]]. Callers and runs make random calls and waits. Everything ends,
+ * no item is in two runs, each flush waits for what was queued before it, and each history is legal. A round that does
+ * not end in time ends the test.
  */
 #define _GNU_SOURCE
 #include <pthread.h>
@@ -80,7 +81,8 @@ static void may(int result, bool run)
 
 static void act(uint64_t *state, bool run)
 {
-    unsigned item = below(state, ITEMS), queue = below(state, QUEUES), cpu = below(state, options.cpus), timeout = CMWQ_FOREVER;
+    unsigned item = below(state, ITEMS), queue = below(state, QUEUES), cpu = below(state, options.cpus),
+             timeout = CMWQ_FOREVER;
 
     if (!run && below(state, 4) == 0)
         timeout = below(state, 3);
@@ -128,7 +130,8 @@ static void work(struct cmwq_run *run, void *data)
 {
     uint64_t *state = &items[run->item].random;
 
-    CHECK(data == &items[run->item] && run->hub == &hub && __atomic_add_fetch(&items[run->item].inside, 1, __ATOMIC_SEQ_CST) == 1);
+    CHECK(data == &items[run->item] && run->hub == &hub &&
+          __atomic_add_fetch(&items[run->item].inside, 1, __ATOMIC_SEQ_CST) == 1);
     __atomic_add_fetch(&ran, 1, __ATOMIC_RELAXED);
     for (unsigned n = below(state, 3); n > 0; n--)
         act(state, true);
@@ -166,12 +169,14 @@ static void round_of(uint64_t state)
     uint32_t status;
 
     for (unsigned k = 0; k < QUEUES; k++)
-        queues[k] = (struct cmwq_queue){(uint16_t)(1 + below(&state, 4)), (uint8_t)below(&state, 2), (uint8_t)below(&state, 2), (uint8_t)below(&state, 2)};
+        queues[k] = (struct cmwq_queue){(uint16_t)(1 + below(&state, 4)), (uint8_t)below(&state, 2),
+                                        (uint8_t)below(&state, 2), (uint8_t)below(&state, 2)};
     for (unsigned k = 0; k < ITEMS; k++) {
         items[k].random = state * (k + 1) | 1;
         works[k] = (struct cmwq_work){work, &items[k]};
     }
-    options = (struct cmwq_options){.queues = queues, .queue_count = QUEUES, .works = works, .items = ITEMS, .journal = keep};
+    options = (struct cmwq_options){
+        .queues = queues, .queue_count = QUEUES, .works = works, .items = ITEMS, .journal = keep};
     options.cpus = 1 + below(&state, 2);
     options.workers = 1 + below(&state, 5);
     options.waits = 1 + below(&state, 12);

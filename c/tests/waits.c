@@ -70,7 +70,13 @@ static void work(struct cmwq_run *run, void *data)
 
 static void open_hub(unsigned cpus, unsigned workers, const struct cmwq_queue *queues, size_t len, unsigned waits)
 {
-    struct cmwq_options options = {.queues = queues, .queue_count = len, .works = works, .items = MOST, .cpus = cpus, .workers = workers, .waits = waits};
+    struct cmwq_options options = {.queues = queues,
+                                   .queue_count = len,
+                                   .works = works,
+                                   .items = MOST,
+                                   .cpus = cpus,
+                                   .workers = workers,
+                                   .waits = waits};
 
     options.keep = 64;
     options.journal = keep;
@@ -85,7 +91,10 @@ static void open_hub(unsigned cpus, unsigned workers, const struct cmwq_queue *q
     CHECK(cmwq_hub_open(&hub, &options) == CMWQ_OK);
 }
 
-static void queue_item(unsigned item, unsigned queue, unsigned cpu) { CHECK(cmwq_queue_work_on(&hub, cpu, queue, item) == 1); }
+static void queue_item(unsigned item, unsigned queue, unsigned cpu)
+{
+    CHECK(cmwq_queue_work_on(&hub, cpu, queue, item) == 1);
+}
 
 /* Lets all end, and judges the history. */
 static void close_hub(void)
@@ -190,7 +199,8 @@ static uint8_t below(uint64_t *state, unsigned n) { return (uint8_t)(next_random
 /* Random waits of random items: all ends. */
 static void random_waits(unsigned seed)
 {
-    static const enum cmwq_kind kinds[] = {CMWQ_CANCEL_SYNC, CMWQ_FLUSH_ITEM, CMWQ_FLUSH_DELAYED, CMWQ_FLUSH, CMWQ_DRAIN};
+    static const enum cmwq_kind kinds[] = {CMWQ_CANCEL_SYNC, CMWQ_FLUSH_ITEM, CMWQ_FLUSH_DELAYED, CMWQ_FLUSH,
+                                           CMWQ_DRAIN};
     uint64_t state = seed + 1;
     struct cmwq_queue queues[3] = {{.max_active = 1}, {.max_active = 1}, {.max_active = 1}};
     unsigned cpus, workers;
