@@ -41,6 +41,23 @@ def without_generics(text):
     return "".join(kept)
 
 
+def split_generics(text):
+    """What stands in the first angle brackets of a text, and what stands after them."""
+    depth = 0
+    for at, it in enumerate(text):
+        depth += (it == "<") - (it == ">" and text[at - 1:at] != "-")
+        if it == ">" and not depth:
+            return text[text.index("<") + 1:at], text[at + 1:]
+    return "", text
+
+
+def is_concrete(rest):
+    """Whether an `impl` block is of a type with arguments that are no parameters of the block."""
+    parameters, of = split_generics(rest) if rest.lstrip().startswith("<") else ("", rest)
+    known = set(re.findall(r"(?:^|,)\s*(?:const )?(\w+)", without_generics(parameters)))
+    return bool(set(re.findall(r"(?<![\w'])\w+", split_generics(of)[0])) - known)
+
+
 def name_in(text):
     """The name that a path of a type or a trait ends with."""
     return text.partition("{")[0].partition(": ")[0].split("::")[-1].strip()
@@ -68,6 +85,9 @@ class Blocks:
                 path.append(rest.split()[0])
             elif kind == "trait" or " for " in head:
                 trait = name_in(head.partition(" for ")[0])
+            elif kind == "impl" and is_concrete(rest):
+                # its name has the arguments too, as that of an impl of a trait has the type
+                trait = name_in(head.partition(" where ")[0])
             elif kind == "impl":
                 type_ = name_in(head.partition(" where ")[0])
             else:
