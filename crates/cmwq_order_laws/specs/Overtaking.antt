@@ -24,8 +24,8 @@ ActiveStand = (s : Layout) (past : List Entry) (x : Queueing) → Contains (queu
 
 -- ---- which queueing starts next
 
--- The queueing with this number stands in the worklist, and its item does not run. The items of all that are ahead of it
--- run.
+-- The queueing with this number stands in the worklist, and its item does not run. The items of all that are ahead of
+-- it run.
 pub record IsFirstFree (s : Layout) (past : List Entry) (p : PoolId) (n : ℕ) : Type 0 where
   pub queueing : Queueing
   pub ahead : List Queueing
@@ -41,8 +41,8 @@ StartsTakeFirst = (s : Layout) (past : List Entry) (e : Entry) (p : PoolId) (n :
 
 -- ---- what starts before a queueing
 
--- A history goes on, with the newest entry first, and through all of that a queueing waits to be started: at first these
--- are ahead of it in the pool's worklist, and in the end it is still open and has not started.
+-- A history goes on, with the newest entry first, and through all of that a queueing waits to be started: at first
+-- these are ahead of it in the pool's worklist, and in the end it is still open and has not started.
 pub record WaitsThrough (s : Layout) (past later : List Entry) (p : PoolId) (ahead : List Queueing)
     (x : Queueing) : Type 0 where
   pub legal : IsLegal s (later ++ past)
