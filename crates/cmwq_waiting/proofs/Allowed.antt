@@ -36,11 +36,12 @@ use Rattle.cmwq_waits_laws.proofs.Alike.{workers_alike}
 use Rattle.cmwq_waits_laws.proofs.Kept.{Way, all_places, all_workers, by_way, its_run, way}
 use Rattle.cmwq_waits_laws.proofs.Made.{quiet, same_opened}
 use Rattle.cmwq_waiting.specs.Deadlocks.{AllowedTrapNone, MayTrap, NoDeadlock, RefusesIn, narrows, queues}
-use Rattle.cmwq_waiting.specs.Waits.{wait_begun, waits_of}
+use Rattle.cmwq_waits.specs.Begun.{wait_begun, waits_of}
 use Rattle.cmwq_waiting.proofs.AllowedAsleep.{allowed_asleep_too}
 use Rattle.cmwq_waiting.proofs.Trapping.{entries_trap_none, held_back, holds_back, inactive_back}
-use Rattle.cmwq_waiting.proofs.Waits.{gives, in_waits, others_than, pairs_add_one, sleeps_add_none, waits_are_waiting}
-use Rattle.cmwq_waiting.proofs.Waits.{workers_begin_none}
+use Rattle.cmwq_waits.proofs.Begun.{in_waits, waits_are_waiting}
+use Rattle.cmwq_waiting.proofs.Waits.{gives, others_than, pairs_add_one, sleeps_add_none}
+use Rattle.cmwq_waits.proofs.Begun.{workers_begin_none}
 
 -- a call that is turned away gives no ticket
 not_turned : (s : Layout) (past : List Entry) (who : Who) (c : Call) (r : Reply) → Cause s past who c r

@@ -43,9 +43,9 @@ use Rattle.cmwq_waits_laws.specs.Lasting.{scene_of}
 use Rattle.cmwq_waits_laws.proofs.Apart.{is_run}
 use Rattle.cmwq_waiting.specs.Rest.{AtRestNoneRuns, AtRestWaitsAreDeadlock, EachRunWaits, NoneShutDown, NoneStarts}
 use Rattle.cmwq_waiting.specs.Rest.{NoneOpenAllReady}
-use Rattle.cmwq_waiting.specs.Waits.{waits_of}
+use Rattle.cmwq_waits.specs.Begun.{waits_of}
 use Rattle.cmwq_waiting.proofs.Rest.{its_wait, not_below, occupied, place_of, run_at}
-use Rattle.cmwq_waiting.proofs.Waits.{runs_by}
+use Rattle.cmwq_waits.proofs.Begun.{runs_by}
 
 -- ---- counts
 

@@ -20,9 +20,9 @@ use Rattle.cmwq_waits.specs.declared.waits.Stuck.{Stuck}
 use Rattle.cmwq_waiting.specs.Deadlocks.{MayTrap, NoneMayTrap, RefusesIn, WaitsWereAllowed, before_last, narrows}
 use Rattle.cmwq_waiting.specs.Deadlocks.{queues}
 use Rattle.cmwq_waiting.specs.Rest.{EachRunWaits, IsAtRest, NoneShutDown}
-use Rattle.cmwq_waiting.specs.Waits.{wait_begun, waits_of}
+use Rattle.cmwq_waits.specs.Begun.{wait_begun, waits_of}
 use Rattle.cmwq_waiting.proofs.Allowed.{no_width}
-use Rattle.cmwq_waiting.proofs.Few.{there_in}
+use Rattle.cmwq_waits.proofs.Few.{there_in}
 use Rattle.cmwq_waiting.proofs.Refused.{refusals_are_refused}
 
 -- ---- of each entry

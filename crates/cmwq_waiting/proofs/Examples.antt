@@ -13,7 +13,7 @@ use Rattle.cmwq_waits_laws.specs.Lasting.{scene_of}
 use Rattle.cmwq_waiting.specs.Deadlocks.{NoDeadlock}
 use Rattle.cmwq_waiting.specs.Examples.{EntriesMayTrap, WhoWaits, narrowing, queueing}
 use Rattle.cmwq_waiting.specs.Needed.{draining, one_queue, two_places, two_queues}
-unfoldable use Rattle.cmwq_waiting.specs.Waits.{waits_of}
+unfoldable use Rattle.cmwq_waits.specs.Begun.{waits_of}
 use Rattle.cmwq_waiting.proofs.Needed.{told}
 
 pub who_waits : WhoWaits

@@ -8,13 +8,14 @@ use Rattle.cmwq_model.specs.declared.entry.Entry.{Entry}
 use Rattle.cmwq_waits.specs.declared.run_wait.RunWait.{RunWait}
 use Rattle.cmwq_waiting.specs.Deadlocks.{NoDeadlock, NoDeadlockComesUp}
 use Rattle.cmwq_waiting.specs.Rest.{HubsNeverHang}
-unfoldable use Rattle.cmwq_waiting.specs.Waits.{waits_of}
-use Rattle.cmwq_waiting.specs.Waits.{IsPair, is_lent, wait_begun, wait_by}
+unfoldable use Rattle.cmwq_waits.specs.Begun.{waits_of}
+use Rattle.cmwq_waits.specs.Begun.{is_lent, wait_begun, wait_by}
+use Rattle.cmwq_waiting.specs.Waits.{IsPair}
 use Rattle.cmwq_waiting.proofs.Allowed.{allowed_trap_none}
 use Rattle.cmwq_waiting.proofs.AtRest.{at_rest_none_runs}
 use Rattle.cmwq_waiting.proofs.Rest.{only_frozen_are_open}
 use Rattle.cmwq_waiting.proofs.Trapping.{entries_trap_none}
-use Rattle.cmwq_waiting.proofs.Waits.{IsBegun, begun_is, laid_is, sleep_is, sleep_runs, slept_is}
+use Rattle.cmwq_waits.proofs.Begun.{IsBegun, begun_is, laid_is, sleep_is, sleep_runs, slept_is}
 
 -- a wait that begins does so by a pair of entries
 pair_of : (first : ℕ) (s : Layout) (past : List Entry) (sleep call : Entry) (w : RunWait) → IsLegal s (sleep ∷ past)

@@ -17,8 +17,9 @@ use Rattle.cmwq_theory_steps.specs.TicketSteps.{is_ended_by, is_kept, ticket_end
 use Rattle.cmwq_theory_steps.proofs.TicketSteps.{one_ticket_ends, ticket_number, unended_go_on}
 use Rattle.cmwq_waits.specs.Registered.{is_for}
 use Rattle.cmwq_waits.specs.declared.run_wait.RunWait.{RunWait}
-unfoldable use Rattle.cmwq_waiting.specs.Waits.{waits_of}
-use Rattle.cmwq_waiting.specs.Waits.{LentTicketsAreWaits, WaitsFor, is_lent, laid, wait_begun, wait_by, waits_on}
+unfoldable use Rattle.cmwq_waits.specs.Begun.{waits_of}
+use Rattle.cmwq_waits.specs.Begun.{is_lent, laid, wait_begun, wait_by, waits_on}
+use Rattle.cmwq_waiting.specs.Waits.{LentTicketsAreWaits, WaitsFor}
 use Rattle.cmwq_waiting.proofs.Waits.{gives}
 
 -- ---- tickets differ in their numbers

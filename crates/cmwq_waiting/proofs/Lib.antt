@@ -1,5 +1,4 @@
 pub mod Waits
-pub mod Few
 pub mod Lent
 pub mod Refused
 pub mod AllowedAsleep

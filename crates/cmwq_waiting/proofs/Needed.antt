@@ -18,7 +18,7 @@ use Rattle.cmwq_waiting.specs.Needed.{for_itself, freezable, frozen, inactive, n
 use Rattle.cmwq_waiting.specs.Needed.{queued_in_drain, retired, running, started, taking_back, two_queues, waiting}
 use Rattle.cmwq_waiting.specs.Needed.{without_workers, woken}
 use Rattle.cmwq_waiting.specs.Rest.{NoneActive}
-unfoldable use Rattle.cmwq_waiting.specs.Waits.{waits_of}
+unfoldable use Rattle.cmwq_waits.specs.Begun.{waits_of}
 unfoldable use Rattle.cmwq_waiting.proofs.Deciding.{each_entry}
 use Rattle.cmwq_waiting.proofs.Deciding.{all_allowed, all_wait, at_rest, none_frozen, none_traps}
 

@@ -13,9 +13,10 @@ use Rattle.cmwq_waits_laws.proofs.Lasting.{deadlocks_last as last}
 use Rattle.cmwq_waits_laws.proofs.Refused.{refused_waits_never_end}
 use Rattle.cmwq_waits_laws.proofs.StillRefused.{refused_asleep_too}
 use Rattle.cmwq_waiting.specs.Deadlocks.{DeadlocksLast, RefusalsAreRefused, RefusedNeverEnd}
-use Rattle.cmwq_waiting.specs.Waits.{waits_of}
-use Rattle.cmwq_waiting.proofs.Waits.{others_than, pair_runs, pairs_add_one, sleeps_add_none, waits_are_apart}
-use Rattle.cmwq_waiting.proofs.Waits.{waits_are_waiting}
+use Rattle.cmwq_waits.specs.Begun.{waits_of}
+use Rattle.cmwq_waits.proofs.Begun.{waits_are_apart}
+use Rattle.cmwq_waiting.proofs.Waits.{others_than, pair_runs, pairs_add_one, sleeps_add_none}
+use Rattle.cmwq_waits.proofs.Begun.{waits_are_waiting}
 
 legal_before : (s : Layout) (past later : List Entry) → IsLegal s (later ++ past) → IsLegal s past
 unfolding IsLegal

@@ -45,9 +45,10 @@ use Rattle.cmwq_waits.specs.Registered.{is_run_of}
 use Rattle.cmwq_waits.specs.declared.run_wait.RunWait.{RunWait}
 use Rattle.cmwq_waits.proofs.GoOn.{is_running}
 use Rattle.cmwq_waiting.specs.Rest.{EachRunWaits, NoneRuns, NoneStarts, OnlyFrozenAreOpen}
-use Rattle.cmwq_waiting.specs.Waits.{waits_of}
+use Rattle.cmwq_waits.specs.Begun.{waits_of}
 use Rattle.cmwq_waiting.proofs.Pools.{IdleOrAll, all_enlisted, idle_or_all, one_idle}
-use Rattle.cmwq_waiting.proofs.Waits.{awake_does_not, waits_are_waiting}
+use Rattle.cmwq_waits.proofs.Begun.{waits_are_waiting}
+use Rattle.cmwq_waiting.proofs.Waits.{awake_does_not}
 
 -- ---- lists
 

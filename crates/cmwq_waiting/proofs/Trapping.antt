@@ -35,9 +35,10 @@ use Rattle.cmwq_waits_laws.proofs.Counts.{sum_by_each}
 use Rattle.cmwq_waits_laws.proofs.Kept.{Way, all_places, all_workers, by_way, its_run, way}
 use Rattle.cmwq_waits_laws.proofs.Staying.{open_known}
 use Rattle.cmwq_waiting.specs.Deadlocks.{EntriesTrapNone, narrows, queues}
-use Rattle.cmwq_waiting.specs.Waits.{waits_of, waits_on}
+use Rattle.cmwq_waits.specs.Begun.{waits_of, waits_on}
 use Rattle.cmwq_waiting.proofs.Rest.{is_found}
-use Rattle.cmwq_waiting.proofs.Waits.{entries_go_on, in_waits, waits_are_apart}
+use Rattle.cmwq_waits.proofs.Begun.{in_waits, waits_are_apart}
+use Rattle.cmwq_waiting.proofs.Waits.{entries_go_on}
 
 -- ---- what holds a ticket up after an entry held it up before
 

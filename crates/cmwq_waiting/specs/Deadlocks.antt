@@ -11,7 +11,8 @@ use Rattle.cmwq_waits.specs.Refused.{Refuses, refusal}
 use Rattle.cmwq_waits.specs.declared.run_wait.RunWait.{RunWait}
 use Rattle.cmwq_waits.specs.declared.waits.Stuck.{Stuck}
 use Rattle.cmwq_waits_laws.specs.Lasting.{FinishAfterWaits, NoneLetsGo, scene_of}
-use Rattle.cmwq_waiting.specs.Waits.{IsPair, wait_begun, waits_of}
+use Rattle.cmwq_waits.specs.Begun.{wait_begun, waits_of}
+use Rattle.cmwq_waiting.specs.Waits.{IsPair}
 
 -- ---- which waits are refused
 

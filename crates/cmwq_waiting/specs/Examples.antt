@@ -7,7 +7,7 @@ use Rattle.cmwq_model_examples.specs.Words.{caller, entry, normal, queue, set_ma
 use Rattle.cmwq_waits_laws.specs.Needed.{made_wider, taken_back, taken_back_behind, waits_for_one}
 use Rattle.cmwq_waiting.specs.Deadlocks.{NoDeadlock}
 use Rattle.cmwq_waiting.specs.Needed.{draining, one_queue, two_places, two_queues}
-use Rattle.cmwq_waiting.specs.Waits.{waits_of}
+use Rattle.cmwq_waits.specs.Begun.{waits_of}
 
 -- ---- which runs wait
 

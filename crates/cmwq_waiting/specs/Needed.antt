@@ -13,7 +13,8 @@ use Rattle.cmwq_theory_wakes.specs.Readiness.{is_unready}
 use Rattle.cmwq_waits.specs.declared.run_wait.RunWait.{RunWait}
 use Rattle.cmwq_waiting.specs.Deadlocks.{NoneMayTrap, WaitsWereAllowed}
 use Rattle.cmwq_waiting.specs.Rest.{CallersOnlyEnd, EachRunWaits, IsAtRest, NoneActive, NoneShutDown}
-use Rattle.cmwq_waiting.specs.Waits.{LentFollowSleeps, WaitersMakeNone, is_lent, waits_of}
+use Rattle.cmwq_waits.specs.Begun.{is_lent, waits_of}
+use Rattle.cmwq_waiting.specs.Waits.{LentFollowSleeps, WaitersMakeNone}
 
 -- ---- the premises, of a layout and its entries, with the oldest first; callers from 1 on are lent
 

@@ -19,7 +19,7 @@ use Rattle.cmwq_waits.specs.Refused.{is_of_run}
 use Rattle.cmwq_waits.specs.declared.run_wait.RunWait.{RunWait}
 use Rattle.cmwq_waits_laws.specs.Lasting.{scene_of}
 use Rattle.cmwq_waiting.specs.Deadlocks.{NoDeadlock, NoneMayTrap, WaitsWereAllowed}
-use Rattle.cmwq_waiting.specs.Waits.{waits_of}
+use Rattle.cmwq_waits.specs.Begun.{waits_of}
 
 -- ---- rest
 

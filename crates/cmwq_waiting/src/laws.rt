@@ -8,7 +8,7 @@ ghost use Rattle.cmwq_waiting.specs.Needed.{PremisesAreNeeded};
 ghost use Rattle.cmwq_waiting.specs.Rest.{AtRestNoneRuns, AtRestWaitsAreDeadlock, HubsNeverHang, NoneOpenAllReady};
 ghost use Rattle.cmwq_waiting.specs.Rest.{OnlyFrozenAreOpen, OverStaysOver, UnreadyStayUnready};
 ghost use Rattle.cmwq_waiting.specs.Waits.{EntriesGoOn, LentTicketsAreWaits, PairsAddOne, SleepsAddNone};
-ghost use Rattle.cmwq_waiting.specs.Waits.{WaitsAreApart, WaitsAreAsleep, WaitsAreFew, WaitsAreWaiting};
+ghost use Rattle.cmwq_waits.specs.Begun.{WaitsAreApart, WaitsAreAsleep, WaitsAreFew, WaitsAreWaiting};
 
 // ---- who waits
 

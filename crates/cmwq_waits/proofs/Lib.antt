@@ -10,3 +10,5 @@ pub mod Refusing
 pub mod Greatest
 pub mod Exact
 pub mod GoOn
+pub mod Begun
+pub mod Few

@@ -4,3 +4,4 @@ pub mod Refused
 pub mod Looks
 pub mod Narrowing
 pub mod Registered
+pub mod Begun

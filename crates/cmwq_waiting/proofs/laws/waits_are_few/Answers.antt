@@ -1,4 +1,4 @@
-use Rattle.cmwq_waiting.proofs.Few.{waits_are_few}
+use Rattle.cmwq_waits.proofs.Few.{waits_are_few}
 use Rattle.cmwq_waiting.proofs.laws.waits_are_few.Goals as goal
 
 pub returns : goal.returns

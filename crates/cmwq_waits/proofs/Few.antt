@@ -25,8 +25,8 @@ use Rattle.cmwq_waits.specs.Refused.{AreApart}
 use Rattle.cmwq_waits.specs.declared.run_wait.RunWait.{RunWait}
 use Rattle.cmwq_waits.proofs.GoOn.{is_running}
 use Rattle.cmwq_waits.proofs.Greatest.{later_apart}
-use Rattle.cmwq_waiting.specs.Waits.{WaitsAreFew, waits_of}
-use Rattle.cmwq_waiting.proofs.Waits.{in_waits, runs_by, waits_are_apart}
+use Rattle.cmwq_waits.specs.Begun.{WaitsAreFew, waits_of}
+use Rattle.cmwq_waits.proofs.Begun.{in_waits, runs_by, waits_are_apart}
 
 -- ---- the workers of a layout
 
