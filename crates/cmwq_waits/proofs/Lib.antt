@@ -12,3 +12,4 @@ pub mod Exact
 pub mod GoOn
 pub mod Begun
 pub mod Few
+pub mod Entered

@@ -82,3 +82,22 @@ WaitsAreApart = (first : ℕ) (s : Layout) (past : List Entry) → IsLegal s pas
 abbrev pub WaitsAreFew : Type 0
 WaitsAreFew = (first : ℕ) (s : Layout) (past : List Entry) → IsLegal s past
     → length (waits_of first past) ≤ count_by (runs_asleep past) (workers s)
+
+-- ---- a registry of them
+
+-- The number of the first lent caller, what the last entry laid to sleep, and the runs that wait. It has places for so
+-- many.
+pub record Registry : Type 0 where
+  pub first : ℕ
+  pub laid : Option Queueing
+  pub waits : List RunWait
+  pub places : ℕ
+
+abbrev pub registry : ℕ → Option Queueing → List RunWait → ℕ → Registry
+registry first laid waits places = record { first = first; laid = laid; waits = waits; places = places }
+
+-- It has the waits of a history, and a place for each worker.
+pub record HasWaitsOf (s : Layout) (past : List Entry) (r : Registry) : Type 0 where
+  pub laid : r.laid ≡ laid past
+  pub waits : r.waits ≡ waits_of r.first past
+  pub places : r.places ≡ length (workers s)

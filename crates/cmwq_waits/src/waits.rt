@@ -1,23 +1,26 @@
-//! Which runs wait, so that a wait that could never end is refused.
+//! Which runs wait by a history, so that a wait that could never end is refused.
 
-ghost use Rattle.std.specs.Prelude.{◌≡◌, ◌<◌, ◌++◌, ◌∷◌, [], Contains, IfOk, IfSome, Some, length, true};
-ghost use Rattle.std.specs.Prelude.{filter, if◌then◌else◌, vec_capacity, vec_len, ◌≤◌};
+ghost use Rattle.std.specs.Prelude.{◌≡◌, ◌<◌, ◌++◌, ◌∷◌, [], Contains, IfOk, IfSome, None, length, true};
+ghost use Rattle.std.specs.Prelude.{filter, if◌then◌else◌, option_to_list, vec_capacity, vec_len, ◌≤◌, ◌+◌};
 ghost use Rattle.cmwq_core.specs.History.{past_in, queued_of_booked};
-ghost use Rattle.cmwq_model.specs.Prelude.{has_numbers, is_started, still_open};
-ghost use Rattle.cmwq_waits.specs.HeldUp.{AreWaiting};
-ghost use Rattle.cmwq_waits.specs.Refused.{Refuses, is_other, is_turned_away, item_taken_back, queued, refusal};
+ghost use Rattle.cmwq_core.specs.Plans.{IsPlan};
+ghost use Rattle.cmwq_model.specs.Prelude.{has_numbers, is_started, still_open, ticket_in};
 ghost use Rattle.cmwq_model.specs.declared.id.Who.TheVariants as who;
 ghost use Rattle.cmwq_state.specs.Tables as tables;
 ghost use Rattle.cmwq_theory_steps.specs.ItemQueueings.{queueing_run};
-ghost use Rattle.cmwq_waits.specs.Registered.{is_for, is_run_of, refusal_of, registered, still_waits, wait_of};
+ghost use Rattle.cmwq_waits.specs.Begun.{HasWaitsOf, is_lent, is_sleep, wait_by, waits_of};
+ghost use Rattle.cmwq_waits.specs.HeldUp.{AreWaiting};
+ghost use Rattle.cmwq_waits.specs.Refused.{AreApart, Refuses, is_other, is_turned_away, item_taken_back, queued};
+ghost use Rattle.cmwq_waits.specs.Refused.{refusal};
+ghost use Rattle.cmwq_waits.specs.Registered.{is_for, is_run_of, refusal_of, still_waits};
 
 use crate::calls::{item_flushed, item_taken_back};
 use crate::deadlock::never_ends;
 use crate::look::Look;
 use crate::run_wait::RunWait;
-use cmwq_core::Execution;
+use cmwq_core::{Execution, Plan};
 use cmwq_model::{
-    Call, CallerId, ItemId, NoMemory, Number, Queueing, Shape, Ticket, Who, WorkerId,
+    Call, CallerId, Entry, ItemId, NoMemory, Number, Queueing, Reply, Shape, Ticket, Who, WorkerId,
 };
 use std::alloc::Global;
 use std::marker::Model;
@@ -31,9 +34,15 @@ pub enum Stuck {
     Circle,
 }
 
-/// The runs that wait. Contracts see them in the order in which they began to.
+/// The runs that wait by the entries so far. Callers from a number on are lent to runs: a wait begins where a lent
+/// caller is given a ticket in the entry right after a run fell asleep.
 #[derive(Drop)]
 pub struct RunWaits {
+    /// The number of the first caller that is lent.
+    first: u8,
+    /// What the last entry laid to sleep.
+    laid: Option<Queueing>,
+    /// In the order in which they began to.
     waits: Vec<RunWait>,
     /// Those that are still in the set that is looked for, and room for those that are after the next round.
     set: Vec<RunWait>,
@@ -41,81 +50,55 @@ pub struct RunWaits {
 }
 
 impl Model for RunWaits {
-    ghost use Rattle.std.specs.Prelude.{◌≡◌, ◌<◌, List, vec_capacity, vec_len};
-    ghost use Rattle.cmwq_waits.specs.Refused.{AreApart};
-    ghost use Rattle.cmwq_waits.specs.declared.run_wait.RunWait.{RunWait};
+    ghost use Rattle.std.specs.Prelude.{◌≡◌, ◌<◌, ◌+◌, vec_capacity, vec_len};
+    ghost use Rattle.cmwq_waits.specs.Begun.{Registry, registry};
 
-    ghost Value = { List RunWait };
+    ghost Value = { Registry };
 
-    ghost view = { λ r. r.waits.items };
+    ghost view = { λ r. registry r.first r.laid r.waits.items (vec_capacity r.waits) };
 
     ghost invariant = { λ r. (vec_len r.waits < vec_capacity r.set) × (vec_capacity r.spare ≡ vec_capacity r.set)
-        × AreApart r.waits.items };
+        × (vec_capacity r.set ≡ vec_capacity r.waits + 1) };
 }
 
 impl RunWaits {
-    /// No run waits. No later call takes memory; the error says that it ran out.
-    pub fn new(alloc: Global, shape: &Shape) -> Result<RunWaits, NoMemory>
-        ensures { IfOk result (λ waits. waits ≡ []) }
+    /// No run waits, since there is no entry. No later call takes memory; the error says that it ran out.
+    pub fn new(alloc: Global, shape: &Shape, first: CallerId) -> Result<RunWaits, NoMemory>
+        ensures first { IfOk result (λ waits. waits.first ≡ first.0) }
+        ensures none { IfOk result (λ waits. HasWaitsOf shape.now [] waits) }
     {
-        let callers = usize::from(shape.counts().callers);
+        let counts = shape.counts();
+        let workers = 2 * usize::from(counts.cpus) * usize::from(counts.workers);
         Ok(RunWaits {
-            waits: Vec::with_capacity(alloc, callers)?,
-            set: Vec::with_capacity(alloc, callers + 1)?,
-            spare: Vec::with_capacity(alloc, callers + 1)?,
+            first: first.0,
+            laid: None,
+            waits: Vec::with_capacity(alloc, workers)?,
+            set: Vec::with_capacity(alloc, workers + 1)?,
+            spare: Vec::with_capacity(alloc, workers + 1)?,
         })
     }
 
-    /// What the worker runs waits from now on for this ticket of the caller, if both are there. It returns false where
-    /// there was no space for it: there is for as many as the shape has callers.
-    pub fn registers(
-        &mut self,
-        execution: &Execution,
-        worker: WorkerId,
-        caller: CallerId,
-        ticket: Number,
-    ) -> bool
-        requires worker { tables.IsThere execution.now.layout (who.Worker worker) }
-        requires caller { tables.IsThere execution.now.layout (who.Caller caller) }
-        ensures new { self.new ≡ (if result
-            then registered self.old (wait_of (past_in execution.now) worker caller ticket) else self.old) }
-        ensures waiting { AreWaiting (past_in execution.now) self.old → AreWaiting (past_in execution.now) self.new }
+    /// The number of the first caller that is lent to runs.
+    pub fn first_lent(&self) -> CallerId
+        ensures { result.0 ≡ self.now.first }
     {
-        let state = execution.state();
-        let Some(run) = state.queueing_run(worker) else {
-            return true;
-        };
-        let Some(ticket) = state.ticket_of(Who::Caller(caller), ticket) else {
-            return true;
-        };
-        self.adds(RunWait { run, ticket })
+        CallerId(self.first)
     }
 
-    /// Adds a wait, in place of another one of its run.
-    fn adds(&mut self, wait: RunWait) -> bool
-        ensures { self.new ≡ (if result then registered self.old (Some wait) else self.old) }
+    /// This entry is planned, and is made next. It may end waits, and it may begin one.
+    pub fn enters(&mut self, execution: &Execution, plan: &Plan)
+        requires plan { (who : _) × (call : _) × IsPlan execution.now who call plan.now }
+        requires before { HasWaitsOf execution.now.layout (past_in execution.now) self.old }
+        ensures after { HasWaitsOf execution.now.layout (plan.now.mark.entry ∷ past_in execution.now) self.new }
+        ensures first { self.new.first ≡ self.old.first }
     {
-        let many = self.waits.len();
-        if many >= self.waits.capacity() || many + 1 >= self.set.capacity() {
-            return false;
-        }
-        take_out(&mut self.waits, wait.run.number);
-        self.waits.push_reserved(wait);
-        true
-    }
-
-    /// An entry was made that ended this queueing or this ticket: the run that it was of waits no more.
-    pub fn entered(&mut self, ended: &Option<Queueing>, done: &Option<Ticket>)
-        ensures { self.new ≡ filter (still_waits ended.now done.now) self.old }
-    {
-        keep(&mut self.waits, ended, done);
-    }
-
-    /// No run waits.
-    pub fn clear(&mut self)
-        ensures { self.new ≡ [] }
-    {
-        self.waits.clear();
+        let entry = plan.mark.entry;
+        let run = run_by(execution, plan);
+        let done = execution.done_by(plan);
+        let begun = wait_begun(self.first, &self.laid, &entry, execution.len());
+        keep(&mut self.waits, &run, &done);
+        add(&mut self.waits, begun);
+        self.laid = laid_by(entry.reply, run);
     }
 
     /// Why a wait of what the worker runs, by this call, is refused, if it is.
@@ -129,10 +112,12 @@ impl RunWaits {
         requires layout { execution.now.layout ≡ shape.now }
         requires numbers { has_numbers shape.now call ≡ true }
         requires worker { tables.IsThere shape.now (who.Worker worker) }
-        requires waiting { AreWaiting (past_in execution.now) self.old }
-        ensures is { result ≡ refusal_of shape.now (past_in execution.now) self.old worker call }
+        requires waits { HasWaitsOf execution.now.layout (past_in execution.now) self.old }
+        ensures is { result
+            ≡ refusal_of shape.now (past_in execution.now) (waits_of self.old.first (past_in execution.now)) worker call }
         ensures refused { IfSome (queueing_run (past_in execution.now) (who.Worker worker))
-            (λ run. Refuses shape.now (past_in execution.now) self.old run call result) }
+            (λ run. Refuses shape.now (past_in execution.now) (waits_of self.old.first (past_in execution.now)) run call
+            result) }
         ensures same { self.new ≡ self.old }
     {
         let _legal = execution.len();
@@ -152,11 +137,12 @@ impl RunWaits {
     ) -> Option<Stuck>
         requires layout { execution.now.layout ≡ shape.now }
         requires numbers { has_numbers shape.now call ≡ true }
-        requires waiting { AreWaiting (past_in execution.now) self.old }
+        requires waiting { AreWaiting (past_in execution.now) self.old.waits }
+        requires apart { AreApart self.old.waits }
         requires open { Contains (still_open (past_in execution.now)) run.now }
         requires started { is_started (past_in execution.now) run.now.number ≡ true }
-        ensures refused { Refuses shape.now (past_in execution.now) self.old run.now call result }
-        ensures is { result ≡ refusal shape.now (past_in execution.now) self.old run.now call }
+        ensures refused { Refuses shape.now (past_in execution.now) self.old.waits run.now call result }
+        ensures is { result ≡ refusal shape.now (past_in execution.now) self.old.waits run.now call }
         ensures same { self.new ≡ self.old }
     {
         let _legal = execution.len();
@@ -201,13 +187,65 @@ fn fill(set: &mut Vec<RunWait>, waits: &[RunWait], last: RunWait)
     set.push_reserved(last);
 }
 
-/// Takes out the wait of the run with this number, if it is there.
-fn take_out(waits: &mut Vec<RunWait>, run: Number)
-    ensures items { waits.new.items ≡ filter (is_other run) waits.old.items }
-    ensures len { vec_len waits.new ≤ vec_len waits.old }
+/// What the worker runs whose entry is planned.
+fn run_by(execution: &Execution, plan: &Plan) -> Option<Queueing>
+    requires { (who : _) × (call : _) × IsPlan execution.now who call plan.now }
+    ensures { result ≡ queueing_run (past_in execution.now) plan.now.mark.entry.who }
+{
+    match plan.mark.entry.who {
+        Who::Worker(worker) => execution.state().queueing_run(worker),
+        Who::Caller(_) => None,
+    }
+}
+
+/// The wait that this entry begins, which has this number, where the entry before laid this to sleep.
+fn wait_begun(
+    first: u8,
+    laid: &Option<Queueing>,
+    entry: &Entry,
+    number: Number,
+) -> Option<RunWait>
+    ensures { result ≡ (if is_lent first entry.now.who then wait_by laid.now (ticket_in entry.now number) else None) }
+{
+    if !is_lent(first, entry.who) {
+        return None;
+    }
+    match (laid, entry.ticket(number)) {
+        (Some(run), Some(ticket)) => Some(RunWait { run: *run, ticket }),
+        _ => None,
+    }
+}
+
+/// Whether it is a caller that is lent to runs.
+fn is_lent(first: u8, who: Who) -> bool
+    ensures { result ≡ is_lent first who }
+{
+    match who {
+        Who::Caller(caller) => first <= caller.0,
+        Who::Worker(_) => false,
+    }
+}
+
+/// What an entry with this reply lays to sleep, of a worker that runs this.
+fn laid_by(reply: Reply, run: Option<Queueing>) -> Option<Queueing>
+    ensures { result ≡ (if is_sleep reply then run else None) }
+{
+    match reply {
+        Reply::Slept => run,
+        _ => None,
+    }
+}
+
+/// Adds a wait, if there is one.
+fn add(waits: &mut Vec<RunWait>, wait: Option<RunWait>)
+    requires { length waits.old.items + length (option_to_list wait) ≤ vec_capacity waits.old }
+    ensures items { waits.new.items ≡ waits.old.items ++ option_to_list wait }
+    ensures len { vec_len waits.new ≤ vec_capacity waits.new }
     ensures capacity { vec_capacity waits.new ≡ vec_capacity waits.old }
 {
-    waits.retain(|wait| wait.run.number != run);
+    if let Some(wait) = wait {
+        waits.push_reserved(wait);
+    }
 }
 
 /// Keeps the waits that are neither of the run of this queueing nor for this ticket.
