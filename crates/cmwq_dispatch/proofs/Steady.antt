@@ -1,19 +1,14 @@
 -- What holds of each dispatch goes on to hold.
-use Rattle.cmwq_theory_steps.specs.Common.{◌≡◌, ◌*◌, Bool, true, false, not, ◌||◌, List, []}
-use Rattle.cmwq_theory_steps.specs.Common.{◌∷◌, length, drop, refl, sym, ap, ap₂, ◌∙◌, subst, arith, Option}
-use Rattle.cmwq_theory_steps.specs.Common.{Entry, Layout, Queueing, Ticket, IsLegal, WorkerId, CallerId}
-use Rattle.cmwq_theory_steps.specs.Common.{has_run, is_enlisted, filter, eq-eqb}
+use Rattle.cmwq_theory_steps.specs.Common.{◌≡◌, ◌*◌, Bool, true, false, not, ◌||◌, List}
+use Rattle.cmwq_theory_steps.specs.Common.{◌∷◌, length, drop, refl, sym, ap, ap₂, ◌∙◌, subst}
+use Rattle.cmwq_theory_steps.specs.Common.{Entry, Layout, Ticket, IsLegal, WorkerId, CallerId}
+use Rattle.cmwq_theory_steps.specs.Common.{has_run, is_enlisted, eq-eqb}
 use Rattle.std.proofs.lemmas.Bool.{and_from, both_ways}
 use Rattle.cmwq_core.specs.History.{History, past_in, with_entry}
 use Rattle.cmwq_model.proofs.Growing.{one_more_is_newest}
-use Rattle.cmwq_theory_steps.specs.Endings.{ending}
-use Rattle.cmwq_theory_steps.specs.TicketSteps.{ticket_ended}
 use Rattle.cmwq_theory_wakes.specs.Rest.{IsUnready}
 use Rattle.cmwq_theory_wakes.specs.Starting.{would_start}
-use Rattle.cmwq_waits.specs.HeldUp.{AreWaiting}
-use Rattle.cmwq_waits.specs.Registered.{still_waits, waits_after}
-use Rattle.cmwq_waits.specs.declared.run_wait.RunWait.{RunWait}
-use Rattle.cmwq_waits.proofs.GoOn.{waits_go_on}
+use Rattle.cmwq_waits.specs.Begun.{HasWaitsOf, Registry}
 use Rattle.cmwq_dispatch.specs.Asleep.{Asleep, IsLookedAfter, Leaves, NobodySleeps, Waits}
 use Rattle.cmwq_dispatch.specs.Dispatched.{Dispatched, Enters, MayEnter, Stands, is_over}
 use Rattle.cmwq_dispatch.specs.Dispatched.{active_in, past_now}
@@ -45,32 +40,19 @@ looked_before h g e a made k =
     subst (λ (s : Layout). IsLookedAfter s (drop 1 (past_in g)) a) (sym (ap (λ (k : History). k.layout) made))
     (subst (λ past. IsLookedAfter h.layout past a) (sym (older h g e made)) k)
 
--- ---- the runs that wait after an entry
-
-pub waits_told : (past : List Entry) (e : Entry) (old new : List RunWait) (ended : Option Queueing)
-    (finished : Option Ticket) → ended ≡ ending past e → finished ≡ ticket_ended past e
-    → new ≡ filter (still_waits ended finished) old → new ≡ waits_after past e old
-waits_told past e old new ended finished ends is told = told ∙ rw (ends, is) refl
-
-pub waiting_after : (h g : History) (e : Entry) (old new : List RunWait) → IsLegal h.layout (e ∷ past_in h)
-    → g ≡ with_entry h e → new ≡ waits_after (past_in h) e old → AreWaiting (past_in h) old
-    → AreWaiting (past_in g) new
-waiting_after h g e old new legal made told waiting =
-    subst (λ past. AreWaiting past new) (sym (newest h g e made))
-    (subst (AreWaiting (e ∷ past_in h)) (sym told) (waits_go_on h.layout (past_in h) e old legal waiting))
+pub waits_after : (h g : History) (e : Entry) (r : Registry) → g ≡ with_entry h e
+    → HasWaitsOf h.layout (e ∷ past_in h) r → HasWaitsOf g.layout (past_in g) r
+waits_after h g e r made has =
+    subst (λ (s : Layout). HasWaitsOf s (past_in g) r) (sym (ap (λ (k : History). k.layout) made))
+    (subst (λ past. HasWaitsOf h.layout past r) (sym (newest h g e made)) has)
 
 -- ---- what holds of each dispatch
 
-pub stands_nobody : (d : Dispatched) → NobodySleeps d.asleep → length d.asleep.pools ≡ 2 * d.history.layout.cpus
-    → AreWaiting (past_now d) d.waits → Stands d
-stands_nobody d nobody places waiting = record {
+pub stands_nobody : (d : Dispatched) → NobodySleeps d.asleep → length d.asleep.pools ≡ 2 * d.history.layout.cpus → Stands d
+stands_nobody d nobody places = record {
   looked_after = looked_after_nobody d.history.layout (past_now d) d.asleep nobody places;
   over = λ is. nobody;
-  waiting = waiting;
 }
-
-pub none_wait : (past : List Entry) → AreWaiting past []
-none_wait past w h = absurd (let less = h.1 in omega arith)
 
 -- ---- one begins to sleep, or rises
 
@@ -79,7 +61,6 @@ pub stands_asleep : (d : Dispatched) (b : Asleep) → is_over d ≡ false
 stands_asleep d b lives looked k = record {
   looked_after = looked;
   over = λ is. absurd (both_ways _ lives is);
-  waiting = k.waiting;
 }
 
 pub stands_waits : (d : Dispatched) (t : Ticket) (b : Asleep) (r : Bool) → is_over d ≡ false
@@ -96,7 +77,6 @@ pub stands_leaves : (d : Dispatched) (c : CallerId) (b : Asleep) → Leaves c d.
 stands_leaves d c b leaves k = record {
   looked_after = leaves_kept d.history.layout (past_now d) c d.asleep b leaves k.looked_after;
   over = λ is. leaves_nobody c d.asleep b leaves (k.over is);
-  waiting = k.waiting;
 }
 
 pub stands_rises : (d : Dispatched) (b : Asleep)
@@ -105,7 +85,6 @@ pub stands_rises : (d : Dispatched) (b : Asleep)
 stands_rises d b kept nobody k = record {
   looked_after = kept d.history.layout (past_now d) k.looked_after;
   over = λ is. nobody (k.over is);
-  waiting = k.waiting;
 }
 
 -- what is over stays over

@@ -12,8 +12,7 @@ use Rattle.cmwq_core.specs.History.{History, past_in, with_entry}
 use Rattle.std.specs.List.{AllByRecursion}
 use Rattle.cmwq_state.specs.Tables.{IsThere}
 use Rattle.cmwq_theory_wakes.specs.Starting.{worker_is_idle}
-use Rattle.cmwq_waits.specs.HeldUp.{AreWaiting}
-use Rattle.cmwq_waits.specs.Registered.{waits_after}
+use Rattle.cmwq_waits.specs.Begun.{waits_of}
 use Rattle.cmwq_waits.specs.declared.run_wait.RunWait.{RunWait}
 use Rattle.cmwq_dispatch.specs.Asleep.{Asleep, IsLookedAfter, NobodySleeps}
 use Rattle.cmwq_dispatch.specs.Pools.{rests}
@@ -29,34 +28,38 @@ use Rattle.cmwq_dispatch.specs.declared.dispatch.Sleep.{Sleep}
 use Rattle.cmwq_dispatch.specs.declared.dispatch.Sleep.TheVariants.{Sleeps, LooksAgain, Over}
 
 -- The history. Whether the dispatch is closed or has failed, and whether somebody sleeps until there is space. How many
--- callers may still fire. The runs that wait, and who sleeps.
+-- callers may still fire. From which number on callers are lent to runs, and who sleeps.
 pub record Dispatched : Type 0 where
   pub history : History
   pub closed : Bool
   pub failed : Bool
   pub crowded : Bool
   pub firing : ℕ
-  pub waits : List RunWait
+  pub first_lent : ℕ
   pub asleep : Asleep
 
-abbrev pub dispatched_of : History → Bool → Bool → Bool → ℕ → List RunWait → Asleep → Dispatched
-dispatched_of history closed failed crowded firing waits asleep = record {
+abbrev pub dispatched_of : History → Bool → Bool → Bool → ℕ → ℕ → Asleep → Dispatched
+dispatched_of history closed failed crowded firing first asleep = record {
   history = history;
   closed = closed;
   failed = failed;
   crowded = crowded;
   firing = firing;
-  waits = waits;
+  first_lent = first;
   asleep = asleep;
 }
 
 -- a new one has no entry, and is open
-abbrev pub is_new : Layout → ℕ → Asleep → Dispatched
-is_new s room asleep =
-    dispatched_of (record { layout = s; room = room; entries = [] }) false false false 0 [] asleep
+abbrev pub is_new : Layout → ℕ → ℕ → Asleep → Dispatched
+is_new s room first asleep =
+    dispatched_of (record { layout = s; room = room; entries = [] }) false false false 0 first asleep
 
 abbrev pub past_now : Dispatched → List Entry
 past_now d = past_in d.history
+
+-- the runs that wait
+abbrev pub waits_now : Dispatched → List RunWait
+waits_now d = waits_of d.first_lent (past_now d)
 
 -- how many active queueings are open
 abbrev pub active_in : Layout → List Entry → ℕ
@@ -70,23 +73,21 @@ is_finished h closed firing = closed && (active_in h.layout (past_in h) == 0) &&
 abbrev pub is_over : Dispatched → Bool
 is_over d = d.failed || is_finished d.history d.closed d.firing
 
--- What holds of each dispatch. Nobody is forgotten. Nobody sleeps once it is over. And each run that waits has not
--- ended, and neither has what it waits for.
+-- What holds of each dispatch. Nobody is forgotten, and nobody sleeps once it is over.
 pub record Stands (d : Dispatched) : Type 0 where
   pub looked_after : IsLookedAfter d.history.layout (past_now d) d.asleep
   pub over : is_over d ≡ true → NobodySleeps d.asleep
-  pub waiting : AreWaiting (past_now d) d.waits
 
 -- ---- steps
 
--- An entry is made. A run whose queueing or ticket it ends waits no more.
+-- An entry is made.
 pub record Enters (e : Entry) (old new : Dispatched) : Type 0 where
   pub history : new.history ≡ with_entry old.history e
   pub closed : new.closed ≡ old.closed
   pub failed : new.failed ≡ old.failed
   pub crowded : new.crowded ≡ old.crowded
   pub firing : new.firing ≡ old.firing
-  pub waits : new.waits ≡ waits_after (past_now old) e old.waits
+  pub first_lent : new.first_lent ≡ old.first_lent
 
 -- Once it is over, callers only end tickets.
 abbrev pub is_end : Call → Bool
@@ -104,7 +105,7 @@ pub record SameButAsleep (old new : Dispatched) : Type 0 where
   pub failed : new.failed ≡ old.failed
   pub crowded : new.crowded ≡ old.crowded
   pub firing : new.firing ≡ old.firing
-  pub waits : new.waits ≡ old.waits
+  pub first_lent : new.first_lent ≡ old.first_lent
 
 -- What an end of a ticket would be: done by this plan, or the wait of this ticket is not ready, or the caller has no
 -- such ticket.

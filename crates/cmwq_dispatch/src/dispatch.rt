@@ -1,6 +1,6 @@
 //! A hub without threads: what its calls return, who sleeps, and who is to be woken.
 
-ghost use Rattle.std.specs.Prelude.{◌≡◌, ◌<◌, ◌≤◌, ◌+◌, ◌-◌, ◌∷◌, ◌&&◌, [], IfOk, IfSome, IsTrue, drop, false, is_ok};
+ghost use Rattle.std.specs.Prelude.{◌≡◌, ◌<◌, ◌≤◌, ◌+◌, ◌-◌, ◌∷◌, ◌&&◌, IfOk, IfSome, IsTrue, drop, false, is_ok};
 ghost use Rattle.std.specs.Prelude.{not};
 ghost use Rattle.std.specs.Prelude.{if◌then◌else◌, is_some, length, nat_lt, true};
 ghost use Rattle.cmwq_core.specs.History.{past_in, takes};
@@ -13,10 +13,11 @@ ghost use Rattle.cmwq_theory_steps.specs.ItemQueueings.{queueing_run};
 ghost use Rattle.cmwq_theory_wakes.specs.Rest.{IsUnready};
 ghost use Rattle.cmwq_theory_wakes.specs.Starting.{would_start};
 ghost use Rattle.cmwq_waits.specs.Refused.{Refuses};
-ghost use Rattle.cmwq_waits.specs.Registered.{refusal_of, registered, wait_of};
+ghost use Rattle.cmwq_waits.specs.Registered.{refusal_of};
 ghost use Rattle.cmwq_dispatch.specs.Asleep.{IsLookedAfter, IsUpAgain, NobodySleeps, Rests, SleepOn, Waits};
 ghost use Rattle.cmwq_dispatch.specs.Dispatched.{Enters, FallsAsleep, IsEndPlan, IsStartPlan, MayEnter, SameButAsleep};
 ghost use Rattle.cmwq_dispatch.specs.Dispatched.{Stands, is_finished, is_new, is_over, past_now};
+ghost use Rattle.cmwq_dispatch.specs.Dispatched.{waits_now};
 ghost use Rattle.cmwq_dispatch.specs.Naming.{NamesAll, NamesMore};
 ghost use Rattle.cmwq_dispatch.specs.Waiting.{IsKnown};
 
@@ -74,28 +75,37 @@ pub struct Dispatch {
 
 impl Model for Dispatch {
     ghost use Rattle.std.specs.Prelude.{◌≡◌};
+    ghost use Rattle.cmwq_core.specs.History.{past_in};
+    ghost use Rattle.cmwq_waits.specs.Begun.{HasWaitsOf};
     ghost use Rattle.cmwq_dispatch.specs.Dispatched.{Dispatched, Stands, dispatched_of};
 
     ghost Value = { Dispatched };
 
-    ghost view = { λ d. dispatched_of d.execution d.closed d.failed d.crowded d.firing d.runs d.sleepers };
+    ghost view = { λ d. dispatched_of d.execution d.closed d.failed d.crowded d.firing d.runs.first d.sleepers };
 
     ghost invariant = { λ d. (d.shape ≡ d.execution.layout)
-        × Stands (dispatched_of d.execution d.closed d.failed d.crowded d.firing d.runs d.sleepers) };
+        × HasWaitsOf d.execution.layout (past_in d.execution) d.runs
+        × Stands (dispatched_of d.execution d.closed d.failed d.crowded d.firing d.runs.first d.sleepers) };
 }
 
 impl Dispatch {
-    /// A dispatch with no entries. No later call takes memory; the error says that it ran out.
-    pub fn new(alloc: Global, shape: &Shape, room: u64) -> Result<Dispatch, NoMemory>
+    /// A dispatch with no entries, whose callers from a number on are lent to runs. No later call takes memory; the
+    /// error says that it ran out.
+    pub fn new(
+        alloc: Global,
+        shape: &Shape,
+        room: u64,
+        first_lent: CallerId,
+    ) -> Result<Dispatch, NoMemory>
         requires { room ≤ most_room }
-        ensures new { IfOk result (λ dispatch. dispatch ≡ is_new shape.now room dispatch.asleep) }
+        ensures new { IfOk result (λ dispatch. dispatch ≡ is_new shape.now room first_lent.0 dispatch.asleep) }
         ensures nobody { IfOk result (λ dispatch. NobodySleeps dispatch.asleep) }
     {
         Ok(Dispatch {
             shape: shape.copy(alloc)?,
             execution: Execution::new(alloc, shape, room)?,
             sleepers: Sleepers::new(alloc, shape)?,
-            runs: RunWaits::new(alloc, shape)?,
+            runs: RunWaits::new(alloc, shape, first_lent)?,
             firing: 0,
             crowded: false,
             closed: false,
@@ -229,9 +239,8 @@ impl Dispatch {
         let _len = self.execution.len();
         let was_over = self.is_over();
         let ended = self.execution.ended_by(plan);
-        let done = self.execution.done_by(plan);
+        self.runs.enters(&self.execution, plan);
         let reply = self.execution.commit(plan);
-        self.runs.entered(&ended, &done);
         let is_over = is_finished(&self.execution, self.closed, self.firing);
         wake_after(
             &mut self.sleepers,
@@ -372,26 +381,14 @@ impl Dispatch {
     pub fn refuses(&mut self, worker: WorkerId, call: Call) -> Option<Stuck>
         requires numbers { has_numbers self.old.history.layout call ≡ true }
         requires there { tables.IsThere self.old.history.layout (who.Worker worker) }
-        ensures is { result ≡ refusal_of self.old.history.layout (past_now self.old) self.old.waits worker call }
+        ensures is { result
+            ≡ refusal_of self.old.history.layout (past_now self.old) (waits_now self.old) worker call }
         ensures refused { IfSome (queueing_run (past_now self.old) (who.Worker worker))
-            (λ run. Refuses self.old.history.layout (past_now self.old) self.old.waits run call result) }
+            (λ run. Refuses self.old.history.layout (past_now self.old) (waits_now self.old) run call result) }
         ensures same { self.new ≡ self.old }
     {
         self.runs
             .refuses(&self.execution, &self.shape, worker, call)
-    }
-
-    /// What the worker runs waits from now on for this ticket of the caller. It returns false where there was no place
-    /// for it: there are as many as the shape has callers.
-    pub fn run_waits(&mut self, worker: WorkerId, caller: CallerId, ticket: Number) -> bool
-        requires worker { tables.IsThere self.old.history.layout (who.Worker worker) }
-        requires caller { tables.IsThere self.old.history.layout (who.Caller caller) }
-        ensures { self.new ≡ record self.old {
-          waits = if result
-              then registered self.old.waits (wait_of (past_now self.old) worker caller ticket) else self.old.waits;
-        } }
-    {
-        self.runs.registers(&self.execution, worker, caller, ticket)
     }
 }
 

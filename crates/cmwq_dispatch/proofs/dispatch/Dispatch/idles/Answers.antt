@@ -10,7 +10,7 @@ use Rattle.cmwq_dispatch.proofs.dispatch.Dispatch.idles.Goals as goal
 pub invariant_of-self : goal.invariant_of-self
 invariant_of-self c =
     let i = c.self.inside in
-    let d : Dispatched = dispatched_of i.execution i.closed i.failed i.crowded i.firing i.runs i.sleepers in
+    let d : Dispatched = dispatched_of i.execution i.closed i.failed i.crowded i.firing i.runs.first i.sleepers in
     let s = i.execution.layout in
     let past = past_in i.execution in
     let lives : is_over d ≡ false = cc (ap is_over c.self.view_is, c.is_over.ensures, c.if-is_over.false) in
@@ -22,6 +22,7 @@ invariant_of-self c =
     (subst (λ (e : Dispatched). would_start e.history.layout (past_now e) c.args.worker ≡ false) (sym c.self.view_is)
     c.requires.starts_nothing) in (
       c.self.invariant.0,
-      stands_asleep d c.rests.new.self lives (c.rests.ensures.kept s past right c.self.invariant.1.looked_after)
-          c.self.invariant.1,
+      c.self.invariant.1,
+      stands_asleep d c.rests.new.self lives (c.rests.ensures.kept s past right c.self.invariant.2.looked_after)
+          c.self.invariant.2,
     )
