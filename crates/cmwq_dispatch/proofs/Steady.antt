@@ -48,7 +48,8 @@ waits_after h g e r made has =
 
 -- ---- what holds of each dispatch
 
-pub stands_nobody : (d : Dispatched) → NobodySleeps d.asleep → length d.asleep.pools ≡ 2 * d.history.layout.cpus → Stands d
+pub stands_nobody : (d : Dispatched) → NobodySleeps d.asleep → length d.asleep.pools ≡ 2 * d.history.layout.cpus
+    → Stands d
 stands_nobody d nobody places = record {
   looked_after = looked_after_nobody d.history.layout (past_now d) d.asleep nobody places;
   over = λ is. nobody;

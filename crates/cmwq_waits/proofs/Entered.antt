@@ -103,7 +103,8 @@ module _ (s : Layout) (past : List Entry) (e : Entry) (r : Registry) (run : Opti
       → new.laid ≡ (if is_sleep e.reply then run else None)
       → new.waits ≡ filter (still_waits run done) r.waits ++ option_to_list begun → HasWaitsOf s (e ∷ past) new
   has_after new first places lies waits = record {
-    laid = lies ∙ ap (λ (o : Option Queueing). if is_sleep e.reply then o else None) is.its_run ∙ sym (laid_after s past e legal);
+    laid = lies ∙ ap (λ (o : Option Queueing). if is_sleep e.reply then o else None) is.its_run
+        ∙ sym (laid_after s past e legal);
     waits = waits ∙ waits_after ∙ ap (λ n. waits_of n (e ∷ past)) (sym first);
     places = places ∙ has.places;
   }

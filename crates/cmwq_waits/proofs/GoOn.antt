@@ -1,16 +1,14 @@
 -- What a worker runs is a run that may wait, and runs go on waiting from entry to entry.
-use Rattle.std.proofs.Common.{◌≡◌, ◌∙◌, ◌∷◌, ◌++◌, ℕ, Bool, true, false, List, Some, None, Option, ap, arith, filter, length, not, ⊎_elim}
-use Rattle.std.proofs.Common.{option_to_list, refl, subst, sym, eq-eqb, []}
-use Rattle.std.specs.Prelude.{if◌then◌else◌, Contains, option_and_then}
-use Rattle.cmwq_lemmas.proofs.Members.{In, contained_in, filter_in, found, in_append, in_contained, in_filter, in_left, in_option}
+use Rattle.std.proofs.Common.{◌≡◌, ◌∙◌, ◌∷◌, ℕ, Bool, true, false, List, Some, None, Option, ap, arith, filter, length, not}
+use Rattle.std.proofs.Common.{option_to_list, refl, subst, sym, eq-eqb}
+use Rattle.std.specs.Prelude.{Contains, option_and_then}
+use Rattle.cmwq_lemmas.proofs.Members.{In, contained_in, filter_in, found, in_contained, in_filter, in_left, in_option}
 use Rattle.cmwq_model.specs.Prelude.{IsLegal, Layout, has_number, is_live, is_started, opening, queueing_at, queueings, run}
-use Rattle.cmwq_model.specs.Prelude.{still_open, ticket_in, ticket_of, unended_tickets}
+use Rattle.cmwq_model.specs.Prelude.{still_open, ticket_in, unended_tickets}
 use Rattle.cmwq_model.specs.declared.entry.Entry.{Entry}
-use Rattle.cmwq_model.specs.declared.id.CallerId.{CallerId}
-use Rattle.cmwq_model.specs.declared.id.Who.TheVariants.{Caller, Worker}
+use Rattle.cmwq_model.specs.declared.id.Who.TheVariants.{Worker}
 use Rattle.cmwq_model.specs.declared.id.WorkerId.{WorkerId}
 use Rattle.cmwq_model.specs.declared.record.Queueing.{Queueing}
-use Rattle.cmwq_model.specs.declared.record.Ticket.{Ticket}
 use Rattle.cmwq_theory_steps.specs.Endings.{ending, is_ended, survives}
 use Rattle.cmwq_theory_steps.specs.ItemQueueings.{queueing_run}
 use Rattle.cmwq_theory_steps.specs.TicketSteps.{is_ended_by, is_kept, ticket_ended}
@@ -21,10 +19,8 @@ use Rattle.cmwq_theory_steps.proofs.Pools.{runs_are_in_pools}
 use Rattle.cmwq_theory_steps.proofs.RunSteps.{last_started}
 use Rattle.cmwq_theory_steps.proofs.RunsActive.{found_number}
 use Rattle.cmwq_theory_steps.proofs.TicketSteps.{one_ticket_ends, unended_go_on}
-use Rattle.cmwq_state.proofs.Ends.{found_unended}
-use Rattle.cmwq_waits.specs.HeldUp.{AreWaiting, IsWaiting}
-use Rattle.cmwq_waits.specs.Registered.{WaitsGoOn, is_for, is_run_of, registered, still_waits, waits_after}
-use Rattle.cmwq_waits.specs.Refused.{is_other}
+use Rattle.cmwq_waits.specs.HeldUp.{IsWaiting}
+use Rattle.cmwq_waits.specs.Registered.{WaitsGoOn, is_for, is_run_of, still_waits, waits_after}
 use Rattle.cmwq_waits.specs.declared.run_wait.RunWait.{RunWait}
 use Rattle.cmwq_waits.proofs.Held.{both}
 
@@ -49,34 +45,6 @@ is_running s past w x legal is = by (run past w) refl is
               (filter_in (is_live past) (queueings past) x made.0 (subst (λ y. is_live past y ≡ true) same r.live));
           has_started = ap (is_started past) (found_number past n x h) ∙ last_started past w n (run_is past w n some).last;
         }
-
-pub registered_wait : (past : List Entry) (waits : List RunWait) (v : RunWait) → IsWaiting past v
-    → AreWaiting past waits → AreWaiting past (registered waits (Some v))
-registered_wait past waits v is waiting w here =
-    ⊎_elim
-    (λ (old : In w (filter (is_other v.run.number) waits)). waiting w
-    (in_contained waits w (in_filter (is_other v.run.number) waits w old).0))
-    (λ (new : In w (v ∷ [])). ⊎_elim (λ (same : v ≡ w). subst (IsWaiting past) same is) (λ none. absurd none) new)
-    (in_append (filter (is_other v.run.number) waits) (v ∷ []) w
-    (contained_in (filter (is_other v.run.number) waits ++ v ∷ []) w here))
-
-pub added_waits : (past : List Entry) (waits : List RunWait) (v : RunWait) (now : List RunWait) (added : Bool)
-    → now ≡ (if added then registered waits (Some v) else waits) → IsWaiting past v → AreWaiting past waits
-    → AreWaiting past now
-added_waits past waits v now true same is waiting = rw same (registered_wait past waits v is waiting)
-added_waits past waits v now false same is waiting = rw same waiting
-
--- the worker's run and the caller's ticket, where both are there
-pub is_waiting : (s : Layout) (past : List Entry) (w : WorkerId) (c : CallerId) (n : ℕ) (x : Queueing) (t : Ticket)
-    → IsLegal s past → queueing_run past (Worker w) ≡ Some x → ticket_of past (Caller c) n ≡ Some t
-    → IsWaiting past (record { run = x; ticket = t })
-is_waiting s past w c n x t legal runs waits =
-    let is = is_running s past w x legal runs in
-    record {
-      is_open = is.is_open;
-      has_started = is.has_started;
-      is_unended = found_unended past (Caller c) n t waits;
-    }
 
 -- ---- from entry to entry
 

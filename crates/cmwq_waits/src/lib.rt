@@ -6,8 +6,10 @@ mod deadlock;
 mod laws;
 mod look;
 mod run_wait;
+mod search;
 mod waits;
 
 pub use laws::{refusals_are_exact, waits_go_on};
 pub use run_wait::RunWait;
+pub use search::Search;
 pub use waits::{RunWaits, Stuck};

@@ -1,26 +1,22 @@
 //! Which runs wait by a history, so that a wait that could never end is refused.
 
-ghost use Rattle.std.specs.Prelude.{◌≡◌, ◌<◌, ◌++◌, ◌∷◌, [], Contains, IfOk, IfSome, None, length, true};
+ghost use Rattle.std.specs.Prelude.{◌≡◌, ◌<◌, ◌++◌, ◌∷◌, [], IfOk, IfSome, None, length, true};
 ghost use Rattle.std.specs.Prelude.{filter, if◌then◌else◌, option_to_list, vec_capacity, vec_len, ◌≤◌, ◌+◌};
-ghost use Rattle.cmwq_core.specs.History.{past_in, queued_of_booked};
+ghost use Rattle.cmwq_core.specs.History.{past_in};
 ghost use Rattle.cmwq_core.specs.Plans.{IsPlan};
-ghost use Rattle.cmwq_model.specs.Prelude.{has_numbers, is_started, still_open, ticket_in};
+ghost use Rattle.cmwq_model.specs.Prelude.{has_numbers, ticket_in};
 ghost use Rattle.cmwq_model.specs.declared.id.Who.TheVariants as who;
 ghost use Rattle.cmwq_state.specs.Tables as tables;
 ghost use Rattle.cmwq_theory_steps.specs.ItemQueueings.{queueing_run};
 ghost use Rattle.cmwq_waits.specs.Begun.{HasWaitsOf, is_lent, is_sleep, wait_by, waits_of};
-ghost use Rattle.cmwq_waits.specs.HeldUp.{AreWaiting};
-ghost use Rattle.cmwq_waits.specs.Refused.{AreApart, Refuses, is_other, is_turned_away, item_taken_back, queued};
-ghost use Rattle.cmwq_waits.specs.Refused.{refusal};
+ghost use Rattle.cmwq_waits.specs.Refused.{Refuses};
 ghost use Rattle.cmwq_waits.specs.Registered.{is_for, is_run_of, refusal_of, still_waits};
 
-use crate::calls::{item_flushed, item_taken_back};
-use crate::deadlock::never_ends;
-use crate::look::Look;
 use crate::run_wait::RunWait;
+use crate::search::Search;
 use cmwq_core::{Execution, Plan};
 use cmwq_model::{
-    Call, CallerId, Entry, ItemId, NoMemory, Number, Queueing, Reply, Shape, Ticket, Who, WorkerId,
+    Call, CallerId, Entry, NoMemory, Number, Queueing, Reply, Shape, Ticket, Who, WorkerId,
 };
 use std::alloc::Global;
 use std::marker::Model;
@@ -44,21 +40,18 @@ pub struct RunWaits {
     laid: Option<Queueing>,
     /// In the order in which they began to.
     waits: Vec<RunWait>,
-    /// Those that are still in the set that is looked for, and room for those that are after the next round.
-    set: Vec<RunWait>,
-    spare: Vec<RunWait>,
+    search: Search,
 }
 
 impl Model for RunWaits {
-    ghost use Rattle.std.specs.Prelude.{◌≡◌, ◌<◌, ◌+◌, vec_capacity, vec_len};
+    ghost use Rattle.std.specs.Prelude.{◌≡◌, ◌+◌, vec_capacity};
     ghost use Rattle.cmwq_waits.specs.Begun.{Registry, registry};
 
     ghost Value = { Registry };
 
     ghost view = { λ r. registry r.first r.laid r.waits.items (vec_capacity r.waits) };
 
-    ghost invariant = { λ r. (vec_len r.waits < vec_capacity r.set) × (vec_capacity r.spare ≡ vec_capacity r.set)
-        × (vec_capacity r.set ≡ vec_capacity r.waits + 1) };
+    ghost invariant = { λ r. r.search ≡ vec_capacity r.waits + 1 };
 }
 
 impl RunWaits {
@@ -68,13 +61,12 @@ impl RunWaits {
         ensures none { IfOk result (λ waits. HasWaitsOf shape.now [] waits) }
     {
         let counts = shape.counts();
-        let workers = 2 * usize::from(counts.cpus) * usize::from(counts.workers);
+        let workers = 2 * u32::from(counts.cpus) * u32::from(counts.workers);
         Ok(RunWaits {
             first: first.0,
             laid: None,
-            waits: Vec::with_capacity(alloc, workers)?,
-            set: Vec::with_capacity(alloc, workers + 1)?,
-            spare: Vec::with_capacity(alloc, workers + 1)?,
+            waits: Vec::with_capacity(alloc, workers as usize)?,
+            search: Search::new(alloc, workers)?,
         })
     }
 
@@ -114,77 +106,17 @@ impl RunWaits {
         requires worker { tables.IsThere shape.now (who.Worker worker) }
         requires waits { HasWaitsOf execution.now.layout (past_in execution.now) self.old }
         ensures is { result
-            ≡ refusal_of shape.now (past_in execution.now) (waits_of self.old.first (past_in execution.now)) worker call }
+            ≡ refusal_of shape.now (past_in execution.now) (waits_of self.old.first (past_in execution.now)) worker
+            call }
         ensures refused { IfSome (queueing_run (past_in execution.now) (who.Worker worker))
             (λ run. Refuses shape.now (past_in execution.now) (waits_of self.old.first (past_in execution.now)) run call
             result) }
         ensures same { self.new ≡ self.old }
     {
         let _legal = execution.len();
-        match execution.state().queueing_run(worker) {
-            Some(run) => self.refuses_run(execution, shape, &run, call),
-            None => None,
-        }
+        self.search
+            .refuses(execution, shape, &self.waits, worker, call)
     }
-
-    /// The same of a wait of this run.
-    fn refuses_run(
-        &mut self,
-        execution: &Execution,
-        shape: &Shape,
-        run: &Queueing,
-        call: Call,
-    ) -> Option<Stuck>
-        requires layout { execution.now.layout ≡ shape.now }
-        requires numbers { has_numbers shape.now call ≡ true }
-        requires waiting { AreWaiting (past_in execution.now) self.old.waits }
-        requires apart { AreApart self.old.waits }
-        requires open { Contains (still_open (past_in execution.now)) run.now }
-        requires started { is_started (past_in execution.now) run.now.number ≡ true }
-        ensures refused { Refuses shape.now (past_in execution.now) self.old.waits run.now call result }
-        ensures is { result ≡ refusal shape.now (past_in execution.now) self.old.waits run.now call }
-        ensures same { self.new ≡ self.old }
-    {
-        let _legal = execution.len();
-        if is_turned_away(execution, call) {
-            return None;
-        }
-        let look = Look {
-            state: execution.state(),
-            shape,
-            taken_back: item_taken_back(call),
-            queued: queued(execution, call),
-        };
-        let ticket = Ticket {
-            caller: CallerId(0),
-            call,
-            number: execution.len(),
-        };
-        if look.awaits_run(ticket, *run) {
-            return Some(Stuck::Itself);
-        }
-        fill(&mut self.set, &self.waits, RunWait { run: *run, ticket });
-        if never_ends(&look, &mut self.set, &mut self.spare, run.number) {
-            Some(Stuck::Circle)
-        } else {
-            None
-        }
-    }
-}
-
-/// Fills the list with the waits of other runs, and this one.
-fn fill(set: &mut Vec<RunWait>, waits: &[RunWait], last: RunWait)
-    requires { length waits.now < vec_capacity set.old }
-    ensures items { set.new.items ≡ filter (is_other last.run.number) waits.now ++ last ∷ [] }
-    ensures capacity { vec_capacity set.new ≡ vec_capacity set.old }
-{
-    set.clear();
-    for wait in waits {
-        if wait.run.number != last.run.number {
-            set.push_reserved(*wait);
-        }
-    }
-    set.push_reserved(last);
 }
 
 /// What the worker runs whose entry is planned.
@@ -199,12 +131,7 @@ fn run_by(execution: &Execution, plan: &Plan) -> Option<Queueing>
 }
 
 /// The wait that this entry begins, which has this number, where the entry before laid this to sleep.
-fn wait_begun(
-    first: u8,
-    laid: &Option<Queueing>,
-    entry: &Entry,
-    number: Number,
-) -> Option<RunWait>
+fn wait_begun(first: u8, laid: &Option<Queueing>, entry: &Entry, number: Number) -> Option<RunWait>
     ensures { result ≡ (if is_lent first entry.now.who then wait_by laid.now (ticket_in entry.now number) else None) }
 {
     if !is_lent(first, entry.who) {
@@ -274,30 +201,5 @@ fn is_ticket(wait: &RunWait, ticket: &Option<Ticket>) -> bool
     match ticket {
         Some(ticket) => wait.ticket.number == ticket.number,
         None => false,
-    }
-}
-
-/// Whether the call waits for nothing, since its item is booked on a queue that is drained.
-fn is_turned_away(execution: &Execution, call: Call) -> bool
-    requires { has_numbers execution.now.layout call ≡ true }
-    ensures { result ≡ is_turned_away (past_in execution.now) call }
-{
-    match item_flushed(call) {
-        Some(item) => match execution.state().timer(item) {
-            Some(timer) => execution.state().is_draining(timer.place.queue),
-            None => false,
-        },
-        None => false,
-    }
-}
-
-/// What the call queues of a booked item.
-fn queued(execution: &Execution, call: Call) -> Option<Queueing>
-    requires { has_numbers execution.now.layout call ≡ true }
-    ensures { result ≡ queued (past_in execution.now) call }
-{
-    match item_flushed(call) {
-        Some(item) => execution.queued_of_booked(item),
-        None => None,
     }
 }

@@ -1,6 +1,5 @@
 use Rattle.cmwq_core.proofs.Effecting.{legal_there}
 use Rattle.cmwq_core.specs.History.{History}
-use Rattle.cmwq_model.specs.declared.id.Who.{Who}
 use Rattle.cmwq_model.specs.declared.id.Who.TheVariants.{Worker}
 use Rattle.cmwq_state.specs.Tables.{IsThere}
 use Rattle.std.proofs.Common.{subst, sym}

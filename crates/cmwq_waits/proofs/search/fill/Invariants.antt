@@ -1,6 +1,6 @@
 use Rattle.std.proofs.Common.{◌≡◌, filter, length, take, vec_capacity, vec_len}
 use Rattle.cmwq_waits.specs.Refused.{is_other}
-use Rattle.cmwq_waits.proofs.waits.fill.Given as goal
+use Rattle.cmwq_waits.proofs.search.fill.Given as goal
 
 abbrev pub invariant-loop-wait : goal.invariant-loop-wait
 invariant-loop-wait l = (l.set.items ≡ filter (is_other l.last.run.number) (take l.wait-index l.waits))

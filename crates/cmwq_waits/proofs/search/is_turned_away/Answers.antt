@@ -1,7 +1,7 @@
 use Rattle.std.proofs.Common.{◌∙◌, sym}
 use Rattle.cmwq_core.specs.History.{past_in}
 use Rattle.cmwq_state.proofs.Readings.{timer_there}
-use Rattle.cmwq_waits.proofs.waits.is_turned_away.Goals as goal
+use Rattle.cmwq_waits.proofs.search.is_turned_away.Goals as goal
 
 pub is_draining-requires : goal.is_draining-requires
 is_draining-requires c =

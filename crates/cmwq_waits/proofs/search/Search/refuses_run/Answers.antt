@@ -1,6 +1,5 @@
 use Rattle.std.proofs.Common.{◌∙◌, ap, refl, sym, subst}
 use Rattle.cmwq_core.specs.History.{History, past_in}
-use Rattle.cmwq_waits.specs.Begun.{Registry}
 use Rattle.cmwq_waits.specs.HeldUp.{awaits}
 use Rattle.cmwq_waits.specs.Looks.{IsQueuedNext}
 use Rattle.cmwq_waits.specs.Refused.{Refuses}
@@ -9,8 +8,8 @@ use Rattle.cmwq_model.specs.declared.record.Ticket.{Ticket}
 use Rattle.cmwq_waits.proofs.Queued.{queued_is_next}
 use Rattle.cmwq_waits.proofs.Refusing.{all_known, all_seen, circle_if, items_are, none_if, refused_is}
 use Rattle.cmwq_waits.proofs.Refusing.{same_scene, same_ticket}
-use Rattle.cmwq_waits.proofs.waits.RunWaits.refuses_run.Goals as goal
-use Rattle.cmwq_waits.proofs.waits.RunWaits.refuses_run.Goals.{then-never_ends, else-never_ends}
+use Rattle.cmwq_waits.proofs.search.Search.refuses_run.Goals as goal
+use Rattle.cmwq_waits.proofs.search.Search.refuses_run.Goals.{then-never_ends, else-never_ends}
 
 pub invariant_of-look : goal.invariant_of-look
 invariant_of-look c =
@@ -26,20 +25,20 @@ pub never_ends-requires-clause-seen : goal.never_ends-requires-clause-seen
 never_ends-requires-clause-seen c =
     let h = c.args.execution.now in
     rw (
-      items_are h c.args.self.now.waits c.deref.result.now c.fill.new.set.items c.args.run.now c.args.call c.len.result
-          (c.deref.ensures.value ∙ ap (λ (r : Registry). r.waits) c.self.view_is) c.fill.ensures.items c.len.ensures.len,
+      items_are h c.args.waits.now c.args.waits.now c.fill.new.set.items c.args.run.now c.args.call c.len.result
+          refl c.fill.ensures.items c.len.ensures.len,
       c.state.ensures,
     )
-    (all_seen c.args.shape.now (past_in h) c.args.self.now.waits c.args.run.now c.args.call
+    (all_seen c.args.shape.now (past_in h) c.args.waits.now c.args.run.now c.args.call
     (rw c.requires.layout at c.len-legal.ensures.legal) c.requires.numbers c.requires.waiting c.requires.open
     c.requires.started)
 
 pub never_ends-requires-clause-known : goal.never_ends-requires-clause-known
 never_ends-requires-clause-known c =
     let h = c.args.execution.now in
-    rw (items_are h c.args.self.now.waits c.deref.result.now c.fill.new.set.items c.args.run.now c.args.call c.len.result
-    (c.deref.ensures.value ∙ ap (λ (r : Registry). r.waits) c.self.view_is) c.fill.ensures.items c.len.ensures.len)
-    (all_known c.args.shape.now (past_in h) c.args.self.now.waits c.args.run.now c.args.call
+    rw (items_are h c.args.waits.now c.args.waits.now c.fill.new.set.items c.args.run.now c.args.call c.len.result
+    refl c.fill.ensures.items c.len.ensures.len)
+    (all_known c.args.shape.now (past_in h) c.args.waits.now c.args.run.now c.args.call
     (rw c.requires.layout at c.len-legal.ensures.legal) c.requires.numbers c.requires.waiting c.requires.open
     c.requires.started _ refl (ap (λ (k : History). past_in k) c.state.ensures))
 
@@ -47,8 +46,8 @@ pub returns-clause-is : goal.returns-clause-is
 returns-clause-is c =
     let h = c.args.execution.now in let s = c.args.shape.now in
     let items =
-    items_are h c.args.self.now.waits c.deref.result.now c.fill.new.set.items c.args.run.now c.args.call c.len.result
-    (c.deref.ensures.value ∙ ap (λ (r : Registry). r.waits) c.self.view_is) c.fill.ensures.items c.len.ensures.len in
+    items_are h c.args.waits.now c.args.waits.now c.fill.new.set.items c.args.run.now c.args.call c.len.result
+    refl c.fill.ensures.items c.len.ensures.len in
     let scene =
     same_scene s h c.state.result.now c.item_taken_back.result c.queued.result c.args.call c.state.ensures
     c.item_taken_back.ensures c.queued.ensures in
@@ -58,7 +57,7 @@ returns-clause-is c =
     ap (λ (t : Ticket). awaits (past_in h) t c.args.run.now) (sym ticket)
     ∙ (ap (λ (k : History). awaits (past_in k) told c.args.run.now) (sym c.state.ensures)
     ∙ (sym c.awaits_run.ensures ∙ c.if-awaits_run.false)) in
-    refused_is s (past_in h) c.args.self.now.waits c.fill.new.set.items c.args.run.now c.args.call _ c.never_ends.result
+    refused_is s (past_in h) c.args.waits.now c.fill.new.set.items c.args.run.now c.args.call _ c.never_ends.result
     c.if-never_ends.result scene items (sym c.is_turned_away.ensures ∙ c.if-is_turned_away.false) other
     c.never_ends.ensures.never
     (elim c.if-never_ends.branch [
@@ -69,5 +68,5 @@ returns-clause-is c =
 pub returns-clause-refused : goal.returns-clause-refused
 returns-clause-refused c =
     let h = c.args.execution.now in let s = c.args.shape.now in
-    subst (Refuses s (past_in h) c.args.self.now.waits c.args.run.now c.args.call) (sym (returns-clause-is c))
-    (refusals_are_refused s (past_in h) c.args.self.now.waits c.args.run.now c.args.call c.requires.apart)
+    subst (Refuses s (past_in h) c.args.waits.now c.args.run.now c.args.call) (sym (returns-clause-is c))
+    (refusals_are_refused s (past_in h) c.args.waits.now c.args.run.now c.args.call c.requires.apart)

@@ -3,7 +3,7 @@ use Rattle.std.proofs.lemmas.List.{take_all}
 use Rattle.cmwq_lemmas.proofs.Lists.{filter_shorter}
 use Rattle.cmwq_waits.proofs.Loops.{kept_room}
 use Rattle.cmwq_waits.specs.Refused.{is_other}
-use Rattle.cmwq_waits.proofs.waits.fill.Goals as goal
+use Rattle.cmwq_waits.proofs.search.fill.Goals as goal
 
 pub push_reserved-requires : goal.push_reserved-requires
 push_reserved-requires c =
