@@ -5,3 +5,4 @@ pub mod First
 pub mod Moving
 pub mod Paths
 pub mod Starting
+pub mod WhoWaits

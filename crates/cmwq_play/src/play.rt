@@ -25,10 +25,10 @@ use crate::noted::Noted;
 use crate::parties::PartyName;
 use crate::place::{CallerAt, Doing, WorkerAt};
 use crate::setup::Setup;
+use crate::waiting::Waits;
 use cmwq_json_script::{Action, Holder, Script};
 use cmwq_model::{CallerId, Entry, NoMemory, Shape, Who};
 use cmwq_state::State;
-use cmwq_waits::RunWaits;
 use std::alloc::{AllocError, Global};
 use std::marker::Model;
 
@@ -63,7 +63,7 @@ pub struct Play<'a> {
     /// The callers that may be lent, of which the last is lent next.
     free: Vec<u8>,
     /// The runs that wait, as they are noted for each look at a wait.
-    waits: RunWaits,
+    waits: Waits,
     noted: Noted,
 }
 
@@ -101,7 +101,7 @@ impl<'a> Play<'a> {
         ensures { IfOk result (λ play. play ≡ start_of setup.now) }
     {
         let shape = &setup.script.shape;
-        let waits = match RunWaits::new(alloc, shape) {
+        let waits = match Waits::new(alloc, shape) {
             Ok(waits) => waits,
             Err(NoMemory) => return Err(AllocError),
         };
