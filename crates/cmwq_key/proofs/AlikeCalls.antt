@@ -271,7 +271,7 @@ ended_alike {f} {h} {g} a who w v wait is =
 -- ---- whole calls
 
 -- a reply gives the ticket of its entry, which is unended then
-given_both : (r : Reply) (n : ℕ) → ticket_told r ≡ Some n → (gives_ticket r ≡ true) × (number_given r ≡ Some n)
+pub given_both : (r : Reply) (n : ℕ) → ticket_told r ≡ Some n → (gives_ticket r ≡ true) × (number_given r ≡ Some n)
 given_both r n h = grind arith
 
 given_by : (k : ℕ → ℕ) (r : Reply) → ticket_told (reply_by k r) ≡ option_map k (ticket_told r)
@@ -281,8 +281,8 @@ pub record IsNewTicket (past : List Entry) (e : Entry) (n : ℕ) : Type 0 where
   pub unended : IsTicketNumber (e ∷ past) n
   pub number : n ≡ length past
 
-new_ticket : (s : Layout) (past : List Entry) (e : Entry) (n : ℕ) → IsLegal s (e ∷ past) → ticket_told e.reply ≡ Some n
-    → IsNewTicket past e n
+pub new_ticket : (s : Layout) (past : List Entry) (e : Entry) (n : ℕ) → IsLegal s (e ∷ past)
+    → ticket_told e.reply ≡ Some n → IsNewTicket past e n
 new_ticket s past e n legal given =
     let both = given_both e.reply n given in
     let reason = ticket_reason s past e.who e.call e.reply (legal_fits s past e legal) (cause_of s past e legal) both.0
