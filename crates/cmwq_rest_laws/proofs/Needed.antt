@@ -9,7 +9,6 @@ use Rattle.cmwq_theory_steps.specs.Common.{◌≡◌, ◌<◌, ◌+◌, ◌||◌
 use Rattle.cmwq_theory_steps.specs.Common.{◌∷◌, Option, Some, None, refl, sym, ap, ap₂, ◌∙◌, subst, arith, inl}
 use Rattle.cmwq_theory_steps.specs.Common.{inr, if◌then◌else◌, map, slice_get, Entry, Ticket}
 use Rattle.cmwq_theory_steps.specs.Common.{Worker, WorkerId, PoolId, Who, Call, fits, worker_at, IsLegal, past_of}
-use Rattle.cmwq_lemmas.proofs.Members.{contained_in}
 use Rattle.cmwq_lemmas.proofs.Truth.{or_false}
 use Rattle.cmwq_model.specs.Prelude.{steps}
 use Rattle.cmwq_model_examples.specs.Words.{call_made, flush}
@@ -20,7 +19,6 @@ use Rattle.cmwq_json_script.specs.declared.action.Action.TheVariants as action
 use Rattle.cmwq_core.specs.History.{IsThere}
 use Rattle.cmwq_theory_wakes.specs.Starting.{Attendant, IsAttended, allows_start, worker_is_idle}
 use Rattle.cmwq_theory_wakes.specs.Rest.{NoneForgotten}
-use Rattle.cmwq_waits.specs.HeldUp.{AreWaiting}
 use Rattle.cmwq_dispatch.specs.Asleep.{IsLookedAfter, NobodySleeps}
 use Rattle.cmwq_dispatch.specs.Dispatched.{Dispatched, Stands}
 use Rattle.cmwq_dispatch.specs.Pools.{AllRecorded, pool_number, rests}
@@ -167,14 +165,11 @@ module _ (before : List Entry) where
           ap₂ (λ c x. record { pool = record { cpu = record { 0 = c }; high = w.pool.high }; index = x })
           (let less = there.0 in omega (arith, less)) (let less = there.1 in omega (arith, less))
 
-no_waits : (before : List Entry) → AreWaiting before []
-no_waits before w here = absurd (contained_in [] w here)
-
 stands_open : (entries : List Entry) (tickets : List Ticket) (a b : Bool)
     → IsLookedAfter small (past_of entries) (record { tickets = tickets; pools = pools_where a b })
     → Stands (hub_where entries false tickets a b)
 stands_open entries tickets a b after =
-    record { looked_after = after; over = λ is. cc; waiting = no_waits (past_of entries) }
+    record { looked_after = after; over = λ is. cc }
 
 -- ---- the stand
 
@@ -388,7 +383,6 @@ failed_hub = record {
         workers = attended (past_of queued) false false (λ high is. absurd (none_rests high is));
       }) tt (λ high is. absurd (none_rests high is));
   over = λ is. nobody_sleeps;
-  waiting = no_waits (past_of queued);
 }
 
 -- the caller that flushes sleeps, and the others have made their call

@@ -42,10 +42,10 @@ pool_where rests =
     record { enlisted = record { bits = if rests then 1 else 0 }; reserve = record { bits = 0 }; named = None }
 
 -- What is told of a hub: its entries; whether it has failed; for which tickets callers sleep; and whether its two
--- workers rest, that of the normal pool and that of the pool of high priority.
+-- workers rest, that of the normal pool and that of the pool of high priority. Its second caller is lent to runs.
 abbrev pub hub_where : List Entry → Bool → List Ticket → Bool → Bool → Dispatched
 hub_where entries failed tickets normal_rests high_rests =
-    dispatched_of (history_of entries) false failed false 0 []
+    dispatched_of (history_of entries) false failed false 0 1
     (record { tickets = tickets; pools = pool_where normal_rests ∷ pool_where high_rests ∷ [] })
 
 abbrev pub run_doing : Doing → RunAt
