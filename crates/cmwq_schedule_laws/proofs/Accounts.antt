@@ -12,6 +12,7 @@ use Rattle.cmwq_model.specs.declared.entry.Entry.{Entry}
 use Rattle.cmwq_model.specs.declared.id.Who.TheVariants.{Caller, Worker}
 use Rattle.cmwq_model.specs.declared.id.WorkerId.{WorkerId}
 use Rattle.cmwq_model.specs.declared.reply.Reply.{Reply}
+use Rattle.cmwq_core.specs.History.{past_in}
 use Rattle.cmwq_json_script.specs.Runs.{Run}
 use Rattle.cmwq_json_script.specs.Scripts.{is_own}
 use Rattle.cmwq_json_script.specs.Views.{calls_in}
@@ -39,6 +40,7 @@ use Rattle.cmwq_play.specs.declared.place.Ticketed.{Ticketed}
 use Rattle.cmwq_play.specs.declared.place.WorkerAt.{WorkerAt}
 use Rattle.cmwq_schedule_laws.proofs.Calling.{IsBegun}
 use Rattle.cmwq_schedule_laws.proofs.Keeping.{IsKept, IsUpToDate}
+use Rattle.cmwq_schedule_laws.proofs.TheirWaits.{AreTheirs}
 
 -- the list at this place, which is empty past the last
 abbrev pub actions_at : List (List Action) → ℕ → List Action
@@ -93,7 +95,7 @@ SleepsOrNot s false v u log w = Refused s v call.Sleep Full u × (runs_awake (pa
 pub record IsWaitingBy (s : Layout) (w : WorkerId) (c : ℕ) (t : Ticketed) (v u : View) (log : List Entry) : Type 0 where
   pub wait : is_wait t.call ≡ true
   pub sleeps : MakesOne s v call.Sleep u
-  pub allowed : WasAllowed s v t.call u
+  pub allowed : WasAllowed s v t.call (caller_numbered c) u
   pub asleep : runs_asleep (past_of log) w ≡ true
   pub begun : HasBegun s c t u log
 
@@ -202,7 +204,8 @@ pub record AreLent (r : Run) (p : Stand) : Type 0 where
       → (holder c ≡ inr k) × IsLendable r c
   pub each : (c : ℕ) → IsLendable r c → LentStands r p c (holder c)
 
--- A play of the script stands here.
+-- A play of the script stands here. The runs that wait by its history, if callers of the script are not lent, are those
+-- of its workers.
 pub record Stands (r : Run) (p : Stand) : Type 0 where
   pub scripts : p.scripts ≡ r.callers
   pub does : p.does ≡ r.does
@@ -214,6 +217,7 @@ pub record Stands (r : Run) (p : Stand) : Type 0 where
   pub workers : (k : ℕ) (at : WorkerAt) → slice_get p.workers k ≡ Some at
       → WorkerStands r.layout r.does k at p.history.entries
   pub lent : AreLent r p
+  pub waits : AreTheirs (length r.callers) (past_in p.history) p.workers
 
 -- ---- what a script keeps to
 

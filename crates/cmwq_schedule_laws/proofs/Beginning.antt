@@ -5,6 +5,7 @@ use Rattle.std.proofs.Common.{◌≡◌, ◌∙◌, ◌+◌, ◌-◌, ◌<◌, �
 use Rattle.std.proofs.Common.{length, map, min, slice_get, take, refl, sym, ap, subst, arith, inl}
 use Rattle.std.proofs.lemmas.List.{length-map}
 use Rattle.std.proofs.lemmas.List.FromFn.{length-range_with_len}
+use Rattle.cmwq_lemmas.proofs.Members.{In}
 use Rattle.cmwq_model.specs.declared.id.Who.{Who}
 use Rattle.cmwq_model.specs.declared.id.Who.TheVariants.{Worker}
 use Rattle.cmwq_model.proofs.Growing.{nothing_is_legal}
@@ -18,6 +19,8 @@ use Rattle.cmwq_rt.proofs.Lending.{new_waited}
 use Rattle.cmwq_rt.specs.Sums.{no_waits}
 use Rattle.cmwq_engine.specs.Conduct.{caller_numbered}
 use Rattle.cmwq_theory_steps.proofs.Owing.{nothing_owed}
+unfoldable use Rattle.cmwq_waits.specs.Begun.{waits_of}
+use Rattle.cmwq_waits.specs.declared.run_wait.RunWait.{RunWait}
 use Rattle.cmwq_play.specs.Firsts.{caller_at, callers_from, lent_from, workers_from}
 unfoldable use Rattle.cmwq_play.specs.Starts.{first_stand}
 use Rattle.cmwq_play.specs.declared.place.CallerAt.{CallerAt}
@@ -50,6 +53,10 @@ small n few = omega (arith, few)
 
 new_up : (who : Who) → IsUpToDate [] (newcomer who)
 new_up who = record { counts = refl; book = refl; older = ([], refl) }
+
+nobody_yet : (first : ℕ) (v : RunWait) → In v (waits_of first []) → ⊥
+unfolding waits_of
+nobody_yet first v here = here
 
 module _ (r : Run) (ok : IsPlayable r) where
   first_kept : IsKept r.layout (record { layout = r.layout; room = r.layout.room; entries = [] })
@@ -145,6 +152,12 @@ module _ (r : Run) (ok : IsPlayable r) where
           (ap (λ (n : ℕ). inl n) from, (omega (arith, same), omega (arith, same, less))));
       waiting = λ k at c is waits. absurd (nobody_waits k at c is waits);
       each = λ c lendable. first_rested c;
+    };
+    waits = record {
+      each = λ v here. absurd (nobody_yet (length r.callers) v here);
+      all = λ k at c t is waits.
+          absurd (nobody_waits k at c is
+          (ap (option_and_then (λ (run : RunAt). caller_of run.doing)) waits.runs ∙ ap caller_of waits.doing));
     };
   }
     where

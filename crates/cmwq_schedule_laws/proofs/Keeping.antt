@@ -45,7 +45,7 @@ own_counted log v up = let counts = up.counts in omega arith
 
 -- ---- calls that are made
 
-made_steps : (h : History) (who : Who) (c : Call) → is_made h who c ≡ true
+pub made_steps : (h : History) (who : Who) (c : Call) → is_made h who c ≡ true
     → stepped h who c ≡ with_entry h (next_entry h who c)
 unfolding stepped
 made_steps h who c made = ap (λ b. if b then with_entry h (next_entry h who c) else h) made

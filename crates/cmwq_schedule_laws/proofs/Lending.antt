@@ -15,6 +15,7 @@ use Rattle.cmwq_model.specs.declared.reply.Reply.{Reply}
 use Rattle.cmwq_json_script.specs.declared.action.Action.{Action}
 use Rattle.cmwq_json_script.specs.declared.action.Action.TheVariants as action
 use Rattle.cmwq_core.specs.History.{History, past_in}
+use Rattle.cmwq_waits.specs.Begun.{is_lent, waits_of}
 use Rattle.cmwq_waits.specs.Registered.{refusal_of}
 use Rattle.cmwq_monitor.specs.Participants.{View, is_caller, made_by}
 use Rattle.cmwq_monitor.specs.Whole.{Completes}
@@ -88,9 +89,13 @@ lent_is p w c caller = of_may (may_wait p.history p.workers w c) refl
 
 -- ---- a worker that is there
 
+-- callers from a number on are lent, and the runs that wait are those of the stand
 module _ (s : Layout) (does : List (List Action)) (w : WorkerId) (cpu : nat_lt w.pool.cpu.0 s.cpus ≡ true)
     (index : nat_lt w.index s.workers ≡ true) (p : Stand)
-    (kept : IsKept s p.history) (run : RunAt) where
+    (kept : IsKept s p.history) (first : ℕ)
+    (same : (c : Call) → refusal_of s (past_in p.history) (waits_of first (past_in p.history)) w c
+    ≡ refusal_of s (past_in p.history) (waits_in p.history p.workers) w c)
+    (run : RunAt) where
   abbrev h : History
   h = p.history
 
@@ -143,7 +148,7 @@ module _ (s : Layout) (does : List (List Action)) (w : WorkerId) (cpu : nat_lt w
       of_free : (o : Option ℕ) → refusal_of s (past_in h) (waits_in h p.workers) w c ≡ None
           → option_and_then (with_room p w c) o ≡ None → (l : LeftOut) × WaitsIfMay s run.item old l v c v
       of_free None free is =
-          (one_refused old, inr (inl (nobody_left s h p.workers w v kept who up c run.item free, refl)))
+          (one_refused old, inr (inl (nobody_left first s h p.workers w v kept who up c (same c) run.item free, refl)))
       of_free (Some d) free is = of_room d (has_wait_room h w (record { 0 = d }) c) is
 
       of_may : (b : Bool) → may_wait h p.workers w c ≡ b
@@ -152,7 +157,10 @@ module _ (s : Layout) (does : List (List Action)) (w : WorkerId) (cpu : nat_lt w
       of_may true may is = of_free (last_free p.free) (allowed c own may) is
       of_may false may is =
           let why = some_found _ (sym (refusal c) ∙ not_false _ (sym (may_numbers c own) ∙ may)) in
-          (one_refused old, inr (inl (refused_for s h p.workers w v kept who up c run.item why.0 why.1, refl)))
+          (
+            one_refused old,
+            inr (inl (refused_for first s h p.workers w v kept who up c (same c) run.item why.0 why.1, refl)),
+          )
 
   pub waits_not : (acc : IsRunning s does w run h.entries) (c : Call) → run.doing ≡ Acts
       → next_action ≡ Some (action.Call c) → IsItems s c → is_workers c ≡ false → lent_for p w c ≡ None
@@ -162,8 +170,9 @@ module _ (s : Layout) (does : List (List Action)) (w : WorkerId) (cpu : nat_lt w
     where
       of : (acc.view ≡ acc.acted) × (runs_awake (past_of h.entries) w ≡ true)
           → IsRunning s does w (after_action run) h.entries
-      of (same, awake) =
-          let l = left_out c own acc.left_out acc.acted acc.acted_who (subst (IsUpToDate h.entries) same acc.up) none in
+      of (still, awake) =
+          let up = subst (IsUpToDate h.entries) still acc.up in
+          let l = left_out c own acc.left_out acc.acted acc.acted_who up none in
           working.passes_on s does w cpu index run h acc (action.Call c) acting next l.0
           (acts_by c own other acc.left_out l.0 acc.acted acc.acted l.1)
 
@@ -185,8 +194,9 @@ module _ (s : Layout) (does : List (List Action)) (w : WorkerId) (cpu : nat_lt w
   still_asleep old new spares asleep = spares.awake.asleep ∙ asleep
 
   -- the run waited, and goes on
-  has_waited : (v u before after z : View) (c : Call) (r : Reply) → MakesOne s v call.Sleep u → WasAllowed s v c u
-      → made_by before.who u.seen ≡ made_by before.who before.seen → is_caller after.who ≡ true
+  has_waited : (v u before after z : View) (c : Call) (r : Reply) → MakesOne s v call.Sleep u
+      → WasAllowed s v c before.who u → made_by before.who u.seen ≡ made_by before.who before.seen
+      → is_caller after.who ≡ true
       → Completes s before c r after → MakesOne s u call.Wake z → IsPrefix u.seen after.seen
       → IsPrefix after.seen z.seen → HasWaited s v c r z
   has_waited v u before after z c r sleeps allowed nothing by whole wakes saw sees = (
@@ -195,9 +205,9 @@ module _ (s : Layout) (does : List (List Action)) (w : WorkerId) (cpu : nat_lt w
     record {
       asleep = u;
       sleeps = sleeps;
-      allowed = allowed;
       before = before;
       after = after;
+      allowed = allowed;
       nothing_yet = nothing;
       by_caller = by;
       completes = whole;
@@ -217,19 +227,19 @@ module _ (s : Layout) (does : List (List Action)) (w : WorkerId) (cpu : nat_lt w
 
   pub begins : (acc : IsRunning s does w run h.entries) (cl : Call) (c : ℕ) → run.doing ≡ Acts
       → next_action ≡ Some (action.Call cl) → IsItems s cl → is_workers cl ≡ false → lent_for p w cl ≡ Some c
-      → nat_lt c s.callers ≡ true → HasRested s c h.entries
+      → nat_lt c s.callers ≡ true → is_lent first (caller_numbered c) ≡ true → HasRested s c h.entries
       → BegunAs c cl (called slept (caller_numbered c) cl).history (called slept (caller_numbered c) cl).outcome
-  begins acc cl c acting next own other lent there rested =
+  begins acc cl c acting next own other lent there lendable rested =
       of (subst (λ d. DoesNext s w next_action d acc.acted acc.view h.entries) acting acc.doing)
     where
       wait : is_wait cl ≡ true
       wait = waits_of_items s cl own other
 
-      is_lent : IsLentFor p w cl c
-      is_lent = lent_is p w cl c lent
+      its : IsLentFor p w cl c
+      its = lent_is p w cl c lent
 
       room : HasRoom s h w (record { 0 = c }) cl
-      room = has_room s h w (record { 0 = c }) cl kept wait is_lent.room
+      room = has_room s h w (record { 0 = c }) cl kept wait its.room
 
       fit_fire : fits s (caller_numbered c) call.Fire ≡ true
       fit_fire = rw there refl
@@ -244,11 +254,17 @@ module _ (s : Layout) (does : List (List Action)) (w : WorkerId) (cpu : nat_lt w
           (made_all rested.view slept.entries (own_counted slept.entries rested.view rested_up) rested_up.book
           rested_up.older)
 
+      was_now : IsUpToDate h.entries acc.acted → (m : MakesBy s h acc.acted (Worker w) call.Sleep slept)
+          → WasAllowed s acc.acted cl (caller_numbered c) m.view
+      was_now up m =
+          was_allowed first s h p.workers w acc.acted kept acc.acted_who up cl (same cl) m.view (caller_numbered c)
+          lendable (allowed cl own its.may) m.seen
+
       of : (acc.view ≡ acc.acted) × (runs_awake (past_of h.entries) w ≡ true)
           → BegunAs c cl (called slept (caller_numbered c) cl).history (called slept (caller_numbered c) cl).outcome
-      of (same, awake) =
+      of (still, awake) =
           came (makes_by s h acc.acted (Worker w) call.Sleep acc.acted_who kept
-          (subst (IsUpToDate h.entries) same acc.up) room.sleeps)
+          (subst (IsUpToDate h.entries) still acc.up) room.sleeps)
           (called slept (caller_numbered c) cl).history (called slept (caller_numbered c) cl).outcome
           (called_goes s (caller_numbered c) slept cl slept_kept)
           (came_by s slept rested.view (caller_numbered c) cl rested.who slept_kept rested_up fit_fire)
@@ -279,8 +295,8 @@ module _ (s : Layout) (does : List (List Action)) (w : WorkerId) (cpu : nat_lt w
                       r,
                       has_waited acc.acted m.view rested.view after z.view cl r
                           (answer s (past_in h) (Worker w) call.Sleep, m.extends)
-                          (was_allowed s h p.workers w acc.acted kept acc.acted_who
-                          (subst (IsUpToDate h.entries) same acc.up) cl m.view (allowed cl own is_lent.may) m.seen)
+                          (subst (λ (x : Who). WasAllowed s acc.acted cl x m.view) (sym rested.who)
+                          (was_now (subst (IsUpToDate h.entries) still acc.up) m))
                           (nothing_yet m) (ap is_caller after_who) whole
                           (answer s (past_in g) (Worker w) call.Wake, z.extends) saw_sleep sees,
                       refl,
@@ -302,9 +318,8 @@ module _ (s : Layout) (does : List (List Action)) (w : WorkerId) (cpu : nat_lt w
                 record {
                   wait = ap is_wait call_is ∙ wait;
                   sleeps = (answer s (past_in h) (Worker w) call.Sleep, m.extends);
-                  allowed = subst (λ (d : Call). WasAllowed s acc.acted d m.view) (sym call_is)
-                      (was_allowed s h p.workers w acc.acted kept acc.acted_who
-                      (subst (IsUpToDate h.entries) same acc.up) cl m.view (allowed cl own is_lent.may) m.seen);
+                  allowed = subst (λ (d : Call). WasAllowed s acc.acted d (caller_numbered c) m.view) (sym call_is)
+                      (was_now (subst (IsUpToDate h.entries) still acc.up) m);
                   asleep = still_asleep slept.entries g.entries spared asleep;
                   begun = record {
                     before = rested.view;
@@ -371,9 +386,10 @@ module _ (s : Layout) (does : List (List Action)) (w : WorkerId) (cpu : nat_lt w
                 z.view
                 (inl (
                   b.reply,
-                  has_waited acc.acted acc.view b.before e.last z.view t.call b.reply x.sleeps x.allowed b.nothing_yet
-                      (ap is_caller last_who) whole (answer s (past_in g) (Worker w) call.Wake, z.extends) saw_sleep
-                      sees,
+                  has_waited acc.acted acc.view b.before e.last z.view t.call b.reply x.sleeps
+                      (subst (λ (y : Who). WasAllowed s acc.acted t.call y acc.view) (sym b.who) x.allowed)
+                      b.nothing_yet (ap is_caller last_who) whole
+                      (answer s (past_in g) (Worker w) call.Wake, z.extends) saw_sleep sees,
                   refl,
                 ))) z.same z.up (working.awake_after_wake s does w cpu index g acc.view goes.kept asleep_on z),
             record {

@@ -1,5 +1,8 @@
 pub mod Awake
 pub mod Keeping
+pub mod SameWaits
+pub mod WaitsGoing
+pub mod TheirWaits
 pub mod Sparing
 pub mod Calling
 pub mod Numbered
@@ -8,6 +11,7 @@ pub mod Accounts
 pub mod Following
 pub mod Ordering
 pub mod Working
+pub mod WaitsMoving
 pub mod Waiting
 pub mod Lending
 pub mod Moving

@@ -14,7 +14,13 @@ use Rattle.cmwq_theory_steps.proofs.ItemRuns.{same_worker-true}
 use Rattle.cmwq_json_script.specs.Runs.{Run}
 use Rattle.cmwq_json_script.specs.declared.action.Action.{Action}
 use Rattle.cmwq_json_script.specs.declared.action.Holder.{Holder}
-use Rattle.cmwq_core.specs.History.{History}
+use Rattle.cmwq_core.specs.History.{History, past_in}
+use Rattle.cmwq_lemmas.proofs.Members.{In}
+use Rattle.cmwq_model.specs.declared.id.Who.TheVariants.{Caller}
+use Rattle.cmwq_model.specs.declared.record.Queueing.{Queueing}
+use Rattle.cmwq_theory_steps.specs.ItemQueueings.{queueing_run}
+use Rattle.cmwq_waits.specs.Begun.{waits_of}
+use Rattle.cmwq_waits.specs.declared.run_wait.RunWait.{RunWait}
 use Rattle.cmwq_monitor.specs.Participants.{View}
 use Rattle.cmwq_rt.specs.Places.{worker_by_number}
 use Rattle.cmwq_engine.specs.Conduct.{caller_numbered}
@@ -23,6 +29,7 @@ use Rattle.cmwq_play.specs.declared.place.CallerAt.{CallerAt}
 use Rattle.cmwq_play.specs.declared.place.Doing.{Doing}
 use Rattle.cmwq_play.specs.declared.place.Doing.TheVariants.{Acts, AtGate, AtLock, Waits}
 use Rattle.cmwq_play.specs.declared.place.RunAt.{RunAt}
+use Rattle.cmwq_play.specs.declared.place.Ticketed.{Ticketed}
 use Rattle.cmwq_play.specs.declared.place.WorkerAt.{WorkerAt}
 use Rattle.cmwq_schedule_laws.proofs.Accounts.{AreLent, CallerStands, DoesNext, HasBegun, HasRested, Holding}
 use Rattle.cmwq_schedule_laws.proofs.Accounts.{IsLendable, IsPlayable, LentStands, SleepsOrNot, Stands}
@@ -32,6 +39,8 @@ use Rattle.cmwq_schedule_laws.proofs.Lending.{later}
 use Rattle.cmwq_schedule_laws.proofs.Ordering.{one_number}
 use Rattle.cmwq_schedule_laws.proofs.Places.{pushed, same_or_not, set_each, set_here, set_long, set_others, take_there}
 use Rattle.cmwq_schedule_laws.proofs.Sparing.{Spares}
+use Rattle.cmwq_schedule_laws.proofs.TheirWaits.{AreTheirs, IsOfWorker, IsWaitAt, WaitsBy, theirs_then}
+use Rattle.cmwq_schedule_laws.proofs.WaitsGoing.{WaitsGo, one_runner}
 
 -- ---- others are spared
 
@@ -145,6 +154,11 @@ module _ (r : Run) (ok : IsPlayable r) (p : Stand) (st : Stands r p) where
       (one_number r.layout ok.cpus ok.workers j k z.id (st.workers j z there).id
       (subst (λ (w : WorkerId). worker_by_number r.layout k ≡ Some w) same (st.workers k at here).id))
 
+  -- the caller by which a run waits
+  pub lent_by : (z : WorkerAt) (c : ℕ) (t : Ticketed) → WaitsBy z c t → lent_to z ≡ Some c
+  lent_by z c t waits =
+      ap (option_and_then (λ (run : RunAt). caller_of run.doing)) waits.runs ∙ ap caller_of waits.doing
+
   -- ---- a caller of the script moves
 
   abbrev pub with_caller : History → ℕ → CallerAt → List Bool → List (Option Holder) → Stand
@@ -154,8 +168,9 @@ module _ (r : Run) (ok : IsPlayable r) (p : Stand) (st : Stands r p) where
   pub caller_moves : (k : ℕ) (at new : CallerAt) (g : History) (gates : List Bool) (locks : List (Option Holder))
       → slice_get p.callers k ≡ Some at → IsKept r.layout g
       → ((who : Who) → same_who (caller_numbered k) who ≡ false → Spares who p.history.entries g.entries)
+      → WaitsGo (length r.callers) (caller_numbered k) (past_in p.history) (past_in g)
       → CallerStands r.layout k (actions_at r.callers k) new g.entries → Stands r (with_caller g k new gates locks)
-  caller_moves k at new g gates locks is kept spares stands = record {
+  caller_moves k at new g gates locks is kept spares goes stands = record {
     scripts = st.scripts;
     does = st.does;
     kept = kept;
@@ -175,6 +190,8 @@ module _ (r : Run) (ok : IsPlayable r) (p : Stand) (st : Stands r p) where
       waiting = st.lent.waiting;
       each = λ c lendable. each c lendable (st.lent.holder c) (st.lent.each c lendable);
     };
+    waits = theirs_then (length r.callers) (past_in p.history) (past_in g) p.workers k (caller_there k at is) goes
+        st.waits (λ j z c t there waits. (st.lent.waiting j z c there (lent_by z c t waits)).1.0);
   }
     where
       lent_spared : (c : ℕ) → IsLendable r c → Spares (caller_numbered c) p.history.entries g.entries
@@ -215,6 +232,110 @@ module _ (r : Run) (ok : IsPlayable r) (p : Stand) (st : Stands r p) where
     pub nobody_else : (j : ℕ) (z : WorkerAt) (c : ℕ) → (j ≡ k → ⊥) → slice_get p.workers j ≡ Some z
         → lent_to z ≡ Some c → IsOther lends (caller_numbered c)
 
+  abbrev waits_at : History → List RunWait
+  waits_at g = waits_of (length r.callers) (past_in g)
+
+  -- A wait for which the run of this worker waits now, or none of it.
+  abbrev pub IsWaitNow : WorkerAt → History → RunWait → Type 0
+  IsWaitNow at g v = (c : ℕ) × (t : Ticketed) × WaitsBy at c t × IsWaitAt (past_in g) at.id c t v
+
+  abbrev pub IsNotOf : WorkerId → RunWait → Type 0
+  IsNotOf w v = queueing_run (past_in p.history) (Worker w) ≡ Some v.run → ⊥
+
+  -- The runs that wait after such a move: those of other workers as before, and that of this one if it waits.
+  pub record WaitsMove (at : WorkerAt) (run : Option RunAt) (lends : Option ℕ) (g : History) : Type 0 where
+    pub stay : (v : RunWait) (w : WorkerId) → In v (waits_at p.history)
+        → queueing_run (past_in p.history) (Worker w) ≡ Some v.run → same_who (Worker at.id) (Worker w) ≡ false
+        → IsOther lends (Caller v.ticket.caller) → In v (waits_at g)
+    pub runs : (w : WorkerId) (x : Queueing) → same_who (Worker at.id) (Worker w) ≡ false
+        → queueing_run (past_in p.history) (Worker w) ≡ Some x → queueing_run (past_in g) (Worker w) ≡ Some x
+    pub whence : (v : RunWait) → In v (waits_at g)
+        → (In v (waits_at p.history) × IsNotOf at.id v) ⊎ IsWaitNow (record { id = at.id; run = run }) g v
+    pub now : (c : ℕ) (t : Ticketed) → WaitsBy (record { id = at.id; run = run }) c t
+        → (v : RunWait) × In v (waits_at g) × IsWaitAt (past_in g) at.id c t v
+
+  -- no run waits that has no caller
+  pub not_of : (k : ℕ) (at : WorkerAt) → slice_get p.workers k ≡ Some at → lent_to at ≡ None → (v : RunWait)
+      → In v (waits_at p.history) → IsNotOf at.id v
+  not_of k at is none v here runs =
+      let o = st.waits.each v here in
+      let same = one_runner r.layout (past_in p.history) at.id o.at.id v.run v.run st.kept.legal runs o.is.runs refl in
+      ⊎_elim
+      (λ (place : o.place ≡ k).
+      let one : at ≡ o.at = cc (is, subst (λ (i : ℕ). slice_get p.workers i ≡ Some o.at) place o.there) in
+      cc (sym none ∙ (ap lent_to one ∙ lent_by o.at o.caller o.wait o.waits)))
+      (λ (other : o.place ≡ k → ⊥). workers_differ o.place k o.at at other o.there is same)
+      (same_or_not o.place k)
+
+  waits_move : (k : ℕ) (at : WorkerAt) (run : Option RunAt) (lends : Option ℕ) (g : History)
+      → WorkerMoves k at lends g → WaitsMove at run lends g
+      → AreTheirs (length r.callers) (past_in g) (slice_set p.workers k (record { id = at.id; run = run }))
+  waits_move k at run lends g m w = record {
+    each = λ v here.
+        ⊎_elim
+        (λ (old : In v (waits_at p.history) × IsNotOf at.id v). still v old.1 (st.waits.each v old.0))
+        (λ (new : IsWaitNow (record { id = at.id; run = run }) g v). begun v new) (w.whence v here);
+    all = λ j z c t there waits.
+        set_each
+        (λ j z. (c : ℕ) (t : Ticketed) → WaitsBy z c t
+        → (v : RunWait) × In v (waits_at g) × IsWaitAt (past_in g) z.id c t v) p.workers k at
+        (record { id = at.id; run = run }) m.is w.now
+        (λ j z other there c t waits. goes_on j z other there c t waits) j z there c t waits;
+  }
+    where
+      apart_from : (j : ℕ) (z : WorkerAt) → (j ≡ k → ⊥) → slice_get p.workers j ≡ Some z
+          → same_who (Worker at.id) (Worker z.id) ≡ false
+      apart_from j z other there = workers_apart at.id z.id (workers_differ j k z at other there m.is)
+
+      still : (v : RunWait) → IsNotOf at.id v → IsOfWorker (past_in p.history) p.workers v
+          → IsOfWorker (past_in g) (slice_set p.workers k (record { id = at.id; run = run })) v
+      still v not o =
+          ⊎_elim
+          (λ (place : o.place ≡ k).
+          let one : at ≡ o.at = cc (m.is, subst (λ (i : ℕ). slice_get p.workers i ≡ Some o.at) place o.there) in
+          absurd (not (subst (λ (z : WorkerAt). queueing_run (past_in p.history) (Worker z.id) ≡ Some v.run) (sym one)
+          o.is.runs)))
+          (λ (other : o.place ≡ k → ⊥). record {
+            place = o.place;
+            at = o.at;
+            there = set_others p.workers k o.place (record { id = at.id; run = run }) other ∙ o.there;
+            caller = o.caller;
+            wait = o.wait;
+            waits = o.waits;
+            is = record {
+              caller = o.is.caller;
+              number = o.is.number;
+              runs = w.runs o.at.id v.run (apart_from o.place o.at other o.there) o.is.runs;
+            };
+          }) (same_or_not o.place k)
+
+      begun : (v : RunWait) → IsWaitNow (record { id = at.id; run = run }) g v
+          → IsOfWorker (past_in g) (slice_set p.workers k (record { id = at.id; run = run })) v
+      begun v (c, t, waits, is) = record {
+        place = k;
+        at = record { id = at.id; run = run };
+        there = set_here p.workers k at (record { id = at.id; run = run }) m.is;
+        caller = c;
+        wait = t;
+        waits = waits;
+        is = is;
+      }
+
+      goes_on : (j : ℕ) (z : WorkerAt) → (j ≡ k → ⊥) → slice_get p.workers j ≡ Some z → (c : ℕ) (t : Ticketed)
+          → WaitsBy z c t → (v : RunWait) × In v (waits_at g) × IsWaitAt (past_in g) z.id c t v
+      goes_on j z other there c t waits =
+          let v = st.waits.all j z c t there waits in (
+            v.0,
+            w.stay v.0 z.id v.1 v.2.runs (apart_from j z other there)
+                (subst (λ (n : ℕ). IsOther lends (caller_numbered n)) (sym v.2.caller)
+                (m.nobody_else j z c other there (lent_by z c t waits))),
+            record {
+              caller = v.2.caller;
+              number = v.2.number;
+              runs = w.runs z.id v.0.run (apart_from j z other there) v.2.runs;
+            },
+          )
+
   script_spared : (k : ℕ) (at : WorkerAt) (lends : Option ℕ) (g : History) → WorkerMoves k at lends g → (j : ℕ)
       → j < length r.callers → Spares (caller_numbered j) p.history.entries g.entries
   script_spared k at lends g m j less = m.spares (caller_numbered j) refl (other lends m.lendable)
@@ -224,11 +345,11 @@ module _ (r : Run) (ok : IsPlayable r) (p : Stand) (st : Stands r p) where
       other (Some c) (from, to) = callers_apart c j (λ same. absurd (omega (arith, same, less, from)))
 
   pub worker_moves : (k : ℕ) (at : WorkerAt) (run : Option RunAt) (lends : Option ℕ) (g : History) (free : List ℕ)
-      (gates : List Bool) (locks : List (Option Holder)) → WorkerMoves k at lends g
+      (gates : List Bool) (locks : List (Option Holder)) → WorkerMoves k at lends g → WaitsMove at run lends g
       → Works r.layout r.does at.id run g.entries
       → AreLent r (with_worker g k (record { id = at.id; run = run }) free gates locks)
       → Stands r (with_worker g k (record { id = at.id; run = run }) free gates locks)
-  worker_moves k at run lends g free gates locks m works lent = record {
+  worker_moves k at run lends g free gates locks m waits works lent = record {
     scripts = st.scripts;
     does = st.does;
     kept = m.kept;
@@ -249,6 +370,7 @@ module _ (r : Run) (ok : IsPlayable r) (p : Stand) (st : Stands r p) where
         (spared (Worker z.id) (workers_apart at.id z.id (workers_differ j k z at other there m.is)) (worker_other z.id))
         (λ c waits. spared (caller_numbered c) refl (m.nobody_else j z c other there waits)) (st.workers j z there));
     lent = lent;
+    waits = waits_move k at run lends g m waits;
   }
     where
       spared : (who : Who) → same_who (Worker at.id) who ≡ false → IsOther lends who

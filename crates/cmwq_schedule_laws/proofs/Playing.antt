@@ -1,10 +1,12 @@
 -- A party that may move moves, and the play stands again.
 use Rattle.std.specs.Option.{option_map_or}
 use Rattle.std.specs.Prelude.{if◌then◌else◌, option_and_then, is_some}
-use Rattle.std.proofs.Common.{◌≡◌, ◌∙◌, ◌-◌, ◌++◌, ◌∷◌, ℕ, Bool, true, false, List, [], Option, Some, None}
+use Rattle.std.proofs.Common.{◌≡◌, ◌⊎◌, ◌∙◌, ◌-◌, ◌++◌, ◌∷◌, ℕ, Bool, true, false, List, [], Option, Some, None}
 use Rattle.std.proofs.Common.{length, take, slice_get, slice_set, nat_lt, refl, sym, ap, subst, arith, inl, inr}
-use Rattle.std.proofs.lemmas.Bool.{lt-ltb}
-use Rattle.cmwq_model.specs.Prelude.{Layout, is_workers, same_who}
+use Rattle.std.proofs.lemmas.Bool.{le-leb, lt-ltb}
+use Rattle.std.proofs.lemmas.Option.{same_Some}
+use Rattle.cmwq_lemmas.proofs.Members.{In}
+use Rattle.cmwq_model.specs.Prelude.{IsLegal, Layout, fits, is_workers, same_who}
 use Rattle.cmwq_model.specs.declared.call.Call.{Call}
 use Rattle.cmwq_model.specs.declared.call.Call.TheVariants as call
 use Rattle.cmwq_model.specs.declared.entry.Entry.{Entry}
@@ -17,7 +19,17 @@ use Rattle.cmwq_json_script.specs.declared.action.Action.{Action}
 use Rattle.cmwq_json_script.specs.declared.action.Action.TheVariants as action
 use Rattle.cmwq_json_script.specs.declared.action.Holder.{Holder}
 use Rattle.cmwq_json_script.specs.declared.action.Holder.TheVariants as holders
-use Rattle.cmwq_core.specs.History.{History}
+use Rattle.cmwq_core.specs.History.{History, past_in}
+use Rattle.cmwq_model.specs.declared.id.WorkerId.{WorkerId}
+use Rattle.cmwq_model.specs.declared.record.Queueing.{Queueing}
+use Rattle.cmwq_theory_steps.specs.ItemQueueings.{queueing_run}
+use Rattle.cmwq_waits.specs.Begun.{is_lent, laid, waits_of}
+use Rattle.cmwq_waits.specs.Registered.{refusal_of}
+use Rattle.cmwq_waits.specs.declared.run_wait.RunWait.{RunWait}
+use Rattle.cmwq_waits.proofs.Begun.{waits_are_apart}
+use Rattle.cmwq_waits.proofs.Greatest.{same_run}
+use Rattle.cmwq_play.specs.Waiting.{are_there, waits_in}
+use Rattle.cmwq_play.proofs.WhoWaits.{they_are_apart}
 use Rattle.cmwq_monitor.specs.Participants.{View}
 use Rattle.cmwq_engine.specs.Conduct.{caller_numbered}
 use Rattle.cmwq_cmd_run.specs.Interpreted as interpreted
@@ -47,10 +59,17 @@ use Rattle.cmwq_schedule_laws.proofs.Following as following
 use Rattle.cmwq_schedule_laws.proofs.Keeping.{IsKept}
 use Rattle.cmwq_schedule_laws.proofs.Lending as lending
 use Rattle.cmwq_schedule_laws.proofs.Moving.{WorkerMoves, caller_moves, caller_there, callers_apart, few_callers}
-use Rattle.cmwq_schedule_laws.proofs.Moving.{one_back, one_lent, same_lent, worker_moves}
+use Rattle.cmwq_schedule_laws.proofs.Moving.{IsNotOf, IsWaitNow, WaitsMove, lent_by, not_of, one_back, one_lent}
+use Rattle.cmwq_schedule_laws.proofs.Moving.{same_lent, worker_moves}
 use Rattle.cmwq_schedule_laws.proofs.Moving as moving
 use Rattle.cmwq_schedule_laws.proofs.Sparing.{GoesOn, Spares, called_goes, ended_goes, goes_further, goes_nowhere}
 use Rattle.cmwq_schedule_laws.proofs.Sparing.{spares_further, stepped_goes}
+use Rattle.cmwq_schedule_laws.proofs.SameWaits.{same_refusal_of}
+use Rattle.cmwq_schedule_laws.proofs.TheirWaits.{IsWaitAt, WaitsBy, same_waits}
+use Rattle.cmwq_schedule_laws.proofs.Waiting.{has_room, waits_of_items}
+use Rattle.cmwq_schedule_laws.proofs.WaitsGoing.{WaitsGo}
+use Rattle.cmwq_schedule_laws.proofs.WaitsMoving.{BeganAs, HasLaid, IsNewWait, began_as, ended_begins_none, has_laid}
+use Rattle.cmwq_schedule_laws.proofs.WaitsMoving.{new_wait, woken_gone}
 use Rattle.cmwq_schedule_laws.proofs.Working as working
 
 module _ (r : Run) (ok : IsPlayable r) (p : Stand) (st : Stands r p) where
@@ -59,6 +78,10 @@ module _ (r : Run) (ok : IsPlayable r) (p : Stand) (st : Stands r p) where
 
   abbrev h : History
   h = p.history
+
+  -- the number of the first caller that may be lent
+  abbrev first : ℕ
+  first = length r.callers
 
   -- ---- callers of the script
 
@@ -74,13 +97,20 @@ module _ (r : Run) (ok : IsPlayable r) (p : Stand) (st : Stands r p) where
     stands_here : CallerStands r.layout k (actions_at r.callers k) at p.history.entries
     stands_here = st.callers k at is
 
+    its_waits : (g : History) → GoesOn r.layout (Caller at.id) p.history g
+        → WaitsGo (length r.callers) (caller_numbered k) (past_in p.history) (past_in g)
+    its_waits g goes =
+        subst (λ (x : Who). WaitsGo (length r.callers) x (past_in p.history) (past_in g)) stands_here.id
+        (goes.waits (length r.callers))
+
     -- what the caller has made, for all others
     caller_steps : (new : CallerAt) (g : History) → GoesOn r.layout (Caller at.id) p.history g
         → CallerStands r.layout k (actions_at r.callers k) new g.entries
         → Stands r (moving.with_caller r ok p st g k new p.gates p.locks)
     caller_steps new g goes now =
         caller_moves r ok p st k at new g p.gates p.locks is goes.kept
-        (λ who other. goes.spares who (subst (λ (x : Who). same_who x who ≡ false) (sym stands_here.id) other)) now
+        (λ who other. goes.spares who (subst (λ (x : Who). same_who x who ≡ false) (sym stands_here.id) other))
+        (its_waits g goes) now
 
     -- it passes an action that is no call
     passes : (a : Action) → slice_get (actions_at r.callers k) at.next ≡ Some a → calls_in (a ∷ []) ≡ []
@@ -90,6 +120,7 @@ module _ (r : Run) (ok : IsPlayable r) (p : Stand) (st : Stands r p) where
         let goes = goes_nowhere r.layout (Caller at.id) p.history st.kept in
         caller_moves r ok p st k at (record at { next = next_place at.next }) p.history gates locks is st.kept
         (λ who other. goes.spares who (subst (λ (x : Who). same_who x who ≡ false) (sym stands_here.id) other))
+        (its_waits p.history goes)
         (following.passes_on r.layout k (actions_at r.callers k) at p.history st.kept there
         (ok.scripts_short k) stands_here
         a next none idle)
@@ -144,9 +175,37 @@ module _ (r : Run) (ok : IsPlayable r) (p : Stand) (st : Stands r p) where
 
   -- ---- workers
 
+  -- a worker whose run waits, and the caller by which it does, are there
+  waiter_there : (k : ℕ) (at : WorkerAt) (c : ℕ) (t : Ticketed) → slice_get p.workers k ≡ Some at → WaitsBy at c t
+      → are_there p.history.layout at.id (record { 0 = c }) t.ticket ≡ true
+  waiter_there k at c t is waits =
+      let here = st.workers k at is in
+      let lendable = (st.lent.waiting k at c is (lent_by r ok p st at c t waits)).1 in
+      let caller = lt-ltb c r.layout.callers (few_callers r ok p st c lendable.1) in
+      subst (λ (l : Layout). are_there l at.id (record { 0 = c }) t.ticket ≡ true) (sym st.kept.layout)
+      (rw (here.cpu, here.index, caller) refl)
+
+  -- the same waits are refused, whether the runs that wait are read off the history or off the workers
+  same_refusals : (w : WorkerId) (c : Call)
+      → refusal_of r.layout (past_in p.history) (waits_of first (past_in p.history)) w c
+      ≡ refusal_of r.layout (past_in p.history) (waits_in p.history p.workers) w c
+  same_refusals w c =
+      same_refusal_of r.layout (past_in p.history) (waits_of first (past_in p.history))
+      (waits_in p.history p.workers) (waits_are_apart first r.layout (past_in p.history) st.kept.legal)
+      (they_are_apart p.history p.workers)
+      (same_waits first p.history p.workers
+      (subst (λ (l : Layout). IsLegal l (past_in p.history)) (sym st.kept.layout) st.kept.legal) st.waits
+      waiter_there) c w
+
+  lent_number : (c : ℕ) → IsLendable r c → is_lent first (caller_numbered c) ≡ true
+  lent_number c lendable = le-leb first c lendable.0
+
   module _ (k : ℕ) (at : WorkerAt) (is : slice_get p.workers k ≡ Some at) where
     works_here : WorkerStands r.layout r.does k at p.history.entries
     works_here = st.workers k at is
+
+    fit_wake : fits r.layout (Worker at.id) call.Wake ≡ true
+    fit_wake = working.fit r.layout r.does at.id works_here.cpu works_here.index call.Wake refl refl
 
     -- no caller takes part
     alone : (g : History) → GoesOn r.layout (Worker at.id) p.history g → WorkerMoves r ok p st k at None g
@@ -158,12 +217,36 @@ module _ (r : Run) (ok : IsPlayable r) (p : Stand) (st : Stands r p) where
       nobody_else = λ j z c other there waits. tt;
     }
 
+    -- the runs that wait are the same
+    waits_alone : (run : Option RunAt) (g : History) → GoesOn r.layout (Worker at.id) p.history g
+        → lent_to at ≡ None → option_and_then (λ (x : RunAt). caller_of x.doing) run ≡ None
+        → WaitsMove r ok p st at run None g
+    waits_alone run g goes was_none is_none = record {
+      stay = λ v z here runs other unheld. (goes.waits first).stay v z here runs other refl;
+      runs = (goes.waits first).runs;
+      whence = λ v here. not_begun v ((goes.waits first).whence v here);
+      now = λ c t waits. absurd (cc (sym is_none ∙ by_run c t waits));
+    }
+      where
+        not_begun : (v : RunWait)
+            → In v (waits_of first (past_in p.history))
+            ⊎ ((is_lent first (Worker at.id) ≡ true) × (laid (past_in p.history) ≡ Some v.run))
+            → (In v (waits_of first (past_in p.history)) × IsNotOf r ok p st at.id v)
+            ⊎ IsWaitNow r ok p st (record { id = at.id; run = run }) g v
+        not_begun v (inl old) = inl (old, not_of r ok p st k at is was_none v old)
+        not_begun v (inr begins) = absurd (cc begins.0)
+
+        by_run : (c : ℕ) (t : Ticketed) → WaitsBy (record { id = at.id; run = run }) c t
+            → option_and_then (λ (x : RunAt). caller_of x.doing) run ≡ Some c
+        by_run c t waits = lent_by r ok p st (record { id = at.id; run = run }) c t waits
+
     moves_alone : (run : Option RunAt) (g : History) (gates : List Bool) (locks : List (Option Holder))
         → GoesOn r.layout (Worker at.id) p.history g → lent_to at ≡ None
         → option_and_then (λ (x : RunAt). caller_of x.doing) run ≡ None → Works r.layout r.does at.id run g.entries
         → Stands r (moving.with_worker r ok p st g k (record { id = at.id; run = run }) p.free gates locks)
     moves_alone run g gates locks goes was_none is_none works =
-        worker_moves r ok p st k at run None g p.free gates locks (alone g goes) works
+        worker_moves r ok p st k at run None g p.free gates locks (alone g goes)
+        (waits_alone run g goes was_none is_none) works
         (same_lent r ok p st k at run None g gates locks (alone g goes) was_none is_none tt)
 
     -- it starts a run after this, if it would start one
@@ -294,9 +377,12 @@ module _ (r : Run) (ok : IsPlayable r) (p : Stand) (st : Stands r p) where
       begins c caller acting next other lent =
           came (called slept (caller_numbered caller) c).history (called slept (caller_numbered caller) c).outcome
           (called_goes r.layout (caller_numbered caller) slept c slept_goes.kept)
-          (lending.begins r.layout r.does at.id works_here.cpu works_here.index p st.kept run acc c
+          (began_as slept (caller_numbered caller) c)
+          (lending.begins r.layout r.does at.id works_here.cpu works_here.index p st.kept first
+          (same_refusals at.id) run acc c
           caller acting
-          next (ok.does run.item.0 run.next c next) other lent (lent_there caller free.lendable) free.rested)
+          next (ok.does run.item.0 run.next c next) other lent (lent_there caller free.lendable)
+          (lent_number caller free.lendable) free.rested)
         where
           slept : History
           slept = stepped p.history (Worker at.id) call.Sleep
@@ -306,6 +392,143 @@ module _ (r : Run) (ok : IsPlayable r) (p : Stand) (st : Stands r p) where
 
           free : CallerIsFree caller
           free = is_lent_free caller (lending.lent_is p at.id c caller lent).last
+
+          asleep : HasLaid slept at.id
+          asleep =
+              has_laid r.layout p.history at.id st.kept
+              (subst (λ d. DoesNext r.layout at.id next_action d acc.acted acc.view p.history.entries) acting
+              acc.doing).1
+              (has_room r.layout p.history at.id (record { 0 = caller }) c st.kept
+              (waits_of_items r.layout c (ok.does run.item.0 run.next c next) other)
+              (lending.lent_is p at.id c caller lent).room).sleeps
+
+          -- what the sleep and the call leave of the runs that wait
+          Calls : History → Type 0
+          Calls g = GoesOn r.layout (caller_numbered caller) slept g
+
+          IsOldOrLaid : RunWait → Type 0
+          IsOldOrLaid v = In v (waits_of first (past_in p.history)) ⊎ (laid (past_in slept) ≡ Some v.run)
+
+          IsOldOrNow : WorkerAt → History → RunWait → Type 0
+          IsOldOrNow now g v =
+              (In v (waits_of first (past_in p.history)) × IsNotOf r ok p st at.id v) ⊎ IsWaitNow r ok p st now g v
+
+          then_stays : (g : History) → Calls g → (v : RunWait) (z : WorkerId)
+              → In v (waits_of first (past_in p.history)) → queueing_run (past_in p.history) (Worker z) ≡ Some v.run
+              → same_who (Worker at.id) (Worker z) ≡ false
+              → same_who (caller_numbered caller) (Caller v.ticket.caller) ≡ false → In v (waits_of first (past_in g))
+          then_stays g goes v z here runs_it other unheld =
+              (goes.waits first).stay v z ((slept_goes.waits first).stay v z here runs_it other refl)
+              ((slept_goes.waits first).runs z v.run other runs_it) refl unheld
+
+          then_runs : (g : History) → Calls g → (z : WorkerId) (x : Queueing)
+              → same_who (Worker at.id) (Worker z) ≡ false → queueing_run (past_in p.history) (Worker z) ≡ Some x
+              → queueing_run (past_in g) (Worker z) ≡ Some x
+          then_runs g goes z x other runs_it =
+              (goes.waits first).runs z x refl ((slept_goes.waits first).runs z x other runs_it)
+
+          then_whence : (g : History) → Calls g → (v : RunWait) → In v (waits_of first (past_in g)) → IsOldOrLaid v
+          then_whence g goes v here = of ((goes.waits first).whence v here)
+            where
+              before : In v (waits_of first (past_in p.history))
+                  ⊎ ((is_lent first (Worker at.id) ≡ true) × (laid (past_in p.history) ≡ Some v.run)) → IsOldOrLaid v
+              before (inl old) = inl old
+              before (inr begins) = absurd (cc begins.0)
+
+              of : In v (waits_of first (past_in slept))
+                  ⊎ ((is_lent first (caller_numbered caller) ≡ true) × (laid (past_in slept) ≡ Some v.run))
+                  → IsOldOrLaid v
+              of (inl old) = before ((slept_goes.waits first).whence v old)
+              of (inr begins) = inr begins.1
+
+          -- what fell asleep is still run
+          still_run : (g : History) → Calls g → (v : RunWait) → laid (past_in slept) ≡ Some v.run
+              → queueing_run (past_in g) (Worker at.id) ≡ Some v.run
+          still_run g goes v lies =
+              (goes.waits first).runs at.id v.run refl (asleep.runs ∙ (sym asleep.lies ∙ lies))
+
+          waits_woken : (g : History) → Calls g
+              → WaitsMove r ok p st at (Some (after_action run)) (Some caller)
+              (stepped g (Worker at.id) call.Wake)
+          waits_woken g goes = record {
+            stay = λ v z here runs_it other unheld.
+                (wake.waits first).stay v z (then_stays g goes v z here runs_it other unheld)
+                (then_runs g goes z v.run other runs_it) other refl;
+            runs = λ z x other runs_it. (wake.waits first).runs z x other (then_runs g goes z x other runs_it);
+            whence = λ v here. before v here ((wake.waits first).whence v here);
+            now = λ d t waits.
+                absurd (cc (lent_by r ok p st (record { id = at.id; run = Some (after_action run) }) d t waits));
+          }
+            where
+              wake : GoesOn r.layout (Worker at.id) g (stepped g (Worker at.id) call.Wake)
+              wake = stepped_goes r.layout (Worker at.id) g call.Wake goes.kept
+
+              old_or_not : (v : RunWait) → In v (waits_of first (past_in (stepped g (Worker at.id) call.Wake)))
+                  → IsOldOrLaid v
+                  → IsOldOrNow (record { id = at.id; run = Some (after_action run) })
+                  (stepped g (Worker at.id) call.Wake) v
+              old_or_not v here (inl old) = inl (old, not_of r ok p st k at is (not_waiting acting) v old)
+              old_or_not v here (inr lies) =
+                  absurd (woken_gone first r.layout g at.id v goes.kept fit_wake (still_run g goes v lies) here)
+
+              before : (v : RunWait) → In v (waits_of first (past_in (stepped g (Worker at.id) call.Wake)))
+                  → In v (waits_of first (past_in g))
+                  ⊎ ((is_lent first (Worker at.id) ≡ true) × (laid (past_in g) ≡ Some v.run))
+                  → IsOldOrNow (record { id = at.id; run = Some (after_action run) })
+                  (stepped g (Worker at.id) call.Wake) v
+              before v here (inl mid) = old_or_not v here (then_whence g goes v mid)
+              before v here (inr begins) = absurd (cc begins.0)
+
+          waiting_at : Ticketed → WorkerAt
+          waiting_at t = record { id = at.id; run = Some (record run { doing = Waits caller t }) }
+
+          waits_begun : (g : History) → Calls g → (t : Ticketed)
+              → BeganAs slept (caller_numbered caller) c g (Began t)
+              → WaitsMove r ok p st at (Some (record run { doing = Waits caller t })) (Some caller) g
+          waits_begun g goes t began = record {
+            stay = then_stays g goes;
+            runs = then_runs g goes;
+            whence = λ v here. new_or_not v here (then_whence g goes v here);
+            now = λ d u waits. its d u waits;
+          }
+            where
+              new : IsNewWait first g asleep.run caller t
+              new =
+                  new_wait first r.layout slept asleep.run caller c t slept_goes.kept asleep.lies
+                  (lent_number caller free.lendable) g began
+
+              new_or_not : (v : RunWait) → In v (waits_of first (past_in g)) → IsOldOrLaid v
+                  → IsOldOrNow (waiting_at t) g v
+              new_or_not v here (inl old) = inl (old, not_of r ok p st k at is (not_waiting acting) v old)
+              new_or_not v here (inr lies) =
+                  let run_is : v.run ≡ new.wait.run =
+                  same_Some v.run asleep.run (sym lies ∙ asleep.lies) ∙ sym new.run in
+                  let same = same_run (waits_of first (past_in g)) v new.wait
+                  (waits_are_apart first r.layout (past_in g) goes.kept.legal) here new.there
+                  (ap (λ (x : Queueing). x.number) run_is) in
+                  let waits : WaitsBy (waiting_at t) caller t =
+                  record { run = record run { doing = Waits caller t }; runs = refl; doing = refl } in
+                  let it : IsWaitAt (past_in g) at.id caller t v = record {
+                    caller = ap (λ (x : RunWait). x.ticket.caller.0) same ∙ new.caller;
+                    number = ap (λ (x : RunWait). x.ticket.number) same ∙ new.number;
+                    runs = still_run g goes v lies;
+                  } in
+                  inr (caller, t, waits, it)
+
+              its : (d : ℕ) (u : Ticketed) → WaitsBy (waiting_at t) d u
+                  → (v : RunWait) × In v (waits_of first (past_in g)) × IsWaitAt (past_in g) at.id d u v
+              its d u waits =
+                  let run_is = same_Some (record run { doing = Waits caller t }) waits.run waits.runs in
+                  let doing_is : ◌≡◌ {A = Doing} (Waits caller t) (Waits d u) =
+                  ap (λ (x : RunAt). x.doing) run_is ∙ waits.doing in
+                  let by : caller ≡ d = cc doing_is in
+                  let for_it : t ≡ u = cc doing_is in
+                  let it : IsWaitAt (past_in g) at.id d u new.wait = record {
+                    caller = new.caller ∙ by;
+                    number = new.number ∙ ap (λ (x : Ticketed). x.ticket) for_it;
+                    runs = still_run g goes new.wait (asleep.lies ∙ ap Some (sym new.run));
+                  } in
+                  (new.wait, new.there, it)
 
           then_spares : (g : History) → GoesOn r.layout (caller_numbered caller) slept g → (who : Who)
               → same_who (Worker at.id) who ≡ false → same_who (caller_numbered caller) who ≡ false
@@ -327,21 +550,23 @@ module _ (r : Run) (ok : IsPlayable r) (p : Stand) (st : Stands r p) where
               (then_spares g goes who one two) (wake.spares who one)) (free_apart caller free) in
               worker_moves r ok p st k at (Some (after_action run)) (Some caller)
               (stepped g (Worker at.id) call.Wake) p.free
-              p.gates p.locks m on
+              p.gates p.locks m (waits_woken g goes) on
               (same_lent r ok p st k at (Some (after_action run)) (Some caller)
               (stepped g (Worker at.id) call.Wake) p.gates
               p.locks m (not_waiting acting) refl rests)
 
           came : (g : History) (o : Called) → GoesOn r.layout (caller_numbered caller) slept g
-              → lending.BegunAs r.layout r.does at.id works_here.cpu works_here.index p st.kept run
+              → BeganAs slept (caller_numbered caller) c g o
+              → lending.BegunAs r.layout r.does at.id works_here.cpu works_here.index p st.kept first
+              (same_refusals at.id) run
               caller c g
               o → Stands r (after_begin p k at.id run caller g o)
-          came g NoRoom goes none = absurd none
-          came g Whole goes whole = wakes_whole g goes whole
-          came g (Began t) goes on =
+          came g NoRoom goes began none = absurd none
+          came g Whole goes began whole = wakes_whole g goes whole
+          came g (Began t) goes began on =
               let m = both_make caller g goes.kept free.lendable (then_spares g goes) (free_apart caller free) in
               worker_moves r ok p st k at (Some (record run { doing = Waits caller t })) (Some caller) g
-              (take (length p.free - 1) p.free) p.gates p.locks m on
+              (take (length p.free - 1) p.free) p.gates p.locks m (waits_begun g goes t began) on
               (one_lent r ok p st k at (record run { doing = Waits caller t }) caller g p.gates p.locks m
               (not_waiting acting) refl (lending.lent_is p at.id c caller lent).last)
 
@@ -355,7 +580,8 @@ module _ (r : Run) (ok : IsPlayable r) (p : Stand) (st : Stands r p) where
           by None none =
               goes_on p.history p.gates p.locks (goes_nowhere r.layout (Worker at.id) p.history st.kept)
               (not_waiting acting)
-              (lending.waits_not r.layout r.does at.id works_here.cpu works_here.index p st.kept run acc c
+              (lending.waits_not r.layout r.does at.id works_here.cpu works_here.index p st.kept first
+              (same_refusals at.id) run acc c
               acting next (ok.does run.item.0 run.next c next) other none)
           by (Some caller) lent = begins c caller acting next other lent
 
@@ -364,7 +590,7 @@ module _ (r : Run) (ok : IsPlayable r) (p : Stand) (st : Stands r p) where
       unfolding wait_ended
       ends_wait c t waiting may =
           worker_moves r ok p st k at (Some (after_action run)) (Some c) g
-          (p.free ++ c ∷ []) p.gates p.locks m then_both.0
+          (p.free ++ c ∷ []) p.gates p.locks m waits_ended then_both.0
           (one_back r ok p st k at (after_action run) c g p.gates p.locks m waits_now refl then_both.1)
         where
           g : History
@@ -378,7 +604,8 @@ module _ (r : Run) (ok : IsPlayable r) (p : Stand) (st : Stands r p) where
 
           then_both : IsRunning r.layout r.does at.id (after_action run) g.entries × HasRested r.layout c g.entries
           then_both =
-              lending.ends_then r.layout r.does at.id works_here.cpu works_here.index p st.kept run acc
+              lending.ends_then r.layout r.does at.id works_here.cpu works_here.index p st.kept first
+              (same_refusals at.id) run acc
               c t
               waiting (λ d next. ok.does run.item.0 run.next d next) (lent_there c held.1) may
 
@@ -387,6 +614,32 @@ module _ (r : Run) (ok : IsPlayable r) (p : Stand) (st : Stands r p) where
 
           wake : GoesOn r.layout (Worker at.id) (ended p.history (caller_numbered c) t) g
           wake = stepped_goes r.layout (Worker at.id) (ended p.history (caller_numbered c) t) call.Wake goes.kept
+
+          waits_ended : WaitsMove r ok p st at (Some (after_action run)) (Some c) g
+          waits_ended = record {
+            stay = λ v z here runs_it other unheld.
+                (wake.waits first).stay v z ((goes.waits first).stay v z here runs_it refl unheld)
+                ((goes.waits first).runs z v.run refl runs_it) other refl;
+            runs = λ z x other runs_it. (wake.waits first).runs z x other ((goes.waits first).runs z x refl runs_it);
+            whence = λ v here. old_or_not v here ((wake.waits first).whence v here);
+            now = λ d u waits.
+                absurd (cc (lent_by r ok p st (record { id = at.id; run = Some (after_action run) }) d u waits));
+          }
+            where
+              old_or_not : (v : RunWait) → In v (waits_of first (past_in g))
+                  → In v (waits_of first (past_in (ended p.history (caller_numbered c) t)))
+                  ⊎ ((is_lent first (Worker at.id) ≡ true)
+                  × (laid (past_in (ended p.history (caller_numbered c) t)) ≡ Some v.run))
+                  → (In v (waits_of first (past_in p.history)) × IsNotOf r ok p st at.id v)
+                  ⊎ IsWaitNow r ok p st (record { id = at.id; run = Some (after_action run) }) g v
+              old_or_not v here (inl mid) =
+                  inl (
+                    ended_begins_none first r.layout p.history c t st.kept (lent_number c held.1) may v mid,
+                    λ runs_it.
+                        woken_gone first r.layout (ended p.history (caller_numbered c) t) at.id v goes.kept fit_wake
+                        ((goes.waits first).runs at.id v.run refl runs_it) here,
+                  )
+              old_or_not v here (inr begins) = absurd (cc begins.0)
 
           m : WorkerMoves r ok p st k at (Some c) g
           m =

@@ -24,6 +24,7 @@ use Rattle.cmwq_play.specs.declared.machine.Called.TheVariants.{NoRoom, Whole, W
 use Rattle.cmwq_play.specs.declared.place.Ticketed.{Ticketed}
 use Rattle.cmwq_schedule_laws.proofs.Awake.{IsAsAwake, awake_further, awake_itself, other_entry}
 use Rattle.cmwq_schedule_laws.proofs.Keeping.{IsKept, kept_after, unmade_stays}
+use Rattle.cmwq_schedule_laws.proofs.WaitsGoing.{WaitsGo, waits_entry, waits_further, waits_stay}
 
 -- what a worker runs is as awake as it was
 abbrev pub RunsAsAwake : Who → List Entry → List Entry → Type 0
@@ -82,24 +83,36 @@ made_spares h maker who c kept new other =
           (h.entries ++ e ∷ []) refl newest;
     }
 
+made_waits : (first : ℕ) (h : History) (maker : Who) (c : Call)
+    → IsKept h.layout (with_entry h (next_entry h maker c))
+    → WaitsGo first maker (past_in h) (past_in (with_entry h (next_entry h maker c)))
+made_waits first h maker c new =
+    let e = next_entry h maker c in
+    let newest = one_more_is_newest h.entries e in
+    subst (WaitsGo first maker (past_in h)) (sym newest)
+    (waits_entry first h.layout (past_in h) e (subst (IsLegal h.layout) newest new.legal))
+
 -- ---- calls
 
 -- a history that goes on by entries of one maker
 pub record GoesOn (s : Layout) (maker : Who) (h g : History) : Type 0 where
   pub kept : IsKept s g
   pub spares : (who : Who) → same_who maker who ≡ false → Spares who h.entries g.entries
+  pub waits : (first : ℕ) → WaitsGo first maker (past_in h) (past_in g)
 
 module _ (s : Layout) (maker : Who) where
   pub goes_nowhere : (h : History) → IsKept s h → GoesOn s maker h h
   goes_nowhere h kept = record {
     kept = kept;
     spares = λ who other. spares_itself who h.entries;
+    waits = λ first. waits_stay first maker (past_in h);
   }
 
   pub goes_further : (h g i : History) → GoesOn s maker h g → GoesOn s maker g i → GoesOn s maker h i
   goes_further h g i a b = record {
     kept = b.kept;
     spares = λ who other. spares_further who h.entries g.entries i.entries (a.spares who other) (b.spares who other);
+    waits = λ first. waits_further first maker (past_in h) (past_in g) (past_in i) (a.waits first) (b.waits first);
   }
 
   either : (h g i : History) (b : Bool) → GoesOn s maker h g → GoesOn s maker h i
@@ -120,11 +133,13 @@ module _ (s : Layout) (maker : Who) where
           (λ fresh. record {
             kept = fresh;
             spares = λ who other. made_spares h maker who c k fresh other;
+            waits = λ first. made_waits first h maker c fresh;
           }) new
       own false not k new =
           subst (λ (g : History). GoesOn h.layout maker h g) (sym (unmade_stays h maker c not)) record {
             kept = k;
             spares = λ who other. spares_itself who h.entries;
+            waits = λ first. waits_stay first maker (past_in h);
           }
 
       at : (b : Bool) → is_made h maker c ≡ b → GoesOn s maker h (stepped h maker c)

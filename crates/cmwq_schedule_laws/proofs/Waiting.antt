@@ -1,13 +1,11 @@
 -- A run waits by a caller: what is looked at before, how the wait begins, and how it ends.
-use Rattle.std.specs.Option.{option_map_or}
-use Rattle.std.specs.Prelude.{◌&&◌, if◌then◌else◌, is_some, option_and_then, option_map}
-use Rattle.std.specs.List.{fold}
+use Rattle.std.specs.Prelude.{◌&&◌, is_some}
 use Rattle.std.proofs.Common.{◌≡◌, ◌∙◌, ◌+◌, ◌≤◌, ◌++◌, ◌∷◌, ℕ, Bool, true, false, List, [], Option, Some, None}
 use Rattle.std.proofs.Common.{nat_le, refl, sym, ap, subst, arith, inl, inr}
 use Rattle.std.specs.Cmp.Derive.{both_true}
 use Rattle.std.proofs.lemmas.Bool.{and_parts, le-leb, leb-true}
-use Rattle.cmwq_model.specs.Prelude.{Layout, entry_for, fits, has_time, is_workers, past_of, room_needed}
-use Rattle.cmwq_model.specs.Prelude.{runs_awake, ticket_of}
+use Rattle.cmwq_model.specs.Prelude.{Layout, entry_for, fits, has_time, is_workers, room_needed}
+use Rattle.cmwq_model.specs.Prelude.{runs_awake}
 unfoldable use Rattle.cmwq_model.specs.Prelude.{IsLegal}
 use Rattle.cmwq_model.specs.declared.call.Call.{Call}
 use Rattle.cmwq_model.specs.declared.call.Call.TheVariants as call
@@ -17,20 +15,13 @@ use Rattle.cmwq_model.specs.declared.id.ItemId.{ItemId}
 use Rattle.cmwq_model.specs.declared.id.Who.{Who}
 use Rattle.cmwq_model.specs.declared.id.Who.TheVariants.{Caller, Worker}
 use Rattle.cmwq_model.specs.declared.id.WorkerId.{WorkerId}
-use Rattle.cmwq_model.specs.declared.record.Queueing.{Queueing}
-use Rattle.cmwq_model.specs.declared.record.Ticket.{Ticket}
-use Rattle.cmwq_theory_steps.specs.ItemQueueings.{queueing_run}
 use Rattle.cmwq_core.specs.History.{History, past_in, takes_with}
-use Rattle.cmwq_waits.specs.HeldUp.{AreWaiting}
-use Rattle.cmwq_waits.specs.Registered.{refusal_of, registered}
-use Rattle.cmwq_waits.specs.Registered as register
-use Rattle.cmwq_waits.specs.declared.run_wait.RunWait.{RunWait}
+use Rattle.cmwq_waits.specs.Begun.{is_lent, waits_of}
+use Rattle.cmwq_waits.specs.Registered.{refusal_of}
 use Rattle.cmwq_waits.specs.declared.waits.Stuck.{Stuck}
 use Rattle.cmwq_waits.specs.declared.waits.Stuck.TheVariants as stuck
-use Rattle.cmwq_waits.proofs.GoOn.{is_waiting, registered_wait}
-use Rattle.cmwq_dispatch.proofs.Steady.{none_wait}
 use Rattle.cmwq_monitor.specs.Calls.{own_entry}
-use Rattle.cmwq_monitor.specs.Held.{Held, held_at_first, refusal_at}
+use Rattle.cmwq_monitor.specs.Held.{refusal_after}
 use Rattle.cmwq_monitor.specs.Participants.{View}
 use Rattle.cmwq_rt.specs.Waiting.{WasAllowed, WasLookedAt, is_wait}
 use Rattle.cmwq_rt.specs.declared.wait_fault.WaitFault.TheVariants as fault
@@ -38,107 +29,41 @@ use Rattle.cmwq_board.specs.Asked as board
 use Rattle.cmwq_board.proofs.Slept.{needs_more}
 use Rattle.cmwq_cmd_run.specs.Interpreted.{IsRefused}
 use Rattle.cmwq_play.specs.Machines.{is_made}
-use Rattle.cmwq_play.specs.Waiting.{are_there, noted_doing}
 unfoldable use Rattle.cmwq_play.specs.Machines.{has_wait_room}
-unfoldable use Rattle.cmwq_play.specs.Waiting.{is_refused, noted, noted_at, waits_in}
-use Rattle.cmwq_play.specs.declared.place.Doing.{Doing}
-use Rattle.cmwq_play.specs.declared.place.Doing.TheVariants.{Acts, AtGate, AtLock, Waits}
-use Rattle.cmwq_play.specs.declared.place.RunAt.{RunAt}
+use Rattle.cmwq_play.specs.Waiting.{waits_in}
+unfoldable use Rattle.cmwq_play.specs.Waiting.{is_refused}
 use Rattle.cmwq_play.specs.declared.place.WorkerAt.{WorkerAt}
 use Rattle.cmwq_schedule_laws.proofs.Accounts.{IsItems}
 use Rattle.cmwq_schedule_laws.proofs.Awake.{slept_reply}
-use Rattle.cmwq_schedule_laws.proofs.Keeping.{IsKept, IsUpToDate, in_step}
-
--- ---- the runs that wait
-
-module _ (h : History) (legal : IsLegal h.layout (past_in h)) where
-  one_waits : (waits : List RunWait) (w : WorkerId) (c : CallerId) (n : ℕ) → AreWaiting (past_in h) waits
-      → AreWaiting (past_in h) (registered waits (register.wait_of (past_in h) w c n))
-  one_waits waits w c n waiting = of_run (queueing_run (past_in h) (Worker w)) refl
-    where
-      of_ticket : (x : Queueing) → queueing_run (past_in h) (Worker w) ≡ Some x → (o : Option Ticket)
-          → ticket_of (past_in h) (Caller c) n ≡ o
-          → AreWaiting (past_in h)
-          (registered waits (option_map {U = RunWait} (λ (t : Ticket). record { run = x; ticket = t }) o))
-      of_ticket x runs None none = waiting
-      of_ticket x runs (Some t) known =
-          registered_wait (past_in h) waits (record { run = x; ticket = t })
-          (is_waiting h.layout (past_in h) w c n x t legal runs known) waiting
-
-      of_run : (o : Option Queueing) → queueing_run (past_in h) (Worker w) ≡ o
-          → AreWaiting (past_in h) (registered waits
-          (option_and_then {U = RunWait} (λ (x : Queueing). option_map (λ (t : Ticket). record { run = x; ticket = t })
-          (ticket_of (past_in h) (Caller c) n)) o))
-      of_run None none = waiting
-      of_run (Some x) runs = of_ticket x runs (ticket_of (past_in h) (Caller c) n) refl
-
-  noted_waits : (waits : List RunWait) (w : WorkerId) (c : CallerId) (n : ℕ) → AreWaiting (past_in h) waits
-      → AreWaiting (past_in h) (noted h waits w c n)
-  unfolding noted
-  noted_waits waits w c n waiting = at (are_there h.layout w c n)
-    where
-      at : (b : Bool) → AreWaiting (past_in h)
-          (if b then registered waits (register.wait_of (past_in h) w c n) else waits)
-      at true = one_waits waits w c n waiting
-      at false = waiting
-
-  doing_waits : (waits : List RunWait) (w : WorkerId) (d : Doing) → AreWaiting (past_in h) waits
-      → AreWaiting (past_in h) (noted_doing h waits w d)
-  doing_waits waits w (Waits c t) waiting = noted_waits waits w (record { 0 = c }) t.ticket waiting
-  doing_waits waits w Acts waiting = waiting
-  doing_waits waits w (AtGate gate slept) waiting = waiting
-  doing_waits waits w (AtLock lock slept) waiting = waiting
-
-  worker_waits : (waits : List RunWait) (at : WorkerAt) → AreWaiting (past_in h) waits
-      → AreWaiting (past_in h) (noted_at h waits at)
-  unfolding noted_at
-  worker_waits waits at waiting = of at.run
-    where
-      of : (o : Option RunAt)
-          → AreWaiting (past_in h) (option_map_or (λ (run : RunAt). noted_doing h waits at.id run.doing) o waits)
-      of None = waiting
-      of (Some run) = doing_waits waits at.id run.doing waiting
-
-  all_wait : (waits : List RunWait) (workers : List WorkerAt) → AreWaiting (past_in h) waits
-      → AreWaiting (past_in h) (fold (noted_at h) waits workers)
-  all_wait waits [] waiting = waiting
-  all_wait waits (at ∷ rest) waiting = all_wait (noted_at h waits at) rest (worker_waits waits at waiting)
-
-  pub they_wait : (workers : List WorkerAt) → AreWaiting (past_in h) (waits_in h workers)
-  unfolding waits_in
-  they_wait workers = all_wait [] workers (none_wait (past_in h))
+use Rattle.cmwq_schedule_laws.proofs.Keeping.{IsKept, IsUpToDate}
 
 -- ---- what was found of a wait
 
-abbrev held_with : List Entry → List RunWait → Held
-held_with log waits =
-    record (held_at_first 0 (record { tickets = []; pools = [] })) { history = log; waits = waits }
-
-waiting_then : (s : Layout) (h : History) (workers : List WorkerAt) → IsKept s h
-    → AreWaiting (past_of h.entries) (waits_in h workers)
-waiting_then s h workers kept =
-    they_wait h (subst (λ (l : Layout). IsLegal l (past_in h)) (sym kept.layout) kept.legal) workers
-
-module _ (s : Layout) (h : History) (workers : List WorkerAt) (w : WorkerId) (v : View) (kept : IsKept s h)
-    (who : v.who ≡ Worker w) (up : IsUpToDate h.entries v) (c : Call) where
+module _ (first : ℕ) (s : Layout) (h : History) (workers : List WorkerAt) (w : WorkerId) (v : View) (kept : IsKept s h)
+    (who : v.who ≡ Worker w) (up : IsUpToDate h.entries v) (c : Call)
+    (same : refusal_of s (past_in h) (waits_of first (past_in h)) w c
+    ≡ refusal_of s (past_in h) (waits_in h workers) w c) where
   found : (why : Option Stuck) → refusal_of s (past_in h) (waits_in h workers) w c ≡ why
-      → refusal_at s (held_with h.entries (waits_in h workers)) v.who c ≡ why
-  found why is =
-      subst (λ (x : Who). refusal_at s (held_with h.entries (waits_in h workers)) x c ≡ why) (sym who) is
+      → refusal_after s first h.entries v.who c ≡ why
+  found why is = subst (λ (x : Who). refusal_after s first h.entries x c ≡ why) (sym who) (same ∙ is)
 
   looked_at : (why : Option Stuck) → refusal_of s (past_in h) (waits_in h workers) w c ≡ why → WasLookedAt s v c why
   looked_at why is = record {
-    held = held_with h.entries (waits_in h workers);
-    step = in_step h.entries v up;
-    waiting = waiting_then s h workers kept;
+    first = first;
+    history = h.entries;
+    legal = kept.legal;
+    older = up.older;
+    counts = up.book;
     found = found why is;
   }
 
-  pub was_allowed : (u : View) → refusal_of s (past_in h) (waits_in h workers) w c ≡ None
-      → u.seen ≡ h.entries ++ own_entry s h.entries v call.Sleep ∷ [] → WasAllowed s v c u
-  was_allowed u is seen = record {
-    held = held_with h.entries (waits_in h workers);
-    waiting = waiting_then s h workers kept;
+  pub was_allowed : (u : View) (caller : Who) → is_lent first caller ≡ true
+      → refusal_of s (past_in h) (waits_in h workers) w c ≡ None
+      → u.seen ≡ h.entries ++ own_entry s h.entries v call.Sleep ∷ [] → WasAllowed s v c caller u
+  was_allowed u caller lent is seen = record {
+    first = first;
+    before = h.entries;
+    lent = lent;
     allowed = found None is;
     slept = seen;
   }
