@@ -99,8 +99,8 @@ fn keep_others(waits: &mut Vec<RunWait>, run: Number)
     waits.retain(|wait| wait.run.number != run);
 }
 
-/// Notes that what the worker runs waits for this ticket of the caller. Space for it is wanted in vain where more runs
-/// wait than the shape has workers, which never is: each worker has one run.
+/// Notes that what the worker runs waits for this ticket of the caller. Each worker has one run, so there is space for
+/// it, unless the play was made for a shape with fewer workers.
 #[tactic(auto, unfolding(crate::specs::Waiting::noted))]
 fn note(
     waits: &mut Waits,

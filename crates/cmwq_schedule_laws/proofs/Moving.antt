@@ -232,13 +232,15 @@ module _ (r : Run) (ok : IsPlayable r) (p : Stand) (st : Stands r p) where
     pub nobody_else : (j : ℕ) (z : WorkerAt) (c : ℕ) → (j ≡ k → ⊥) → slice_get p.workers j ≡ Some z
         → lent_to z ≡ Some c → IsOther lends (caller_numbered c)
 
+  -- the runs that wait by a history
   abbrev waits_at : History → List RunWait
   waits_at g = waits_of (length r.callers) (past_in g)
 
-  -- A wait for which the run of this worker waits now, or none of it.
+  -- a wait in which the run of this worker is now
   abbrev pub IsWaitNow : WorkerAt → History → RunWait → Type 0
   IsWaitNow at g v = (c : ℕ) × (t : Ticketed) × WaitsBy at c t × IsWaitAt (past_in g) at.id c t v
 
+  -- the run of this wait was not this worker's
   abbrev pub IsNotOf : WorkerId → RunWait → Type 0
   IsNotOf w v = queueing_run (past_in p.history) (Worker w) ≡ Some v.run → ⊥
 
@@ -254,7 +256,7 @@ module _ (r : Run) (ok : IsPlayable r) (p : Stand) (st : Stands r p) where
     pub now : (c : ℕ) (t : Ticketed) → WaitsBy (record { id = at.id; run = run }) c t
         → (v : RunWait) × In v (waits_at g) × IsWaitAt (past_in g) at.id c t v
 
-  -- no run waits that has no caller
+  -- a run that had no caller did not wait
   pub not_of : (k : ℕ) (at : WorkerAt) → slice_get p.workers k ≡ Some at → lent_to at ≡ None → (v : RunWait)
       → In v (waits_at p.history) → IsNotOf at.id v
   not_of k at is none v here runs =
