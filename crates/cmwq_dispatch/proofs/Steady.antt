@@ -1,6 +1,6 @@
 -- What holds of each dispatch goes on to hold.
 use Rattle.cmwq_theory_steps.specs.Common.{◌≡◌, ◌*◌, Bool, true, false, not, ◌||◌, List}
-use Rattle.cmwq_theory_steps.specs.Common.{◌∷◌, length, drop, refl, sym, ap, ap₂, ◌∙◌, subst}
+use Rattle.cmwq_theory_steps.specs.Common.{ℕ, [], ◌∷◌, length, drop, refl, sym, ap, ap₂, ◌∙◌, subst}
 use Rattle.cmwq_theory_steps.specs.Common.{Entry, Layout, Ticket, IsLegal, WorkerId, CallerId}
 use Rattle.cmwq_theory_steps.specs.Common.{has_run, is_enlisted, eq-eqb}
 use Rattle.std.proofs.lemmas.Bool.{and_from, both_ways}
@@ -9,6 +9,7 @@ use Rattle.cmwq_model.proofs.Growing.{one_more_is_newest}
 use Rattle.cmwq_theory_wakes.specs.Rest.{IsUnready}
 use Rattle.cmwq_theory_wakes.specs.Starting.{would_start}
 use Rattle.cmwq_waits.specs.Begun.{HasWaitsOf, Registry}
+unfoldable use Rattle.cmwq_waits.specs.Begun.{waits_of}
 use Rattle.cmwq_dispatch.specs.Asleep.{Asleep, IsLookedAfter, Leaves, NobodySleeps, Waits}
 use Rattle.cmwq_dispatch.specs.Dispatched.{Dispatched, Enters, MayEnter, Stands, is_over}
 use Rattle.cmwq_dispatch.specs.Dispatched.{active_in, past_now}
@@ -45,6 +46,16 @@ pub waits_after : (h g : History) (e : Entry) (r : Registry) → g ≡ with_entr
 waits_after h g e r made has =
     subst (λ (s : Layout). HasWaitsOf s (past_in g) r) (sym (ap (λ (k : History). k.layout) made))
     (subst (λ past. HasWaitsOf h.layout past r) (sym (newest h g e made)) has)
+
+-- Where there is no entry, no run waits, whoever is lent.
+pub none_waits : (s : Layout) (past : List Entry) (r : Registry) (first : ℕ) → past ≡ [] → HasWaitsOf s past r
+    → HasWaitsOf s past (record r { first = first })
+unfolding waits_of
+none_waits s past r first none has = record {
+  laid = has.laid;
+  waits = has.waits ∙ ap (waits_of r.first) none ∙ sym (ap (waits_of first) none);
+  places = has.places;
+}
 
 -- ---- what holds of each dispatch
 

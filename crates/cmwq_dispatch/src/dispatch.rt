@@ -1,7 +1,7 @@
 //! A hub without threads: what its calls return, who sleeps, and who is to be woken.
 
 ghost use Rattle.std.specs.Prelude.{◌≡◌, ◌<◌, ◌≤◌, ◌+◌, ◌-◌, ◌∷◌, ◌&&◌, IfOk, IfSome, IsTrue, drop, false, is_ok};
-ghost use Rattle.std.specs.Prelude.{not};
+ghost use Rattle.std.specs.Prelude.{[], not};
 ghost use Rattle.std.specs.Prelude.{if◌then◌else◌, is_some, length, nat_lt, true};
 ghost use Rattle.cmwq_core.specs.History.{past_in, takes};
 ghost use Rattle.cmwq_core.specs.Plans.{IsPlan};
@@ -111,6 +111,21 @@ impl Dispatch {
             closed: false,
             failed: false,
         })
+    }
+
+    /// Callers from this number on are lent to runs. It has no entry yet.
+    pub fn lends_from(&mut self, first: CallerId)
+        requires { past_now self.old ≡ [] }
+        ensures { self.new ≡ record self.old { first_lent = first.0 } }
+    {
+        self.runs.lends_from(first);
+    }
+
+    /// The number of the first caller that is lent to runs.
+    pub fn first_lent(&self) -> CallerId
+        ensures { result.0 ≡ self.now.first_lent }
+    {
+        self.runs.first_lent()
     }
 
     /// Lets the dispatch go, as `Execution::end` does an execution.

@@ -77,6 +77,13 @@ impl RunWaits {
         CallerId(self.first)
     }
 
+    /// Callers from this number on are lent to runs.
+    pub fn lends_from(&mut self, first: CallerId)
+        ensures { self.new ≡ record self.old { first = first.0 } }
+    {
+        self.first = first.0;
+    }
+
     /// This entry is planned, and is made next. It may end waits, and it may begin one.
     pub fn enters(&mut self, execution: &Execution, plan: &Plan)
         requires plan { (who : _) × (call : _) × IsPlan execution.now who call plan.now }
