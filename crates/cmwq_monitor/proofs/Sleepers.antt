@@ -30,7 +30,7 @@ history_is s h layout room =
 pub dispatch_is : (s : Layout) (d : Dispatched) (given keeps : ℕ) (sleeps : Bool) → d.history.layout ≡ s
     → d.history.room ≡ s.room → dispatched s (held_of d given keeps sleeps) ≡ d
 dispatch_is s d given keeps sleeps layout room =
-    ap (λ (h : History). dispatched_of h d.closed d.failed d.crowded d.firing d.waits d.asleep)
+    ap (λ (h : History). dispatched_of h d.closed d.failed d.crowded d.firing d.first_lent d.asleep)
     (history_is s d.history layout room)
 
 -- ---- who may make an entry
@@ -127,7 +127,15 @@ steps_on who old new u v w on more crowded writer = record {
 
 pub goes_on_same : (h : Held) → GoesOn h h
 goes_on_same h =
-    record { closed = refl; failed = refl; firing = refl; crowded = refl; given = refl; keeps = refl }
+    record {
+      closed = refl;
+      failed = refl;
+      firing = refl;
+      crowded = refl;
+      first_lent = refl;
+      given = refl;
+      keeps = refl;
+    }
 
 pub goes_on_more : (a b c : Held) → GoesOn a b → GoesOn b c → GoesOn a c
 goes_on_more a b c h k = record {
@@ -135,6 +143,7 @@ goes_on_more a b c h k = record {
   failed = k.failed ∙ h.failed;
   firing = k.firing ∙ h.firing;
   crowded = k.crowded ∙ h.crowded;
+  first_lent = k.first_lent ∙ h.first_lent;
   given = k.given ∙ h.given;
   keeps = k.keeps ∙ h.keeps;
 }
@@ -144,7 +153,7 @@ goes_on_more a b c h k = record {
 held_but_asleep : (d new : Dispatched) (given keeps : ℕ) (writer : Bool) → SameButAsleep d new
     → held_of new given keeps writer ≡ record (held_of d given keeps writer) { asleep = new.asleep }
 held_but_asleep d new given keeps writer same =
-    rw (same.history, same.closed, same.failed, same.crowded, same.firing, same.waits) refl
+    rw (same.history, same.closed, same.failed, same.crowded, same.firing, same.first_lent) refl
 
 over_is : (s : Layout) (d : Dispatched) (given keeps : ℕ) (writer : Bool) → d.history.layout ≡ s
     → d.history.room ≡ s.room → dispatch.is_over d ≡ true → is_over s (held_of d given keeps writer) ≡ true

@@ -8,24 +8,24 @@ use Rattle.cmwq_dispatch.specs.Dispatched as Dispatch
 use Rattle.cmwq_dispatch.specs.Dispatched.{Dispatched, dispatched_of}
 use Rattle.cmwq_dispatch.specs.Naming.{NamesAll, names_journal}
 use Rattle.cmwq_dispatch.specs.declared.wakes.Wakes.{Wakes}
-use Rattle.cmwq_waits.specs.Registered.{refusal_of, registered, wait_of}
-use Rattle.cmwq_waits.specs.declared.run_wait.RunWait.{RunWait}
+use Rattle.cmwq_waits.specs.Begun.{waits_of}
+use Rattle.cmwq_waits.specs.Registered.{refusal_of}
 use Rattle.cmwq_waits.specs.declared.waits.Stuck.{Stuck}
 use Rattle.cmwq_monitor.specs.Participants.{is_caller}
 use Rattle.cmwq_monitor.specs.declared.fault.RunFault.{RunFault}
 use Rattle.cmwq_monitor.specs.declared.fault.RunFault.TheVariants.{NoMemory, Closed}
 
 -- The history, with the oldest entry first. A closed hub takes no calls of callers, a failed one none at all. How many
--- callers may still fire, whether somebody sleeps until there is space, the runs that wait, and who sleeps. How many
--- entries were handed over or dropped, how many of the others are kept at most, and whether the one who writes the
--- history down sleeps.
+-- callers may still fire, whether somebody sleeps until there is space, from which number on callers are lent to runs,
+-- and who sleeps. How many entries were handed over or dropped, how many of the others are kept at most, and whether
+-- the one who writes the history down sleeps.
 pub record Held : Type 0 where
   pub history : List Entry
   pub closed : Bool
   pub failed : Bool
   pub firing : ℕ
   pub crowded : Bool
-  pub waits : List RunWait
+  pub first_lent : ℕ
   pub asleep : Asleep
   pub given : ℕ
   pub keeps : ℕ
@@ -38,21 +38,21 @@ held_of d given keeps writer_sleeps = record {
   failed = d.failed;
   firing = d.firing;
   crowded = d.crowded;
-  waits = d.waits;
+  first_lent = d.first_lent;
   asleep = d.asleep;
   given = given;
   keeps = keeps;
   writer_sleeps = writer_sleeps;
 }
 
-abbrev pub held_at_first : ℕ → Asleep → Held
-held_at_first keeps asleep = record {
+abbrev pub held_at_first : ℕ → ℕ → Asleep → Held
+held_at_first keeps first asleep = record {
   history = [];
   closed = false;
   failed = false;
   firing = 0;
   crowded = false;
-  waits = [];
+  first_lent = first;
   asleep = asleep;
   given = 0;
   keeps = keeps;
@@ -65,7 +65,7 @@ history_of s entries = record { layout = s; room = s.room; entries = entries }
 
 -- the same as contracts see a dispatch
 abbrev pub dispatched : Layout → Held → Dispatched
-dispatched s h = dispatched_of (history_of s h.history) h.closed h.failed h.crowded h.firing h.waits h.asleep
+dispatched s h = dispatched_of (history_of s h.history) h.closed h.failed h.crowded h.firing h.first_lent h.asleep
 
 -- it takes the calls of this one
 abbrev pub IsOpenTo : Held → Who → Type 0
@@ -100,15 +100,15 @@ has_space s h n = h.failed || (nat_le n (space_in h) || nat_le s.room (space_in 
 
 -- ---- runs that wait
 
--- why a wait of what this worker runs is refused; no wait of a caller is
-abbrev pub refusal_at : Layout → Held → Who → Call → Option Stuck
-refusal_at s h (Worker w) c = refusal_of s (past_of h.history) h.waits w c
-refusal_at s h (Caller k) c = None
+-- Why a wait of what this worker runs is refused after these entries, if callers from a number on are lent to runs. No
+-- wait of a caller is.
+abbrev pub refusal_after : Layout → ℕ → List Entry → Who → Call → Option Stuck
+refusal_after s first history (Worker w) c =
+    refusal_of s (past_of history) (waits_of first (past_of history)) w c
+refusal_after s first history (Caller k) c = None
 
--- the runs that wait once the worker's does, for this ticket of the caller
-abbrev pub waits_with : Held → Who → Who → ℕ → List RunWait
-waits_with h (Worker w) (Caller c) n = registered h.waits (wait_of (past_of h.history) w c n)
-waits_with h worker caller n = h.waits
+abbrev pub refusal_at : Layout → Held → Who → Call → Option Stuck
+refusal_at s h who c = refusal_after s h.first_lent h.history who c
 
 -- there is room for the call, with what is owed then, and for a sleep and a wake
 abbrev pub has_room_to_wait : Layout → Held → Who → Call → Bool
@@ -117,19 +117,21 @@ has_room_to_wait s h who c = takes_with (history_of s h.history) who c 2
 -- ---- steps
 
 -- A step that is answered neither opens nor closes it, and doesn't fail it. Nobody begins or ends to fire, or to sleep
--- until there is space, and nothing is handed over.
+-- until there is space, the same callers are lent, and nothing is handed over.
 pub record GoesOn (old new : Held) : Type 0 where
   pub closed : new.closed ≡ old.closed
   pub failed : new.failed ≡ old.failed
   pub firing : new.firing ≡ old.firing
   pub crowded : new.crowded ≡ old.crowded
+  pub first_lent : new.first_lent ≡ old.first_lent
   pub given : new.given ≡ old.given
   pub keeps : new.keeps ≡ old.keeps
 
 -- What a fault leaves: want of memory a hub that has failed, any other one as it was. Only a closed one answers that it
 -- is closed.
 abbrev pub LeavesHeld : Held → RunFault → Held → Type 0
-LeavesHeld old (NoMemory ticket) new = (new.closed ≡ old.closed) × (new.failed ≡ true)
+LeavesHeld old (NoMemory ticket) new =
+    (new.closed ≡ old.closed) × (new.failed ≡ true) × (new.first_lent ≡ old.first_lent)
 LeavesHeld old Closed new = (new ≡ old) × (old.closed ≡ true)
 LeavesHeld old f new = new ≡ old
 

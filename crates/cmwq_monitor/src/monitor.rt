@@ -13,9 +13,9 @@ ghost use Rattle.cmwq_dispatch.specs.Naming.{NamesAll, NamesMore, names_journal}
 ghost use Rattle.cmwq_monitor.specs.Participants.{View, Gains, is_caller};
 ghost use Rattle.cmwq_monitor.specs.Held.{GoesOn, IsOpenTo, LeavesHeld, SleepersGoOn, active_in, dispatched};
 ghost use Rattle.cmwq_monitor.specs.Held.{failed_from, has_room_to_wait, has_space, held_at_first, held_of, history_of};
-ghost use Rattle.cmwq_monitor.specs.Held.{is_over, is_writer_wanted, refusal_at, waits_with};
-ghost use Rattle.cmwq_waits.specs.HeldUp.{AreWaiting};
-ghost use Rattle.cmwq_waits.specs.Registered.{waits_after};
+ghost use Rattle.cmwq_monitor.specs.Held.{is_over, is_writer_wanted, refusal_at};
+ghost use mathlib.Core.List.{IsPrefix};
+ghost use Rattle.cmwq_waits.specs.Begun.{is_lent};
 ghost use Rattle.cmwq_monitor.specs.Calls.{Extends, own_entry};
 ghost use Rattle.cmwq_monitor.specs.Faults.{SaysFault, Refused, IsStranger, is_full};
 ghost use Rattle.cmwq_monitor.specs.Whole.{Stops};
@@ -92,11 +92,11 @@ impl<N: HubName> Monitor<N> {
         publisher: Publisher<N>,
         entries: ledger::Book<N>,
     ) -> Monitor<N>
-        requires dispatch { dispatch ≡ is_new N.layout N.layout.room dispatch.asleep }
+        requires dispatch { dispatch ≡ is_new N.layout N.layout.room dispatch.first_lent dispatch.asleep }
         requires tail { tail ≡ record { all = []; given = 0; room = tail.room } }
         requires publisher { publisher.entries ≡ [] }
         requires entries { entries.total ≡ 0 }
-        ensures { result ≡ held_at_first tail.room dispatch.asleep }
+        ensures { result ≡ held_at_first tail.room dispatch.first_lent dispatch.asleep }
     {
         Monitor {
             dispatch,
@@ -141,8 +141,6 @@ impl<N: HubName> Monitor<N> {
             ∷ []) }
         ensures all { IfOk result (λ _. self.new.history ≡ participant.new.seen) }
         ensures goes_on { IfOk result (λ _. GoesOn self.old self.new) }
-        ensures waits { IfOk result (λ _. self.new.waits ≡ waits_after (past_of self.old.history)
-            (own_entry N.layout self.old.history participant.old call) self.old.waits) }
         ensures failed { IfErr result
             (λ _. (self.new ≡ failed_from self.old self.new.asleep) × (participant.new ≡ participant.old)) }
         ensures named { SleepersGoOn participant.old.who self.old self.new wakes.old wakes.new }
@@ -335,12 +333,14 @@ impl<N: HubName> Monitor<N> {
         requires { has_numbers N.layout call ≡ true }
         ensures is { IfOk result (λ stuck. stuck ≡ refusal_at N.layout self.old participant.now.who call) }
         ensures step { IfOk result (λ _. InStep self.old.history participant.now) }
-        ensures waiting { AreWaiting (past_of self.old.history) self.old.waits }
+        ensures older { IfOk result (λ _. IsPrefix participant.now.seen self.old.history) }
+        ensures legal { IsLegal N.layout (past_of self.old.history) }
         ensures stranger { IfErr result (λ f. IsStranger participant.now f) }
         ensures same { self.new ≡ self.old }
     {
         self.stands();
         self.compare(participant)?;
+        participant.begins(self.publisher.prefix());
         match participant.who() {
             Who::Worker(worker) => Ok(self.dispatch.refuses(worker, call)),
             Who::Caller(_) => Ok(None),
@@ -357,24 +357,13 @@ impl<N: HubName> Monitor<N> {
             .has_room_with(caller.who(), call, 2)
     }
 
-    /// What the worker runs waits from now on for this ticket of the caller. It returns false where there was no space
-    /// for it: there is for as many as the hub has callers.
-    pub fn run_waits(
-        &mut self,
-        participant: &Participant<N>,
-        caller: &Participant<N>,
-        ticket: Number,
-    ) -> bool
-        ensures { self.new ≡ record self.old {
-          waits = if result
-              then waits_with self.old participant.now.who caller.now.who ticket else self.old.waits;
-        } }
+    /// Whether it is a caller that is lent to runs, by its number.
+    pub fn is_lent(&self, participant: &Participant<N>) -> bool
+        ensures { result ≡ is_lent self.now.first_lent participant.now.who }
     {
-        match (participant.who(), caller.who()) {
-            (Who::Worker(worker), Who::Caller(caller)) => self
-                .dispatch
-                .run_waits(worker, caller, ticket),
-            _ => true,
+        match participant.who() {
+            Who::Caller(caller) => self.dispatch.first_lent().0 <= caller.0,
+            Who::Worker(_) => false,
         }
     }
 

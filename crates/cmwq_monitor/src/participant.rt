@@ -83,8 +83,16 @@ impl<N: HubName> Participant<N> {
         ensures seen { self.new ≡ record self.old { seen = prefix.now } }
         ensures older { IsPrefix self.old.seen prefix.now }
     {
-        self.prefix.begins(prefix);
+        self.begins(prefix);
         self.prefix = prefix.again();
+    }
+
+    /// What it has seen begins the prefix, which is no shorter. Nothing runs.
+    pub fn begins(&self, prefix: &Prefix<N>)
+        requires { length self.now.seen ≤ length prefix.now }
+        ensures { IsPrefix self.now.seen prefix.now }
+    {
+        self.prefix.begins(prefix);
     }
 
     /// Of what two participants of a hub have seen the shorter begins the longer.

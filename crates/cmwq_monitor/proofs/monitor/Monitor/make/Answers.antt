@@ -83,19 +83,13 @@ invariant_of-self-2 g c =
           c.sleeps_on-self-inside.result,
     )
 
-pub returns-clause-waits : goal.returns-clause-waits
-returns-clause-waits g c =
-    let held : c.self.inside.dispatch.history.entries ≡ c.args.self.now.history =
-    ap (λ (h : Held). h.history) c.self.view_is in
-    let runs : c.self.inside.dispatch.waits ≡ c.args.self.now.waits = ap (λ (h : Held). h.waits) c.self.view_is in
-    c.commit-reply.ensures.enters.waits ∙ rw (held, runs, c.requires.plan.mark.is_next) refl
-
 pub returns-clause-goes_on : goal.returns-clause-goes_on
 returns-clause-goes_on g c = record {
   closed = c.commit-reply.ensures.enters.closed ∙ ap (λ (h : Held). h.closed) c.self.view_is;
   failed = c.commit-reply.ensures.enters.failed ∙ ap (λ (h : Held). h.failed) c.self.view_is;
   firing = c.commit-reply.ensures.enters.firing ∙ ap (λ (h : Held). h.firing) c.self.view_is;
   crowded = c.commit-reply.ensures.enters.crowded ∙ ap (λ (h : Held). h.crowded) c.self.view_is;
+  first_lent = c.commit-reply.ensures.enters.first_lent ∙ ap (λ (h : Held). h.first_lent) c.self.view_is;
   given = ap (λ (t : Tailed Entry). t.given) c.push.ensures ∙ ap (λ (h : Held). h.given) c.self.view_is;
   keeps = ap (λ (t : Tailed Entry). t.room) c.push.ensures ∙ ap (λ (h : Held). h.keeps) c.self.view_is;
 }
