@@ -30,6 +30,7 @@ use Rattle.cmwq_chart.specs.CallerWaits.{wait_ended, wait_in, wait_left, wait_ov
 use Rattle.cmwq_chart.specs.CallerWaits.{waits_left}
 use Rattle.cmwq_output_laws.specs.BarLaws.{StandsIn}
 use Rattle.cmwq_chart_laws.specs.Waits.{ends_wait_of}
+use Rattle.cmwq_output_laws.proofs.RowsApart.{left_is, not_done}
 use Rattle.cmwq_chart_laws.proofs.Causing.{is_ended}
 use Rattle.cmwq_chart_laws.proofs.Folded.{only, picked, same_if}
 
@@ -49,15 +50,6 @@ none_of_none test xs h = by (filter test xs) (length-filter test xs ∙ h)
     by : {X : Type 0} (ys : List X) → length ys ≡ 0 → ys ≡ []
     by [] k = refl
     by (y ∷ ys) k = absurd (omega arith)
-
-not_done : (r : Reply) → gives_ticket r ≡ true → is_done r ≡ false
-not_done reply.Done h = cc
-not_done r h = refl
-
-set_past : {X : Type 0} (xs : List X) (n : ℕ) (x : X) → length xs ≤ n → slice_set xs n x ≡ xs
-set_past [] n x h = refl
-set_past (y ∷ xs) zero x h = absurd (omega arith)
-set_past (y ∷ xs) (suc n) x h = ap (λ l. y ∷ l) (set_past xs n x (omega arith))
 
 abbrev pub if_one : Bool → ℕ
 if_one b = cond b 1 0
@@ -128,14 +120,6 @@ module _ (c : CallerId) (n : ℕ) where
       let b = count_by-cons here r rows in
       let h = set_count row to rows k in
       omega arith
-
-  left_is : (rows : List (Option ℕ)) (k : ℕ) → left_row rows k ≡ slice_set rows k None
-  left_is rows k = by (nat_lt k (length rows)) refl
-    where
-      by : (b : Bool) → nat_lt k (length rows) ≡ b
-          → (if b then slice_set rows k None else rows) ≡ slice_set rows k None
-      by true is = refl
-      by false is = sym (set_past rows k None (ltb-false k (length rows) is))
 
   left_count : (row : ℕ) (to : Option ℕ) (rows : List (Option ℕ)) (k : ℕ)
       → count_by here (left_row rows k) + count_by from_here (ended_there row to (ticket_in_row rows k))

@@ -9,3 +9,4 @@ pub mod Timely
 pub mod Shapes
 pub mod Checked
 pub mod Held
+pub mod RowsApart

@@ -1,6 +1,6 @@
 -- Laws of waits for runs: why a run that waits for its own end, and runs that wait for one another in a circle, would
 -- never go on.
-use Rattle.std.specs.Prelude.{◌≡◌, ◌==◌, ◌&&◌, ◌∷◌, ◌++◌, ℕ, Bool, true, false, List, [], Some, option_map}
+use Rattle.std.specs.Prelude.{◌≡◌, ◌<◌, ◌==◌, ◌&&◌, ◌∷◌, ◌++◌, ℕ, Bool, true, false, List, [], Some, option_map}
 use Rattle.std.specs.List.{AllByRecursion, list_any}
 use Rattle.cmwq_model.specs.declared.call.Call.{Call}
 use Rattle.cmwq_model.specs.declared.call.Call.TheVariants as call
@@ -9,6 +9,10 @@ use Rattle.cmwq_model.specs.declared.record.Queueing.{Queueing}
 use Rattle.cmwq_model.specs.declared.record.Start.{Start}
 use Rattle.cmwq_model.specs.Prelude.{IsLegal, Layout, entry_at, finishes, is_done, is_end_of, item_run, queueing_at}
 use Rattle.cmwq_theory_laws.specs.Headline.{is_waited_for}
+use Rattle.cmwq_model.specs.declared.id.CallerId.{CallerId}
+use Rattle.cmwq_chart.specs.CallerWaits.{waits_by}
+use Rattle.cmwq_chart.specs.declared.waits.CallerWait.{CallerWait}
+use Rattle.cmwq_output_laws.specs.BarLaws.{EndsBefore}
 
 -- its item runs this queueing
 abbrev pub IsRun : List Entry → Queueing → Type 0
@@ -65,3 +69,12 @@ StillWaits past later wait = IsRun (later ++ past) wait.run × (list_any (ends_w
 abbrev pub CirclesNeverEnd : Type 0
 CirclesNeverEnd = (s : Layout) (past later : List Entry) (waits : List RunWait) → IsLegal s (later ++ past)
     → AreStuck past waits → FinishAfterWaits waits later → AllByRecursion (StillWaits past later) waits
+
+-- ---- of a caller's waits in one row of a chart, the one that begins first ends before the other begins
+
+abbrev pub StandApart : CallerWait → CallerWait → Type 0
+StandApart w v = w.row ≡ v.row → w.from < v.from → EndsBefore w.to v.from
+
+abbrev pub WaitsOfARowAreApart : Type 0
+WaitsOfARowAreApart = (past : List Entry) (c : CallerId)
+    → AllByRecursion (λ w. AllByRecursion (StandApart w) (waits_by past c)) (waits_by past c)

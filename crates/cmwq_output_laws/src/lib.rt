@@ -15,4 +15,4 @@ pub use checks::{
 };
 pub use levels::{levels_are_alone, levels_are_true, places_have_levels, used_places_are_shown};
 pub use sleeps::sleepers_are_asleep;
-pub use waits::{circles_never_end, runs_hold_waits};
+pub use waits::{circles_never_end, runs_hold_waits, waits_of_a_row_are_apart};
