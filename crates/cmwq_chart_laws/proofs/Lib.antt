@@ -18,3 +18,4 @@ pub mod Stacked
 pub mod FinishesDrawn
 pub mod SleepsDrawn
 pub mod Marked
+pub mod Paged

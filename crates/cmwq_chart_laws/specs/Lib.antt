@@ -8,3 +8,4 @@ pub mod Levels
 pub mod Finishes
 pub mod Sleeps
 pub mod Marks
+pub mod PageRows

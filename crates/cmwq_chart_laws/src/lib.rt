@@ -5,6 +5,7 @@ mod charts;
 mod drawn;
 mod edges;
 mod marks;
+mod page_rows;
 mod standing;
 
 pub use charts::{
@@ -20,4 +21,5 @@ pub use marks::{
     ends_are_drawn, finishes_are_drawn, replies_are_marked, signs_are_drawn, sleeps_are_drawn,
     starts_are_drawn, wakes_are_drawn,
 };
+pub use page_rows::rows_tell_histories;
 pub use standing::{figures_stand_with_entries, flat_levels_stand_at_their_ends};
