@@ -60,7 +60,7 @@ tells_of_run s v c (Err NoCaller) h = absurd (cc h)
 
 -- put together of its steps
 pub slept_through : (s : Layout) (v asleep before after w : View) (c : Call) (o : Result Reply WaitFault)
-    → MakesOne s v call.Sleep asleep → WasAllowed s v c asleep → is_caller after.who ≡ true
+    → MakesOne s v call.Sleep asleep → WasAllowed s v c before.who asleep → is_caller after.who ≡ true
     → IfOk o (λ _. made_by before.who asleep.seen ≡ made_by before.who before.seen)
     → IfOk o (λ r. Completes s before c r after)
     → IfOk o (λ _. MakesOne s asleep call.Wake w) → IfOk o (λ _. IsPrefix asleep.seen after.seen)

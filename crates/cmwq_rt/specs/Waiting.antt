@@ -1,17 +1,17 @@
 -- Waits of runs, and what they leave.
 use Rattle.std.specs.Prelude.{◌≡◌, ◌⊎◌, ◌==◌, ◌++◌, ◌∷◌, [], Some, None}
 use Rattle.cmwq_rt.specs.Common.{Bool, true, false, Option, Result, Ok, Err, IsPrefix, Call, Reply, Layout, View}
-use Rattle.cmwq_rt.specs.Common.{Refused, made_by, is_caller, is_full, Completes, RunFault, Full}
+use Rattle.cmwq_rt.specs.Common.{Entry, Full, IsLegal, List, Refused, RunFault, Who, made_by, is_caller, is_full, ℕ}
+use Rattle.cmwq_rt.specs.Common.{Completes, serial_of}
 use Rattle.cmwq_model.specs.declared.call.Call.TheVariants as call
 use Rattle.cmwq_model.specs.Prelude.{past_of}
 use Rattle.cmwq_model.specs.declared.id.ItemId.{ItemId}
 use Rattle.cmwq_monitor.specs.Calls.{own_entry}
-use Rattle.cmwq_monitor.specs.Held.{Held, refusal_at}
-use Rattle.cmwq_monitor.specs.Steps.{InStep}
+use Rattle.cmwq_monitor.specs.Held.{refusal_after}
 use Rattle.cmwq_rt.specs.Running.{MakesOne, Running, breaks_off, fault_after}
 use Rattle.cmwq_rt.specs.Sums.{one_refused, one_without_room}
 use Rattle.cmwq_rt.specs.declared.left_out.LeftOut.{LeftOut}
-use Rattle.cmwq_waits.specs.HeldUp.{AreWaiting}
+use Rattle.cmwq_waits.specs.Begun.{is_lent}
 use Rattle.cmwq_waits.specs.declared.waits.Stuck.{Stuck}
 use Rattle.cmwq_waits.specs.declared.waits.Stuck.TheVariants as stuck
 use Rattle.cmwq_rt.specs.declared.wait_fault.WaitFault.{WaitFault}
@@ -30,21 +30,23 @@ is_wait c = false
 abbrev pub IsAwake : Layout → View → View → Type 0
 IsAwake s v w = (w ≡ v) ⊎ MakesOne s v call.Wake w
 
--- Under the lock, before it fell asleep, its wait was not refused.
-pub record WasAllowed (s : Layout) (v : View) (c : Call) (asleep : View) : Type 0 where
-  pub held : Held
-  pub waiting : AreWaiting (past_of held.history) held.waits
-  pub allowed : refusal_at s held v.who c ≡ None
-  pub slept : asleep.seen ≡ held.history ++ own_entry s held.history v call.Sleep ∷ []
+-- Under the lock, after the entries before its sleep, its wait by this caller was not refused. The caller is one of
+-- those that are lent to runs, which are the callers from a number on.
+pub record WasAllowed (s : Layout) (v : View) (c : Call) (caller : Who) (asleep : View) : Type 0 where
+  pub first : ℕ
+  pub before : List Entry
+  pub lent : is_lent first caller ≡ true
+  pub allowed : refusal_after s first before v.who c ≡ None
+  pub slept : asleep.seen ≡ before ++ own_entry s before v call.Sleep ∷ []
 
 -- The worker slept, and woke. Between the two, in what it sees, a caller made this call whole: when the worker fell
 -- asleep, the caller had made what it had made before, and no more.
 pub record SleepsThrough (s : Layout) (v : View) (c : Call) (r : Reply) (w : View) : Type 0 where
   pub asleep : View
   pub sleeps : MakesOne s v call.Sleep asleep
-  pub allowed : WasAllowed s v c asleep
   pub before : View
   pub after : View
+  pub allowed : WasAllowed s v c before.who asleep
   pub nothing_yet : made_by before.who asleep.seen ≡ made_by before.who before.seen
   pub by_caller : is_caller after.who ≡ true
   pub completes : Completes s before c r after
@@ -96,13 +98,16 @@ stuck_of Itself = Some stuck.Itself
 stuck_of Deadlock = Some stuck.Circle
 stuck_of f = None
 
--- Under the lock, this was the reason to refuse a wait of what the worker ran, or there was none. The hub counted as
--- many entries of the worker as it had made, and had all that it had seen.
+-- Under the lock, this was the reason to refuse a wait of what the worker ran, or there was none, where callers from a
+-- number on are lent to runs. The legal history there began with all that the worker had seen, and had as many entries
+-- of the worker as it had made.
 pub record WasLookedAt (s : Layout) (v : View) (c : Call) (why : Option Stuck) : Type 0 where
-  pub held : Held
-  pub step : InStep held.history v
-  pub waiting : AreWaiting (past_of held.history) held.waits
-  pub found : refusal_at s held v.who c ≡ why
+  pub first : ℕ
+  pub history : List Entry
+  pub legal : IsLegal s (past_of history)
+  pub older : IsPrefix v.seen history
+  pub counts : serial_of (past_of history) v.who ≡ v.serial
+  pub found : refusal_after s first history v.who c ≡ why
 
 -- A refused wait tells what was found under the lock: where it tells that no caller is left, no other reason was.
 abbrev pub TellsWhy : Layout → View → Call → WaitFault → Type 0

@@ -230,14 +230,12 @@ impl<N: HubName> Caller<N> {
         (hold, Ok(reply))
     }
 
-    /// The same for a run that waits. A closed hub takes it too, and the monitor knows meanwhile what the run waits
-    /// for.
+    /// The same for a run that waits. A closed hub takes it too.
     pub(crate) fn wait_in_run<'a, R: Wait>(
         &mut self,
         rt: &R,
         hub: &'a Hub<N>,
         hold: Hold<'a, N>,
-        worker: &Participant<N>,
         call: Call,
     ) -> (Hold<'a, N>, Result<Reply, RunFault>)
         requires callers { is_callers call ≡ true }
@@ -261,7 +259,6 @@ impl<N: HubName> Caller<N> {
         let Some(ticket) = reply.ticket() else {
             return (hold, Ok(reply));
         };
-        hold.monitor.run_waits(worker, &self.participant, ticket);
         let (hold, ended) = hub.until_ended(rt, hold, &mut self.participant, call, ticket);
         match ended {
             Ok(()) => {}

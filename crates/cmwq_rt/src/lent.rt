@@ -96,7 +96,6 @@ impl<N: HubName> LentCaller<N> {
         rt: &R,
         hub: &'a Hub<N>,
         hold: Hold<'a, N>,
-        worker: &Participant<N>,
         call: Call,
     ) -> (Hold<'a, N>, Result<Reply, RunFault>)
         requires kind { is_wait call ≡ true }
@@ -108,13 +107,14 @@ impl<N: HubName> LentCaller<N> {
             (λ _. made_by self.old.who hold.entry.monitor.value.history ≡ made_by self.old.who self.old.seen) }
         ensures broke { IfErr result.1 (λ f. BrokeOff N.layout self.old call f self.new) }
     {
-        let (hold, answer) = self.caller.wait_in_run(rt, hub, hold, worker, call);
+        let (hold, answer) = self.caller.wait_in_run(rt, hub, hold, call);
         self.has_only_waited = has_gone_on(self.has_only_waited, &answer);
         (hold, answer)
     }
 }
 
-/// Callers of a hub by which runs wait: as many runs may wait at the same time. Workers share them.
+/// Callers of a hub by which runs wait: as many runs may wait at the same time. Workers share them. The hub has to lend
+/// them (`HubParts::lending_from`): else each of these waits returns `NoCaller`.
 pub struct Lent<N: HubName> {
     callers: Mutex<Vec<LentCaller<N>>>,
 }

@@ -7,7 +7,7 @@ ghost use Rattle.cmwq_rt.specs.Places.{all_free, shares};
 use crate::condvars::Condvars;
 use crate::hub::Hub;
 use crate::participants::Participants;
-use cmwq_model::{Entry, MOST_CALLERS, MOST_CPUS, MOST_WORKERS, NoMemory, Shape};
+use cmwq_model::{CallerId, Entry, MOST_CALLERS, MOST_CPUS, MOST_WORKERS, NoMemory, Shape};
 use cmwq_monitor::{Dispatch, MOST_FIRES, Monitor, RunFault};
 use cmwq_publish::{HubName, Opening};
 use cmwq_state::Tail;
@@ -22,14 +22,14 @@ const SHARES: u64 = MOST_CALLERS as u64 + 2 * MOST_WORKERS as u64 * MOST_CPUS as
 /// All that a hub needs. No call of the hub takes memory.
 pub struct HubParts {
     pub shape: Shape,
-    dispatch: Dispatch,
+    pub dispatch: Dispatch,
     tail: Tail<Entry>,
     pub opening: Opening,
     condvars: Condvars,
     pub blank: Blank,
     is_dropping: bool,
     turns: Option<Arc<Turnstile, Global>>,
-    ghost dispatch_is: { dispatch ≡ is_new shape shape.room dispatch.asleep },
+    ghost dispatch_is: { dispatch ≡ is_new shape shape.room dispatch.first_lent dispatch.asleep },
     ghost tail_is: { tail ≡ record { all = []; given = 0; room = tail.room } },
     ghost opening_is: { opening.layout ≡ shape },
     ghost shares: { blank.parts ≡ shares },
@@ -45,26 +45,30 @@ struct Rest {
 
 fn rest_of(alloc: Global, shape: &Shape, kept: u32) -> Result<Rest, NoMemory>
     ensures shape { IfOk result (λ r. r.shape ≡ shape.now) }
-    ensures dispatch { IfOk result (λ r. r.dispatch ≡ is_new shape.now shape.now.room r.dispatch.asleep) }
+    ensures dispatch { IfOk result
+        (λ r. r.dispatch ≡ is_new shape.now shape.now.room r.dispatch.first_lent r.dispatch.asleep) }
+    ensures lends { IfOk result (λ r. r.dispatch.first_lent ≡ shape.now.callers) }
     ensures tail { IfOk result (λ r. r.tail ≡ record { all = []; given = 0; room = r.tail.room }) }
 {
+    let counts = shape.counts();
     Ok(Rest {
         shape: shape.copy(alloc)?,
         condvars: Condvars::new(alloc, shape)?,
         tail: Tail::new(alloc, kept)?,
-        dispatch: Dispatch::new(alloc, shape, shape.counts().room)?,
+        dispatch: Dispatch::new(alloc, shape, counts.room, CallerId(counts.callers))?,
     })
 }
 
 impl HubParts {
     /// The execution, the published history with a reader for each caller, a condvar for each caller and worker, and
-    /// the ledger of entries.
+    /// the ledger of entries. No caller is lent to runs (`lending_from`).
     ///
     /// # Errors
     /// `NoMemory` where memory runs out.
     pub fn new<R: Wait>(rt: &R, alloc: Global, shape: &Shape) -> Result<HubParts, RunFault>
         ensures shape { IfOk result (λ p. p.shape ≡ shape.now) }
         ensures readers { IfOk result (λ p. p.opening.readers ≡ shape.now.callers) }
+        ensures lends { IfOk result (λ p. p.dispatch.first_lent ≡ shape.now.callers) }
         ensures fault { IfErr result (λ f. f ≡ faults.NoMemory None) }
     {
         let readers = shape.counts().callers;
@@ -83,6 +87,7 @@ impl HubParts {
     ) -> Result<HubParts, RunFault>
         ensures shape { IfOk result (λ p. p.shape ≡ shape.now) }
         ensures readers { IfOk result (λ p. p.opening.readers ≡ readers) }
+        ensures lends { IfOk result (λ p. p.dispatch.first_lent ≡ shape.now.callers) }
         ensures fault { IfErr result (λ f. f ≡ faults.NoMemory None) }
     {
         let Ok(kept) = u32::try_from(shape.counts().room) else {
@@ -112,6 +117,7 @@ impl HubParts {
     ) -> Result<HubParts, RunFault>
         ensures shape { IfOk result (λ p. p.shape ≡ shape.now) }
         ensures readers { IfOk result (λ p. p.opening.readers ≡ shape.now.callers) }
+        ensures lends { IfOk result (λ p. p.dispatch.first_lent ≡ shape.now.callers) }
         ensures fault { IfErr result (λ f. f ≡ faults.NoMemory None) }
     {
         let readers = shape.counts().callers;
@@ -132,6 +138,7 @@ impl HubParts {
     ) -> Result<HubParts, RunFault>
         ensures shape { IfOk result (λ p. p.shape ≡ shape.now) }
         ensures readers { IfOk result (λ p. p.opening.readers ≡ readers) }
+        ensures lends { IfOk result (λ p. p.dispatch.first_lent ≡ shape.now.callers) }
         ensures fault { IfErr result (λ f. f ≡ faults.NoMemory None) }
     {
         let Ok(opening) = Opening::new(rt, alloc, shape, usize::from(readers)) else {
@@ -171,6 +178,7 @@ impl HubParts {
     ) -> Result<HubParts, RunFault>
         ensures shape { IfOk result (λ p. p.shape ≡ shape.now) }
         ensures readers { IfOk result (λ p. p.opening.readers ≡ readers) }
+        ensures lends { IfOk result (λ p. p.dispatch.first_lent ≡ shape.now.callers) }
         ensures fault { IfErr result (λ f. f ≡ faults.NoMemory None) }
     {
         let kept = HubParts::least_kept(shape);
@@ -193,11 +201,25 @@ impl HubParts {
     ) -> Result<HubParts, RunFault>
         ensures shape { IfOk result (λ p. p.shape ≡ shape.now) }
         ensures readers { IfOk result (λ p. p.opening.readers ≡ readers) }
+        ensures lends { IfOk result (λ p. p.dispatch.first_lent ≡ shape.now.callers) }
         ensures fault { IfErr result (λ f. f ≡ faults.NoMemory None) }
     {
         let mut parts = HubParts::keeping_all(rt, alloc, shape, readers)?;
         parts.turns = Some(turnstile);
         Ok(parts)
+    }
+
+    /// The same of a hub whose callers from this number on are lent to runs that wait (`Lent`). Without this call none
+    /// is, and each wait of a run returns `NoCaller`.
+    pub fn lending_from(self, first: CallerId) -> HubParts
+        ensures lends { result.dispatch.first_lent ≡ first.0 }
+        ensures shape { result.shape ≡ self.shape }
+        ensures opening { result.opening ≡ self.opening }
+        ensures blank { result.blank ≡ self.blank }
+    {
+        let mut parts = self;
+        parts.dispatch.lends_from(first);
+        parts
     }
 }
 

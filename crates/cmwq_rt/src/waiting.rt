@@ -2,7 +2,7 @@
 
 ghost use Rattle.std.specs.Prelude.{◌≡◌, true, false, IfOk, IfErr, None};
 ghost use mathlib.Core.List.{IsPrefix};
-ghost use Rattle.cmwq_model.specs.Prelude.{has_numbers, is_callers, past_of, is_tick};
+ghost use Rattle.cmwq_model.specs.Prelude.{has_numbers, is_callers, is_tick};
 ghost use Rattle.cmwq_model.specs.declared.call.Call.TheVariants as calls;
 ghost use Rattle.cmwq_monitor.specs.Faults.{is_full};
 ghost use Rattle.cmwq_monitor.specs.declared.fault.RunFault.TheVariants.{Full};
@@ -13,7 +13,7 @@ ghost use Rattle.cmwq_rt.specs.Running.{MakesOne, breaks_off};
 ghost use Rattle.cmwq_monitor.specs.Held.{refusal_at};
 ghost use Rattle.cmwq_rt.specs.Waiting.{IsOfRun, MakesNothing, SleepsThrough, TellsWhy, WasAllowed, WasLookedAt};
 ghost use Rattle.cmwq_rt.specs.Waiting.{is_refusal, is_wait};
-ghost use Rattle.cmwq_waits.specs.HeldUp.{AreWaiting};
+ghost use Rattle.cmwq_waits.specs.Begun.{is_lent};
 ghost use Rattle.cmwq_rt.specs.declared.wait_fault.WaitFault.TheVariants as waits;
 
 use crate::hold::Hold;
@@ -46,7 +46,8 @@ fn stranger<N: HubName>(later: &Participant<N>, other: &Participant<N>) -> RunFa
 }
 
 /// Lends a caller to the worker's run for a wait by this call, and the run goes to sleep. Where it may not wait,
-/// neither is done. All is decided in one hold of the lock, so that what is refused has held nothing.
+/// neither is done. All is decided in one hold of the lock, so that what is refused has held nothing. Only a caller
+/// that the hub knows as lent is, so that the history shows the wait.
 fn begin_wait<N: HubName, R: Wait>(
     rt: &R,
     hold: &mut Hold<N>,
@@ -58,7 +59,8 @@ fn begin_wait<N: HubName, R: Wait>(
     requires callers { is_callers call ≡ true }
     requires numbers { has_numbers N.layout call ≡ true }
     ensures sleeps { IfOk result (λ _. MakesOne N.layout worker.old calls.Sleep worker.new) }
-    ensures allowed { IfOk result (λ _. WasAllowed N.layout worker.old call worker.new) }
+    ensures lent { IfOk result (λ caller. is_lent hold.new.monitor.value.first_lent caller.who ≡ true) }
+    ensures allowed { IfOk result (λ caller. WasAllowed N.layout worker.old call caller.who worker.new) }
     ensures all { IfOk result (λ _. hold.new.monitor.value.history ≡ worker.new.seen) }
     ensures refused { IfErr result (λ f. is_refusal f ≡ true → worker.new ≡ worker.old) }
     ensures stuck { IfErr result (TellsWhy N.layout worker.old call) }
@@ -74,6 +76,10 @@ fn begin_wait<N: HubName, R: Wait>(
     let Some(caller) = lent.take(rt) else {
         return Err(WaitFault::NoCaller);
     };
+    if !hold.monitor.is_lent(caller.participant()) {
+        lent.give(rt, caller);
+        return Err(WaitFault::NoCaller);
+    }
     if !hold.monitor.has_room_to_wait(caller.participant(), call) {
         lent.give(rt, caller);
         return Err(WaitFault::Run {
@@ -98,7 +104,6 @@ fn may_wait<N: HubName>(
 ) -> Result<(), WaitFault>
     requires { has_numbers N.layout call ≡ true }
     ensures allowed { IfOk result (λ _. refusal_at N.layout monitor.old worker.now.who call ≡ None) }
-    ensures waiting { AreWaiting (past_of monitor.old.history) monitor.old.waits }
     ensures looked { IfOk result (λ _. WasLookedAt N.layout worker.now call None) }
     ensures stuck { IfErr result (TellsWhy N.layout worker.now call) }
     ensures full { IfErr result (λ f. f ≡ waits.Run Full → ⊥) }
@@ -181,7 +186,7 @@ impl<N: HubName> Hub<N> {
         ensures later { Later worker.old worker.new }
     {
         let _who = worker.who();
-        let (hold, answer) = caller.wait_in_run(rt, self, hold, worker, call);
+        let (hold, answer) = caller.wait_in_run(rt, self, hold, call);
         let saw_sleep = has_seen(caller.participant(), worker);
         let mut hold = self.spacious(rt, hold, worker.who(), 1);
         let held = &mut hold;

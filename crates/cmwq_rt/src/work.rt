@@ -249,8 +249,8 @@ impl<'a, N: HubName, R: Wait> Calls for RunCtx<'a, N, R> {
     /// # Errors
     /// They are looked for in this order. `Itself` if it would wait for its own run. `Deadlock` if it could never end,
     /// unless another thread takes something back, moves it or widens a queue. `NoCaller` if no caller is left to be
-    /// lent. `Run` with `Full` if there is no room for the whole wait. Then nothing was made, but that a run that was
-    /// asleep may have woken. `Run` with another fault of the hub.
+    /// lent, or the hub does not lend the one that is. `Run` with `Full` if there is no room for the whole wait. Then
+    /// nothing was made, but that a run that was asleep may have woken. `Run` with another fault of the hub.
     fn wait(&mut self, call: Call) -> Result<Reply, WaitFault> {
         let answer = self.wait_uncounted(call);
         self.count(&answer);
