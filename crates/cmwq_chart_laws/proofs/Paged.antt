@@ -114,11 +114,10 @@ cells_same [] ns ms k r t in_ns in_ms e = (λ i from less. absurd (omega arith),
 cells_same (b ∷ bs) ns ms k r t in_ns in_ms e =
     let first = same_cell (slice_index_or ns k 0) (slice_index_or ms k 0) b b (cells bs ns (k + 1) r)
     (cells bs ms (k + 1) t) (in_ns k) (in_ms k) e in
-    let rest = cells_same bs ns ms (k + 1) r t in_ns in_ms first.1 in
-    (
+    let rest = cells_same bs ns ms (k + 1) r t in_ns in_ms first.1 in (
       λ i from less. ⊎_elim
-      (λ (here : i ≡ k). ap (λ j. slice_index_or ns j 0) here ∙ first.0 ∙ ap (λ j. slice_index_or ms j 0) (sym here))
-      (λ (later : k + 1 ≤ i). rest.0 i later (omega arith)) (here_or_later i k from),
+          (λ (here : i ≡ k). ap (λ j. slice_index_or ns j 0) here ∙ first.0 ∙ ap (λ j. slice_index_or ms j 0) (sym here))
+          (λ (later : k + 1 ≤ i). rest.0 i later (omega arith)) (here_or_later i k from),
       rest.1,
     )
   where

@@ -139,9 +139,9 @@ module _ (c : CallerId) (ws : List CallerWait) (rows : List (Option ℕ)) (m : �
       with_other w i = (
         λ same less. ends_before t w (h.freed k t there w i same),
         λ same less. let f = h.freed k t there w i (sym same) in
-        let a = f.from in
-        let b = f.before in
-        absurd (omega arith),
+            let a = f.from in
+            let b = f.before in
+            absurd (omega arith),
       )
 
       ends_one : AreApartSoFar (ws ++ x ∷ []) (left_row rows k) (suc m)

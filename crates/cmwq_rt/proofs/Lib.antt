@@ -6,3 +6,4 @@ pub mod Following
 pub mod Running
 pub mod Sleeping
 pub mod Lending
+pub mod Registered

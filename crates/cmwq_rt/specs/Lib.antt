@@ -8,6 +8,7 @@ pub mod Sums
 pub mod Running
 pub mod Batches
 pub mod Waiting
+pub mod Sleeping
 pub mod Promises
 pub mod Lent
 pub mod Prelude

@@ -12,12 +12,15 @@ ghost use Rattle.cmwq_rt.specs.Later.{Later};
 ghost use Rattle.cmwq_rt.specs.Running.{IsNext, IsNextStart, breaks_off};
 ghost use Rattle.cmwq_monitor.specs.Settled.{AllSettle};
 ghost use Rattle.cmwq_rt.specs.Ending.{EndsAs, OneIsStranger};
+ghost use Rattle.cmwq_rt.specs.Sleeping.{MaySleep};
+ghost use Rattle.cmwq_monitor.specs.declared.monitor.Next.TheVariants.{Nothing};
+ghost use Rattle.cmwq_dispatch.specs.declared.dispatch.Sleep.TheVariants.{Sleeps};
+ghost use Rattle.cmwq_turns.specs.declared.party.Awaited.TheVariants.{Work};
 
 use crate::caller::Caller;
 use crate::condvars::Condvars;
 use crate::hold::Hold;
 use crate::parts::HubParts;
-use crate::schedule::awaited_end;
 use crate::worker::Worker;
 use cmwq_model::{Call, Entry, ItemId, Number, Reply, Shape};
 use cmwq_monitor::{
@@ -337,9 +340,11 @@ impl<N: HubName> Hub<N> {
             {
                 Ok(Ended::Done) => return (hold, Ok(())),
                 Ok(Ended::Not(Sleep::LooksAgain)) => hold = self.let_in(rt, hold),
-                Ok(Ended::Not(Sleep::Sleeps | Sleep::Over)) => {
-                    let awaited = awaited_end(participant.who(), call, ticket);
-                    hold = self.sleep(rt, hold, participant.who(), awaited);
+                Ok(Ended::Not(Sleep::Sleeps)) => {
+                    hold = self.sleep_for(rt, hold, participant.who(), call, ticket);
+                }
+                Ok(Ended::Not(Sleep::Over)) => {
+                    hold = self.sleep_for(rt, hold, participant.who(), call, ticket);
                 }
                 Err(fault) => return (hold, Err(fault)),
             }
@@ -440,6 +445,8 @@ fn next_start<N: HubName, R: Wait>(
     requires { is_caller participant.old.who ≡ false }
     ensures fault { IfErr result (λ f. breaks_off f ≡ true) }
     ensures next { IfOk result (λ next. IsNext N.layout participant.old next participant.new) }
+    ensures rests { IfOk result
+        (λ next. next ≡ Nothing Sleeps → MaySleep N.layout hold.new.monitor.value participant.new.who Work) }
     ensures later { Later participant.old participant.new }
 {
     match hold.monitor.start_or_rest(rt, participant, &mut hold.wakes) {

@@ -1,5 +1,10 @@
 //! Which thread of a hub goes on: the lock, and who sleeps and is woken. In a trial threads take turns, and a turn is a
-//! hold of the lock. No contract speaks of it.
+//! hold of the lock. Contracts say of it only that one who sleeps by the lock is known to sleep under that same hold.
+ghost use Rattle.std.specs.Prelude.{◌≡◌, true};
+ghost use Rattle.cmwq_model.specs.declared.id.CallerId.{CallerId};
+ghost use Rattle.cmwq_model.specs.declared.id.Who.TheVariants as whos;
+ghost use Rattle.cmwq_rt.specs.Sleeping.{MaySleep, MaySleepFor};
+ghost use Rattle.cmwq_turns.specs.declared.party.Awaited.TheVariants.{Space, Ticket};
 
 use crate::completion::Completion;
 use crate::hold::Hold;
@@ -12,7 +17,9 @@ use std::sync::{CondvarTimeouts, MutexGuard, Wait};
 use std::time::{Clock, Duration};
 
 /// What a caller sleeps for whose call gave this ticket.
-pub(crate) fn awaited_end(who: Who, call: Call, ticket: Number) -> Awaited {
+fn awaited_end(who: Who, call: Call, ticket: Number) -> Awaited
+    ensures { (c : CallerId) → who ≡ whos.Caller c → result ≡ Ticket c call ticket }
+{
     match who {
         Who::Caller(caller) => Awaited::Ticket {
             caller,
@@ -123,13 +130,29 @@ impl<N: HubName> Hub<N> {
         hold: Hold<'a, N>,
         who: Who,
         awaited: Awaited,
-    ) -> Hold<'a, N> {
+    ) -> Hold<'a, N>
+        requires { MaySleep N.layout hold.monitor.value who awaited }
+    {
         let mut hold = match &self.turns {
             Some(turns) => self.sleep_in_turn(rt, turns, hold, awaited),
             None => self.sleep_on_thread(rt, hold, who),
         };
         hold.monitor.awakes(who);
         hold
+    }
+
+    /// A caller sleeps until the wait of this ticket is ready, which this call of it began.
+    pub(crate) fn sleep_for<'a, R: Wait>(
+        &'a self,
+        rt: &R,
+        hold: Hold<'a, N>,
+        who: Who,
+        call: Call,
+        ticket: Number,
+    ) -> Hold<'a, N>
+        requires { MaySleepFor N.layout hold.monitor.value who ticket }
+    {
+        self.sleep(rt, hold, who, awaited_end(who, call, ticket))
     }
 
     /// Sleeps until it is woken and has the turn.
@@ -202,7 +225,9 @@ impl<N: HubName> Hub<N> {
     }
 
     /// Sleeps until there is something to write down.
-    pub(crate) fn sleep_until_wanted<'a, R: Wait>(&self, rt: &R, hold: Hold<'a, N>) -> Hold<'a, N> {
+    pub(crate) fn sleep_until_wanted<'a, R: Wait>(&self, rt: &R, hold: Hold<'a, N>) -> Hold<'a, N>
+        requires { hold.monitor.value.writer_sleeps ≡ true }
+    {
         let monitor = self.wake_first(rt, hold);
         Hold::new(self.journal.wait(rt, monitor))
     }
@@ -213,7 +238,9 @@ impl<N: HubName> Hub<N> {
         rt: &R,
         hold: Hold<'a, N>,
         time: Duration,
-    ) -> Hold<'a, N> {
+    ) -> Hold<'a, N>
+        requires { hold.monitor.value.writer_sleeps ≡ true }
+    {
         let monitor = self.wake_first(rt, hold);
         let (monitor, _) = self.journal.wait_timeout(rt, monitor, time);
         Hold::new(monitor)
