@@ -1,8 +1,8 @@
 -- What is known where a wait is not refused.
 use Rattle.std.specs.Prelude.{◌≡◌, ◌≤◌, ◌<◌, ◌+◌, ◌&&◌, ◌||◌, ℕ, Bool, true, false, not, List, length}
-use Rattle.std.specs.Prelude.{Option, Some, None, if◌then◌else◌, find, nat_lt, slice_index_or, IsTrue}
+use Rattle.std.specs.Prelude.{Option, Some, None, if◌then◌else◌, find, slice_index_or, IsTrue}
 use Rattle.std.proofs.Common.{refl, sym, ap, ap₂, ◌∙◌, subst, arith, true≢false}
-use Rattle.std.proofs.lemmas.Bool.{and_parts, eq-eqb, leb-true, lt-ltb, ltb-true}
+use Rattle.std.proofs.lemmas.Bool.{and_parts, eq-eqb, leb-true, lt-ltb}
 use Rattle.std.proofs.lemmas.List.Quantifiers.{position-Some}
 use Rattle.cmwq_dispatch.specs.Dispatched.{Dispatched, is_over, past_now}
 use Rattle.cmwq_model.specs.Prelude.{Layout, fits, gives_ticket, has_numbers}
@@ -25,9 +25,9 @@ use Rattle.cmwq_state.specs.Tails.{Tailed}
 use Rattle.cmwq_model.specs.declared.entry.Entry.{Entry}
 use Rattle.cmwq_model.specs.declared.record.Ticket.{Ticket}
 use Rattle.cmwq_model.specs.declared.reply.Reply.{Reply}
-use Rattle.cmwq_board.specs.Waits.{caller_at, early_fault, first_free, has_room_for, is_there, lending_at, lending_by}
-use Rattle.cmwq_board.specs.Waits.{lent_fault, lent_place, may_be_lent, places, room_fault, sleeps_first, stuck_now}
-use Rattle.cmwq_board.specs.Waits.{with_firing}
+use Rattle.cmwq_board.specs.Waits.{caller_at, early_fault, first_free, has_its_run, has_room_for, is_there}
+use Rattle.cmwq_board.specs.Waits.{lending_at, lending_by, lent_fault, lent_place, may_be_lent, places, room_fault}
+use Rattle.cmwq_board.specs.Waits.{sleeps_first, stuck_now, with_firing}
 use Rattle.cmwq_board.specs.declared.fault.BoardFault.TheVariants as fault
 use Rattle.cmwq_board.specs.declared.fault.WaitFault.TheVariants as wait
 use Rattle.cmwq_board.specs.declared.fault.WaitFault.{WaitFault}
@@ -80,6 +80,7 @@ pub record MayWait (b : Boarded) (run : Option WorkerId) (c : Call) : Type 0 whe
   pub there : is_there (layout_of b) run ≡ true
   pub lives : b.dispatch.failed ≡ false
   pub lasts : is_over b.dispatch ≡ false
+  pub has : has_its_run b run ≡ true
   pub space : has_space b 3 ≡ true
 
 neither : (a b : Bool) → (a || b) ≡ false → a ≡ false
@@ -102,6 +103,7 @@ no_early_fault b run c none =
       there = asked.1;
       lives = failed.0;
       lasts = neither (is_over b.dispatch) _ closed.0;
+      has = not_false _ misuse.0;
       space = not_false _ crowded.0;
     }
 
@@ -120,10 +122,10 @@ has_room true f is = refl
 has_room false f is = cc
 
 pub no_lent_fault : (b : Boarded) (run : Option WorkerId) (c : Call) (place : ℕ) → lent_place b ≡ Some place
-    → early_fault b run c ≡ None → lent_fault b run c (stuck_now b.dispatch run c) ≡ None → MayBegin b run c place
+    → early_fault b run c ≡ None → lent_fault b run c (stuck_now b run c) ≡ None → MayBegin b run c place
 no_lent_fault b run c place first early none =
     let room : room_fault b run c (Some place) ≡ None =
-    ap (room_fault b run c) (sym first) ∙ not_stuck b run c (stuck_now b.dispatch run c) none in
+    ap (room_fault b run c) (sym first) ∙ not_stuck b run c (stuck_now b run c) none in
     record { waits = no_early_fault b run c early; room = has_room _ _ room }
 
 -- ---- the call fits
@@ -142,8 +144,8 @@ wait_fits s c cl there wait numbers = cc
 
 -- ---- what the call of a lent caller needs
 
-pub record MayLend (d : Dispatched) (t : Tailed Entry) (lent : List Lending) (run : Option WorkerId) (c : Call) (place : ℕ)
-    (caller : CallerId) : Type 0 where
+pub record MayLend (d : Dispatched) (t : Tailed Entry) (lent : List Lending) (run : Option WorkerId) (c : Call)
+    (place : ℕ) (caller : CallerId) : Type 0 where
   pub call : is_wait c ≡ true
   pub fits : IsTrue (fits d.history.layout (Caller caller) c)
   pub there : is_there d.history.layout run ≡ true
@@ -175,17 +177,17 @@ lent_here d t lent run c place kept are first may =
       at = refl;
     }
 
-pub may_lend : (d n : Dispatched) (t : Tailed Entry) (lent : List Lending) (b : Boarded) (run : Option WorkerId) (c : Call)
-    (place : ℕ) (caller : CallerId) → n ≡ with_firing d → board_of d t.given t.room lent ≡ b
+pub may_lend : (d n : Dispatched) (t : Tailed Entry) (lent : List Lending) (b : Boarded) (run : Option WorkerId)
+    (c : Call) (place : ℕ) (caller : CallerId) → n ≡ with_firing d → board_of d t.given t.room lent ≡ b
     → caller ≡ caller_at b place → t.all ≡ d.history.entries → AreLent d.history.layout (past_now d) lent
     → lent_place b ≡ Some place → early_fault b run c ≡ None
-    → lent_fault b run c (stuck_now b.dispatch run c) ≡ None → MayLend n t lent run c place caller
+    → lent_fault b run c (stuck_now b run c) ≡ None → MayLend n t lent run c place caller
 may_lend d n t lent b run c place caller new view is kept are first early none =
     let here = board_of d t.given t.room lent in
     let its_first : lent_place here ≡ Some place = subst (λ x. lent_place x ≡ Some place) (sym view) first in
     let its_early : early_fault here run c ≡ None = subst (λ x. early_fault x run c ≡ None) (sym view) early in
-    let its_none : lent_fault here run c (stuck_now here.dispatch run c) ≡ None =
-    subst (λ (x : Boarded). lent_fault x run c (stuck_now x.dispatch run c) ≡ None) (sym view) none in
+    let its_none : lent_fault here run c (stuck_now here run c) ≡ None =
+    subst (λ (x : Boarded). lent_fault x run c (stuck_now x run c) ≡ None) (sym view) none in
     subst (λ m. MayLend m t lent run c place caller) (sym new)
     (subst (λ k. MayLend (with_firing d) t lent run c place k) (sym (is ∙ ap (λ x. caller_at x place) (sym view)))
     (lent_here d t lent run c place kept are its_first (no_lent_fault here run c place its_first its_early its_none)))
@@ -203,10 +205,6 @@ lending_has run slept t u r is = at (gives_ticket r) refl is
         → (gives_ticket r ≡ true) × (t ≡ u)
     at true gives has = (gives, same_Some t u has)
     at false gives has = cc
-
-pub caller_fits_there : (s : Layout) (c : CallerId) (cl : Call) → IsTrue (fits s (Caller c) cl) → c.0 < s.callers
-caller_fits_there s c cl fit =
-    ltb-true c.0 s.callers (and_parts (nat_lt c.0 s.callers) _ (and_parts _ (has_numbers s cl) fit).0).0
 
 pub fires_stay : (d n : Dispatched) → Stays d n → may_fire d ≡ true → may_fire n ≡ true
 fires_stay d n stays may = rw (stays.failed, stays.closed, stays.firing) may

@@ -19,7 +19,6 @@ use Rattle.cmwq_board.specs.Steps.{Stays, after_call, after_fires, may_fire}
 use Rattle.cmwq_board.proofs.Sleepers.{sleep_on_more}
 use Rattle.cmwq_board.proofs.Tickets.{same_by_plain}
 use Rattle.cmwq_theory_steps.proofs.TicketSteps.{unended_go_on}
-use Rattle.cmwq_dispatch.proofs.Cared.{sleep_same}
 
 -- ---- whoever may fire may make an entry
 
@@ -56,18 +55,6 @@ pub record HasFired (k : ℕ) (c : CallerId) (old now : Dispatched) (t u : Taile
   pub named : SleepOn (Caller c) old.asleep now.asleep before after
   pub tickets : SameTickets (past_now old) (past_now now)
 
-pub fired_none : (c : CallerId) (d : Dispatched) (t : Tailed Entry) (w : Wakes) → may_fire d ≡ true
-    → t.all ≡ d.history.entries → HasFired 0 c d d t t w w
-fired_none c d t w may kept = record {
-  fires = refl;
-  stays = record { layout = refl; room = refl; closed = refl; failed = refl; firing = refl };
-  may = may;
-  many = omega arith;
-  tail = rw (sym kept) refl;
-  named = sleep_same (Caller c) d.asleep w;
-  tickets = refl;
-}
-
 -- once more
 pub fired_more : (k : ℕ) (c : CallerId) (old now next : Dispatched) (t u v : Tailed Entry) (x y z : Wakes)
     → HasFired k c old now t u x y
@@ -82,7 +69,8 @@ fired_more k c old now next t u v x y z so made tail named legal =
     let layout : next.history.layout ≡ now.history.layout = ap (λ (h : History). h.layout) history in
     let legal_e : IsLegal now.history.layout (e ∷ past_now now) =
     subst (λ (s : Layout). IsLegal s (e ∷ past_now now)) layout (subst (IsLegal next.history.layout) past legal) in
-    let steps : after_fires (k + 1) old c ≡ after_call (after_fires k old c) (Caller c) call.Fire = rw (add-one k) refl in
+    let steps : after_fires (k + 1) old c ≡ after_call (after_fires k old c) (Caller c) call.Fire =
+    rw (add-one k) refl in
     record {
       fires = made
           ∙ ap (λ (d : Dispatched). record (after_call d (Caller c) call.Fire) { asleep = next.asleep }) so.fires

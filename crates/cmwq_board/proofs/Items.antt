@@ -6,7 +6,8 @@ use Rattle.std.proofs.Common.{refl, sym, ap, ◌∙◌, arith}
 use Rattle.std.proofs.lemmas.Bool.{both_ways, eq-eqb, eqb-true, leb-false, leb-true}
 use Rattle.std.proofs.lemmas.Option.{same_Some}
 use Rattle.cmwq_lemmas.proofs.Members.{filter_in, found}
-use Rattle.cmwq_model.specs.Prelude.{IsLegal, Layout, has_number, is_at, is_live, item_at, item_run, pool_at, queueing_at}
+use Rattle.cmwq_model.specs.Prelude.{IsLegal, Layout, has_number, is_at, is_live, item_at, item_run, pool_at}
+use Rattle.cmwq_model.specs.Prelude.{queueing_at}
 use Rattle.cmwq_model.specs.Prelude.{run as run_in}
 unfoldable use Rattle.cmwq_model.specs.Prelude.{queueings}
 use Rattle.cmwq_model.specs.declared.entry.Entry.{Entry}
@@ -123,7 +124,8 @@ last_may : (past : List Entry) (k d : ℕ) → due_of past k ≡ Some d → MayF
 last_may past k d when = record { item = k; there = omega arith; when = when }
 
 -- one item more
-pub due_more : (past : List Entry) (k : ℕ) (o : Option ℕ) → IsDue past k o → IsDue past (k + 1) (lesser o (due_of past k))
+pub due_more : (past : List Entry) (k : ℕ) (o : Option ℕ) → IsDue past k o
+    → IsDue past (k + 1) (lesser o (due_of past k))
 due_more past k o is = at o (due_of past k) refl is
   where
     both : (d e : ℕ) (b : Bool) → due_of past k ≡ Some e → nat_le d e ≡ b → IsDue past k (Some d)

@@ -1,8 +1,11 @@
 pub mod Tickets
 pub mod Sleepers
 pub mod Fires
+pub mod Once
 pub mod Places
-pub mod Runs
+pub mod Started
+pub mod WaitingRuns
+pub mod Woken
 pub mod Slept
 pub mod Begins
 pub mod Items

@@ -1,5 +1,5 @@
 -- The callers that are lent, at their places.
-use Rattle.std.specs.Prelude.{◌≡◌, ◌≢◌, ◌≤◌, ◌<◌, ◌+◌, ◌-◌, ◌&&◌, ◌||◌, ◌++◌, [], ℕ, Bool, true, false, not, zero, suc, List}
+use Rattle.std.specs.Prelude.{◌≡◌, ◌≢◌, ◌≤◌, ◌<◌, ◌+◌, ◌-◌, ◌&&◌, ◌||◌, ◌++◌, [], ℕ, Bool, true, false, not, List}
 use Rattle.std.specs.Prelude.{length, ◌==◌, ◌∷◌, Contains, Option, Some, None, if◌then◌else◌, count_by, find, nat_lt}
 use Rattle.std.specs.Prelude.{option_to_list, slice_index_or, slice_set, is_some, replicate, nat_le}
 use Rattle.std.proofs.lemmas.List.{length-replicate, get_or-set_other, get_or-set_same}
@@ -30,11 +30,13 @@ use Rattle.std.proofs.lemmas.List.Folds.{find-append}
 use Rattle.cmwq_refinement.proofs.TicketSteps.{unended_below}
 use Rattle.cmwq_refinement.proofs.Numbers.{In, contained_in, found, in_append, in_contained, in_filter, in_option}
 use Rattle.cmwq_board.specs.Boarded.{IsBoard, firing_for, first_place, most_made}
-use Rattle.cmwq_board.specs.Lent.{AreLent, EndsTicketOf, GivesBy, HasLeft, MayBecome, SameTickets, caller_of, first_lent}
-use Rattle.cmwq_board.specs.Lent.{given_by, is_of_drain, is_other, ticket_at, unended_drains, waits_by}
+use Rattle.cmwq_board.specs.Lent.{AreLent, EndsTicketOf, GivesBy, HasLeft, MayBecome, RunsWaitOnce, SameTickets}
+use Rattle.cmwq_board.specs.Lent.{caller_of, first_lent, given_by, is_of_drain, is_other, ticket_at, unended_drains}
+use Rattle.cmwq_board.specs.Lent.{waits_by}
 use Rattle.cmwq_board.specs.Steps.{Stays, may_fire}
 use Rattle.cmwq_board.specs.declared.lending.Lending.{Lending}
 use Rattle.cmwq_board.specs.declared.lending.Lending.TheVariants.{Free, Waits}
+use Rattle.cmwq_board.proofs.Once.{free_at, once_new}
 use Rattle.cmwq_board.proofs.Tickets.{kept_found, still_found}
 
 -- ---- the ticket that is found
@@ -73,7 +75,7 @@ same_asleep d n s = λ i. record {
   failed = s.failed i;
   crowded = s.crowded i;
   firing = s.firing i;
-  waits = s.waits i;
+  first_lent = s.first_lent i;
   asleep = n.asleep;
 }
 
@@ -200,7 +202,8 @@ module _ (s : Layout) (new : List Entry) (lent : List Lending) (place : ℕ) (l 
   set_held j t j_less is false differs =
       let other : j ≢ place = λ e. true≢false (sym (eq-eqb j place e) ∙ differs) in
       ap (λ k. ticket_of new (Caller k) t.number) (caller_same j)
-      ∙ others j t (omega (arith, j_less, long)) other (ap ticket_at (sym (get_or-set_other lent place j l Free other)) ∙ is)
+      ∙ others j t (omega (arith, j_less, long)) other
+      (ap ticket_at (sym (get_or-set_other lent place j l Free other)) ∙ is)
 
   pub lent_set : AreLent s new (slice_set lent place l)
   lent_set = record {
@@ -258,7 +261,8 @@ ended_places s old new lent place l t are less own ends may =
 pub given_places : (s : Layout) (old new : List Entry) (lent : List Lending) (place : ℕ) (l : Lending) (r : Reply)
     (c : CallerId) (cl : Call) (n : ℕ) → AreLent s old lent → place < length lent → c ≡ caller_of s lent place
     → length old ≤ n → GivesBy r (record { caller = c; call = cl; number = n }) old new
-    → ((u : Ticket) → ticket_at l ≡ Some u → (gives_ticket r ≡ true) × (record { caller = c; call = cl; number = n } ≡ u))
+    → ((u : Ticket) → ticket_at l ≡ Some u
+    → (gives_ticket r ≡ true) × (record { caller = c; call = cl; number = n } ≡ u))
     → AreLent s new (slice_set lent place l)
 given_places s old new lent place l r c cl n are less own later gives has =
     lent_set s new lent place l are.few less
@@ -287,13 +291,14 @@ freed_places s old lent place are less =
 
 pub board_now : (d n : Dispatched) (keeps kept : ℕ) (lent after : List Lending) → IsBoard d keeps lent
     → n.history.layout ≡ d.history.layout → n.history.room ≡ d.history.room → kept ≡ keeps
-    → AreLent d.history.layout (past_now n) after → n.firing ≡ firing_for (unended_drains (past_now n))
-    → IsBoard n kept after
-board_now d n keeps kept lent after was layout room same are firing = record {
+    → AreLent d.history.layout (past_now n) after → RunsWaitOnce after
+    → n.firing ≡ firing_for (unended_drains (past_now n)) → IsBoard n kept after
+board_now d n keeps kept lent after was layout room same are once firing = record {
   room = room ∙ was.room ∙ ap (λ (s : Layout). s.room) (sym layout);
   keeps = subst (λ (s : Layout). most_made s ≤ kept) (sym layout)
       (subst (λ k. most_made d.history.layout ≤ k) (sym same) was.keeps);
   lent = subst (λ (s : Layout). AreLent s (past_now n) after) (sym layout) are;
+  once = once;
   firing = firing;
 }
 
@@ -308,6 +313,7 @@ board_same d n keeps kept lent stays same is was =
           same_found (past_now d) (past_now n) (caller_of d.history.layout lent place) t.number t same
           (was.lent.held place t less at);
     })
+    was.once
     (stays.firing ∙ was.firing ∙ ap (λ ts. firing_for (count_by is_of_drain ts)) (sym same))
 
 -- ---- whether any was left
@@ -427,28 +433,18 @@ left_given s r old new lent place l reply t layout less free own gives waits h =
 
 -- ---- a new board
 
-free_at : (n place : ℕ) → slice_index_or (replicate n Free) place Free ≡ Free
-free_at zero place = refl
-free_at (suc n) zero = refl
-free_at (suc n) (suc place) = free_at n place
-
 none_unended : unended_tickets [] ≡ []
 unfolding tickets
 none_unended = refl
 
-pub new_unended : (s : Layout) (asleep : Asleep) → unended_tickets (past_now (is_new s s.room asleep)) ≡ []
+pub new_unended : (s : Layout) (asleep : Asleep) → unended_tickets (past_now (is_new s s.room s.callers asleep)) ≡ []
 new_unended s asleep = none_unended
-
-pub none_left : (s : Layout) (past : List Entry) (lent : List Lending) → unended_tickets past ≡ []
-    → HasLeft s past lent → ⊥
-none_left s past lent none h =
-    subst (In h.ticket) none (contained_in (unended_tickets past) h.ticket h.unended)
 
 free_waits : (l : Lending) (t : Ticket) → l ≡ Free → ticket_at l ≡ Some t → ⊥
 free_waits l t free is = let bad : None ≡ Some t = ap ticket_at (sym free) ∙ is in cc
 
 pub new_board : (s : Layout) (asleep : Asleep) (keeps n : ℕ) → most_made s ≤ keeps → n ≤ s.callers
-    → IsBoard (is_new s s.room asleep) keeps (replicate n Free)
+    → IsBoard (is_new s s.room s.callers asleep) keeps (replicate n Free)
 new_board s asleep keeps n most few = record {
   room = refl;
   keeps = most;
@@ -456,5 +452,6 @@ new_board s asleep keeps n most few = record {
     few = subst (λ k. k ≤ s.callers) (sym (length-replicate n Free)) few;
     held = λ place t less is. absurd (free_waits (slice_index_or (replicate n Free) place Free) t (free_at n place) is);
   };
+  once = once_new n;
   firing = ap (λ ts. firing_for (count_by is_of_drain ts)) (sym none_unended);
 }

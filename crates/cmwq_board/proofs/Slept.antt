@@ -1,18 +1,19 @@
 -- A run falls asleep: that takes two entries, and the call of a wait needs as much room after it as before.
 use Rattle.cmwq_theory_steps.specs.Common.{◌≡◌, ◌≤◌, ◌+◌, ◌&&◌, ◌||◌, ◌==◌, ◌∷◌, ◌++◌, ℕ, Bool, true, false, not, suc}
-use Rattle.cmwq_theory_steps.specs.Common.{List, Option, Some, None, length, filter, find, option_to_list, option_and_then, refl}
-use Rattle.cmwq_theory_steps.specs.Common.{option_map, option_map_or, option_or, is_some, sym, ap, ap₂, ◌∙◌, subst, arith}
-use Rattle.cmwq_theory_steps.specs.Common.{append-nil, if◌then◌else◌, count_by, list_any, nat_le, Entry, Layout, Reply, Call}
-use Rattle.cmwq_theory_steps.specs.Common.{Queueing, Booking, CallerId, WorkerId, Who, Caller, Worker, IsLegal, All_each}
-use Rattle.cmwq_theory_steps.specs.Common.{answer, booking, booked_by, booking_of, bookings, destroy_answer, fits, flush_delayed_answer}
-use Rattle.cmwq_theory_steps.specs.Common.{cancel_sync_answer, flush_item_answer, wait_answer, is_gone, standing_bookings}
-use Rattle.cmwq_theory_steps.specs.Common.{due_in, gives_ticket, has_not_started, is_at, is_being_destroyed}
-use Rattle.cmwq_theory_steps.specs.Common.{is_booked, is_booked_on, is_crowded, is_done, is_held_back, is_item_open}
-use Rattle.cmwq_theory_steps.specs.Common.{is_of_item, is_started, is_unstarted, item_called, item_fired, item_of}
-use Rattle.cmwq_theory_steps.specs.Common.{number_booked, number_cancelled, number_finished, number_started, opening, opens}
-use Rattle.cmwq_theory_steps.specs.Common.{owed, place_called, place_wanted, queued_at, replaces, room_needed, runs_awake}
-use Rattle.cmwq_theory_steps.specs.Common.{settles, stands, still_open, taken_back_for, ticket_in, unended_tickets}
-use Rattle.cmwq_theory_steps.specs.Common.{unstarted_queueing}
+use Rattle.cmwq_theory_steps.specs.Common.{List, Option, Some, None, length, filter, find, option_to_list}
+use Rattle.cmwq_theory_steps.specs.Common.{option_and_then, refl, option_map, option_map_or, option_or, is_some, sym}
+use Rattle.cmwq_theory_steps.specs.Common.{ap, ap₂, ◌∙◌, subst, arith, append-nil, if◌then◌else◌, count_by, list_any}
+use Rattle.cmwq_theory_steps.specs.Common.{nat_le, Entry, Layout, Reply, Call, Queueing, Booking, CallerId, WorkerId}
+use Rattle.cmwq_theory_steps.specs.Common.{Who, Caller, Worker, IsLegal, All_each, answer, booking, booked_by}
+use Rattle.cmwq_theory_steps.specs.Common.{booking_of, bookings, destroy_answer, fits, flush_delayed_answer}
+use Rattle.cmwq_theory_steps.specs.Common.{cancel_sync_answer, flush_item_answer, wait_answer, is_gone}
+use Rattle.cmwq_theory_steps.specs.Common.{standing_bookings, due_in, gives_ticket, has_not_started, is_at}
+use Rattle.cmwq_theory_steps.specs.Common.{is_being_destroyed, is_booked, is_booked_on, is_crowded, is_done}
+use Rattle.cmwq_theory_steps.specs.Common.{is_held_back, is_item_open, is_of_item, is_started, is_unstarted}
+use Rattle.cmwq_theory_steps.specs.Common.{item_called, item_fired, item_of, number_booked, number_cancelled}
+use Rattle.cmwq_theory_steps.specs.Common.{number_finished, number_started, opening, opens, owed, place_called}
+use Rattle.cmwq_theory_steps.specs.Common.{place_wanted, queued_at, replaces, room_needed, runs_awake, settles, stands}
+use Rattle.cmwq_theory_steps.specs.Common.{still_open, taken_back_for, ticket_in, unended_tickets, unstarted_queueing}
 use Rattle.std.proofs.Common.{true≢false}
 use Rattle.std.proofs.lemmas.Bool.{and_parts, le-leb, leb-true}
 use Rattle.std.specs.Cmp.Derive.{both_true}
@@ -104,7 +105,8 @@ delayed_alike false false false true n = refl
 delayed_alike false false false false n = refl
 
 cancels_alike : (a b : Bool) (o : Option Queueing) (n : ℕ)
-    → (if a then reply.Crowded else taken_back_for (suc n) o b) ≡ moved (if a then reply.Crowded else taken_back_for n o b)
+    → (if a then reply.Crowded else taken_back_for (suc n) o b)
+    ≡ moved (if a then reply.Crowded else taken_back_for n o b)
 cancels_alike true b o n = refl
 cancels_alike false b (Some x) n = refl
 cancels_alike false true None n = refl
@@ -112,7 +114,8 @@ cancels_alike false false None n = refl
 
 -- ---- a run falls asleep
 
-module _ (s : Layout) (past : List Entry) (e : Entry) (legal : IsLegal s (e ∷ past)) (slept : e.reply ≡ reply.Slept) where
+module _ (s : Layout) (past : List Entry) (e : Entry) (legal : IsLegal s (e ∷ past))
+    (slept : e.reply ≡ reply.Slept) where
   opens_none : opening past e ≡ None
   opens_none =
       ap (λ b. if b then option_and_then (λ i. option_map (queued_at past i) (place_wanted past e.call i)) (item_of e)
@@ -374,8 +377,8 @@ module _ (s : Layout) (past : List Entry) (e : Entry) (legal : IsLegal s (e ∷ 
       ∙ at (opens now.reply) (item_of now)
     where
       at : (b : Bool) (o : Option ℕ)
-          → is_some (if b then option_and_then (λ i. option_map (queued_at (e ∷ past) i) (place_wanted (e ∷ past) c i)) o
-          else None)
+          → is_some (if b then option_and_then
+          (λ i. option_map (queued_at (e ∷ past) i) (place_wanted (e ∷ past) c i)) o else None)
           ≡ is_some (if b then option_and_then (λ i. option_map (queued_at past i) (place_wanted past c i)) o else None)
       at false o = refl
       at true None = refl
@@ -428,8 +431,10 @@ takes_more h g w c cl awake made legal fit wait room =
     subst (λ l. IsLegal l (e ∷ past_in h)) layout (subst (IsLegal g.layout) past legal) in
     let slept : e.reply ≡ reply.Slept = slept_reply s (past_in h) w awake in
     let parts = and_parts (has_time (past_in h) cl) _ room in
-    let within : room_needed s (entry_for s (past_in h) (Caller c) cl ∷ past_in h) + 2 ≤ h.room = leb-true _ h.room parts.1 in
-    let more = needs_more s (past_in h) e legal_e slept (Caller c) cl wait (fit, refl, legal_e.2) (fit, refl, legal_e) in
+    let within : room_needed s (entry_for s (past_in h) (Caller c) cl ∷ past_in h) + 2 ≤ h.room =
+    leb-true _ h.room parts.1 in
+    let more =
+    needs_more s (past_in h) e legal_e slept (Caller c) cl wait (fit, refl, legal_e.2) (fit, refl, legal_e) in
     let fits_in : room_needed s (entry_for s (e ∷ past_in h) (Caller c) cl ∷ e ∷ past_in h) ≤ h.room = omega arith in
     let taken : takes (with_entry h e) (Caller c) cl ≡ true =
     subst (λ p. (has_time p cl && nat_le (room_needed s (entry_for s p (Caller c) cl ∷ p)) h.room) ≡ true)
@@ -455,6 +460,7 @@ takes_after d n (Some worker) c cl v w sleeps legal fit wait room = at (runs_awa
     at : (b : Bool) → runs_awake (past_now d) worker ≡ b → MayEnterOf (Some worker) call.Sleep b d n v w
         → takes n.history (Caller c) cl ≡ true
     at true awake is =
-        takes_more d.history n.history worker c cl awake (ap (λ (k : Dispatched). k.history) is.made) legal fit wait room
+        takes_more d.history n.history worker c cl awake (ap (λ (k : Dispatched). k.history) is.made) legal fit wait
+        room
     at false awake is =
         subst (λ (k : Dispatched). takes k.history (Caller c) cl ≡ true) (sym is.0) (takes_alone d.history c cl 2 room)

@@ -1,6 +1,7 @@
 -- What is sought among the tickets that were left.
-use Rattle.std.specs.Prelude.{◌≡◌, ◌<◌, ◌≤◌, ◌+◌, ◌-◌, ◌&&◌, ◌==◌, ℕ, Bool, true, false, not, List, length, find, is_some}
-use Rattle.std.specs.Prelude.{◌∷◌, [], Contains, Option, Some, None, drop, option_to_list, slice_get, suc, zero}
+use Rattle.std.specs.Prelude.{◌≡◌, ◌<◌, ◌≤◌, ◌+◌, ◌-◌, ◌&&◌, ◌==◌, ℕ, Bool, true, false, not, List, length, find}
+use Rattle.std.specs.Prelude.{is_some, ◌∷◌, [], Contains, Option, Some, None, drop, option_to_list, slice_get, suc}
+use Rattle.std.specs.Prelude.{zero}
 use Rattle.std.specs.List.{range_with_len}
 use Rattle.std.proofs.Common.{true≢false, refl, sym, ap, ap₂, ◌∙◌, arith, add-one, inl, inr, length-append}
 use Rattle.std.proofs.lemmas.List.Sums.{count_by-le-length}
@@ -211,7 +212,8 @@ left_is_found b h = at (place_with b Any) refl
         by : (o : Option Ticket) → sought_at b Any h.place ≡ o → is_some o ≡ false → ⊥
         by (Some t) is fails = true≢false fails
         by None is fails =
-            let passes_none = of_in (λ u. is_sought (layout_of b) (past_of_board b) (lending_at b h.place) Any u ≡ false)
+            let passes_none =
+            of_in (λ u. is_sought (layout_of b) (past_of_board b) (lending_at b h.place) Any u ≡ false)
             (tickets_held all c) h.ticket
             (find_none (is_sought (layout_of b) (past_of_board b) (lending_at b h.place) Any) (tickets_held all c) is)
             held in
@@ -280,8 +282,3 @@ find_here p k n less passes = ap (find p) (range_next k n less) ∙ rw passes re
 pub find_later : (p : ℕ → Bool) (k n : ℕ) → k < n → p k ≡ false
     → find p (range_with_len k (n - k)) ≡ find p (range_with_len (k + 1) (n - (k + 1)))
 find_later p k n less fails = ap (find p) (range_next k n less) ∙ rw fails refl
-
-pub find_ends : (p : ℕ → Bool) (k n : ℕ) → n ≤ k → find p (range_with_len k (n - k)) ≡ None
-find_ends p k n over =
-    let none : n - k ≡ 0 = omega arith in
-    ap (λ m. find p (range_with_len k m)) none

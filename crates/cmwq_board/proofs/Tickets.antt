@@ -2,7 +2,8 @@
 use Rattle.std.specs.Prelude.{if◌then◌else◌}
 use Rattle.cmwq_theory_steps.specs.Common.{◌≡◌, ◌+◌, ◌==◌, ◌&&◌, ◌∷◌, ◌++◌, [], ℕ, Bool, true, false, not, List}
 use Rattle.cmwq_theory_steps.specs.Common.{Some, None, length, filter, find, option_to_list, refl, sym, ap, ap₂}
-use Rattle.cmwq_theory_steps.specs.Common.{◌∙◌, subst, arith, nat_tests, append-nil, Entry, Layout, Ticket, Who, IsLegal}
+use Rattle.cmwq_theory_steps.specs.Common.{◌∙◌, subst, arith, nat_tests, append-nil, Entry, Layout, Ticket, Who}
+use Rattle.cmwq_theory_steps.specs.Common.{IsLegal}
 use Rattle.cmwq_theory_steps.specs.Common.{Call, Caller, Worker, cond, ends, gives_ticket, is_done, is_end_of}
 use Rattle.cmwq_theory_steps.specs.Common.{same_who, ticket_for, ticket_in, ticket_of, unended_tickets}
 use Rattle.cmwq_theory_steps.specs.Histories.{one}
@@ -149,8 +150,8 @@ wait_is_no_end cl n wait = refl
 
 pub given_by_call : (h : History) (c : CallerId) (cl : Call) (new : List Entry)
     → TicketsGoOn (next_entry h (Caller c) cl) (past_in h) new → is_wait cl ≡ true
-    → GivesBy (next_entry h (Caller c) cl).reply (record { caller = c; call = cl; number = length h.entries }) (past_in h)
-    new
+    → GivesBy (next_entry h (Caller c) cl).reply (record { caller = c; call = cl; number = length h.entries })
+    (past_in h) new
 given_by_call h c cl new go wait =
     let e = next_entry h (Caller c) cl in
     go

@@ -6,7 +6,7 @@ use Rattle.cmwq_model.specs.declared.entry.Entry.{Entry}
 use Rattle.cmwq_model.specs.declared.id.Who.{Who}
 use Rattle.cmwq_dispatch.specs.Asleep.{Asleep}
 use Rattle.cmwq_dispatch.specs.Dispatched.{Dispatched, is_new, past_now}
-use Rattle.cmwq_board.specs.Lent.{AreLent, first_lent, is_before, unended_drains}
+use Rattle.cmwq_board.specs.Lent.{AreLent, RunsWaitOnce, first_lent, is_before, unended_drains}
 use Rattle.cmwq_board.specs.declared.lending.Lending.{Lending}
 use Rattle.cmwq_board.specs.declared.lending.Lending.TheVariants.{Free}
 
@@ -39,10 +39,11 @@ most_made s = s.items + 2
 abbrev pub least_kept : Layout → ℕ
 least_kept s = 2 * most_made s
 
--- a new one has no entries, and all its lent callers may be lent
+-- A new one has no entries, and all its lent callers may be lent. Its dispatch lends none to runs: those of a board
+-- serve threads outside the hub too, and a run may be asleep already when it begins to wait.
 abbrev pub is_new_board : Layout → ℕ → ℕ → Asleep → Boarded
 is_new_board s kept lent asleep =
-    board_of (is_new s s.room asleep) 0 (max kept (least_kept s)) (replicate lent Free)
+    board_of (is_new s s.room s.callers asleep) 0 (max kept (least_kept s)) (replicate lent Free)
 
 -- Whoever may fire keeps it from being over: there is one while any drain is unended.
 abbrev pub firing_for : ℕ → ℕ
@@ -52,11 +53,13 @@ firing_for n = if nat_lt 0 n then 1 else 0
 abbrev pub is_own : Boarded → Who → Bool
 is_own b who = is_before (first_lent (layout_of b) b.lent) who
 
--- What holds of each board: its lent callers have the tickets by which somebody waits. Whoever drains may still fire.
+-- What holds of each board: its lent callers have the tickets by which somebody waits, and no run waits by two of them.
+-- Whoever drains may still fire.
 pub record IsBoard (d : Dispatched) (kept : ℕ) (callers : List Lending) : Type 0 where
   pub room : d.history.room ≡ d.history.layout.room
   pub keeps : most_made d.history.layout ≤ kept
   pub lent : AreLent d.history.layout (past_now d) callers
+  pub once : RunsWaitOnce callers
   pub firing : d.firing ≡ firing_for (unended_drains (past_now d))
 
 -- only who sleeps changes

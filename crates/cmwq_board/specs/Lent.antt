@@ -2,11 +2,13 @@
 use Rattle.std.specs.Prelude.{◌≡◌, ◌<◌, ◌≤◌, ◌+◌, ◌-◌, ◌++◌, ◌==◌, ℕ, Bool, true, false, not, List, length}
 use Rattle.std.specs.Prelude.{count_by, filter}
 use Rattle.std.specs.Prelude.{Contains, Option, Some, None, nat_lt, slice_index_or, option_to_list, if◌then◌else◌}
-use Rattle.cmwq_model.specs.Prelude.{Layout, gives_ticket, is_drain, is_ticket, ticket_in, ticket_of, unended_tickets}
+use Rattle.cmwq_model.specs.Prelude.{Layout, gives_ticket, is_drain, is_ticket, same_worker, ticket_in, ticket_of}
+use Rattle.cmwq_model.specs.Prelude.{unended_tickets}
 use Rattle.cmwq_model.specs.declared.entry.Entry.{Entry}
 use Rattle.cmwq_model.specs.declared.id.CallerId.{CallerId}
 use Rattle.cmwq_model.specs.declared.id.Who.{Who}
 use Rattle.cmwq_model.specs.declared.id.Who.TheVariants.{Caller, Worker}
+use Rattle.cmwq_model.specs.declared.id.WorkerId.{WorkerId}
 use Rattle.cmwq_model.specs.declared.record.Ticket.{Ticket}
 use Rattle.cmwq_model.specs.declared.reply.Reply.{Reply}
 use Rattle.cmwq_theory_steps.specs.TicketSteps.{is_kept}
@@ -21,6 +23,17 @@ ticket_at (Waits t run slept) = Some t
 abbrev pub waits_by : Ticket → Lending → Bool
 waits_by t Free = false
 waits_by t (Waits u run slept) = u.number == t.number
+
+-- the run of this worker waits by it
+abbrev pub is_wait_of : WorkerId → Lending → Bool
+is_wait_of w Free = false
+is_wait_of w (Waits t None slept) = false
+is_wait_of w (Waits t (Some v) slept) = same_worker v w
+
+-- no run waits at two places
+abbrev pub RunsWaitOnce : List Lending → Type 0
+RunsWaitOnce lent = (w : WorkerId) (i j : ℕ) → is_wait_of w (slice_index_or lent i Free) ≡ true
+    → is_wait_of w (slice_index_or lent j Free) ≡ true → i ≡ j
 
 -- Where this ticket is ended, its caller may be lent again, if somebody waited by it or nobody did. It does as
 -- before, if somebody waits by another ticket.

@@ -3,6 +3,7 @@ pub mod Faults
 pub mod Lent
 pub mod Left
 pub mod Boarded
+pub mod Runs
 pub mod Steps
 pub mod Waits
 pub mod Items

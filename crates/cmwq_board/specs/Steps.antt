@@ -16,7 +16,6 @@ use Rattle.cmwq_model.specs.declared.id.Who.TheVariants.{Caller, Worker}
 use Rattle.cmwq_model.specs.declared.id.WorkerId.{WorkerId}
 use Rattle.cmwq_refinement.specs.Timers.{item_due}
 use Rattle.cmwq_theory_wakes.specs.Starting.{would_start}
-use Rattle.cmwq_waits.specs.Registered.{waits_after}
 use Rattle.cmwq_board.specs.Asked.{is_single}
 use Rattle.cmwq_board.specs.Boarded.{Boarded, has_space, is_own, layout_of, past_of_board, with_asleep}
 use Rattle.cmwq_board.specs.Boarded.{most_made}
@@ -28,9 +27,9 @@ use Rattle.cmwq_board.specs.declared.fault.BoardFault.TheVariants as fault
 
 -- ---- entries
 
--- an entry is made; a run whose queueing or ticket it ends waits no more
+-- an entry is made
 abbrev pub after_entry : Dispatched → Entry → Dispatched
-after_entry d e = record d { history = with_entry d.history e; waits = waits_after (past_now d) e d.waits }
+after_entry d e = record d { history = with_entry d.history e }
 
 -- a call is made, with the one reply that it gets
 abbrev pub after_call : Dispatched → Who → Call → Dispatched

@@ -11,7 +11,7 @@ use Rattle.cmwq_dispatch.specs.Dispatched.{Dispatched, FallsAsleep, is_over, pas
 use Rattle.cmwq_dispatch.specs.declared.dispatch.Sleep.{Sleep}
 use Rattle.cmwq_dispatch.specs.declared.wakes.Wakes.{Wakes}
 use Rattle.cmwq_model.specs.Prelude.{Layout, gives_ticket, has_numbers, has_run, is_done, runs_asleep, runs_awake}
-use Rattle.cmwq_model.specs.Prelude.{is_crowded, is_drain, same_worker}
+use Rattle.cmwq_model.specs.Prelude.{is_crowded, is_drain}
 use Rattle.cmwq_model.specs.declared.reply.Reply.TheVariants as reply
 use Rattle.cmwq_dispatch.specs.Naming.{NamesMore, names_completions}
 use Rattle.cmwq_model.specs.declared.call.Call.{Call}
@@ -22,14 +22,15 @@ use Rattle.cmwq_model.specs.declared.id.Who.TheVariants.{Caller, Worker}
 use Rattle.cmwq_model.specs.declared.id.WorkerId.{WorkerId}
 use Rattle.cmwq_model.specs.declared.record.Ticket.{Ticket}
 use Rattle.cmwq_model.specs.declared.reply.Reply.{Reply}
-use Rattle.cmwq_waits.specs.Registered.{refusal_of, registered, wait_of}
+use Rattle.cmwq_waits.specs.Registered.{refusal_of}
 use Rattle.cmwq_waits.specs.declared.waits.Stuck.{Stuck}
 use Rattle.cmwq_board.specs.Asked.{is_wait}
 use Rattle.cmwq_board.specs.Boarded.{Boarded, firing_for, first_place, has_space, layout_of, most_made}
 use Rattle.cmwq_board.specs.Boarded.{past_of_board, with_asleep}
 use Rattle.cmwq_board.specs.Faults.{fault_of_stuck}
 use Rattle.cmwq_board.specs.Left.{is_free, sought_of}
-use Rattle.cmwq_board.specs.Lent.{caller_of, ticket_at, unended_drains}
+use Rattle.cmwq_board.specs.Lent.{caller_of, is_wait_of, ticket_at, unended_drains}
+use Rattle.cmwq_board.specs.Runs.{waiting_runs}
 use Rattle.cmwq_board.specs.Steps.{Enters, FiresDue, has_worker, with_dispatch}
 use Rattle.cmwq_board.specs.declared.board.Begun.{Begun}
 use Rattle.cmwq_board.specs.declared.board.Begun.TheVariants as begun
@@ -87,11 +88,6 @@ is_there s (Some w) = has_worker s w
 is_there s None = true
 
 -- it has a run, which does not wait already
-abbrev pub is_wait_of : WorkerId → Lending → Bool
-is_wait_of w Free = false
-is_wait_of w (Waits t None slept) = false
-is_wait_of w (Waits t (Some v) slept) = same_worker v w
-
 abbrev pub has_its_run : Boarded → Option WorkerId → Bool
 has_its_run b (Some w) = has_run (past_of_board b) w && not (list_any (is_wait_of w) b.lent)
 has_its_run b None = true
@@ -106,10 +102,10 @@ early_fault b run c =
     else if not (has_space b 3) then Some fault.Crowded
     else None
 
--- it would wait for its own run, or it could never end, as the runs stand that wait now
-abbrev pub stuck_now : Dispatched → Option WorkerId → Call → Option Stuck
-stuck_now d (Some w) c = refusal_of d.history.layout (past_now d) d.waits w c
-stuck_now d None c = None
+-- it would wait for its own run, or it could never end, where these runs wait already
+abbrev pub stuck_now : Boarded → Option WorkerId → Call → Option Stuck
+stuck_now b (Some w) c = refusal_of (layout_of b) (past_of_board b) (waiting_runs b) w c
+stuck_now b None c = None
 
 -- a run also makes a sleep and a wake
 abbrev pub more_made : Option WorkerId → ℕ
@@ -150,7 +146,7 @@ resumed_place b (Some w) c = None
 
 abbrev pub new_fault : Boarded → Option WorkerId → Call → Option ℕ → Option WaitFault
 new_fault b run c (Some place) = None
-new_fault b run c None = lent_fault b run c (stuck_now b.dispatch run c)
+new_fault b run c None = lent_fault b run c (stuck_now b run c)
 
 -- in the order of the runs' own waits: numbers, the board, space, itself, a deadlock, no caller, no room
 abbrev pub begin_fault : Boarded → Option WorkerId → Call → Option WaitFault
@@ -162,13 +158,10 @@ abbrev pub MayEnterOf : Option WorkerId → Call → Bool → Dispatched → Dis
 MayEnterOf (Some w) c true old new before after = Enters (Worker w) c old new before after
 MayEnterOf o c does old new before after = (new ≡ old) × (after ≡ before)
 
--- A run wakes if it sleeps. There is room for that, as it is owed.
-abbrev pub wakes_now : Dispatched → WorkerId → Bool
-wakes_now d w = has_worker d.history.layout w && runs_asleep (past_now d) w && takes d.history (Worker w) call.Wake
-
+-- A run wakes if it sleeps. There is always room for that, as it is owed.
 abbrev pub IsWoken : Option WorkerId → Dispatched → Dispatched → Wakes → Wakes → Type 0
 IsWoken (Some w) old new before after =
-    MayEnterOf (Some w) call.Wake (wakes_now old w) old new before after
+    MayEnterOf (Some w) call.Wake (runs_asleep (past_now old) w) old new before after
 IsWoken None old new before after = (new ≡ old) × (after ≡ before)
 
 -- Somebody may fire while so many drains are unended. Nothing else changes.
@@ -176,20 +169,14 @@ pub record Settles (n : ℕ) (old new : Dispatched) (before after : Wakes) : Typ
   pub settled : new ≡ record old { firing = firing_for n; asleep = new.asleep }
   pub named : (who : Who) → SleepOn who old.asleep new.asleep before after
 
--- What the run waits for is known from then on, if there is a place for that: there is one for each caller.
-abbrev pub IsTold : Option WorkerId → CallerId → ℕ → Dispatched → Dispatched → Type 0
-IsTold (Some w) c n old new = (told : Bool)
-    × (new ≡ record old { waits = if told then registered old.waits (wait_of (past_now old) w c n) else old.waits })
-IsTold None c n old new = new ≡ old
-
 -- the run of which this says that it went to sleep
 abbrev pub if_slept : Bool → Option WorkerId → Option WorkerId
 if_slept slept run = if slept then run else None
 
--- after the call: with a ticket the run waits, and else it wakes
-abbrev pub ThenWaits : Bool → Option WorkerId → Bool → CallerId → ℕ → Dispatched → Dispatched → Wakes → Wakes → Type 0
-ThenWaits true run slept c n old new before after = IsTold run c n old new × (after ≡ before)
-ThenWaits false run slept c n old new before after = IsWoken (if_slept slept run) old new before after
+-- after the call: with a ticket the run that went to sleep waits, and else it wakes
+abbrev pub ThenWaits : Bool → Option WorkerId → Dispatched → Dispatched → Wakes → Wakes → Type 0
+ThenWaits true slept old new before after = (new ≡ old) × (after ≡ before)
+ThenWaits false slept old new before after = IsWoken slept old new before after
 
 -- The run sleeps if it is awake, and then the caller makes the call, whose entry has this number.
 pub record BeginsWait (run : Option WorkerId) (caller : CallerId) (c : Call) (r : Reply) (n : ℕ) (old new : Dispatched)
@@ -202,7 +189,7 @@ pub record BeginsWait (run : Option WorkerId) (caller : CallerId) (c : Call) (r 
   pub calls : Enters (Caller caller) c asleep called then_asleep then_called
   pub reply : r ≡ (next_entry asleep.history (Caller caller) c).reply
   pub number : n ≡ length asleep.history.entries
-  pub waits : ThenWaits (gives_ticket r) run (sleeps_first old run) caller n called new then_called after
+  pub waits : ThenWaits (gives_ticket r) (if_slept (sleeps_first old run) run) called new then_called after
 
 -- what the caller does from then on, and what the wait became
 abbrev pub lending_by : Option WorkerId → Bool → Ticket → Reply → Lending
@@ -366,6 +353,20 @@ pub record EndsOrWaits (c : CallerId) (answer : Ended) (old new : Boarded) (befo
   pub place : ℕ
   pub is_place : place_of old c ≡ Some place
   pub ends : IsAwakeThen c (Ends place (lending_at old place) answer new before after) old
+
+-- the run that went to sleep for the wait of a caller, if one did
+abbrev pub sleeper : Lending → Option WorkerId
+sleeper Free = None
+sleeper (Waits t run slept) = if_slept slept run
+
+abbrev pub sleeper_at : Boarded → Option ℕ → Option WorkerId
+sleeper_at b (Some place) = sleeper (lending_at b place)
+sleeper_at b None = None
+
+-- It sleeps no more once the wait has ended.
+abbrev pub SleepsNoMore : CallerId → Ended → Boarded → Boarded → Type 0
+SleepsNoMore c ended old new = (w : WorkerId) → ended ≡ Done → sleeper_at old (place_of old c) ≡ Some w
+    → runs_asleep (past_of_board new) w ≡ false
 
 -- ---- a wait is left
 

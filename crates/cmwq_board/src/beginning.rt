@@ -9,7 +9,7 @@ ghost use Rattle.cmwq_model.specs.declared.id.Who.TheVariants as who;
 ghost use Rattle.cmwq_board.specs.Asked.{is_wait};
 ghost use Rattle.cmwq_board.specs.Lent.{GivesBy, SameTickets};
 ghost use Rattle.cmwq_board.specs.Steps.{Enters, Stays, may_fire};
-ghost use Rattle.cmwq_board.specs.Waits.{BeginsWait, IsTold, MayEnterOf, ThenWaits, has_room_for, if_slept, is_there};
+ghost use Rattle.cmwq_board.specs.Waits.{BeginsWait, MayEnterOf, ThenWaits, has_room_for, if_slept, is_there};
 ghost use Rattle.cmwq_board.specs.Waits.{lending_by, may_sleep, sleeps_first};
 
 use crate::entering::{enter, wake};
@@ -71,42 +71,24 @@ fn sleeps(
     }
 }
 
-/// It is known from now on what the run waits for.
-fn tells(dispatch: &mut Dispatch, run: Option<WorkerId>, caller: CallerId, ticket: Number)
-    requires there { is_there dispatch.old.history.layout run ≡ true }
-    requires caller { caller.0 < dispatch.old.history.layout.callers }
-    ensures { IsTold run caller ticket dispatch.old dispatch.new }
-{
-    if let Some(worker) = run {
-        dispatch.run_waits(worker, caller, ticket);
-    }
-}
-
-/// What the run does after the call: it waits if there is a ticket, and else it wakes.
+/// After the call the run that went to sleep for it waits if there is a ticket, and else it wakes.
 fn then_waits(
     dispatch: &mut Dispatch,
     tail: &mut Tail<Entry>,
     gives_ticket: bool,
-    run: Option<WorkerId>,
-    slept: bool,
-    caller: CallerId,
-    number: Number,
+    slept: Option<WorkerId>,
     wakes: &mut Wakes,
 )
-    requires there { is_there dispatch.old.history.layout run ≡ true }
-    requires caller { caller.0 < dispatch.old.history.layout.callers }
     requires lives { dispatch.old.failed ≡ false }
     requires kept { tail.old.all ≡ dispatch.old.history.entries }
     requires space { length tail.old.all < tail.old.room + tail.old.given }
-    ensures waits { ThenWaits gives_ticket run slept caller number dispatch.old dispatch.new wakes.old wakes.new }
+    ensures waits { ThenWaits gives_ticket slept dispatch.old dispatch.new wakes.old wakes.new }
     ensures kept { tail.new ≡ record tail.old { all = dispatch.new.history.entries } }
     ensures tickets { SameTickets (past_now dispatch.old) (past_now dispatch.new) }
     ensures stays { Stays dispatch.old dispatch.new }
 {
-    if gives_ticket {
-        tells(dispatch, run, caller, number);
-    } else {
-        wake(dispatch, tail, if_slept(slept, run), wakes);
+    if !gives_ticket {
+        wake(dispatch, tail, slept, wakes);
     }
 }
 
@@ -170,16 +152,8 @@ pub(crate) fn begins_wait(
     let slept = sleeps(dispatch, tail, run, wakes);
     let number = tail.len();
     let reply = makes_call(dispatch, tail, caller, call, wakes);
-    then_waits(
-        dispatch,
-        tail,
-        reply.gives_ticket(),
-        run,
-        slept,
-        caller,
-        number,
-        wakes,
-    );
+    let gives_ticket = reply.gives_ticket();
+    then_waits(dispatch, tail, gives_ticket, if_slept(slept, run), wakes);
     let ticket = Ticket {
         caller,
         call,

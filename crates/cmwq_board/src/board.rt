@@ -10,9 +10,12 @@ ghost use Rattle.cmwq_board.specs.Boarded.{IsBoard, board_of, failed, handed_out
 ghost use Rattle.cmwq_board.specs.Boarded.{layout_of};
 ghost use Rattle.cmwq_board.specs.Boarded.{least_kept, most_made, past_of_board, stopped, with_asleep};
 ghost use Rattle.cmwq_board.specs.Lent.{first_lent};
+ghost use Rattle.cmwq_board.specs.Runs.{waiting_runs};
 ghost use Rattle.cmwq_board.specs.Steps.{Finishes, Makes, Starts, call_fault, finish_fault};
 ghost use Rattle.cmwq_board.specs.Steps.{reply_now, start_fault};
 ghost use Rattle.cmwq_board.specs.Waits.{ThenClears};
+ghost use Rattle.cmwq_waits.specs.HeldUp.{AreWaiting};
+ghost use Rattle.cmwq_waits.specs.Refused.{AreApart};
 
 mod begin;
 mod items;
@@ -24,6 +27,7 @@ use crate::calls::is_single;
 use crate::entering::{Startable, enter, finish_run, has_worker, make, plan_of};
 use crate::fault::BoardFault;
 use crate::lending::Lending;
+use crate::runs::Runs;
 use cmwq_core::Full;
 use cmwq_dispatch::{Dispatch, Firing, Sleep, Wakes};
 use cmwq_model::{Call, CallerId, Entry, ItemId, NoMemory, Number, Reply, Shape, Who, WorkerId};
@@ -82,10 +86,12 @@ pub struct Board {
     firing: Option<Firing>,
     /// Whether a ticket may have been left that is unended. If not, no ticket is looked at.
     left: bool,
+    /// Room for the runs that wait.
+    runs: Runs,
 }
 
 impl Model for Board {
-    ghost use Rattle.std.specs.Prelude.{◌≡◌, is_some, nat_lt, true};
+    ghost use Rattle.std.specs.Prelude.{◌≡◌, ◌≤◌, is_some, length, nat_lt, true};
     ghost use Rattle.cmwq_dispatch.specs.Dispatched.{past_now};
     ghost use Rattle.cmwq_board.specs.Boarded.{Boarded, IsBoard, board_of};
     ghost use Rattle.cmwq_board.specs.Lent.{HasLeft, unended_drains};
@@ -97,7 +103,8 @@ impl Model for Board {
     ghost invariant = { λ b. (b.tail.all ≡ b.dispatch.history.entries)
         × (b.drains ≡ unended_drains (past_now b.dispatch)) × (is_some b.firing ≡ nat_lt 0 b.drains)
         × IsBoard b.dispatch b.tail.room b.lent.items
-        × (HasLeft b.dispatch.history.layout (past_now b.dispatch) b.lent.items → b.left ≡ true) };
+        × (HasLeft b.dispatch.history.layout (past_now b.dispatch) b.lent.items → b.left ≡ true)
+        × (length b.lent.items ≤ b.runs) };
 }
 
 /// How many entries one call makes at most: the end of a drain ends it, fires each item, and wakes the run that waited.
@@ -107,12 +114,14 @@ fn most_made(shape: &Shape) -> u32
     u32::from(shape.counts().items) + 2
 }
 
-/// A dispatch with no entries, and the room of the shape.
+/// A dispatch with no entries, and the room of the shape, of which no caller is lent to runs.
 fn new_dispatch(alloc: Global, shape: &Shape) -> Result<Dispatch, NoMemory>
-    ensures new { IfOk result (λ dispatch. dispatch ≡ is_new shape.now shape.now.room dispatch.asleep) }
+    ensures new { IfOk result
+        (λ dispatch. dispatch ≡ is_new shape.now shape.now.room shape.now.callers dispatch.asleep) }
     ensures nobody { IfOk result (λ dispatch. NobodySleeps dispatch.asleep) }
 {
-    Dispatch::new(alloc, shape, shape.counts().room)
+    let counts = shape.counts();
+    Dispatch::new(alloc, shape, counts.room, CallerId(counts.callers))
 }
 
 /// How many entries a board keeps at least.
@@ -131,12 +140,15 @@ fn new_tail(alloc: Global, shape: &Shape, kept: u32) -> Result<Tail<Entry>, Allo
     Tail::new(alloc, kept.max(least_kept(shape)))
 }
 
-/// So many callers may be lent, or all if the shape has fewer.
-fn new_lent(alloc: Global, shape: &Shape, lent: u8) -> Result<Vec<Lending>, AllocError>
-    ensures { IfOk result (λ all. all.items ≡ replicate (min lent shape.now.callers) Lending.Free) }
+/// So many callers may be lent, or all if the shape has fewer, and there is room for as many runs that wait.
+fn new_lent(alloc: Global, shape: &Shape, lent: u8) -> Result<(Vec<Lending>, Runs), NoMemory>
+    ensures lent { IfOk result (λ all. all.0.items ≡ replicate (min lent shape.now.callers) Lending.Free) }
+    ensures runs { IfOk result (λ all. all.1 ≡ min lent shape.now.callers) }
 {
     let lent = lent.min(shape.counts().callers);
-    Vec::from_elem(alloc, Lending::Free, usize::from(lent))
+    let free = Vec::from_elem(alloc, Lending::Free, usize::from(lent))?;
+    let runs = Runs::new(alloc, lent)?;
+    Ok((free, runs))
 }
 
 impl Board {
@@ -148,17 +160,18 @@ impl Board {
             board.dispatch.asleep) }
         ensures nobody { IfOk result (λ board. NobodySleeps board.dispatch.asleep) }
     {
-        let dispatch = new_dispatch(alloc, shape)?;
         let tail = new_tail(alloc, shape, kept)?;
-        let lent = new_lent(alloc, shape, lent)?;
-        Ok(Board::of_parts(dispatch, tail, lent))
+        let (lent, runs) = new_lent(alloc, shape, lent)?;
+        let dispatch = new_dispatch(alloc, shape)?;
+        Ok(Board::of_parts(dispatch, tail, lent, runs))
     }
 
     /// The board of these parts, in which nobody waits.
-    fn of_parts(dispatch: Dispatch, tail: Tail<Entry>, lent: Vec<Lending>) -> Board
+    fn of_parts(dispatch: Dispatch, tail: Tail<Entry>, lent: Vec<Lending>, runs: Runs) -> Board
         requires kept { tail.all ≡ dispatch.history.entries }
         requires none { unended_tickets (past_now dispatch) ≡ [] }
         requires board { IsBoard dispatch tail.room lent.items }
+        requires room { length lent.items ≤ runs }
         ensures { result ≡ board_of dispatch tail.given tail.room lent.items }
     {
         Board {
@@ -168,6 +181,7 @@ impl Board {
             drains: 0,
             firing: None,
             left: false,
+            runs,
         }
     }
 
@@ -180,6 +194,7 @@ impl Board {
             drains: _,
             firing,
             left: _,
+            runs: _runs,
         } = self;
         if let Some(firing) = firing {
             let mut wakes = Wakes::new();
@@ -189,11 +204,14 @@ impl Board {
         dispatch.end();
     }
 
-    /// What holds of each board. Nothing runs.
+    /// What holds of each board. Each run that waits has started and is open, its ticket is unended, and none waits
+    /// twice. Nothing runs.
     pub fn stands(&self)
         ensures stands { Stands self.now.dispatch }
         ensures legal { IsLegal (layout_of self.now) (past_of_board self.now) }
         ensures board { IsBoard self.now.dispatch self.now.keeps self.now.lent }
+        ensures waiting { AreWaiting (past_of_board self.now) (waiting_runs self.now) }
+        ensures apart { AreApart (waiting_runs self.now) }
     {
         self.dispatch.stands();
     }

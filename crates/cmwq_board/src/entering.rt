@@ -177,7 +177,7 @@ pub(crate) fn wake(
         let woke = enter(dispatch, tail, Who::Worker(worker), Call::Wake, wakes);
         match woke {
             Ok(_) => {}
-            Err(Full) => {}
+            Err(Full) => unreachable!(),
         }
     }
 }

@@ -4,8 +4,7 @@ ghost use Rattle.std.specs.Prelude.{◌≡◌};
 ghost use Rattle.std.specs.List.{list_any};
 ghost use Rattle.cmwq_model.specs.Prelude.{same_worker};
 ghost use Rattle.cmwq_board.specs.Left.{is_free};
-ghost use Rattle.cmwq_board.specs.Lent.{waits_by};
-ghost use Rattle.cmwq_board.specs.Waits.{is_wait_of};
+ghost use Rattle.cmwq_board.specs.Lent.{is_wait_of, waits_by};
 
 use cmwq_model::{Ticket, WorkerId};
 

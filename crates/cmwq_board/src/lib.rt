@@ -11,6 +11,7 @@ mod firing;
 mod item_state;
 mod left;
 mod lending;
+mod runs;
 
 pub use board::{Begun, Board, Ended, Finish, Start};
 pub use fault::{BoardFault, WaitFault};

@@ -52,19 +52,6 @@ fn is_there(shape: &Shape, run: Option<WorkerId>) -> bool
     }
 }
 
-/// Why the wait of the run is refused, as the runs stand that wait now.
-fn stuck(dispatch: &mut Dispatch, run: Option<WorkerId>, call: Call) -> Option<Stuck>
-    requires there { is_there dispatch.old.history.layout run ≡ true }
-    requires numbers { has_numbers dispatch.old.history.layout call ≡ true }
-    ensures is { result ≡ stuck_now dispatch.old run call }
-    ensures same { dispatch.new ≡ dispatch.old }
-{
-    match run {
-        Some(worker) => dispatch.refuses(worker, call),
-        None => None,
-    }
-}
-
 /// Whether there is room for the sleep of the run, if it is awake.
 fn may_sleep(dispatch: &Dispatch, run: Option<WorkerId>) -> bool
     requires { is_there dispatch.now.history.layout run ≡ true }
@@ -182,6 +169,25 @@ impl Board {
         None
     }
 
+    /// Why the wait of the run is refused, where runs wait as they do now.
+    fn stuck(&mut self, run: Option<WorkerId>, call: Call) -> Option<Stuck>
+        requires there { is_there (layout_of self.old) run ≡ true }
+        requires numbers { has_numbers (layout_of self.old) call ≡ true }
+        ensures is { result ≡ stuck_now self.old run call }
+        ensures same { self.new ≡ self.old }
+    {
+        match run {
+            Some(worker) => self.runs.refuses(
+                self.dispatch.execution(),
+                self.dispatch.shape(),
+                &self.lent,
+                worker,
+                call,
+            ),
+            None => None,
+        }
+    }
+
     /// The place of the caller that is lent next, if there is room for its call.
     fn place_with_room(&self, run: Option<WorkerId>, call: Call) -> Result<usize, WaitFault>
         requires { early_fault self.now run call ≡ None }
@@ -208,20 +214,20 @@ impl Board {
         requires { early_fault self.old run call ≡ None }
         ensures there { IfOk result (λ place. place < length self.old.lent) }
         ensures first { IfOk result (λ place. lent_place self.old ≡ Some place) }
-        ensures taken { IfOk result (λ _. lent_fault self.old run call (stuck_now self.old.dispatch run call) ≡ None) }
+        ensures taken { IfOk result (λ _. lent_fault self.old run call (stuck_now self.old run call) ≡ None) }
         ensures refused { IfErr result
-            (λ fault. lent_fault self.old run call (stuck_now self.old.dispatch run call) ≡ Some fault) }
+            (λ fault. lent_fault self.old run call (stuck_now self.old run call) ≡ Some fault) }
         ensures same { self.new ≡ self.old }
     {
-        match stuck(&mut self.dispatch, run, call) {
+        match self.stuck(run, call) {
             Some(stuck) => Err(fault_of(stuck)),
             None => self.place_with_room(run, call),
         }
     }
 
     /// A wait begins by this call: flush, drain, destroy, flush_item, flush_delayed or cancel_sync. A caller is lent to
-    /// it. If a run waits, its worker is told, and the run sleeps meanwhile, if it is awake. A wait of no run goes on
-    /// by a ticket that was left, if that is as good as a new one.
+    /// it. If a run waits, its worker is told, and the run sleeps meanwhile, if it is awake. A wait of a run that could
+    /// never end is refused. A wait of no run goes on by a ticket that was left, if that is as good as a new one.
     pub fn begin(
         &mut self,
         run: Option<WorkerId>,
@@ -250,7 +256,7 @@ impl Board {
         requires there { place < length self.old.lent }
         requires first { lent_place self.old ≡ Some place }
         requires early { early_fault self.old run call ≡ None }
-        requires taken { lent_fault self.old run call (stuck_now self.old.dispatch run call) ≡ None }
+        requires taken { lent_fault self.old run call (stuck_now self.old run call) ≡ None }
         ensures { BeginsAnew run call result self.old self.new wakes.old wakes.new }
     {
         let caller = self.caller_at(place);

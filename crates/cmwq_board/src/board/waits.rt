@@ -13,7 +13,8 @@ ghost use Rattle.cmwq_model.specs.Prelude.{is_done, ticket_of};
 ghost use Rattle.cmwq_board.specs.Boarded.{has_space, layout_of, most_made, past_of_board, with_asleep};
 ghost use Rattle.cmwq_board.specs.Lent.{MayBecome};
 ghost use Rattle.cmwq_board.specs.declared.lending.Lending.TheVariants as free;
-ghost use Rattle.cmwq_board.specs.Waits.{EndsAt, EndsBy, EndsOrWaits, IsAwakeThen, IsLeft, Leaves, ThenClears, WaitsOn};
+ghost use Rattle.cmwq_board.specs.Waits.{EndsAt, EndsBy, EndsOrWaits, IsAwakeThen, IsLeft, Leaves, SleepsNoMore};
+ghost use Rattle.cmwq_board.specs.Waits.{ThenClears, WaitsOn};
 ghost use Rattle.cmwq_board.specs.Waits.{caller_at, end_fault, leave_fault, lending_at, place_of};
 
 use crate::beginning::if_slept;
@@ -65,6 +66,7 @@ impl Board {
     /// named; or it is over, and the wait will never be ready.
     pub fn end(&mut self, party: CallerId, wakes: &mut Wakes) -> Result<Ended, BoardFault>
         ensures ends { IfOk result (λ ended. EndsOrWaits party ended self.old self.new wakes.old wakes.new) }
+        ensures awake { IfOk result (λ ended. SleepsNoMore party ended self.old self.new) }
         ensures taken { IfOk result (λ _. end_fault self.old party ≡ None) }
         ensures refused { IfErr result (λ fault. end_fault self.old party ≡ Some fault) }
         ensures same { OnErr result ((self.new ≡ self.old) × (wakes.new ≡ wakes.old)) }
@@ -85,6 +87,7 @@ impl Board {
             return Err(BoardFault::Crowded);
         }
         self.ends_wait(place, ticket, if_slept(slept, run), &plan, wakes);
+        self.stands();
         Ok(Ended::Done)
     }
 

@@ -15,7 +15,8 @@ unreachable-requires c =
     let d = c.args.dispatch.now in
     let w = c.in-Some.worker in
     let awake : runs_awake (past_now d) w ≡ true =
-    sym (c.runs_awake.ensures ∙ ap (λ (k : History). runs_awake (past_in k) w) (c.state.ensures ∙ c.execution-2.ensures))
+    sym (c.runs_awake.ensures
+    ∙ ap (λ (k : History). runs_awake (past_in k) w) (c.state.ensures ∙ c.execution-2.ensures))
     ∙ c.if-not-runs_awake.false in
     let room : (not (runs_awake (past_now d) w) || takes d.history (Worker w) call.Sleep) ≡ true =
     subst (λ o. may_sleep d o ≡ true) c.in-Some.is c.requires.room in

@@ -5,7 +5,7 @@ use Rattle.cmwq_dispatch.specs.Dispatched.{past_now}
 use Rattle.cmwq_model.specs.declared.call.Call.TheVariants as call
 use Rattle.cmwq_model.specs.declared.id.Who.TheVariants.{Worker}
 use Rattle.cmwq_model.specs.Prelude.{run}
-use Rattle.cmwq_board.proofs.Runs.{finish_number}
+use Rattle.cmwq_board.proofs.Started.{finish_number}
 use Rattle.cmwq_board.proofs.Tickets.{same_by_worker}
 use Rattle.cmwq_board.proofs.entering.finish_run.Goals as goal
 
@@ -27,4 +27,5 @@ pub returns-in-Ok-clause-tickets : goal.returns-in-Ok-clause-tickets
 returns-in-Ok-clause-tickets c =
     c.retire-retired.ensures.tickets
     ∙ same_by_worker (past_now c.args.dispatch.now) (past_now c.enter-finished.new.dispatch)
-    (next_entry c.args.dispatch.now.history (Worker c.args.worker) call.Finish) c.args.worker c.in-Ok.ensures.tickets refl
+    (next_entry c.args.dispatch.now.history (Worker c.args.worker) call.Finish) c.args.worker c.in-Ok.ensures.tickets
+    refl

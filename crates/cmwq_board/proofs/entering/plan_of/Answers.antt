@@ -1,5 +1,5 @@
 use Rattle.std.proofs.Common.{sym, ◌∙◌}
-use Rattle.cmwq_board.proofs.Runs.{planned_starts}
+use Rattle.cmwq_board.proofs.Started.{planned_starts}
 use Rattle.cmwq_board.proofs.entering.plan_of.Goals as goal
 
 pub unreachable-requires-in_default-item : goal.unreachable-requires-in_default-item

@@ -9,4 +9,5 @@ use Rattle.cmwq_board.proofs.entering.retire.Goals as goal
 pub returns-in-Ok-clause-tickets : goal.returns-in-Ok-clause-tickets
 returns-in-Ok-clause-tickets c =
     same_by_worker (past_now c.args.dispatch.now) (past_now c.enter-retired.new.dispatch)
-    (next_entry c.args.dispatch.now.history (Worker c.args.worker) call.Retire) c.args.worker c.in-Ok.ensures.tickets refl
+    (next_entry c.args.dispatch.now.history (Worker c.args.worker) call.Retire) c.args.worker c.in-Ok.ensures.tickets
+    refl

@@ -25,6 +25,7 @@ invariant_of-self c =
           (ap (λ (t : Tailed Entry). t.room) c.in-Ok.ensures.kept) c.self.invariant.3,
       λ h. c.self.invariant.4 (left_same d.history.layout n.history.layout (past_now d) (past_now n) lent
           c.in-Ok.ensures.stays.layout same h),
+      c.self.invariant.5,
     )
 
 pub returns-in-Ok-clause-made : goal.returns-in-Ok-clause-made

@@ -47,4 +47,5 @@ invariant_of-self c = (
   λ h. c.is_some-self-inside.ensures ∙ ap (λ o. is_some o) c.place_with.ensures.is
       ∙ left_is_found c.ends_first.new.self
       (subst (λ (x : Boarded). HasLeft (layout_of x) (past_of_board x) x.lent) c.self-2.view_is h),
+  c.self-2.invariant.5,
 )

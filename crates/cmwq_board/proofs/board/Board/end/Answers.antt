@@ -13,6 +13,7 @@ use Rattle.cmwq_board.specs.Waits.{Ends, EndsAt, IsAwake, ThenClears, caller_at,
 use Rattle.cmwq_board.specs.declared.board.Ended.TheVariants.{Done, Not}
 use Rattle.cmwq_board.specs.declared.lending.Lending.TheVariants.{Free, Waits}
 use Rattle.cmwq_board.proofs.Places.{caller_there, own_caller, own_ticket, place_is}
+use Rattle.cmwq_board.proofs.Woken.{sleeps_no_more}
 use Rattle.cmwq_board.proofs.board.Board.end.Goals as goal
 
 pub planned_end-requires-clause-there : goal.planned_end-requires-clause-there
@@ -25,12 +26,14 @@ planned_end-requires-clause-there c =
     let t = c.in-Waits.ticket in
     let is_place : place_of b c.args.party ≡ Some place = sym c.place_of.ensures ∙ c.in-Some.is in
     let here : first_place s ls c.args.party.0 ≡ Some place =
-    subst (λ (x : Boarded). first_place (layout_of x) x.lent c.args.party.0 ≡ Some place) (sym c.self.view_is) is_place in
+    subst (λ (x : Boarded). first_place (layout_of x) x.lent c.args.party.0 ≡ Some place) (sym c.self.view_is)
+    is_place in
     let of = place_is s ls c.args.party place c.self.invariant.3.lent.few here in
     let at : slice_index_or ls place Free ≡ Waits t c.in-Waits.run' c.in-Waits.slept =
     get_or_default ls place Free c.index.result.now of.less ∙ sym c.index.ensures ∙ c.in-Waits.is in
     let held = c.self.invariant.3.lent.held place t of.less (ap ticket_at at) in
-    subst (λ (k : CallerId). k.0 < s.callers) (sym (own_caller (past_now i.dispatch) (caller_of s ls place) t.number t held))
+    subst (λ (k : CallerId). k.0 < s.callers)
+    (sym (own_caller (past_now i.dispatch) (caller_of s ls place) t.number t held))
     (caller_there s ls place c.self.invariant.3.lent.few of.less)
 
 pub planned_end-requires-clause-held : goal.planned_end-requires-clause-held
@@ -43,7 +46,8 @@ planned_end-requires-clause-held c =
     let t = c.in-Waits.ticket in
     let is_place : place_of b c.args.party ≡ Some place = sym c.place_of.ensures ∙ c.in-Some.is in
     let here : first_place s ls c.args.party.0 ≡ Some place =
-    subst (λ (x : Boarded). first_place (layout_of x) x.lent c.args.party.0 ≡ Some place) (sym c.self.view_is) is_place in
+    subst (λ (x : Boarded). first_place (layout_of x) x.lent c.args.party.0 ≡ Some place) (sym c.self.view_is)
+    is_place in
     let of = place_is s ls c.args.party place c.self.invariant.3.lent.few here in
     let at : slice_index_or ls place Free ≡ Waits t c.in-Waits.run' c.in-Waits.slept =
     get_or_default ls place Free c.index.result.now of.less ∙ sym c.index.ensures ∙ c.in-Waits.is in
@@ -60,7 +64,8 @@ ends_wait-requires-clause-own c =
     let t = c.in-Waits.ticket in
     let is_place : place_of b c.args.party ≡ Some place = sym c.place_of.ensures ∙ c.in-Some.is in
     let here : first_place s ls c.args.party.0 ≡ Some place =
-    subst (λ (x : Boarded). first_place (layout_of x) x.lent c.args.party.0 ≡ Some place) (sym c.self.view_is) is_place in
+    subst (λ (x : Boarded). first_place (layout_of x) x.lent c.args.party.0 ≡ Some place) (sym c.self.view_is)
+    is_place in
     let of = place_is s ls c.args.party place c.self.invariant.3.lent.few here in
     let at : slice_index_or ls place Free ≡ Waits t c.in-Waits.run' c.in-Waits.slept =
     get_or_default ls place Free c.index.result.now of.less ∙ sym c.index.ensures ∙ c.in-Waits.is in
@@ -78,7 +83,8 @@ ends_wait-requires-clause-held c =
     let t = c.in-Waits.ticket in
     let is_place : place_of b c.args.party ≡ Some place = sym c.place_of.ensures ∙ c.in-Some.is in
     let here : first_place s ls c.args.party.0 ≡ Some place =
-    subst (λ (x : Boarded). first_place (layout_of x) x.lent c.args.party.0 ≡ Some place) (sym c.self.view_is) is_place in
+    subst (λ (x : Boarded). first_place (layout_of x) x.lent c.args.party.0 ≡ Some place) (sym c.self.view_is)
+    is_place in
     let of = place_is s ls c.args.party place c.self.invariant.3.lent.few here in
     let at : slice_index_or ls place Free ≡ Waits t c.in-Waits.run' c.in-Waits.slept =
     get_or_default ls place Free c.index.result.now of.less ∙ sym c.index.ensures ∙ c.in-Waits.is in
@@ -96,7 +102,8 @@ ends_wait-requires-clause-may c u is =
     let t = c.in-Waits.ticket in
     let is_place : place_of b c.args.party ≡ Some place = sym c.place_of.ensures ∙ c.in-Some.is in
     let here : first_place s ls c.args.party.0 ≡ Some place =
-    subst (λ (x : Boarded). first_place (layout_of x) x.lent c.args.party.0 ≡ Some place) (sym c.self.view_is) is_place in
+    subst (λ (x : Boarded). first_place (layout_of x) x.lent c.args.party.0 ≡ Some place) (sym c.self.view_is)
+    is_place in
     let of = place_is s ls c.args.party place c.self.invariant.3.lent.few here in
     let at : slice_index_or ls place Free ≡ Waits t c.in-Waits.run' c.in-Waits.slept =
     get_or_default ls place Free c.index.result.now of.less ∙ sym c.index.ensures ∙ c.in-Waits.is in
@@ -114,7 +121,8 @@ returns-in_default-planned_end-clause-ends c =
     let t = c.in-Waits.ticket in
     let is_place : place_of b c.args.party ≡ Some place = sym c.place_of.ensures ∙ c.in-Some.is in
     let here : first_place s ls c.args.party.0 ≡ Some place =
-    subst (λ (x : Boarded). first_place (layout_of x) x.lent c.args.party.0 ≡ Some place) (sym c.self.view_is) is_place in
+    subst (λ (x : Boarded). first_place (layout_of x) x.lent c.args.party.0 ≡ Some place) (sym c.self.view_is)
+    is_place in
     let of = place_is s ls c.args.party place c.self.invariant.3.lent.few here in
     let at : slice_index_or ls place Free ≡ Waits t c.in-Waits.run' c.in-Waits.slept =
     get_or_default ls place Free c.index.result.now of.less ∙ sym c.index.ensures ∙ c.in-Waits.is in
@@ -146,7 +154,8 @@ returns-clause-ends c =
     let t = c.in-Waits.ticket in
     let is_place : place_of b c.args.party ≡ Some place = sym c.place_of.ensures ∙ c.in-Some.is in
     let here : first_place s ls c.args.party.0 ≡ Some place =
-    subst (λ (x : Boarded). first_place (layout_of x) x.lent c.args.party.0 ≡ Some place) (sym c.self.view_is) is_place in
+    subst (λ (x : Boarded). first_place (layout_of x) x.lent c.args.party.0 ≡ Some place) (sym c.self.view_is)
+    is_place in
     let of = place_is s ls c.args.party place c.self.invariant.3.lent.few here in
     let at : slice_index_or ls place Free ≡ Waits t c.in-Waits.run' c.in-Waits.slept =
     get_or_default ls place Free c.index.result.now of.less ∙ sym c.index.ensures ∙ c.in-Waits.is in
@@ -169,3 +178,8 @@ returns-clause-ends c =
             (subst (λ run. ThenClears (EndsAt place t run) ends.awake new w v) c.if_slept.ensures ends.next);
       };
     }
+
+pub returns-clause-awake : goal.returns-clause-awake
+returns-clause-awake c =
+    sleeps_no_more c.args.party c.args.self.now c.ends_wait.new.self c.args.wakes.now c.ends_wait.new.wakes
+    (returns-clause-ends c) c.stands.ensures.legal

@@ -1,5 +1,5 @@
-use Rattle.std.specs.Prelude.{◌≡◌, ◌<◌, Some, false, length, slice_index_or, slice_set}
-use Rattle.std.proofs.Common.{ap, arith, ◌∙◌, sym, subst}
+use Rattle.std.specs.Prelude.{◌≡◌, ◌<◌, ◌≤◌, Some, false, length, slice_index_or, slice_set}
+use Rattle.std.proofs.Common.{ap, arith, ◌∙◌, length-set, sym, subst}
 use Rattle.cmwq_core.specs.History.{History, past_in}
 use Rattle.cmwq_dispatch.specs.Dispatched.{Dispatched, past_now}
 use Rattle.cmwq_model.specs.Prelude.{ticket_of}
@@ -11,6 +11,7 @@ use Rattle.cmwq_board.specs.Boarded.{Boarded, firing_for, past_of_board}
 use Rattle.cmwq_board.specs.Lent.{EndsTicketOf, MayBecome, caller_of, unended_drains}
 use Rattle.cmwq_board.specs.Waits.{caller_at, lending_at}
 use Rattle.cmwq_board.specs.declared.lending.Lending.TheVariants.{Free}
+use Rattle.cmwq_board.proofs.Once.{once_ended}
 use Rattle.cmwq_board.proofs.Places.{board_now, caller_there, drain_may_fire, ended_places, left_ended}
 use Rattle.cmwq_board.proofs.board.Board.ends.Goals as goal
 
@@ -22,7 +23,8 @@ end_ticket-requires-clause-there c =
     subst (λ (b : Boarded). c.args.place < length b.lent) (sym c.self.view_is) c.requires.place in
     let own : c.args.ticket.caller ≡ caller_of s i.lent.items c.args.place =
     subst (λ (b : Boarded). c.args.ticket.caller ≡ caller_at b c.args.place) (sym c.self.view_is) c.requires.own in
-    subst (λ (k : CallerId). k.0 < s.callers) (sym own) (caller_there s i.lent.items c.args.place c.self.invariant.3.lent.few less)
+    subst (λ (k : CallerId). k.0 < s.callers) (sym own)
+    (caller_there s i.lent.items c.args.place c.self.invariant.3.lent.few less)
 
 pub end_ticket-requires-clause-held : goal.end_ticket-requires-clause-held
 end_ticket-requires-clause-held c =
@@ -73,11 +75,14 @@ invariant_of-self c =
       ap (λ (x : Tailed Entry). x.all) ends.kept ∙ ap (λ (h : History). h.entries) (sym history),
       drains,
       c.ends_firing.ensures.token,
-      board_now d n i.tail.room c.end_ticket.new.tail.room ls (slice_set ls place c.args.lending) c.self.invariant.3 layout
-          (ap (λ (h : History). h.room) history ∙ ends.stays.room) (ap (λ (x : Tailed Entry). x.room) ends.kept)
-          (ended_places d.history.layout (past_now d) (past_now n) ls place c.args.lending t c.self.invariant.3.lent less
-          own tickets may)
+      board_now d n i.tail.room c.end_ticket.new.tail.room ls (slice_set ls place c.args.lending) c.self.invariant.3
+          layout (ap (λ (h : History). h.room) history ∙ ends.stays.room)
+          (ap (λ (x : Tailed Entry). x.room) ends.kept)
+          (ended_places d.history.layout (past_now d) (past_now n) ls place c.args.lending t c.self.invariant.3.lent
+          less own tickets may)
+          (once_ended t ls place c.args.lending c.self.invariant.3.once less may)
           (ap (λ (x : Dispatched). x.firing) c.ends_firing.ensures.settles.settled ∙ ap (λ k. firing_for k) drains),
       λ h. c.self.invariant.4 (left_ended d.history.layout n.history.layout (past_now d) (past_now n) ls place
           c.args.lending t layout less own tickets may h),
+      subst (λ k. k ≤ i.runs) (sym (length-set ls place c.args.lending)) c.self.invariant.5,
     )

@@ -32,14 +32,16 @@ planned_end-requires-clause-there c =
     subst (λ (x : Boarded). t.caller.0 < (layout_of x).callers) (sym c.self.view_is)
     (subst (λ (k : CallerId). k.0 < (layout_of b).callers) (sym of.own)
     (caller_there (layout_of b) b.lent place
-    (subst (λ (x : Boarded). length x.lent ≤ (layout_of x).callers) c.self.view_is c.self.invariant.3.lent.few) of.less))
+    (subst (λ (x : Boarded). length x.lent ≤ (layout_of x).callers) c.self.view_is c.self.invariant.3.lent.few)
+    of.less))
 
 pub planned_end-requires-clause-held : goal.planned_end-requires-clause-held
 planned_end-requires-clause-held c =
     let t = c.in-Some-sought_at.ticket in
     let of = is_to_end c.args.self.now Ready c.in-Some.place t (sym c.place_with.ensures.is ∙ c.in-Some.is)
     (sym c.sought_at.ensures ∙ c.in-Some-sought_at.is) in
-    subst (λ (x : Boarded). ticket_of (past_of_board x) (Caller t.caller) t.number ≡ Some t) (sym c.self.view_is) of.held
+    subst (λ (x : Boarded). ticket_of (past_of_board x) (Caller t.caller) t.number ≡ Some t) (sym c.self.view_is)
+    of.held
 
 pub unreachable-requires-in_default-planned_end : goal.unreachable-requires-in_default-planned_end
 unreachable-requires-in_default-planned_end c =

@@ -20,6 +20,7 @@ invariant_of-self c =
           (ap (λ (t : Tailed Entry). t.room) c.in-Ok.ensures.kept) c.self.invariant.3,
       λ h. c.self.invariant.4 (left_same d.history.layout n.history.layout (past_now d) (past_now n) lent
           c.in-Ok.ensures.stays.layout same h),
+      c.self.invariant.5,
     )
 
 pub returns-in-Ok-clause-made : goal.returns-in-Ok-clause-made
@@ -30,9 +31,10 @@ returns-in-Ok-clause-made c =
     record {
       mid = mid;
       meanwhile = n.wakes;
-      step = subst (λ (b : Boarded). Finishes c.args.worker c.in-Ok.finish b mid c.args.wakes.now n.wakes) c.self.view_is (
-        c.in-Ok.ensures.finishes,
-        ap (λ (x : Tailed Entry). board_of n.dispatch x.given x.room i.lent.items) c.in-Ok.ensures.kept,
-      );
+      step = subst (λ (b : Boarded). Finishes c.args.worker c.in-Ok.finish b mid c.args.wakes.now n.wakes)
+          c.self.view_is (
+            c.in-Ok.ensures.finishes,
+            ap (λ (x : Tailed Entry). board_of n.dispatch x.given x.room i.lent.items) c.in-Ok.ensures.kept,
+          );
       clears = c.clears.ensures;
     }

@@ -1,5 +1,5 @@
-use Rattle.std.specs.Prelude.{◌≡◌, ◌<◌, List, length, slice_set}
-use Rattle.std.proofs.Common.{ap, ◌∙◌, refl, sym, subst}
+use Rattle.std.specs.Prelude.{◌≡◌, ◌<◌, ◌≤◌, List, length, slice_set}
+use Rattle.std.proofs.Common.{ap, ◌∙◌, length-set, refl, sym, subst}
 use Rattle.cmwq_core.specs.History.{History, past_in}
 use Rattle.cmwq_dispatch.specs.Asleep.{IsUpAgain}
 use Rattle.cmwq_dispatch.specs.Dispatched.{Dispatched, past_now}
@@ -9,6 +9,7 @@ use Rattle.cmwq_board.specs.Boarded.{Boarded, board_of, firing_for, with_asleep}
 use Rattle.cmwq_board.specs.Lent.{AreLent, unended_drains}
 use Rattle.cmwq_board.specs.declared.lending.Lending.{Lending}
 use Rattle.cmwq_board.specs.declared.lending.Lending.TheVariants.{Free}
+use Rattle.cmwq_board.proofs.Once.{once_freed}
 use Rattle.cmwq_board.proofs.Places.{board_now, freed_places, same_asleep}
 use Rattle.cmwq_board.proofs.board.Board.leaves_at.Goals as goal
 
@@ -29,8 +30,10 @@ invariant_of-self c =
           (ap (λ (h : History). h.layout) same.history) (ap (λ (h : History). h.room) same.history) refl
           (subst (λ (p : List Entry). AreLent d.history.layout p (slice_set ls place Free)) (sym past)
           (freed_places d.history.layout (past_now d) ls place c.self.invariant.3.lent less))
+          (once_freed ls place c.self.invariant.3.once less)
           (same.firing ∙ c.self.invariant.3.firing ∙ ap (λ (p : List Entry). firing_for (unended_drains p)) (sym past)),
       λ h. refl,
+      subst (λ k. k ≤ c.self.inside.runs) (sym (length-set ls place Free)) c.self.invariant.5,
     )
 
 pub returns : goal.returns

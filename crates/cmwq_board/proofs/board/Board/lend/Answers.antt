@@ -1,17 +1,20 @@
-use Rattle.std.specs.Prelude.{◌≡◌, ◌≤◌, ◌+◌, ◌&&◌, if◌then◌else◌, length, slice_set}
-use Rattle.std.proofs.Common.{ap, ap₂, arith, ◌∙◌, sym, subst}
+use Rattle.std.specs.Prelude.{◌≡◌, ◌≤◌, ◌+◌, ◌&&◌, if◌then◌else◌, List, length, slice_set}
+use Rattle.std.proofs.Common.{ap, ap₂, arith, ◌∙◌, length-set, sym, subst}
 use Rattle.std.proofs.lemmas.List.{length-reverse}
 use Rattle.cmwq_model.specs.Prelude.{gives_ticket, is_drain}
 use Rattle.cmwq_model.specs.declared.entry.Entry.{Entry}
 use Rattle.cmwq_model.specs.declared.id.CallerId.{CallerId}
+use Rattle.cmwq_model.specs.declared.record.Ticket.{Ticket}
 use Rattle.cmwq_core.specs.History.{History, past_in}
 use Rattle.cmwq_dispatch.specs.Dispatched.{Dispatched, is_over, past_now}
 use Rattle.cmwq_state.specs.Tails.{Tailed}
 use Rattle.cmwq_board.specs.Boarded.{Boarded, firing_for}
-use Rattle.cmwq_board.specs.Lent.{AreLent, GivesBy, caller_of, ticket_at, unended_drains, waits_by}
+use Rattle.cmwq_board.specs.Lent.{AreLent, GivesBy, RunsWaitOnce, caller_of, ticket_at, unended_drains, waits_by}
 use Rattle.cmwq_board.specs.Waits.{BeginsWait, Settles, begun_by, caller_at, lending_by, sleeps_first, with_firing}
+use Rattle.cmwq_board.specs.declared.lending.Lending.{Lending}
 use Rattle.cmwq_board.proofs.Begins.{firing_sleeps, lending_has, lending_waits, may_lend, no_early_fault}
 use Rattle.cmwq_board.proofs.Sought.{drains_few}
+use Rattle.cmwq_board.proofs.Once.{once_lent}
 use Rattle.cmwq_board.proofs.Places.{board_now, given_counts, given_places, left_given}
 use Rattle.cmwq_board.proofs.board.Board.lend.Goals as goal
 
@@ -115,9 +118,17 @@ invariant_of-self c =
     let at : caller ≡ caller_of d.history.layout lent c.args.place =
     m.at ∙ ap (λ (h : History). caller_of h.layout lent c.args.place) history in
     let settled : f.history ≡ e.history = ap (λ (x : Dispatched). x.history) c.ends_firing.ensures.settles.settled in
-    let gives : GivesBy reply (record { caller = caller; call = c.args.call; number = number }) (past_now d) (past_now e) =
-    subst (λ (h : History). GivesBy reply (record { caller = caller; call = c.args.call; number = number }) (past_in h)
-    (past_now e)) history called.tickets in
+    let ticket : Ticket = record { caller = caller; call = c.args.call; number = number } in
+    let gives : GivesBy reply ticket (past_now d) (past_now e) =
+    subst (λ (h : History). GivesBy reply ticket (past_in h) (past_now e)) history called.tickets in
+    let lends : lent ≡ c.args.self.now.lent = ap (λ (x : Boarded). x.lent) c.self.view_is in
+    let once : RunsWaitOnce (slice_set lent c.args.place c.begins_wait-called.result.lending) =
+    subst (λ (ls : List Lending). RunsWaitOnce (slice_set ls c.args.place c.begins_wait-called.result.lending))
+    (sym lends)
+    (subst (λ (l : Lending). RunsWaitOnce (slice_set c.args.self.now.lent c.args.place l)) (sym called.lending)
+    (once_lent c.args.self.now c.args.place c.args.run (sleeps_first n c.args.run) ticket reply
+    (subst (λ (ls : List Lending). RunsWaitOnce ls) lends c.self.invariant.3.once) c.requires.there
+    (no_early_fault c.args.self.now c.args.run c.args.call c.requires.early).has)) in
     let drains : c.more_drains-self-inside.result ≡ unended_drains (past_now f) =
     c.more_drains-self-inside.ensures
     ∙ ap (λ k. k + (if is_drain c.args.call && gives_ticket reply then 1 else 0)) c.self.invariant.1
@@ -138,15 +149,16 @@ invariant_of-self c =
           (subst (λ k. k ≤ number) (sym (length-reverse d.history.entries))
           (subst (λ (h : History). length h.entries ≤ number) history called.later)) gives
           (λ u is. lending_has c.args.run _ _ u reply (sym (ap ticket_at called.lending) ∙ is))))
+          once
           (ap (λ (x : Dispatched). x.firing) c.ends_firing.ensures.settles.settled ∙ ap (λ k. firing_for k) drains),
       λ h. c.self.invariant.4 (left_given d.history.layout f.history.layout (past_now d) (past_now f) lent c.args.place
           c.begins_wait-called.result.lending reply _
           (ap (λ (h : History). h.layout) settled ∙ called.stays.layout ∙ ap (λ (h : History). h.layout) history)
           m.less (m.free) at
-          (subst (λ (x : History). GivesBy reply (record { caller = caller; call = c.args.call; number = number })
-          (past_now d) (past_in x)) (sym settled) gives)
-          (λ g. ap (waits_by (record { caller = caller; call = c.args.call; number = number })) called.lending
-          ∙ lending_waits c.args.run _ _ reply g) h),
+          (subst (λ (x : History). GivesBy reply ticket (past_now d) (past_in x)) (sym settled) gives)
+          (λ g. ap (waits_by ticket) called.lending ∙ lending_waits c.args.run _ _ reply g) h),
+      subst (λ k. k ≤ c.self.inside.runs)
+          (sym (length-set lent c.args.place c.begins_wait-called.result.lending)) c.self.invariant.5,
     )
 
 pub returns : goal.returns
@@ -173,8 +185,8 @@ returns c =
           made.new.wakes) own
           (subst (λ (d : Dispatched). BeginsWait run c.caller_at-caller.result c.args.call reply number d e
           c.args.wakes.now made.new.wakes) from
-          (subst (λ w. BeginsWait run c.caller_at-caller.result c.args.call reply number c.begins_firing.new.dispatch e w
-          made.new.wakes) c.begins_firing.ensures.nobody made.ensures.waits));
+          (subst (λ w. BeginsWait run c.caller_at-caller.result c.args.call reply number c.begins_firing.new.dispatch e
+          w made.new.wakes) c.begins_firing.ensures.nobody made.ensures.waits));
       begun = c.begun_by.ensures ∙ ap (λ k. begun_by k reply) own;
       lent = ap₂ (λ ls l. slice_set ls c.args.place l) lent
           (made.ensures.lending

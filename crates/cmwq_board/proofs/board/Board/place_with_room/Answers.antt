@@ -19,7 +19,8 @@ has_room_for-requires-clause-fits c =
     let b = c.args.self.now in
     let may = no_early_fault b c.args.run c.args.call c.requires in
     let less = (lent_is_free b c.in-Some.place (sym c.lent_place.ensures ∙ c.in-Some.is)).less in
-    let few = subst (λ (x : Boarded). length x.lent ≤ (layout_of x).callers) c.self.view_is c.self.invariant.3.lent.few in
+    let few =
+    subst (λ (x : Boarded). length x.lent ≤ (layout_of x).callers) c.self.view_is c.self.invariant.3.lent.few in
     subst (λ (x : Boarded). fits (layout_of x) (Caller c.caller_at.result) c.args.call ≡ true) (sym c.self.view_is)
     (subst (λ (k : CallerId). fits (layout_of b) (Caller k) c.args.call ≡ true) (sym c.caller_at.ensures)
     (wait_fits (layout_of b) (caller_at b c.in-Some.place) c.args.call

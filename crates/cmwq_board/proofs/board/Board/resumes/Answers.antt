@@ -1,5 +1,5 @@
-use Rattle.std.specs.Prelude.{◌≡◌, ◌<◌, None, Some, false, length, slice_index_or, slice_set}
-use Rattle.std.proofs.Common.{◌∙◌, refl, sym, subst}
+use Rattle.std.specs.Prelude.{◌≡◌, ◌<◌, ◌≤◌, None, Some, false, length, slice_index_or, slice_set}
+use Rattle.std.proofs.Common.{◌∙◌, length-set, refl, sym, subst}
 use Rattle.cmwq_dispatch.specs.Dispatched.{past_now}
 use Rattle.cmwq_model.specs.Prelude.{ticket_of}
 use Rattle.cmwq_model.specs.declared.id.Who.TheVariants.{Caller}
@@ -8,6 +8,7 @@ use Rattle.cmwq_board.specs.Lent.{caller_of}
 use Rattle.cmwq_board.specs.Waits.{caller_at, lending_at}
 use Rattle.cmwq_board.specs.declared.left.Sought.TheVariants.{For}
 use Rattle.cmwq_board.specs.declared.lending.Lending.TheVariants.{Free, Waits}
+use Rattle.cmwq_board.proofs.Once.{once_resumed}
 use Rattle.cmwq_board.proofs.Places.{board_now, left_resumed, resumed_places}
 use Rattle.cmwq_board.proofs.Sought.{free_for, is_to_end, place_has}
 use Rattle.cmwq_board.proofs.board.Board.resumes.Goals as goal
@@ -37,7 +38,9 @@ invariant_of-self c =
       c.self.invariant.0,
       c.self.invariant.1,
       c.self.invariant.2,
-      board_now d d i.tail.room i.tail.room ls (slice_set ls place (Waits t None false)) c.self.invariant.3 refl refl refl
-          (resumed_places s (past_now d) ls place t c.self.invariant.3.lent less held) c.self.invariant.3.firing,
+      board_now d d i.tail.room i.tail.room ls (slice_set ls place (Waits t None false)) c.self.invariant.3 refl refl
+          refl (resumed_places s (past_now d) ls place t c.self.invariant.3.lent less held)
+          (once_resumed ls place t c.self.invariant.3.once less) c.self.invariant.3.firing,
       λ h. c.self.invariant.4 (left_resumed s s (past_now d) ls place (Waits t None false) refl less free h),
+      subst (λ k. k ≤ i.runs) (sym (length-set ls place (Waits t None false))) c.self.invariant.5,
     )

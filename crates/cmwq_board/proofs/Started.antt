@@ -4,7 +4,8 @@ use Rattle.std.proofs.Common.{ap, sym, ◌∙◌}
 use Rattle.cmwq_core.specs.History.{History, next_entry, past_in}
 use Rattle.cmwq_core.specs.Plans.{IsPlan}
 use Rattle.cmwq_core.specs.declared.plan.Plan.{Plan}
-use Rattle.cmwq_model.specs.Prelude.{answer, finish_answer, finished_answer, number_finished, number_started, run, runs_awake}
+use Rattle.cmwq_model.specs.Prelude.{answer, finish_answer, finished_answer, number_finished, number_started, run}
+use Rattle.cmwq_model.specs.Prelude.{runs_awake}
 use Rattle.cmwq_model.specs.declared.call.Call.TheVariants as call
 use Rattle.cmwq_model.specs.declared.entry.Entry.{Entry}
 use Rattle.cmwq_model.specs.declared.id.Who.TheVariants.{Worker}
