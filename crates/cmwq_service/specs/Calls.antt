@@ -1,5 +1,6 @@
 -- What a call of a service answers, and what it leaves.
-use Rattle.std.specs.Prelude.{◌≡◌, ◌⊎◌, ◌≤◌, ℕ, Bool, true, false, List, length, take, Result, Ok, Err}
+use Rattle.std.specs.Prelude.{◌≡◌, ◌⊎◌, ◌≤◌, ℕ, Bool, true, false, List, length, take, Result, Ok, Err, Option, Some}
+use Rattle.std.specs.Prelude.{None}
 use Rattle.std.specs.Prelude.{IfOk, IfErr}
 use Rattle.std.specs.List.{list_all}
 use Rattle.cmwq_model.specs.Prelude.{Layout, has_numbers}
@@ -17,11 +18,12 @@ use Rattle.cmwq_monitor.specs.declared.fault.RunFault.TheVariants.{Full}
 use Rattle.cmwq_rt.specs.Batches.{StopsBatch}
 use Rattle.cmwq_rt.specs.Later.{Later}
 use Rattle.cmwq_rt.specs.declared.batch.BatchFault.{BatchFault}
-use Rattle.cmwq_rt.specs.Running.{MakesOne}
-use Rattle.cmwq_rt.specs.Waiting.{HadNoRoom, HasWaited, is_for_itself}
+use Rattle.cmwq_rt.specs.Waiting.{HadNoRoom, HasWaited, IsAwake, TellsWhy, is_for_itself}
 use Rattle.cmwq_rt.specs.declared.wait_fault.WaitFault.{WaitFault}
 use Rattle.cmwq_rt.specs.declared.wait_fault.WaitFault.TheVariants as wait
 use Rattle.cmwq_service.specs.Outside.{IsFirstOutside, IsOutside, is_allowed}
+use Rattle.cmwq_service.specs.declared.fault.Awaited.{Awaited}
+use Rattle.cmwq_service.specs.declared.fault.Awaited.TheVariants.{Item, Queue}
 use Rattle.cmwq_service.specs.declared.fault.Fault.{Fault}
 use Rattle.cmwq_service.specs.declared.fault.Fault.TheVariants.{Outside, Run, Itself, Deadlock, NoCaller, Own}
 
@@ -46,12 +48,37 @@ Interrupted s v c (Outside o) w = (has_numbers s c ≡ false) × IsOutside s c o
 Interrupted s v c (Run f) w = BrokeOff s v c f w
 Interrupted _ _ _ f _ = ⊥
 
--- A run's wait was refused: no entry was made, but that a run that was asleep is awake. Or it broke off.
-abbrev pub Unwaited : Layout → View → Call → Fault → View → Type 0
-Unwaited s v c (Outside o) w = (has_numbers s c ≡ false) × IsOutside s c o × (w ≡ v)
-Unwaited s v c (Run f) w = Later v w
-Unwaited s v c (Own _) w = ⊥
-Unwaited s v c f w = (w ≡ v) ⊎ MakesOne s v call.Wake w
+-- what a call waits for by which a run waits
+abbrev pub awaited_by : Call → Option Awaited
+awaited_by (call.FlushItem i) = Some (Item i.0)
+awaited_by (call.FlushDelayed i) = Some (Item i.0)
+awaited_by (call.CancelSync i) = Some (Item i.0)
+awaited_by (call.Flush q) = Some (Queue q.0)
+awaited_by (call.Drain q) = Some (Queue q.0)
+awaited_by c = None
+
+-- The reason to refuse a wait of this item's run: it would wait for itself, or so it was found under the lock, once the
+-- run was awake.
+abbrev pub IsReason : Layout → ItemId → View → Call → WaitFault → Type 0
+IsReason s own v c f = (is_for_itself own c ≡ true) ⊎ ((awake : View) × IsAwake s v awake × TellsWhy s awake c f)
+
+-- A wait of this item's run was refused for this reason, which tells the item and what it would have waited for. No
+-- entry was made, but that a run that was asleep is awake.
+pub record IsRefused (s : Layout) (own : ItemId) (v : View) (c : Call) (f : WaitFault) (item : ℕ) (a : Awaited)
+    (w : View) : Type 0 where
+  pub item : item ≡ own.0
+  pub awaited : awaited_by c ≡ Some a
+  pub reason : IsReason s own v c f
+  pub awake : IsAwake s v w
+
+-- A run's wait was refused, or it broke off.
+abbrev pub Unwaited : Layout → ItemId → View → Call → Fault → View → Type 0
+Unwaited s own v c (Outside o) w = (has_numbers s c ≡ false) × IsOutside s c o × (w ≡ v)
+Unwaited s own v c (Run f) w = Later v w
+Unwaited s own v c (Itself i a) w = IsRefused s own v c wait.Itself i a w
+Unwaited s own v c (Deadlock i a) w = IsRefused s own v c wait.Deadlock i a w
+Unwaited s own v c (NoCaller i a) w = IsRefused s own v c wait.NoCaller i a w
+Unwaited s own v c (Own _) w = ⊥
 
 -- the answer to a run that would wait for itself
 abbrev pub TellsItself : Result Reply Fault → Type 0
@@ -74,19 +101,21 @@ pub record DoneOrInterrupted (s : Layout) (v : View) (c : Call) (answer : Result
 pub record WaitedOrNot (s : Layout) (own : ItemId) (v : View) (c : Call) (answer : Result Reply Fault) (w : View)
     : Type 0 where
   pub waited : IfOk answer (λ r. HasWaited s v c r w)
-  pub unwaited : IfErr answer (λ f. Unwaited s v c f w)
+  pub unwaited : IfErr answer (λ f. Unwaited s own v c f w)
   pub itself : is_for_itself own c ≡ true → has_numbers s c ≡ true → TellsItself answer × (w ≡ v)
   pub full : IfErr answer (λ f. f ≡ Run Full → HadNoRoom s v w)
 
 -- ---- what a service sees of a hub
 
--- the fault of a wait, as a service sees it
-abbrev pub IsFaultOfWait : WaitFault → Fault → Type 0
-IsFaultOfWait wait.Itself (Itself _ _) = Unit {0}
-IsFaultOfWait wait.Deadlock (Deadlock _ _) = Unit {0}
-IsFaultOfWait wait.NoCaller (NoCaller _ _) = Unit {0}
-IsFaultOfWait (wait.Run f) (Run g) = g ≡ f
-IsFaultOfWait _ _ = ⊥
+-- the fault of a wait of this item's run for this, as a service sees it
+abbrev pub fault_of_wait : ItemId → Awaited → WaitFault → Fault
+fault_of_wait own a wait.Itself = Itself own.0 a
+fault_of_wait own a wait.Deadlock = Deadlock own.0 a
+fault_of_wait own a wait.NoCaller = NoCaller own.0 a
+fault_of_wait own a (wait.Run f) = Run f
+
+abbrev pub IsFaultOfWait : ItemId → Call → WaitFault → Fault → Type 0
+IsFaultOfWait own c f g = (a : Awaited) × (awaited_by c ≡ Some a) × (g ≡ fault_of_wait own a f)
 
 -- the answer of a hub to a batch, as a service sees it
 abbrev pub IsBatchAnswer : Result (Unit {0}) (BatchFault RunFault) → Result (Unit {0}) (BatchFault Fault) → Type 0

@@ -1,8 +1,8 @@
 //! Why a call isn't answered, and why a service stopped.
-ghost use Rattle.std.specs.Prelude.{◌≡◌, true, None};
+ghost use Rattle.std.specs.Prelude.{◌≡◌, true, None, Some};
 ghost use Rattle.cmwq_monitor.specs.declared.fault.RunFault.TheVariants.{NoMemory};
 ghost use Rattle.cmwq_rt.specs.Waiting.{is_wait};
-ghost use Rattle.cmwq_service.specs.Calls.{IsBatchAnswer, IsFaultOfWait};
+ghost use Rattle.cmwq_service.specs.Calls.{IsBatchAnswer, IsFaultOfWait, awaited_by};
 ghost use Rattle.cmwq_service.specs.declared.fault.Fault.TheVariants.{Run};
 
 use crate::outside::Outside;
@@ -47,6 +47,7 @@ pub enum Fault {
 /// What such a call waits for.
 fn awaited_by(call: Call) -> Awaited
     requires { is_wait call ≡ true }
+    ensures { awaited_by call ≡ Some result }
 {
     match call {
         Call::FlushItem { item } | Call::FlushDelayed { item } | Call::CancelSync { item } => {
@@ -60,7 +61,7 @@ fn awaited_by(call: Call) -> Awaited
 /// The fault of this item's run.
 pub(crate) fn fault_of_wait(item: ItemId, call: Call, fault: WaitFault) -> Fault
     requires { is_wait call ≡ true }
-    ensures { IsFaultOfWait fault result }
+    ensures { IsFaultOfWait item call fault result }
 {
     let (item, awaited) = (item.0, awaited_by(call));
     match fault {
