@@ -1,7 +1,9 @@
 //! What callers do, and what the threads of a run share.
 
-use cmwq_model::Shape;
-use cmwq_rt::{Caller, Hub, HubName, RunFault};
+ghost use Rattle.std.specs.Prelude.{◌≡◌};
+
+use cmwq_model::{CallerId, Shape};
+use cmwq_rt::{Caller, Hub, HubName, HubParts, RunFault};
 use std::alloc::Global;
 use std::sync::Wait;
 
@@ -61,6 +63,18 @@ pub trait Crew {
     fn stop<R: Wait>(&self, rt: &R, fault: RunFault) {
         let (_, _) = (rt, fault);
     }
+}
+
+/// The parts of a hub on which this crew is to run: it lends the callers from the first one on that has no thread.
+pub fn lending_for<C: Crew>(parts: HubParts, crew: &C) -> HubParts
+    requires { C.fits crew.now parts.shape }
+    ensures lends { result.dispatch.first_lent ≡ (C.roles crew.now parts.shape).threads }
+    ensures shape { result.shape ≡ parts.shape }
+    ensures opening { result.opening ≡ parts.opening }
+    ensures blank { result.blank ≡ parts.blank }
+{
+    let roster = crew.roster(&parts.shape);
+    parts.lending_from(CallerId(roster.threads))
 }
 
 /// A run: its hub, what its callers do, and what its items do. All its threads share it.

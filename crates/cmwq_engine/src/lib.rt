@@ -13,7 +13,7 @@ mod gather;
 mod running;
 mod start;
 
-pub use crew::{Crew, Roster, Shared};
+pub use crew::{Crew, Roster, Shared, lending_for};
 pub use ends::{CallerEnd, Calls, RunsWork, WorkerEnd};
 pub use gather::{Ends, Tally};
 pub use running::run;

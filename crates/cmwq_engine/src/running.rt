@@ -3,7 +3,7 @@ ghost use Rattle.std.specs.Prelude.{◌≡◌, length, true, IfOk, IfErr};
 ghost use Rattle.cmwq_rt.specs.Places.{all_free, shares};
 ghost use Rattle.cmwq_engine.specs.Ended.{EndsAll, FailsAs, HaveEnded, IsRest, IsRestOfLeft, is_silent};
 
-use crate::crew::{Crew, Roster, Shared};
+use crate::crew::{Crew, Roster, Shared, lending_for};
 use crate::ends::stop_at;
 use crate::gather::{Ends, Tally, gather};
 use crate::start::{idle_callers, lend_callers, start_callers, start_workers};
@@ -195,7 +195,7 @@ fn run_parts<
         t.full t.left_out result.0.first result.0.entries.items) }
     ensures fails { IfErr result.1 (FailsAs N.layout (C.calls crew.now) (C.roles crew.now N.layout)) }
 {
-    let (hub, participants) = Hub::<N>::open(parts);
+    let (hub, participants) = Hub::<N>::open(lending_for(parts, crew));
     let ended = run_threads(
         &Shared {
             rt,
