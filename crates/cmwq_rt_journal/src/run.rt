@@ -16,7 +16,7 @@ use crate::beside::{Beside, run_beside};
 use crate::fault::{JournalFault, Unwritten};
 use crate::keep::end_journal;
 use cmwq_engine::beside::{Counted, end_with};
-use cmwq_engine::{Crew, Shared, Tally};
+use cmwq_engine::{Crew, Shared, Tally, lending_for};
 use cmwq_io::Sink;
 use cmwq_model::{Entry, Shape};
 use cmwq_monitor::{Journal, RunFault};
@@ -148,7 +148,7 @@ fn write_parts<
     ensures tells { IfErr result (TellsOf N.layout (C.calls crew.now) (C.roles crew.now N.layout)) }
     ensures sink { IsErrOf result unwritten.Sink → Rises (O.troubles output.old) (O.troubles output.new) }
 {
-    let (hub, participants) = Hub::<N>::open(parts);
+    let (hub, participants) = Hub::<N>::open(lending_for(parts, crew));
     let journal = hub.journal(rt, spare);
     let beside = run_beside(
         &Shared {
