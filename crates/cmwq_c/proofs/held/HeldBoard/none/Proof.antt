@@ -36,7 +36,7 @@ none_spec 𝓤 𝓛 𝓜 𝓡 wired =
                   failed = false;
                   crowded = false;
                   firing = 0;
-                  waits = [];
+                  first_lent = 0;
                   asleep = record { tickets = []; pools = [] };
                 };
             given = 0;
