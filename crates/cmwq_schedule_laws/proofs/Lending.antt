@@ -156,8 +156,7 @@ module _ (s : Layout) (does : List (List Action)) (w : WorkerId) (cpu : nat_lt w
           → (l : LeftOut) × WaitsIfMay s run.item old l v c v
       of_may true may is = of_free (last_free p.free) (allowed c own may) is
       of_may false may is =
-          let why = some_found _ (sym (refusal c) ∙ not_false _ (sym (may_numbers c own) ∙ may)) in
-          (
+          let why = some_found _ (sym (refusal c) ∙ not_false _ (sym (may_numbers c own) ∙ may)) in (
             one_refused old,
             inr (inl (refused_for first s h p.workers w v kept who up c (same c) run.item why.0 why.1, refl)),
           )

@@ -64,9 +64,9 @@ IsReason s own v c f = (is_for_itself own c ≡ true) ⊎ ((awake : View) × IsA
 
 -- A wait of this item's run was refused for this reason, which tells the item and what it would have waited for. No
 -- entry was made, but that a run that was asleep is awake.
-pub record IsRefused (s : Layout) (own : ItemId) (v : View) (c : Call) (f : WaitFault) (item : ℕ) (a : Awaited)
+pub record IsRefused (s : Layout) (own : ItemId) (v : View) (c : Call) (f : WaitFault) (n : ℕ) (a : Awaited)
     (w : View) : Type 0 where
-  pub item : item ≡ own.0
+  pub item : n ≡ own.0
   pub awaited : awaited_by c ≡ Some a
   pub reason : IsReason s own v c f
   pub awake : IsAwake s v w
