@@ -364,14 +364,19 @@ class Shell:
         return state
 
     def whole(self, doing: Callable[..., Any], record: Record, *more: Any) -> Any:
-        """Does something as a whole. If an exception cuts it off, the clock does the rest."""
+        """Does something as a whole. If an exception cuts it off, the clock does the rest. A handler may raise where an
+        except clause begins, and that of the next signal where the one around it does. So three in a row are heeded."""
         try:
             try:
-                return doing(record, *more)
+                try:
+                    return doing(record, *more)
+                except BaseException:
+                    self.rescue(record)
+                    raise
             except BaseException:
                 self.rescue(record)
                 raise
-        except BaseException:  # before Python 3.10 a handler may raise where an except clause begins
+        except BaseException:
             self.rescue(record)
             raise
 
