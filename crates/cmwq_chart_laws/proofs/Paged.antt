@@ -5,10 +5,13 @@ use Rattle.std.proofs.Common.{inr, ⊎_elim, append_assoc, append-nil, reverse}
 use Rattle.std.proofs.lemmas.Bool.Decides.{nat_tests}
 use Rattle.std.specs.Prelude.{codes, decimal, if◌then◌else◌, nat_le, slice_index_or}
 use Rattle.std.specs.List.{AllByRecursion}
-use Rattle.std.proofs.lemmas.Bool.{and_parts}
+use Rattle.std.proofs.Math.Nat.{eq-or-lt_of_le}
+use Rattle.std.proofs.lemmas.Bool.{and_parts, cases_lt}
+use Rattle.std.proofs.lemmas.Grind.{same_number_lists}
 use Rattle.std.proofs.lemmas.Fmt.{decimal_injective, digits_decimal}
 use Rattle.std.proofs.lemmas.List.{append_cancel_left, reverse-append}
 use Rattle.std.proofs.lemmas.List.Concat.{flat_map-cons}
+use Rattle.std.proofs.lemmas.Simd.{Each1-from_get_or}
 use Rattle.std.proofs.lemmas.Str.Parse.{not_in_digits}
 use Rattle.cmwq_model.specs.declared.call.Call.{Call}
 use Rattle.cmwq_model.specs.declared.call.Call.TheVariants as call
@@ -57,16 +60,12 @@ split (x ∷ xs) (y ∷ ys) a b r t in_xs in_ys e =
     let k = split xs ys a b r t in_xs.1 in_ys.1 tail in
     (ap₂ (λ z zs. z ∷ zs) head k.0, k.1)
 
-all_at : (xs : List ℕ) → ((i : ℕ) → i < length xs → IsInside (get_or xs i 0)) → AllByRecursion IsInside xs
-all_at [] h = tt
-all_at (x ∷ xs) h = (h 0 (omega arith), all_at xs (λ i less. h (suc i) (omega arith)))
-
 decimals_inside : (n : ℕ) → n ≤ greatest_long → AllByRecursion IsInside (decimal n)
 unfolding IsInside
 decimals_inside n within =
     let less : n < 2 ^ 64 = omega arith in
     let digits = digits_decimal own n less in
-    all_at (decimal n) (λ i there. (
+    Each1-from_get_or IsInside (decimal n) 0 (λ i there. (
       not_in_digits own (decimal n) 32 digits (λ r. absurd (omega (arith, r))) i there,
       not_in_digits own (decimal n) 10 digits (λ r. absurd (omega (arith, r))) i there,
     ))
@@ -116,17 +115,11 @@ cells_same (b ∷ bs) ns ms k r t in_ns in_ms e =
     (cells bs ms (k + 1) t) (in_ns k) (in_ms k) e in
     let rest = cells_same bs ns ms (k + 1) r t in_ns in_ms first.1 in (
       λ i from less. ⊎_elim
-          (λ (here : i ≡ k). ap (λ j. slice_index_or ns j 0) here ∙ first.0 ∙ ap (λ j. slice_index_or ms j 0) (sym here))
-          (λ (later : k + 1 ≤ i). rest.0 i later (omega arith)) (here_or_later i k from),
+          (λ (here : k ≡ i). ap (λ j. slice_index_or ns j 0) (sym here) ∙ first.0
+          ∙ ap (λ j. slice_index_or ms j 0) here)
+          (λ (later : k < i). rest.0 i (omega arith) (omega arith)) (eq-or-lt_of_le from),
       rest.1,
     )
-  where
-    here_or_later : (i k : ℕ) → k ≤ i → (i ≡ k) ⊎ (k + 1 ≤ i)
-    here_or_later zero zero h = inl refl
-    here_or_later (suc i) zero h = inr (omega arith)
-    here_or_later zero (suc k) h = absurd (omega arith)
-    here_or_later (suc i) (suc k) h =
-        ⊎_elim (λ (e : i ≡ k). inl (ap suc e)) (λ (l : k + 1 ≤ i). inr (omega arith)) (here_or_later i k (omega arith))
 
 -- ---- the numbers of calls
 
@@ -304,14 +297,6 @@ are_five call.Freeze = refl
 are_five call.Thaw = refl
 are_five (call.Destroy q) = refl
 
-same_lists : (xs ys : List ℕ) → length xs ≡ length ys
-    → ((i : ℕ) → slice_index_or xs i 0 ≡ slice_index_or ys i 0) → xs ≡ ys
-same_lists [] [] long same = refl
-same_lists [] (y ∷ ys) long same = absurd (omega arith)
-same_lists (x ∷ xs) [] long same = absurd (omega arith)
-same_lists (x ∷ xs) (y ∷ ys) long same =
-    ap₂ (λ z zs. z ∷ zs) (same 0) (same_lists xs ys (omega arith) (λ i. same (suc i)))
-
 -- ---- who
 
 callers_few : (s : Layout) (n : ℕ) → is_layout s ≡ true → n < s.callers → n ≤ 255
@@ -378,12 +363,6 @@ who_within s (Worker w) c layout ma =
     at_most true = omega arith
     at_most false = omega arith
 
-less_or_more : (a b : ℕ) → (a < b) ⊎ (b ≤ a)
-less_or_more a zero = inr (omega arith)
-less_or_more zero (suc b) = inl (omega arith)
-less_or_more (suc a) (suc b) =
-    ⊎_elim (λ (l : a < b). inl (omega arith)) (λ (m : b ≤ a). inr (omega arith)) (less_or_more a b)
-
 -- ---- rows
 
 module _ (s : Layout) (layout : is_layout s ≡ true) where
@@ -434,8 +413,9 @@ module _ (s : Layout) (layout : is_layout s ≡ true) where
       (bounded e (who_within s e.who c layout me) we) (bounded f (who_within s f.who d layout mf) wf) alike in
       record {
         who = who_is s e.who f.who c d layout me mf one.0;
-        call = calls_stand_apart c d (same_lists (numbers_of_call c) (numbers_of_call d)
-            (are_five c ∙ sym (are_five d)) (each c d two.0 (length (rest_cells (kind c))) refl others.0));
+        call = calls_stand_apart c d (same_number_lists (numbers_of_call c) (numbers_of_call d)
+            (are_five c ∙ sym (are_five d))
+            (λ i _. each c d two.0 (length (rest_cells (kind c))) refl others.0 i));
         after = others.1;
       }
     where
@@ -453,7 +433,7 @@ module _ (s : Layout) (layout : is_layout s ≡ true) where
           ∙ sym (beyond d (suc i)
           (let same : length (rest_cells (kind d)) ≡ n = ap (λ k. length (rest_cells k)) (sym kinds) ∙ long in
           omega arith)))
-          (less_or_more (suc (suc i)) (2 + n))
+          (cases_lt (suc (suc i)) (2 + n))
 
   -- ---- entry after entry, from the oldest on
 

@@ -13,7 +13,8 @@ use Rattle.std.specs.List.{AllByRecursion, list_any}
 use Rattle.std.proofs.Common.{⊎_elim}
 use Rattle.std.proofs.lemmas.Bool.{and_from, and_parts}
 use Rattle.std.proofs.lemmas.Option.{same_Some}
-use Rattle.cmwq_lemmas.proofs.Lists.{count_by-cons}
+use Rattle.cmwq_lemmas.proofs.Filters.{count_none, none_found}
+use Rattle.cmwq_lemmas.proofs.Lists.{count_by-none, find_none}
 use Rattle.cmwq_lemmas.proofs.Members.{In, any_in, found, in_contained, in_filter, in_range, in_right, of_in}
 use Rattle.cmwq_model.specs.Prelude.{indices, is_holding, is_idle, is_live, worker_at}
 use Rattle.cmwq_model.specs.Workers.{runnable}
@@ -31,50 +32,13 @@ use Rattle.cmwq_order_laws.specs.Reasons.{would_start_it}
 use Rattle.cmwq_order_laws.proofs.Firsts.{IsFirst, active_stand, first_found}
 use Rattle.cmwq_order_laws.proofs.Places.{IsAlone, stands_alone}
 
--- ---- what is found, and what is counted
-
-abbrev one_if : Bool → ℕ
-one_if b = cond b 1 0
-
-none_counted : {X : Type 0} (test : X → Bool) (xs : List X) → find test xs ≡ None → count_by test xs ≡ 0
-none_counted test [] h = refl
-none_counted test (x ∷ xs) h = at (test x) refl h (none_counted test xs)
-  where
-    at : (b : Bool) → test x ≡ b → cond b (Some x) (find test xs) ≡ None
-        → (find test xs ≡ None → count_by test xs ≡ 0) → count_by test (x ∷ xs) ≡ 0
-    at true is k later = absurd (cc k)
-    at false is k later =
-        let rest = later k in
-        let none : one_if (test x) ≡ 0 = ap one_if is in
-        let all = count_by-cons test x xs in
-        omega arith
-
-none_found : {X : Type 0} (test : X → Bool) (xs : List X) → count_by test xs ≡ 0 → find test xs ≡ None
-none_found test [] h = refl
-none_found test (x ∷ xs) h = at (test x) refl (none_found test xs)
-  where
-    at : (b : Bool) → test x ≡ b → (count_by test xs ≡ 0 → find test xs ≡ None)
-        → cond b (Some x) (find test xs) ≡ None
-    at true is later =
-        let one : one_if (test x) ≡ 1 = ap one_if is in
-        let all = count_by-cons test x xs in
-        absurd (omega arith)
-    at false is later =
-        let none : one_if (test x) ≡ 0 = ap one_if is in
-        let all = count_by-cons test x xs in
-        later (omega arith)
-
+-- what passes is found, if not before it another
 passes_found : {X : Type 0} (test : X → Bool) (xs : List X) (x : X) → In x xs → test x ≡ true → find test xs ≡ None
     → ⊥
-passes_found test [] x here passes none = here
-passes_found test (y ∷ ys) x here passes none = at (test y) refl none (passes_found test ys x)
-  where
-    at : (b : Bool) → test y ≡ b → cond b (Some y) (find test ys) ≡ None
-        → (In x ys → test x ≡ true → find test ys ≡ None → ⊥) → ⊥
-    at true is k later = cc k
-    at false is k later = ⊎_elim
-        (λ e. let clash : true ≡ false = sym passes ∙ ap test (sym e) ∙ is in
-        cc clash) (λ i. later i passes k) here
+passes_found test xs x here passes none =
+    let fails = of_in (λ y. test y ≡ false) xs x (find_none test xs none) here in
+    let clash : true ≡ false = sym passes ∙ fails in
+    cc clash
 
 -- ---- what a take starts
 
@@ -208,7 +172,7 @@ module _ (s : Layout) (past : List Entry) (legal : IsLegal s past) where
           ap (λ o. is_at o x.number) (takes s past (worker_at p k) y (record {
             enlisted = parts.0;
             free = none;
-            not_held = none_counted (is_holding s past p) (indices s) held;
+            not_held = count_by-none (is_holding s past p) (indices s) (find_none (is_holding s past p) (indices s) held);
             is_next = is;
           })) ∙ eq-eqb y.number x.number same;
     }
@@ -267,7 +231,8 @@ module _ (s : Layout) (past : List Entry) (legal : IsLegal s past) where
         let free : item_runs past x.item.0 ≡ false =
         subst (λ (y : Queueing). item_runs past y.item.0 ≡ false) same n.is_free in
         let none : find (is_holding s past p) (indices s) ≡ None =
-        none_found (is_holding s past p) (indices s) (ap (runnable s past) pool ∙ t.may.not_held) in
+        none_found (is_holding s past p) (indices s)
+        (count_none (is_holding s past p) (indices s) (ap (runnable s past) pool ∙ t.may.not_held)) in
         let idle : is_idle past q k ≡ true = and_from _ _ t.may.enlisted (ap not t.may.free) in
         let one : list_any (is_idle past p) (indices s) ≡ true =
         subst (λ r. list_any (is_idle past r) (indices s) ≡ true) (sym pool)

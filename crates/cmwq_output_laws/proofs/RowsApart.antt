@@ -5,6 +5,7 @@ use Rattle.std.proofs.Common.{inl, inr, ⊎_elim, append-nil, flat_map, ltb-fals
 use Rattle.std.specs.Prelude.{if◌then◌else◌, option_and_then, slice_get, slice_set}
 use Rattle.std.specs.Option.{option_map_or}
 use Rattle.std.specs.List.{AllByRecursion, range_with_len}
+use Rattle.std.proofs.lemmas.List.{set_past}
 use Rattle.std.proofs.lemmas.List.Concat.{flat_map-cons}
 use Rattle.std.proofs.lemmas.Option.{same_Some}
 use Rattle.cmwq_lemmas.proofs.Members.{In, all_in, in_append, in_option}
@@ -23,11 +24,6 @@ use Rattle.cmwq_output_laws.specs.BarLaws.{EndsBefore}
 use Rattle.cmwq_output_laws.specs.WaitLaws.{StandApart, WaitsOfARowAreApart}
 
 -- ---- rows
-
-set_past : {X : Type 0} (xs : List X) (n : ℕ) (x : X) → length xs ≤ n → slice_set xs n x ≡ xs
-set_past [] n x h = refl
-set_past (y ∷ xs) zero x h = absurd (omega arith)
-set_past (y ∷ xs) (suc n) x h = ap (λ l. y ∷ l) (set_past xs n x (omega arith))
 
 pub left_is : (rows : List (Option ℕ)) (k : ℕ) → left_row rows k ≡ slice_set rows k None
 left_is rows k = by (nat_lt k (length rows)) refl
