@@ -3,8 +3,8 @@
  * value is proved to be the one of the definitions (docs/SEMANTICS.md; docs/C.md says what is proved for a C caller,
  * and what a caller must keep to).
  *
- * Link libcmwq_c.a, or libcmwq.so. It takes memory by malloc, and only in cmwq_open(), cmwq_check(), cmwq_board_open(),
- * cmwq_lines_open() and cmwq_head(). It has no thread, lock, clock or state of its own.
+ * Link libcmwq_c.a, or libcmwq.so. It takes memory by malloc, and only in cmwq_open(), cmwq_check(), cmwq_resume(),
+ * cmwq_board_open(), cmwq_lines_open() and cmwq_head(). It has no thread, lock, clock or state of its own.
  */
 #ifndef CMWQ_H
 #define CMWQ_H
@@ -34,10 +34,11 @@ uint32_t cmwq_version(void);
  * @CMWQ_CLOSED: the handle has no book, no board or no lines
  * @CMWQ_FULL: no room for the entry and for what would be owed then, or for its ticks
  * @CMWQ_NO_MEMORY: malloc gave none
- * @CMWQ_SHORT: the buffer doesn't hold the line (CMWQ_LINE bytes always do)
+ * @CMWQ_SHORT: the buffer doesn't hold the line (CMWQ_LINE bytes always do), or the calls
  * @CMWQ_CROWDED: as many entries are kept as may be: read them, and call cmwq_forget(); of a board: hand them out by
  * cmwq_board_hand_out()
- * @CMWQ_ILLEGAL: of cmwq_check() alone: the history isn't legal, and the line says where. The line is written
+ * @CMWQ_ILLEGAL: of cmwq_check() and cmwq_resume() alone: the history isn't legal, and the line says where. The line is
+ * written
  *
  * Of boards alone:
  * @CMWQ_STOPPED: the board was stopped: callers begin nothing
@@ -259,6 +260,23 @@ uint32_t cmwq_forget(struct cmwq_book *book);
  */
 uint32_t cmwq_check(const uint8_t *text, size_t len, uint8_t *out, size_t out_len, size_t *written);
 
+/**
+ * cmwq_resume() - the calls by which a new history takes over what an old one left, as `cmwq resume --front` prints
+ * them; needs no book
+ * @text: the old history, of any format, or a front of it: what stands after its last line feed is left out, up to 120
+ * bytes
+ * @left_out: a run of item k that was broken off is not queued again if left_out[k] isn't 0, where k < @left_out_len
+ * @shape: takes the shape of the old history; its @keep is 0
+ * @queues: takes how many queues that has
+ * @calls: takes the calls, all of caller 0, *@count of them: 3 * *@queues + @items + 2 always hold them
+ * @line: takes, at CMWQ_REFUSED and CMWQ_ILLEGAL alone, the number of the line that is wrong, from 1; 0: a line is too
+ * long, or there are too many
+ * Return: CMWQ_OK; CMWQ_ILLEGAL; CMWQ_REFUSED: no history; CMWQ_NO_MEMORY; CMWQ_SHORT.
+ */
+uint32_t cmwq_resume(const uint8_t *text, size_t len, const uint8_t *left_out, size_t left_out_len,
+                     struct cmwq_shape *shape, size_t *queues, struct cmwq_call *calls, size_t calls_len,
+                     size_t *count, uint64_t *line);
+
 /*
  * Boards. A board is a hub without threads: it decides what its callers and workers get, who sleeps, and who is to be
  * woken. A shell has the threads. It locks, makes one call, unlocks, and wakes those whom struct cmwq_wakes names.
@@ -378,14 +396,17 @@ uint32_t cmwq_board_end(struct cmwq_board *board, uint8_t party, struct cmwq_wak
 
 /**
  * cmwq_board_leave() - nobody waits by this party any more, and the caller may be lent again. Its ticket is ended once
- * it is ready, by cmwq_board_call(), cmwq_board_finish(), cmwq_board_end() or cmwq_board_leave(), or a later wait goes
- * on by it
- * Return: CMWQ_OK; CMWQ_REFUSED: no lent caller; CMWQ_CLOSED; CMWQ_FAILED; CMWQ_NOT_NOW: nobody waits by it, or a run.
+ * it is ready, by cmwq_board_call(), cmwq_board_finish(), cmwq_board_end() or cmwq_board_leave(), which name nobody for
+ * that, or a later wait goes on by it. If a run waited, it waits no more, but no entry says so: a run that was awake
+ * when the wait began sleeps until its worker makes CMWQ_WAKE
+ * Return: CMWQ_OK; CMWQ_REFUSED: no lent caller; CMWQ_CLOSED; CMWQ_FAILED; CMWQ_NOT_NOW: nobody waits by it.
  */
 uint32_t cmwq_board_leave(struct cmwq_board *board, uint8_t party, struct cmwq_wakes *wakes);
 
 /**
  * cmwq_board_advance() - so many ticks (jiffies) go by, and what is due is fired, as by delayed_work_timer_fn()
+ * It fires until a fire finds nothing, there is no room, or as often as there are items. So where nothing is due, it
+ * makes two entries.
  * @caller: one of the shell's own
  * Return: CMWQ_OK, and *@now is the tick that it is; CMWQ_REFUSED: no caller of the shell's own; CMWQ_CLOSED;
  * CMWQ_FULL; CMWQ_CROWDED; CMWQ_STOPPED; CMWQ_FAILED.
@@ -409,6 +430,16 @@ uint32_t cmwq_board_item(struct cmwq_board *board, uint16_t item, struct cmwq_it
  */
 uint32_t cmwq_board_stop(struct cmwq_board *board, struct cmwq_wakes *wakes);
 uint32_t cmwq_board_fail(struct cmwq_board *board, struct cmwq_wakes *wakes);
+
+/**
+ * cmwq_board_news() - what has changed since this was called last, of which no call tells otherwise; 0 of a closed
+ * handle
+ * Return: 0, or the sum of enum cmwq_news:
+ * @CMWQ_LEFT_ENDED: a ticket that was left has ended. So its caller may be lent again, if it had as many as it may have
+ * @CMWQ_DUE_EARLIER: a drain has ended, or an item was delayed. So cmwq_board_due() may be less than it was
+ */
+enum cmwq_news { CMWQ_LEFT_ENDED = 1, CMWQ_DUE_EARLIER = 2 };
+uint32_t cmwq_board_news(struct cmwq_board *board);
 
 /** cmwq_board_is_over() - whether nobody will have anything to do any more; true of a closed handle */
 bool cmwq_board_is_over(struct cmwq_board *board);

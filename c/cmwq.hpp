@@ -42,6 +42,15 @@ public:
     int code() const noexcept { return code_; }
 };
 
+// The journal of durable workqueues is no legal history, because of this line.
+class bad_journal : public failure {
+    uint64_t line_;
+
+public:
+    explicit bad_journal(uint64_t line) : failure(CMWQ_BAD_JOURNAL), line_(line) {}
+    uint64_t line() const noexcept { return line_; }
+};
+
 // What a call of cmwq_hub.h returned, if that is no failure.
 inline int done(int result)
 {
@@ -59,8 +68,16 @@ struct queue_options {
 // What is no number of 16 bits is refused with all else that is above the limit.
 inline queue_options max_active(uint64_t most) { return {{uint16_t(std::min<uint64_t>(most, UINT16_MAX)), 0, 0, 0}}; }
 
+class run;
+using work = std::function<void(run &)>;
+
 struct shape {
+    struct named { std::string name, queue; work function; unsigned cpu; };
+
     cmwq_options of{};
+    std::string file;
+    std::vector<named> items_named;
+    std::function<bool(const std::string &)> asks;
     std::vector<std::string> names;
     std::vector<cmwq_queue> queues;
     std::ostream *to = nullptr;
@@ -80,6 +97,22 @@ struct shape {
         return *this;
     }
     shape &history(std::ostream &out) { to = &out; return *this; } // it outlives the workqueues
+    // An item with a name, of this queue and CPU. Workqueues have it from their beginning on.
+    shape &item(std::string name, std::string queue, work function, unsigned cpu = 0)
+    {
+        for (const named &it : items_named)
+            if (it.name == name) throw std::invalid_argument("cmwq: two items have the name " + name);
+        items_named.push_back({std::move(name), std::move(queue), std::move(function), cpu});
+        return *this;
+    }
+    // What is queued or delayed outlives the program, with its journal in this file. Such workqueues have items with
+    // names alone, in the same order in each life; new ones come last.
+    shape &durable(std::string path) { file = std::move(path); return *this; }
+    shape &sync(cmwq_sync level) { of.sync = level; return *this; } // CMWQ_SYNC_DATA, if it isn't called
+    shape &each() { of.each = true; return *this; }                 // calls of no run return once they are durable
+    shape &keep_old() { of.keep_old = true; return *this; }
+    // Whether the run of this item that was broken off is had again.
+    shape &again(std::function<bool(const std::string &item)> asked) { asks = std::move(asked); return *this; }
     shape &queue(std::string name, queue_options options)
     {
         if (std::find(names.begin(), names.end(), name) != names.end())
@@ -114,8 +147,6 @@ public:
     }
 };
 
-using work = std::function<void(run &)>;
-
 namespace detail {
 
 struct hub;
@@ -140,6 +171,7 @@ struct hub {
     std::exception_ptr thrown; // the first of a work function
     uint64_t tick = 1000000;
     std::ostream *to = nullptr;
+    const shape *from = nullptr; // while it is opened
     std::shared_ptr<hub> self; // until the clock's thread has closed it
 
     struct hold {
@@ -151,7 +183,7 @@ struct hub {
 
     ~hub()
     {
-        cmwq_hub_close(&of);
+        if (cmwq_hub_leave(&of) == -CMWQ_REFUSED) cmwq_hub_close(&of);
         if (of.forked) slots.release(); // a function may have been in the middle of its run
     }
 
@@ -166,12 +198,32 @@ struct hub {
         }
     }
 
-    // Lets what is queued end, joins, and drops the functions, which may have handles of their own. If another thread
-    // closes it, that one drops them.
-    int end()
+    // Gives the first numbers to the items with names, which keep them.
+    void name_slots(const shape &of_these)
     {
-        int result = cmwq_hub_close(&of);
-        if (result == CMWQ_OK || result == -CMWQ_NO_JOURNAL)
+        for (const shape::named &it : of_these.items_named) {
+            auto found = std::find(of_these.names.begin(), of_these.names.end(), it.queue);
+            slot &own = *std::exchange(free, free->next);
+            if (found == of_these.names.end()) throw std::out_of_range("cmwq: no queue " + it.queue);
+            own.queue = unsigned(found - of_these.names.begin());
+            own.cpu = it.cpu;
+            own.function = it.function;
+            own.handles = 1;
+        }
+    }
+
+    static bool again(void *at, unsigned item)
+    {
+        const shape &from = *static_cast<hub *>(at)->from;
+        return from.asks(from.items_named[item].name);
+    }
+
+    // Lets what is queued end, or keeps it; joins, and drops the functions, which may have handles of their own. If
+    // another thread closes it, that one drops them.
+    int end(bool keeps)
+    {
+        int result = keeps ? cmwq_hub_leave(&of) : cmwq_hub_close(&of);
+        if (result == CMWQ_OK || result == -CMWQ_NO_JOURNAL || result == -CMWQ_DISK_FAILED)
             for (unsigned k = 0; k < items; k++) work().swap(slots[k].function);
         return result;
     }
@@ -192,7 +244,7 @@ struct hub {
     static void finish(void *at)
     {
         std::shared_ptr<hub> self = std::move(static_cast<hub *>(at)->self);
-        self->end();
+        self->end(self->of.disk.is);
     }
 
     static bool write(void *at, const char *text, size_t len)
@@ -288,6 +340,7 @@ class item {
     std::shared_ptr<detail::hub> hub_;
     detail::slot *slot_ = nullptr;
     friend class queue;
+    friend class workqueues;
     item(std::shared_ptr<detail::hub> hub, detail::slot *slot) noexcept : hub_(std::move(hub)), slot_(slot) {}
     const detail::slot &own() const
     {
@@ -329,7 +382,7 @@ public:
     bool cancel_sync() const { return done(cmwq_cancel_work_sync(hub(), own().number, CMWQ_FOREVER)); }
     bool flush() const { return done(cmwq_flush_work(hub(), own().number, CMWQ_FOREVER)); }
     bool flush_delayed() const { return done(cmwq_flush_delayed_work(hub(), own().number, CMWQ_FOREVER)); }
-    // The same with a timeout: whether it has ended in time. Not in a work function.
+    // The same with a timeout: whether it has ended in time.
     bool cancel_sync_for(milliseconds time) const
     {
         return detail::in_time(cmwq_cancel_work_sync(hub(), own().number, detail::timeout_of(time)));
@@ -363,6 +416,26 @@ public:
         if (cpu >= hub_->of.is.cpus) throw failure(CMWQ_REFUSED);
         return item(hub_, hub_->add(function, number_, cpu));
     }
+    // Queues many items on this queue, each on its CPU, with one hold of the lock for each CMWQ_BATCH items in a row
+    // that have one CPU. Returns how many were not pending. The items before one that fails are queued.
+    template <class Items> size_t queue_all(const Items &items) const
+    {
+        unsigned numbers[CMWQ_BATCH], cpu = 0;
+        size_t many = 0, queued = 0;
+        auto put = [&] { queued += size_t(done(cmwq_queue_all(&hub_->of, cpu, number_, numbers, many, nullptr))); };
+        for (const item &each : items) {
+            bool is_own = each && each.own().of == hub_.get();
+            if (many && (!is_own || many == CMWQ_BATCH || each.own().cpu != cpu)) {
+                put();
+                many = 0;
+            }
+            if (each.own().of != hub_.get()) throw failure(CMWQ_REFUSED);
+            cpu = each.own().cpu;
+            numbers[many++] = each.own().number;
+        }
+        put();
+        return queued;
+    }
     void flush() const { done(cmwq_flush_workqueue(&hub_->of, number_, CMWQ_FOREVER)); }
     void drain() const { done(cmwq_drain_workqueue(&hub_->of, number_, CMWQ_FOREVER)); }
     void destroy() const { done(cmwq_destroy_workqueue(&hub_->of, number_, CMWQ_FOREVER)); }
@@ -382,15 +455,22 @@ public:
 
 class workqueues {
     std::shared_ptr<detail::hub> hub_ = std::make_shared<detail::hub>();
-    std::vector<std::string> names_;
+    std::vector<std::string> names_, items_;
 
 public:
     explicit workqueues(const shape &from) : names_(from.names)
     {
         cmwq_options options = from.of;
+        size_t named = from.items_named.size();
+        if (!from.file.empty() || options.items < named) options.items = unsigned(std::min<size_t>(named, UINT_MAX));
         if (options.items > UINT16_MAX) throw failure(CMWQ_REFUSED);
+        for (const shape::named &it : from.items_named) {
+            if (it.cpu >= std::max(options.cpus, 1u)) throw failure(CMWQ_REFUSED);
+            items_.push_back(it.name);
+        }
         std::vector<cmwq_work> works(options.items);
         hub_->make_slots(options.items);
+        hub_->name_slots(from);
         for (unsigned k = 0; k < options.items; k++) works[k] = {detail::hub::call, &hub_->slots[k]};
         hub_->tick = options.tick_ns ? options.tick_ns : hub_->tick;
         hub_->to = from.to;
@@ -400,21 +480,36 @@ public:
         options.journal = from.to ? detail::hub::write : nullptr;
         options.journal_data = hub_.get();
         options.ended_ = detail::hub::ended;
-        done(cmwq_hub_open(&hub_->of, &options));
+        options.durable = from.file.empty() ? nullptr : from.file.c_str();
+        options.again = from.asks ? detail::hub::again : nullptr;
+        options.again_data = hub_.get();
+        hub_->from = &from;
+        int result = cmwq_hub_open(&hub_->of, &options);
+        hub_->from = nullptr;
+        if (result == -CMWQ_BAD_JOURNAL) throw bad_journal(hub_->of.line);
+        done(result);
     }
     workqueues(const workqueues &) = delete;
     workqueues &operator=(const workqueues &) = delete;
     ~workqueues()
     {
         // not in a work function or a journal of its own
-        if (hub_->end() == -CMWQ_NOT_NOW) detail::hub::leave(hub_);
+        if (hub_->end(hub_->of.disk.is) == -CMWQ_NOT_NOW) detail::hub::leave(hub_);
     }
 
     // Lets what is queued end, joins, and throws what a work function has thrown. Where another thread does so, or did,
     // it waits for that.
-    void shutdown()
+    void shutdown() { end(false); }
+    // The same of durable workqueues, but starts nothing more, and keeps what is queued or delayed for the next life.
+    void leave() { end(true); }
+    // Of durable workqueues: returns once all that was called so far is on the disk.
+    void sync() const { done(cmwq_hub_sync(&hub_->of)); }
+
+private:
+    void end(bool keeps)
     {
-        int result = hub_->end();
+        int result = hub_->end(keeps);
+        if (result == -CMWQ_REFUSED) throw failure(CMWQ_REFUSED);
         if (result == -CMWQ_NOT_NOW) throw failure(CMWQ_NOT_NOW);
         if (result == -CMWQ_CLOSED) hub_->wait_for_end();
         std::exception_ptr thrown;
@@ -424,6 +519,17 @@ public:
         }
         if (thrown) std::rethrow_exception(thrown);
         if (result != -CMWQ_CLOSED) done(result);
+    }
+
+public:
+    // The item with this name, of the shape.
+    cmwq::item item(const std::string &name) const
+    {
+        auto found = std::find(items_.begin(), items_.end(), name);
+        if (found == items_.end()) throw std::out_of_range("cmwq: no item " + name);
+        detail::slot *own = &hub_->slots[size_t(found - items_.begin())];
+        own->handles.fetch_add(1, std::memory_order_relaxed);
+        return cmwq::item(hub_, own);
     }
     cmwq::queue queue(const std::string &name) const
     {

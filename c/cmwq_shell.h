@@ -10,12 +10,22 @@
  */
 struct cmwq_here_ { struct cmwq_hub *hub; struct cmwq_run *run; struct cmwq_here_ *outer; bool forked; };
 
-/* A thread that sleeps until it is named: a worker, a call that waits, the clock or the journal. */
+/*
+ * A thread that sleeps until it is named: a worker, a call that waits, the clock or the journal. A worker has no thread
+ * before it is named for the first time. @wanted: it is to get one; @given: with this run, which it has started
+ */
 struct cmwq_party_ {
-    pthread_cond_t wakes; pthread_t thread; struct cmwq_hub *hub; struct cmwq_who who; bool named, started;
+    pthread_cond_t wakes; pthread_t thread; struct cmwq_hub *hub; struct cmwq_who who;
+    bool named, started, wanted, given; uint16_t item; uint64_t number;
     unsigned vain; /* how often it has looked in vain */
 };
 enum cmwq_hub_state_ { CMWQ_NONE_, CMWQ_OPEN_, CMWQ_CLOSING_ };
+
+/* The journal of a durable hub: the files, -1: none; how many entries are on the disk, and are waited for; whether a
+   thread writes; and whether that failed */
+struct cmwq_disk_ { bool is, writing, failed; int file, folder, lock; uint64_t synced, wanted; };
+static inline void cmwq_disk_free_(struct cmwq_disk_ *disk);
+
 struct cmwq_hub {                           /* all zeros: none. It is never copied */
     pthread_mutex_t lock; pthread_cond_t changed; enum cmwq_hub_state_ state;
     struct cmwq_here_ **(*here)(void);      /* where the calling thread is, as the file that opened the hub knows it */
@@ -23,9 +33,14 @@ struct cmwq_hub {                           /* all zeros: none. It is never copi
     struct cmwq_board board; struct cmwq_lines lines; struct cmwq_shape shape; struct cmwq_options is;
     struct cmwq_work *works; struct cmwq_party_ *parties, *clock, *journal; /* workers, lent callers, clock, journal */
     struct cmwq_wakes wakes; struct cmwq_party_ *named[64]; unsigned names; /* who is woken when the lock is let go */
+    pthread_t *threads; unsigned taken;     /* those that have callers of their own, from caller 1 on */
+    unsigned own, alive, unborn;            /* callers that are not lent; workers with a thread; and still without */
     unsigned workers, inside, signalling;   /* calls that hold the lock or sleep; threads that wake others without it */
     uint64_t begun, handed, due;            /* the clock at tick 0; entries handed out; the tick the clock sleeps for */
     bool frozen, busy, deaf, over;          /* busy: the journal has lines; deaf: it wants no more */
+    bool threadless;                        /* a worker's thread could not be started: the board has failed */
+    bool writes, keeps;                     /* there is a journal; nothing starts any more, and what is left is kept */
+    struct cmwq_disk_ disk; uint64_t line;  /* @line: of a durable journal, which the open refused because of it */
     bool forked, torn;                      /* of a child: it was open before; and a thread was about to change it */
     void (*then)(void *data); void *data;   /* the clock's thread is to close it, and to call this */
 };
@@ -81,6 +96,7 @@ static inline void cmwq_in_child_(void)
         hub->torn = pthread_mutex_trylock(&hub->lock) != 0;
         hub->state = CMWQ_NONE_;
         hub->among = NULL;
+        cmwq_disk_free_(&hub->disk);
         pthread_mutex_init(&hub->lock, NULL);
     }
     opened->first = NULL;
@@ -115,27 +131,53 @@ static inline uint64_t cmwq_hub_now_(const struct cmwq_hub *hub)
 
 static inline void cmwq_hub_name_(struct cmwq_hub *hub, struct cmwq_party_ *party)
 {
+    if (party < hub->parties + hub->workers && !party->started) { /* a worker that has no thread yet */
+        if (party->wanted) return;
+        party->wanted = true;
+        hub->alive++;
+        hub->unborn++;
+        /* not the calling thread starts it, which has a priority, CPUs and signals of its own: the clock does, and once
+           the hub is closed whoever closes it */
+        pthread_cond_broadcast(&hub->changed);
+        party = hub->clock;
+    }
     __atomic_store_n(&party->named, true, __ATOMIC_RELEASE);
     if (hub->names < 64) hub->named[hub->names++] = party;
     else pthread_cond_signal(&party->wakes);
+}
+
+static inline uint32_t cmwq_hub_note_(struct cmwq_hub *hub, uint32_t status);
+
+/* Looks in place of a worker that has no thread. It gets one if it has something to run. */
+static inline void cmwq_hub_look_(struct cmwq_hub *hub, struct cmwq_party_ *party)
+{
+    if (party->wanted) return;
+    if (cmwq_hub_note_(hub, cmwq_board_start(&hub->board, &party->who, &party->item, &party->number, &hub->wakes)) ==
+        CMWQ_OK) {
+        party->given = true;
+        cmwq_hub_name_(hub, party);
+    }
 }
 
 /* Notes whom a call of the board has named. */
 static inline uint32_t cmwq_hub_note_(struct cmwq_hub *hub, uint32_t status)
 {
     struct cmwq_wakes *wakes = &hub->wakes;
+    bool all_workers = wakes->all_workers != 0;
 
     for (struct cmwq_who *who = wakes->workers; who < wakes->workers + CMWQ_NAMED && who->kind != CMWQ_NOBODY; who++)
         cmwq_hub_name_(hub, &hub->parties[(2u * who->cpu + who->kind - 1u) * hub->shape.workers + who->index]);
     for (unsigned k = 0; k < CMWQ_NAMED && wakes->callers[k] != CMWQ_NOBODY; k++)
-        cmwq_hub_name_(hub, &hub->parties[hub->workers + wakes->callers[k] - 1u]);
-    for (unsigned k = wakes->all_workers ? 0 : hub->workers; wakes->all_workers && k < hub->workers; k++)
-        cmwq_hub_name_(hub, &hub->parties[k]);
+        cmwq_hub_name_(hub, &hub->parties[hub->workers + wakes->callers[k] - hub->own]);
+    for (unsigned k = 0; all_workers && k < hub->workers; k++)
+        if (hub->parties[k].started) cmwq_hub_name_(hub, &hub->parties[k]);
     for (unsigned k = hub->workers; wakes->all_callers && k < hub->workers + hub->is.waits; k++)
         cmwq_hub_name_(hub, &hub->parties[k]);
     if (wakes->clock) cmwq_hub_name_(hub, hub->clock); /* there may be timers that a drain held back */
     wakes->workers[0].kind = wakes->callers[0] = CMWQ_NOBODY; /* as a call that isn't made leaves it so */
     wakes->all_workers = wakes->all_callers = wakes->clock = 0;
+    for (unsigned k = 0; all_workers && k < hub->workers; k++)
+        if (!hub->parties[k].started) cmwq_hub_look_(hub, &hub->parties[k]);
     return status;
 }
 
@@ -183,7 +225,7 @@ static inline void cmwq_hub_space_(struct cmwq_hub *hub, uint64_t most)
         }
         cmwq_board_hand_out(&hub->board, &hub->lines);
         hub->handed = cmwq_board_len(&hub->board);
-        hub->busy = hub->is.journal && !hub->deaf;
+        hub->busy = hub->writes && !hub->deaf;
         if (hub->busy) cmwq_hub_name_(hub, hub->journal);
         else cmwq_lines_forget(&hub->lines);
     }
@@ -210,7 +252,7 @@ static inline uint32_t cmwq_hub_call_(struct cmwq_hub *hub, struct cmwq_run *run
 {
     uint32_t status = CMWQ_OK;
 
-    if (call->kind <= CMWQ_MODIFY && hub->state == CMWQ_CLOSING_) return CMWQ_STOPPED;
+    if (call->kind <= CMWQ_MODIFY && hub->state == CMWQ_CLOSING_ && !(hub->keeps && run)) return CMWQ_STOPPED;
     if (call->number && (call->kind == CMWQ_DELAY || call->kind == CMWQ_MODIFY)) {
         uint64_t now = cmwq_hub_now_(hub), due = now / hub->is.tick_ns + call->number + (now % hub->is.tick_ns != 0);
 
@@ -228,14 +270,29 @@ static inline uint32_t cmwq_hub_call_(struct cmwq_hub *hub, struct cmwq_run *run
     return status;
 }
 
+/* The wait by this caller is left. A run that was awake before is awake again. */
+static inline uint32_t cmwq_hub_leave_wait_(struct cmwq_hub *hub, struct cmwq_run *run, uint8_t by)
+{
+    uint32_t status = cmwq_hub_note_(hub, cmwq_board_leave(&hub->board, by, &hub->wakes));
+
+    if (status == CMWQ_OK && run && !run->asleep) {
+        struct cmwq_call wake = {0, 0, 0, CMWQ_WAKE, 0, 0, run->who};
+        struct cmwq_reply reply;
+
+        cmwq_hub_space_(hub, hub->is.keep);
+        cmwq_hub_note_(hub, cmwq_board_call(&hub->board, &wake, &reply, &hub->wakes));
+    }
+    return status == CMWQ_OK ? (uint32_t)CMWQ_TIMED_OUT : status;
+}
+
 /* A call that waits. */
-static inline uint32_t cmwq_hub_wait_(struct cmwq_hub *hub, struct cmwq_call *call, struct cmwq_reply *reply)
+static inline uint32_t cmwq_hub_wait_(struct cmwq_hub *hub, struct cmwq_run *run, struct cmwq_call *call,
+                                      struct cmwq_reply *reply)
 {
     uint64_t then = call->number == CMWQ_FOREVER ? UINT64_MAX : cmwq_hub_now_(hub) + call->number * UINT64_C(1000000);
     uint8_t by = 0;
     uint32_t status;
 
-    if (call->who.kind != CMWQ_CALLER && then != UINT64_MAX) return CMWQ_NO_TIMEOUT;
     status = cmwq_hub_note_(hub, cmwq_board_begin(&hub->board, call, &by, reply, &hub->wakes));
     while (status == CMWQ_WAITS || status == CMWQ_LOOK_AGAIN) {
         cmwq_hub_space_(hub, hub->is.keep);
@@ -243,9 +300,12 @@ static inline uint32_t cmwq_hub_wait_(struct cmwq_hub *hub, struct cmwq_call *ca
         if (status == CMWQ_LOOK_AGAIN) {
             cmwq_hub_unlock_(hub); /* and calls again */
             pthread_mutex_lock(&hub->lock);
-        } else if (status == CMWQ_WAITS && !cmwq_hub_sleep_(hub, &hub->parties[hub->workers + by - 1u], then)) {
-            status = cmwq_hub_note_(hub, cmwq_board_leave(&hub->board, by, &hub->wakes));
-            status = status == CMWQ_OK ? (uint32_t)CMWQ_TIMED_OUT : status;
+        } else if (status == CMWQ_WAITS &&
+                   (hub->keeps || !cmwq_hub_sleep_(hub, &hub->parties[hub->workers + by - hub->own], then))) {
+            cmwq_hub_space_(hub, hub->is.keep);
+            /* (a run whose rest is kept for the next life sleeps on) */
+            status = cmwq_hub_leave_wait_(hub, hub->keeps ? NULL : run, by);
+            if (hub->keeps) status = CMWQ_STOPPED;
         }
     }
     return status;
@@ -255,7 +315,7 @@ static inline void *cmwq_hub_work_(void *at)
 {
     struct cmwq_party_ *me = (struct cmwq_party_ *)at;
     struct cmwq_hub *hub = me->hub;
-    struct cmwq_run run = {hub, 0, 0, me->who, false};
+    struct cmwq_run run = {hub, 0, 0, me->who, false, false};
     struct cmwq_here_ here = {hub, &run, NULL, false}, **top = hub->here();
     struct cmwq_call wake = {0, 0, 0, CMWQ_WAKE, 0, 0, me->who};
     struct cmwq_reply reply;
@@ -263,9 +323,14 @@ static inline void *cmwq_hub_work_(void *at)
 
     *top = &here;
     pthread_mutex_lock(&hub->lock);
+    run.item = me->item;
+    run.number = me->number;
     do {
+        if (hub->keeps && !me->given) break;
         cmwq_hub_space_(hub, hub->is.keep);
-        status = cmwq_hub_note_(hub, cmwq_board_start(&hub->board, &me->who, &run.item, &run.number, &hub->wakes));
+        status = me->given ? (uint32_t)CMWQ_OK
+                 : cmwq_hub_note_(hub, cmwq_board_start(&hub->board, &me->who, &run.item, &run.number, &hub->wakes));
+        me->given = false;
         if (status == CMWQ_RESTS) cmwq_hub_sleep_(hub, me, UINT64_MAX);
         if (status == CMWQ_OK) {
             struct cmwq_work work = hub->works[run.item];
@@ -274,6 +339,7 @@ static inline void *cmwq_hub_work_(void *at)
             if (work.run) work.run(&run, work.data);
             if (here.forked) break;
             pthread_mutex_lock(&hub->lock);
+            if (run.broken_) break;
             cmwq_hub_space_(hub, hub->is.keep);
             if (run.asleep) cmwq_hub_call_(hub, &run, &wake, &reply);
             cmwq_hub_note_(hub, cmwq_board_finish(&hub->board, &me->who, &hub->wakes));
@@ -282,12 +348,30 @@ static inline void *cmwq_hub_work_(void *at)
             run.asleep = false;
         }
     } while (status == CMWQ_OK || status == CMWQ_RESTS);
-    if (!here.forked) cmwq_hub_unlock_(hub);
+    if (!here.forked) {
+        if (--hub->alive == 0) pthread_cond_broadcast(&hub->changed); /* whoever closes the hub waits for it */
+        cmwq_hub_unlock_(hub);
+    }
     *top = NULL;
     return NULL;
 }
 
-/* The clock's thread: sleeps until a timer is due; and closes the hub if it is told so. */
+/* Starts the threads of workers that are to get one. If one does not start, the board fails. */
+static inline void cmwq_hub_bear_(struct cmwq_hub *hub)
+{
+    for (struct cmwq_party_ *party = hub->parties; hub->unborn && party < hub->parties + hub->workers; party++) {
+        if (!party->wanted || party->started) continue;
+        hub->unborn--;
+        party->started = !hub->threadless && pthread_create(&party->thread, NULL, cmwq_hub_work_, party) == 0;
+        if (party->started) continue;
+        hub->alive--;
+        if (!hub->threadless) cmwq_hub_note_(hub, cmwq_board_fail(&hub->board, &hub->wakes));
+        hub->threadless = true;
+    }
+}
+
+/* The clock's thread: sleeps until a timer is due, and starts the threads of workers; and closes the hub if it is told
+   so. */
 static inline void *cmwq_hub_tick_(void *at)
 {
     struct cmwq_party_ *me = (struct cmwq_party_ *)at;
@@ -302,7 +386,8 @@ static inline void *cmwq_hub_tick_(void *at)
         now = cmwq_hub_now_(hub);
         hub->due = cmwq_board_due(&hub->board);
         then = hub->due < UINT64_MAX / 2 / tick ? hub->due * tick : UINT64_MAX;
-        if (status != CMWQ_OK) cmwq_hub_sleep_(hub, me, UINT64_MAX); /* no room for the time: nothing fires any more */
+        if (hub->unborn) cmwq_hub_bear_(hub);
+        else if (status != CMWQ_OK) cmwq_hub_sleep_(hub, me, UINT64_MAX); /* no room for time: nothing fires any more */
         else if (hub->due > now / tick) cmwq_hub_sleep_(hub, me, then);
         else status = cmwq_hub_advance_(hub, now / tick);
     }
@@ -363,8 +448,10 @@ static inline void *cmwq_hub_write_(void *at)
     return NULL;
 }
 
-/* Starts the threads: the workers, but those of high pools only where a queue is high; the clock; the journal. */
-static inline bool cmwq_hub_start_(struct cmwq_hub *hub, bool is_high)
+#include "cmwq_durable.h"
+
+/* Has all workers rest, and starts the threads of the clock and the journal. */
+static inline bool cmwq_hub_start_(struct cmwq_hub *hub)
 {
     pthread_condattr_t monotonic;
 
@@ -379,16 +466,12 @@ static inline bool cmwq_hub_start_(struct cmwq_hub *hub, bool is_high)
         party->who.index = (uint8_t)(k % hub->shape.workers);
         party->who.cpu = (uint8_t)(pool / 2);
     }
-    for (struct cmwq_party_ *party = hub->parties; party <= hub->journal; party++) {
-        bool works = party < hub->parties + hub->workers, ticks = party == hub->clock;
-        bool writes = party == hub->journal && hub->is.journal;
-        void *(*body)(void *) = works ? cmwq_hub_work_ : ticks ? cmwq_hub_tick_ : cmwq_hub_write_;
-
-        if (works ? party->who.kind == CMWQ_HIGH_WORKER && !is_high : !ticks && !writes) continue;
-        party->started = pthread_create(&party->thread, NULL, body, party) == 0;
-        if (!party->started) return false;
-    }
-    return true;
+    for (unsigned k = 0; k < hub->workers; k++) cmwq_hub_look_(hub, &hub->parties[k]);
+    hub->clock->started = pthread_create(&hub->clock->thread, NULL, cmwq_hub_tick_, hub->clock) == 0;
+    if (!hub->clock->started || !hub->writes) return hub->clock->started;
+    hub->journal->started = pthread_create(&hub->journal->thread, NULL,
+                                           hub->disk.is ? cmwq_disk_keep_ : cmwq_hub_write_, hub->journal) == 0;
+    return hub->journal->started;
 }
 
 /* Gives up what there is of a hub, which nobody is in, and which is no longer open. Its lock stays, so that later calls
@@ -405,13 +488,16 @@ static inline int cmwq_hub_free_(struct cmwq_hub *hub, int result)
     }
     for (struct cmwq_party_ *party = hub->parties; !hub->forked && hub->journal && party <= hub->journal; party++)
         pthread_cond_destroy(&party->wakes);
+    cmwq_disk_free_(&hub->disk);
     if (!hub->torn) {
         cmwq_board_close(&hub->board);
         if (!hub->forked || !hub->busy) cmwq_lines_close(&hub->lines);
         free(hub->parties);
         free(hub->works);
+        free(hub->threads);
         hub->parties = NULL;
         hub->works = NULL;
+        hub->threads = NULL;
     }
     if (opened) pthread_mutex_unlock(&opened->lock);
     return result;
@@ -436,6 +522,15 @@ static inline void cmwq_hub_stop_(struct cmwq_hub *hub)
         cmwq_hub_note_(hub, cmwq_board_fail(&hub->board, &hub->wakes)); /* no room: what is frozen would never start */
     cmwq_hub_note_(hub, cmwq_board_stop(&hub->board, &hub->wakes));
     cmwq_hub_name_(hub, hub->clock);
+}
+
+/* Lets nothing start any more, and names all who sleep: workers end, and calls that wait are left. */
+static inline void cmwq_hub_keep_(struct cmwq_hub *hub)
+{
+    __atomic_store_n(&hub->state, CMWQ_CLOSING_, __ATOMIC_RELAXED); /* an open of it reads it without the lock */
+    hub->keeps = true;
+    for (struct cmwq_party_ *party = hub->parties; party <= hub->clock; party++)
+        if (party->started || party >= hub->parties + hub->workers) cmwq_hub_name_(hub, party);
 }
 
 /* Has the clock's thread call then(data), which closes the hub. A run may ask for it. Return: whether it is called */

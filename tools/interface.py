@@ -10,7 +10,7 @@ Option = collections.namedtuple("Option", "short long value text")
 Subcommand = collections.namedtuple("Subcommand", "name about usage arguments options notes")
 
 # What the help says of an option, an argument and a subcommand.
-OPTION = re.compile(r" +(?:(-\w), )?(--[\w-]+)(?: <(NUMBER|FILE)>)? {2,}(\S.*)")
+OPTION = re.compile(r" +(?:(-\w), )?(--[\w-]+)(?: <(NUMBER|FILE|ITEMS)>)? {2,}(\S.*)")
 ARGUMENT = re.compile(r" +(\[\w+\](?:\.\.\.)?) {2,}(\S.*)")
 COMMAND = re.compile(r" +([\w-]+) {2,}(\S.*)")
 

@@ -1,7 +1,8 @@
 /*
- * The loads of bench/pools on cmwq_hub.h: jobs LOAD ROUNDS WORKERS ITEMS [journal|intensive [MICROSECONDS]]
- * Prints how many runs there were in a second of the clock. Each of four callers has ITEMS items, and each run works
- * for so many microseconds (none: 0).
+ * The loads of bench/pools on cmwq_hub.h: jobs LOAD ROUNDS WORKERS ITEMS [journal|intensive|batches|entries
+ * [MICROSECONDS]]
+ * Prints how many runs there were in a second of the clock, or with `entries` how many entries there were in all. Each
+ * of four callers has ITEMS items, and each run works for so many microseconds (none: 0).
  */
 #include "cmwq_hub.h"
 
@@ -9,8 +10,8 @@ enum { CALLERS = 4 };
 
 static struct cmwq_hub hub;
 static unsigned long runs, rounds;
-static unsigned each;
-static bool fanout, itself;
+static unsigned each, *numbers; /* numbers[k] is k */
+static bool fanout, itself, batches;
 static double busy;
 
 static double now(void)
@@ -19,6 +20,16 @@ static double now(void)
 
     clock_gettime(CLOCK_MONOTONIC, &at);
     return (double)at.tv_sec + (double)at.tv_nsec * 1e-9;
+}
+
+/* Queues so many items from this one on. */
+static void queue(unsigned on, unsigned first, unsigned many)
+{
+    if (batches)
+        cmwq_queue_all(&hub, 0, on, numbers + first, many, NULL);
+    else
+        for (unsigned k = 0; k < many; k++)
+            cmwq_queue_work_on(&hub, 0, on, first + k);
 }
 
 static void work(struct cmwq_run *run, void *data)
@@ -33,8 +44,7 @@ static void work(struct cmwq_run *run, void *data)
         if (before + 1 < rounds)
             cmwq_queue_work_on(&hub, 0, 0, run->item);
     } else if (fanout && run->item % each == 0) {
-        for (unsigned k = 1; k < each; k++)
-            cmwq_queue_work_on(&hub, 0, run->item / each, run->item + k);
+        queue(run->item / each, run->item + 1, each - 1);
     }
 }
 
@@ -43,12 +53,19 @@ static void *call(void *at)
     unsigned me = *(unsigned *)at;
 
     for (unsigned long round = 0; round < rounds; round++) {
-        for (unsigned k = 0; k < (fanout ? 1 : each); k++)
-            cmwq_queue_work_on(&hub, 0, me, me * each + k);
+        queue(me, me * each, fanout ? 1 : each);
         if ((fanout ? cmwq_drain_workqueue(&hub, me, CMWQ_FOREVER) : cmwq_flush_workqueue(&hub, me, CMWQ_FOREVER)) < 0)
             exit(1);
     }
     return NULL;
+}
+
+/* Counts the entries of a history's text: each has one sign of equality. */
+static bool count(void *data, const char *text, size_t len)
+{
+    for (size_t k = 0; k < len; k++)
+        *(unsigned long *)data += text[k] == '=';
+    return true;
 }
 
 static bool forget(void *data, const char *text, size_t len)
@@ -62,6 +79,7 @@ int main(int argc, char **argv)
     struct cmwq_options options = {.queues = queues, .queue_count = CALLERS, .waits = CALLERS};
     pthread_t threads[CALLERS];
     unsigned names[CALLERS];
+    unsigned long entries = 0;
     double begun;
 
     if (argc < 4)
@@ -78,10 +96,17 @@ int main(int argc, char **argv)
     if (argc > 5 && !strcmp(argv[5], "journal")) {
         options.journal = forget;
         options.journal_data = fopen("/dev/null", "w");
+    } else if (argc > 5 && !strcmp(argv[5], "entries")) {
+        options.journal = count;
+        options.journal_data = &entries;
     }
+    batches = argc > 5 && !strcmp(argv[5], "batches");
     struct cmwq_work *works = calloc(options.items, sizeof *works);
-    for (unsigned k = 0; k < options.items; k++)
+    numbers = calloc(options.items, sizeof *numbers);
+    for (unsigned k = 0; k < options.items; k++) {
         works[k].run = work;
+        numbers[k] = k;
+    }
     options.works = works;
     if (cmwq_hub_open(&hub, &options) < 0)
         return 1;
@@ -97,7 +122,13 @@ int main(int argc, char **argv)
         for (unsigned k = 0; k < CALLERS; k++)
             pthread_join(threads[k], NULL);
     }
-    printf("%.0f\n", (double)runs / (now() - begun));
+    if (options.journal != count)
+        printf("%.0f\n", (double)runs / (now() - begun));
     free(works);
-    return cmwq_hub_close(&hub) < 0;
+    free(numbers);
+    if (cmwq_hub_close(&hub) < 0)
+        return 1;
+    if (options.journal == count)
+        printf("%lu\n", entries);
+    return 0;
 }

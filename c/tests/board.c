@@ -18,6 +18,7 @@ struct outputs {
 };
 
 static struct outputs outputs, before;
+static struct { struct cmwq_shape shape; size_t queues, count; struct cmwq_call calls[16]; uint64_t line; } resumed;
 
 static bool nothing_is_written(void)
 {
@@ -152,7 +153,7 @@ static void closed_calls(struct cmwq_board *board)
     CHECK(cmwq_board_stop(board, &outputs.wakes) == CMWQ_CLOSED && nothing_is_written());
     CHECK(cmwq_board_fail(board, &outputs.wakes) == CMWQ_CLOSED && nothing_is_written());
     CHECK(cmwq_board_time(board) == 0 && cmwq_board_due(board) == UINT64_MAX);
-    CHECK(cmwq_board_is_over(board) && cmwq_board_len(board) == 0);
+    CHECK(cmwq_board_is_over(board) && cmwq_board_len(board) == 0 && cmwq_board_news(board) == 0);
     CHECK(cmwq_lines_open(&lines, board) == CMWQ_CLOSED && !lines.live);
     CHECK(cmwq_board_hand_out(board, &lines) == CMWQ_CLOSED);
     CHECK(cmwq_lines_write(&lines, out, sizeof out, &written) == CMWQ_CLOSED && written == 77);
@@ -253,7 +254,7 @@ static void runs_that_wait(void)
     CHECK(begin(&board, worker(0), CMWQ_FLUSH_ITEM, 0, 0) == CMWQ_ITSELF && nothing_is_written());
     CHECK(begin(&board, worker(0), CMWQ_FLUSH_ITEM, 1, 0) == CMWQ_WAITS && outputs.party == 2);
     CHECK(begin(&board, user, CMWQ_FLUSH_ITEM, 1, 0) == CMWQ_NO_CALLER && nothing_is_written());
-    CHECK(leave(&board, 2) == CMWQ_NOT_NOW && nothing_is_written());
+    CHECK(begin(&board, worker(0), CMWQ_FLUSH_ITEM, 1, 0) == CMWQ_NOT_NOW && nothing_is_written());
     CHECK(end(&board, 2) == CMWQ_WAITS);
     CHECK(start(&board, worker(1)) == CMWQ_OK && outputs.item == 1 && outputs.number == 1);
     CHECK(begin(&board, worker(1), CMWQ_FLUSH_ITEM, 0, 0) == CMWQ_DEADLOCK && nothing_is_written());
@@ -263,6 +264,52 @@ static void runs_that_wait(void)
     CHECK(call(&board, worker(0), CMWQ_SLEEP, 0, 0) == CMWQ_OK && outputs.reply.kind == CMWQ_SLEPT);
     CHECK(call(&board, worker(0), CMWQ_WAKE, 0, 0) == CMWQ_OK && outputs.reply.kind == CMWQ_WOKE);
     CHECK(finish(&board, worker(0)) == CMWQ_OK);
+    cmwq_board_close(&board);
+}
+
+/* A run leaves its wait. No entry is made, and it goes on once its worker has woken it. Another may wait for it. */
+static void a_run_leaves_its_wait(void)
+{
+    struct cmwq_board board = {0};
+    struct cmwq_lines lines = {0};
+
+    open_board(&board, 100, 2);
+    CHECK(cmwq_lines_open(&lines, &board) == CMWQ_OK);
+    CHECK(call(&board, user, CMWQ_QUEUE, 0, 0) == CMWQ_OK && call(&board, user, CMWQ_QUEUE, 1, 1) == CMWQ_OK);
+    CHECK(start(&board, worker(0)) == CMWQ_OK && outputs.item == 0);
+    CHECK(begin(&board, worker(0), CMWQ_FLUSH_ITEM, 1, 0) == CMWQ_WAITS && outputs.party == 1);
+    CHECK(end(&board, 1) == CMWQ_WAITS);
+    CHECK(start(&board, worker(1)) == CMWQ_OK && outputs.item == 1);
+    CHECK(begin(&board, worker(1), CMWQ_FLUSH_ITEM, 0, 0) == CMWQ_DEADLOCK && nothing_is_written());
+    CHECK(cmwq_board_len(&board) == 6);
+    CHECK(leave(&board, 1) == CMWQ_OK && names_nobody() && cmwq_board_len(&board) == 6);
+    CHECK(leave(&board, 1) == CMWQ_NOT_NOW && end(&board, 1) == CMWQ_NOT_NOW && nothing_is_written());
+    CHECK(finish(&board, worker(0)) == CMWQ_NOT_NOW && nothing_is_written()); /* it sleeps */
+    CHECK(begin(&board, worker(1), CMWQ_FLUSH_ITEM, 0, 0) == CMWQ_WAITS && outputs.party == 1);
+    CHECK(end(&board, 1) == CMWQ_WAITS);
+    CHECK(call(&board, worker(0), CMWQ_WAKE, 0, 0) == CMWQ_OK && outputs.reply.kind == CMWQ_WOKE);
+    CHECK(begin(&board, worker(0), CMWQ_FLUSH_ITEM, 1, 0) == CMWQ_DEADLOCK && nothing_is_written());
+    CHECK(finish(&board, worker(0)) == CMWQ_OK && names_caller(1) && cmwq_board_news(&board) == 0);
+    CHECK(end(&board, 1) == CMWQ_OK && cmwq_board_news(&board) == 0);
+    CHECK(finish(&board, worker(1)) == CMWQ_OK && names_nobody());
+    CHECK(cmwq_board_news(&board) == CMWQ_LEFT_ENDED && cmwq_board_news(&board) == 0);
+    hands_out(&board, &lines, CMWQ_LINE,
+              "c0 0 queue 0 0 0 = yes 0\n"
+              "c0 1 queue 1 1 0 = yes 1\n"
+              "w0n0 0 take = started 0 enlist 1\n"
+              "w0n0 1 sleep = slept\n"
+              "c1 0 flush_item 1 = ticket 4\n"
+              "w0n1 0 take = started 1 enlist 2\n"
+              "w0n1 1 sleep = slept\n"
+              "c1 1 flush_item 0 = ticket 7\n"
+              "w0n0 2 wake = woke\n"
+              "w0n0 3 finish = finished 0\n"
+              "c1 2 end 7 = done\n"
+              "w0n1 2 wake = woke\n"
+              "w0n1 3 finish = finished 1\n"
+              "w0n1 4 retire = retired\n"
+              "c1 3 end 4 = done\n");
+    cmwq_lines_close(&lines);
     cmwq_board_close(&board);
 }
 
@@ -286,11 +333,12 @@ static void time_goes_by(void)
     clear_outputs();
     CHECK(cmwq_board_call(&board, &delay, &outputs.reply, &outputs.wakes) == CMWQ_OK);
     CHECK(outputs.reply.kind == CMWQ_BOOKED && outputs.reply.number == 3 && cmwq_board_due(&board) == 3);
+    CHECK(cmwq_board_news(&board) == CMWQ_DUE_EARLIER && cmwq_board_news(&board) == 0);
     CHECK(look_at(&board, 0) == CMWQ_OK && outputs.state.pending == CMWQ_PENDING_TIMER && outputs.state.number == 3);
     CHECK(call(&board, user, CMWQ_QUEUE, 1, 0) == CMWQ_OK);
     CHECK(start(&board, worker(0)) == CMWQ_OK && outputs.item == 1);
     CHECK(begin(&board, user, CMWQ_DRAIN, 0, 0) == CMWQ_WAITS && outputs.party == 1);
-    CHECK(cmwq_board_due(&board) == UINT64_MAX);
+    CHECK(cmwq_board_due(&board) == UINT64_MAX && cmwq_board_news(&board) == 0);
     CHECK(advance(&board, 1, 5) == CMWQ_REFUSED && nothing_is_written());
     cancels(&board, 3);
     CHECK(advance(&board, 0, 5) == CMWQ_CROWDED && nothing_is_written());
@@ -305,9 +353,9 @@ static void time_goes_by(void)
     CHECK(finish(&board, worker(0)) == CMWQ_OK);
     CHECK(end(&board, 1) == CMWQ_CROWDED && nothing_is_written());
     CHECK(cmwq_board_hand_out(&board, &lines) == CMWQ_OK && cmwq_lines_forget(&lines) == CMWQ_OK);
-    CHECK(end(&board, 1) == CMWQ_OK);
-    CHECK(look_at(&board, 0) == CMWQ_OK && outputs.state.pending == CMWQ_PENDING_QUEUED && outputs.state.number == 15);
-    CHECK(start(&board, worker(0)) == CMWQ_OK && outputs.item == 0 && outputs.number == 15);
+    CHECK(end(&board, 1) == CMWQ_OK && cmwq_board_news(&board) == CMWQ_DUE_EARLIER);
+    CHECK(look_at(&board, 0) == CMWQ_OK && outputs.state.pending == CMWQ_PENDING_QUEUED && outputs.state.number == 16);
+    CHECK(start(&board, worker(0)) == CMWQ_OK && outputs.item == 0 && outputs.number == 16);
     CHECK(finish(&board, worker(0)) == CMWQ_OK && outputs.wakes.all_workers && cmwq_board_is_over(&board));
     CHECK(start(&board, worker(1)) == CMWQ_OVER && names_nobody());
     CHECK(look_at(&board, 4) == CMWQ_REFUSED && nothing_is_written());
@@ -328,7 +376,7 @@ static void a_wait_is_left(void)
     CHECK(leave(&board, 2) == CMWQ_OK && names_nobody());
     CHECK(leave(&board, 2) == CMWQ_NOT_NOW && nothing_is_written());
     CHECK(finish(&board, worker(0)) == CMWQ_OK);
-    CHECK(cmwq_board_len(&board) >= 5); /* the ticket is ended too */
+    CHECK(cmwq_board_len(&board) >= 5 && cmwq_board_news(&board) == CMWQ_LEFT_ENDED); /* the ticket is ended too */
     CHECK(call(&board, user, CMWQ_QUEUE, 0, 0) == CMWQ_OK && start(&board, worker(0)) == CMWQ_OK);
     CHECK(begin(&board, user, CMWQ_CANCEL_SYNC, 0, 0) == CMWQ_WAITS);
     CHECK(cmwq_board_fail(&board, &outputs.wakes) == CMWQ_OK && outputs.wakes.all_workers);
@@ -412,12 +460,63 @@ static void a_history(void)
     cmwq_board_close(&board);
 }
 
+static uint32_t resume(const char *text, const uint8_t *left_out, size_t left_out_len, size_t most)
+{
+    return cmwq_resume((const uint8_t *)text, strlen(text), left_out, left_out_len, &resumed.shape, &resumed.queues,
+                       resumed.calls, most, &resumed.count, &resumed.line);
+}
+
+/* The calls that resume a history, of which a run was broken off and whose last line was cut. */
+static void a_resume(void)
+{
+    static const char front[] =
+        "history 3\nshape 1 1 3 8 100\nwq 2 f\nwq 1 -\nwq 1 -\nc0 0 set_max 0 3 = width 3\n"
+        "c0 1 queue 6 0 0 = yes 1\nw0n0 0 take = started 1\nc0 2 queue 5 1 0 = yes 3\nc0 3 delay 2 0 0 3 = booked 3\n"
+        "c0 4 delay 3 1 0 50 = booked 50\nc0 5 tick 5 = now 5\nc1 0 destroy 2 = ticket 7\nc1 1 end 7 = done\n"
+        "c0 6 freeze = frozen\nc0 7 del";
+    static const struct { uint8_t kind; uint16_t item; uint8_t queue; uint32_t number; uint64_t ticket; } wanted[] = {
+        {CMWQ_SET_MAX, 0, 0, 3, 0}, {CMWQ_DESTROY, 0, 2, 0, 0}, {CMWQ_END, 0, 0, 0, 1}, {CMWQ_FREEZE, 0, 0, 0, 0},
+        {CMWQ_QUEUE, 6, 0, 0, 0},   {CMWQ_QUEUE, 5, 1, 0, 0},   {CMWQ_DELAY, 2, 0, 1, 0}, {CMWQ_TICK, 0, 0, 1, 0},
+        {CMWQ_DELAY, 3, 1, 45, 0}};
+    enum { MANY = sizeof wanted / sizeof *wanted };
+    uint8_t left_out[8] = {0};
+
+    resumed.line = resumed.count = 77;
+    CHECK(resume(front, left_out, 8, MANY - 1) == CMWQ_SHORT && resumed.count == 77 && resumed.calls[0].kind == 0);
+    CHECK(resume(front, left_out, 8, MANY) == CMWQ_OK && resumed.count == MANY && resumed.queues == 3);
+    CHECK(resumed.shape.items == 8 && resumed.shape.cpus == 1 && resumed.shape.workers == 1);
+    CHECK(resumed.shape.callers == 3 && resumed.shape.room == 100 && resumed.shape.keep == 0);
+    for (int k = 0; k < MANY; k++) {
+        const struct cmwq_call *it = &resumed.calls[k];
+
+        CHECK(it->kind == wanted[k].kind && it->item == wanted[k].item && it->queue == wanted[k].queue);
+        CHECK(it->number == wanted[k].number && it->ticket == wanted[k].ticket && it->cpu == 0);
+        CHECK(it->who.kind == CMWQ_CALLER && it->who.index == 0 && it->who.cpu == 0);
+    }
+    /* what was broken off is left out, and what was queued is not */
+    left_out[6] = left_out[5] = 1;
+    CHECK(resume(front, left_out, 6, MANY) == CMWQ_OK && resumed.count == MANY);
+    CHECK(resume(front, left_out, 7, MANY) == CMWQ_OK && resumed.count == MANY - 1 && resumed.calls[4].item == 5);
+    CHECK(resumed.line == 77);
+    /* lines that are wrong */
+    CHECK(resume("no history", left_out, 0, MANY) == CMWQ_REFUSED && resumed.line == 1);
+    CHECK(resume("history 3\nshape 1 1 3 8 100\nwq 2 f\nc0 0 freeze = thawd\n", left_out, 0, MANY) == CMWQ_REFUSED);
+    CHECK(resumed.line == 4);
+    CHECK(resume("history 3\nshape 1 1 3 8 100\nwq 2 f\nc0 0 freeze = no\n", left_out, 0, MANY) == CMWQ_ILLEGAL);
+    CHECK(resumed.line == 4);
+    CHECK(resume("shape 1 1 3 8 100\nwq 2 -\nc0 0 cancel 0 = no\nc0 1 cancel 0 = unbooked\n", left_out, 0, MANY) ==
+          CMWQ_ILLEGAL);
+    CHECK(resumed.line == 4 && resumed.count == MANY - 1);
+}
+
 int main(void)
 {
     CHECK(cmwq_version() == CMWQ_VERSION);
+    a_resume();
     opens_and_closes();
     a_flush();
     runs_that_wait();
+    a_run_leaves_its_wait();
     time_goes_by();
     a_wait_is_left();
     refused_calls();

@@ -62,7 +62,7 @@ static void closed(void)
     wants(cmwq_board_stop(&board, &out.wakes), BIT(CMWQ_CLOSED));
     wants(cmwq_board_fail(&board, &out.wakes), BIT(CMWQ_CLOSED));
     CHECK(cmwq_board_time(&board) == 0 && cmwq_board_due(&board) == UINT64_MAX && cmwq_board_is_over(&board) &&
-          cmwq_board_len(&board) == 0);
+          cmwq_board_len(&board) == 0 && cmwq_board_news(&board) == 0);
     CHECK(cmwq_board_hand_out(&board, &lines) == CMWQ_CLOSED && cmwq_lines_open(&lines, &board) == CMWQ_CLOSED);
     CHECK(cmwq_lines_write(&lines, text, sizeof text, &written) == CMWQ_CLOSED && written == 77 &&
           cmwq_lines_forget(&lines) == CMWQ_CLOSED);

@@ -2,17 +2,8 @@
 #ifndef CHECK_H
 #define CHECK_H
 #include "cmwq.h"
-#include <stdio.h>
-#include <stdlib.h>
+#include "holds.h"
 #include <string.h>
-
-#define CHECK(holds)                                                                    \
-    do {                                                                                \
-        if (!(holds)) {                                                                 \
-            fprintf(stderr, "%s:%d: not so: %s\n", __FILE__, __LINE__, #holds);         \
-            exit(1);                                                                    \
-        }                                                                               \
-    } while (0)
 
 /* xorshift: the tests' random numbers */
 static inline uint32_t next_random(uint64_t *seed)

@@ -45,7 +45,7 @@ static int atfork_or_not(void (*before)(void), void (*after)(void), void (*child
 }
 static int create_or_not(pthread_t *thread, const pthread_attr_t *attr, void *(*body)(void *), void *at)
 {
-    return threads_left-- ? pthread_create(thread, attr, body, at) : 11;
+    return __atomic_fetch_sub(&threads_left, 1, __ATOMIC_SEQ_CST) ? pthread_create(thread, attr, body, at) : 11;
 }
 static int count_signal(pthread_cond_t *cond)
 {
@@ -200,7 +200,7 @@ static void test_numbers(void)
     CHECK(cmwq_queue_work_on(&hub, 0, 0, 1) == 1 && cmwq_flush_workqueue(&hub, 0, CMWQ_FOREVER) == 1 && ran == 1);
     CHECK(results[0] == -CMWQ_NOT_NOW && results[1] == -CMWQ_ITSELF && results[2] == -CMWQ_ITSELF &&
           results[3] == -CMWQ_ITSELF);
-    CHECK(results[4] == -CMWQ_NO_TIMEOUT && results[5] == -CMWQ_IS_MISUSE);
+    CHECK(results[4] == 0 && results[5] == -CMWQ_IS_MISUSE);
     CHECK(cmwq_hub_close(&hub) == CMWQ_OK && cmwq_hub_close(&hub) == -CMWQ_CLOSED);
     CHECK(cmwq_queue_work_on(&hub, 0, 0, 0) == -CMWQ_CLOSED && cmwq_flush_work(&hub, 0, 1) == -CMWQ_CLOSED &&
           cmwq_work_busy(&hub, 0) == -CMWQ_CLOSED);
@@ -241,17 +241,26 @@ static void test_nothing_left(void)
         CHECK(result == -CMWQ_NO_MEMORY && cmwq_hub_close(&hub) == -CMWQ_CLOSED && written == 0 && blocks == 0);
     }
     allocations_left = ~0u;
-    for (unsigned k = 0; k < 6; k++) {
+    for (unsigned k = 0; k < 2; k++) {
         written = 0;
         threads_left = k;
         CHECK(cmwq_hub_open(&hub, &options) == -CMWQ_NO_THREAD && cmwq_hub_close(&hub) == -CMWQ_CLOSED && blocks == 0);
     }
-    threads_left = 6; /* two workers in each pool, the clock and the journal */
-    written = 0;
-    open_hub(options);
+    for (unsigned k = 2; k < 5; k++) { /* the clock, the journal, and no, one or two workers */
+        unsigned item = 0;
+
+        written = ran = 0;
+        threads_left = k;
+        CHECK(cmwq_hub_open(&hub, &options) == CMWQ_OK && cmwq_queue_work_on(&hub, 0, 0, item) == 1);
+        CHECK(cmwq_flush_work(&hub, item, CMWQ_FOREVER) == -CMWQ_NO_THREAD ? k == 2 : k > 2);
+        CHECK(cmwq_queue_work_on(&hub, 0, 1, 1) == (k == 2 ? -CMWQ_NO_THREAD : 1)); /* of another pool */
+        CHECK(cmwq_flush_work(&hub, 1, CMWQ_FOREVER) == -CMWQ_NO_THREAD ? k < 4 : k == 4);
+        CHECK(ran == k - 2);
+        CHECK(cmwq_queue_all(&hub, 0, 0, &item, 1, NULL) == (k < 4 ? -CMWQ_NO_THREAD : 1));
+        CHECK(cmwq_hub_close(&hub) == CMWQ_OK && blocks == 0);
+        judge();
+    }
     threads_left = ~0u;
-    CHECK(cmwq_hub_close(&hub) == CMWQ_OK);
-    judge();
 }
 
 /* A frozen queue has an item, a queue a timer: both end with the hub. Then it is opened again. */
@@ -276,6 +285,59 @@ static void test_frozen(void)
         CHECK(cmwq_hub_close(&hub) == CMWQ_OK && ran == 1);
         judge();
     }
+}
+
+/* Batches of items, some of which are pending, or not there; also by a run, which queues on a queue that is drained. */
+static void queue_many(struct cmwq_run *run, void *data)
+{
+    unsigned all[ITEMS];
+    uint64_t queued;
+
+    (void)data;
+    if (__atomic_add_fetch(&ran, 1, __ATOMIC_RELAXED) > 1)
+        return;
+    for (unsigned k = 0; k < ITEMS; k++)
+        all[k] = k;
+    while (!__atomic_load_n(&gate_open, __ATOMIC_ACQUIRE))
+        usleep(100);
+    results[0] = cmwq_queue_all(run->hub, 0, 0, all, ITEMS, &queued);
+    results[1] = (int)queued;
+}
+static void test_batches(void)
+{
+    struct cmwq_options options = made(queue_many);
+    unsigned twice[3 * CMWQ_BATCH];
+    uint64_t queued[3];
+
+    for (unsigned k = 0; k < 3 * CMWQ_BATCH; k++)
+        twice[k] = k < CMWQ_BATCH ? 1 : k % ITEMS;
+    options.journal = keep;
+    open_hub(options);
+    CHECK(cmwq_freeze_workqueues(&hub) == 1 && cmwq_queue_work_on(&hub, 0, 1, 1) == 1);
+    CHECK(cmwq_queue_all(&hub, 0, 1, twice, 3 * CMWQ_BATCH, queued) == ITEMS - 1);
+    CHECK(queued[0] == 0 && queued[1] == (1u << ITEMS) - 3 && queued[2] == 0);
+    CHECK(cmwq_queue_all(&hub, 0, 1, NULL, 0, NULL) == 0 && cmwq_cancel_work(&hub, 0) == 1);
+    twice[0] = 0;
+    twice[1] = ITEMS;
+    CHECK(cmwq_queue_all(&hub, 0, 1, twice, 3, queued) == -CMWQ_REFUSED && queued[0] == 1);
+    twice[1] = UINT16_MAX + 1u;
+    CHECK(cmwq_queue_all(&hub, 0, 1, twice, 3, queued) == -CMWQ_REFUSED && queued[0] == 0);
+    CHECK(cmwq_queue_all(&hub, 1, 1, twice, 1, NULL) == -CMWQ_REFUSED &&
+          cmwq_queue_all(&hub, 0, 9, twice, 1, NULL) == -CMWQ_REFUSED);
+    for (unsigned k = 0; k < ITEMS; k++)
+        CHECK(cmwq_cancel_work(&hub, k) == 1);
+    CHECK(cmwq_queue_work_on(&hub, 0, 0, 0) == 1 && cmwq_drain_workqueue(&hub, 0, 0) == -CMWQ_TIMED_OUT);
+    while (!__atomic_load_n(&ran, __ATOMIC_ACQUIRE))
+        usleep(100);
+    twice[1] = 2;
+    CHECK(cmwq_queue_all(&hub, 0, 1, twice, 2, queued) == -CMWQ_IS_FOREIGN && cmwq_work_busy(&hub, 2) == 0);
+    CHECK(cmwq_queue_all(&hub, 0, 0, twice + 1, 1, queued) == -CMWQ_IS_DRAINING && queued[0] == 0);
+    __atomic_store_n(&gate_open, true, __ATOMIC_RELEASE);
+    CHECK(cmwq_drain_workqueue(&hub, 0, CMWQ_FOREVER) >= 0);
+    CHECK(ran == 1 + ITEMS && results[0] == ITEMS && results[1] == (1 << ITEMS) - 1);
+    CHECK(cmwq_hub_close(&hub) == CMWQ_OK && cmwq_queue_all(&hub, 0, 0, twice, 2, queued) == -CMWQ_CLOSED);
+    CHECK(queued[0] == 0);
+    judge();
 }
 
 static void sleep_often(struct cmwq_run *run, void *data)
@@ -392,6 +454,33 @@ static void note_time(struct cmwq_run *run, void *data)
 {
     began = cmwq_hub_now_(run->hub);
     count(run, data);
+}
+
+/* A run leaves a wait whose item holds on until the gate opens, and is awake then. */
+static void leave_in_run(struct cmwq_run *run, void *data)
+{
+    CHECK(cmwq_queue_work_on(run->hub, 0, 0, 1) == 1);
+    results[0] = cmwq_flush_work(run->hub, 1, 1);
+    results[1] = cmwq_worker_running(run->hub);
+    CHECK(cmwq_worker_sleeping(run->hub) == 1);
+    results[2] = cmwq_flush_work(run->hub, 1, 0);
+    results[3] = cmwq_worker_running(run->hub);
+    count(run, data);
+}
+
+static void test_timeouts_in_runs(void)
+{
+    struct cmwq_options options = made(wait_at_gate);
+
+    works[0].run = leave_in_run;
+    options.journal = keep;
+    open_hub(options);
+    CHECK(cmwq_queue_work_on(&hub, 0, 0, 0) == 1 && cmwq_flush_work(&hub, 0, CMWQ_FOREVER) >= 0 && ran == 1);
+    CHECK(results[0] == -CMWQ_TIMED_OUT && results[1] == -CMWQ_IS_MISUSE);
+    CHECK(results[2] == -CMWQ_TIMED_OUT && results[3] == 1);
+    __atomic_store_n(&gate_open, true, __ATOMIC_RELEASE);
+    CHECK(cmwq_hub_close(&hub) == CMWQ_OK && ran == 2);
+    judge();
 }
 
 static void test_delays(void)
@@ -531,7 +620,7 @@ static void test_items(void)
         many[k] = works[0];
     options.works = many;
     options.workers = 1;
-    for (int k = 0; k < 6; k++) {
+    for (int k = 0; k < 6 || (k < 40 && least[1] >= 10 * least[0]); k++) { /* a busy machine may need more */
         uint64_t took;
 
         options.items = k % 2 ? 65535 : 16;
@@ -586,9 +675,11 @@ int main(void)
     test_nothing_left(); /* first, as the file asks once in a process to be told of forks */
     test_numbers();
     test_frozen();
+    test_batches();
     test_room();
     test_journal();
     test_timeouts();
+    test_timeouts_in_runs();
     test_delays();
     test_two_hubs();
     test_many_hubs();

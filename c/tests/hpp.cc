@@ -8,6 +8,7 @@
 #include <new>
 #include <pthread.h>
 #include <random>
+#include <fstream>
 #include <sstream>
 #include <stdlib.h>
 #include <sys/wait.h>
@@ -126,8 +127,7 @@ static size_t trial(unsigned seed)
                     }
                 } catch (const cmwq::failure &failure) {
                     circles += failure.code() == CMWQ_DEADLOCK;
-                    CHECK(failure.code() >= CMWQ_STOPPED && failure.code() != CMWQ_FAILED &&
-                          failure.code() != CMWQ_NO_TIMEOUT);
+                    CHECK(failure.code() >= CMWQ_STOPPED && failure.code() != CMWQ_FAILED);
                 }
             }
         } act{queues, items, circles};
@@ -197,19 +197,21 @@ static void waits_with_timeouts()
     std::atomic<bool> open{false};
     cmwq::workqueues all(cmwq::shape{}.queue("a", cmwq::max_active(1)).queue("b", cmwq::max_active(1)));
     cmwq::queue a = all.queue("a"), b = all.queue("b");
-    cmwq::item other = b.make([](cmwq::run &) {});
-    std::atomic<int> code{0}, again{0};
+    std::atomic<int> again{0}, left{0};
+    cmwq::item other = b.make([&](cmwq::run &run) {
+        run.block([&] { while (again == 0) std::this_thread::sleep_for(1ms); });
+    });
     cmwq::item item = a.make([&](cmwq::run &run) {
         run.block([&] { while (!open) std::this_thread::sleep_for(1ms); });
-        try { other.flush_for(5ms); } catch (const cmwq::failure &failure) { code = failure.code(); }
+        if (again == 0) left = !other.flush_for(5ms);
         if (again++ == 0) run.requeue_after(2ms);
     });
-    CHECK(item.queue());
+    CHECK(item.queue() && other.queue());
     while (!item.is_running()) std::this_thread::sleep_for(1ms);
     CHECK(!item.flush_for(10ms) && !a.flush_for(0ms) && !item.cancel_sync_for(1ms) && item.is_running() &&
           !item.is_pending());
     open = true;
-    CHECK(a.flush_for(10s) && code == CMWQ_NO_TIMEOUT);
+    CHECK(a.flush_for(10s) && left == 1); // a run has left its wait too
     CHECK(again == 1); // the cancel went on without its caller, and kept the run from booking its item
     item.queue_delayed(1ms);
     CHECK(item.flush_delayed() && again == 2);
@@ -369,6 +371,30 @@ static void dropped_handles()
     }
 }
 
+// Items of two CPUs are queued at once. Those before one that fails are queued.
+static void batches()
+{
+    std::atomic<unsigned> runs{0};
+    cmwq::workqueues all(cmwq::shape{}.cpus(2).items(201).workers(2).queue("a", cmwq::max_active(512)));
+    cmwq::workqueues others(cmwq::shape{}.queue("a", cmwq::max_active(1)));
+    cmwq::queue queue = all.queue("a");
+    std::vector<cmwq::item> items;
+    for (unsigned k = 0; k < 200; k++) items.push_back(queue.make([&runs](cmwq::run &) { runs++; }, k / 3 % 2));
+    CHECK(queue.queue_all(std::vector<cmwq::item>{}) == 0);
+    CHECK(queue.queue_all(items) == 200);
+    queue.flush();
+    CHECK(runs == 200);
+    items[2] = others.queue("a").make([](cmwq::run &) {});
+    REFUSED_AS(queue.queue_all(items), CMWQ_REFUSED);
+    items[2] = cmwq::item();
+    queue.flush();
+    REFUSED(queue.queue_all(items), std::logic_error);
+    queue.flush();
+    CHECK(runs == 204);
+    all.shutdown();
+    REFUSED_AS(queue.queue_all(items), CMWQ_CLOSED);
+}
+
 // A number comes back when the run has ended, whatever became of its handles.
 static void numbers_come_back()
 {
@@ -510,6 +536,65 @@ static long refuse(std::atomic<long> &left)
     }
 }
 
+// What workqueues leave is there in their next life, by names.
+static void durable()
+{
+    char folder[] = "/tmp/cmwq_hpp.XXXXXX";
+    CHECK(mkdtemp(folder));
+    const std::string file = std::string(folder) + "/journal";
+    std::atomic<int> wrote{0}, told{0}, asked{0};
+    auto shape = [&] {
+        return cmwq::shape{}.queue("disk", cmwq::max_active(1).freezable()).queue("net", cmwq::max_active(1))
+            .item("write", "disk", [&](cmwq::run &) { wrote++; })
+            .item("tell", "net", [&](cmwq::run &now) { told++; now.requeue_after(1h); })
+            .durable(file).each().keep_old().again([&](const std::string &) { asked++; return true; });
+    };
+    {
+        cmwq::workqueues all(shape());
+        CHECK(all.freeze() && all.item("write").queue() && all.item("tell").queue());
+        REFUSED(all.item("none"), std::out_of_range);
+        REFUSED(all.queue("disk").make([](cmwq::run &) {}), std::length_error);
+        REFUSED_AS(cmwq::workqueues{shape()}, CMWQ_IN_USE);
+        all.queue("net").flush();
+        all.sync();
+    } // it is left
+    CHECK(wrote == 0 && told == 1);
+    {
+        cmwq::workqueues all(shape());
+        CHECK(all.item("write").is_pending() && all.item("tell").is_pending() && asked == 0);
+        all.leave();
+        REFUSED_AS(all.item("write").queue(), CMWQ_CLOSED);
+        REFUSED(cmwq::workqueues{shape().item("x", "none", {})}, std::out_of_range);
+        REFUSED(shape().item("write", "disk", {}), std::invalid_argument);
+    }
+    {
+        cmwq::workqueues all(shape().item("more", "net", [](cmwq::run &) {}).queue("last", cmwq::max_active(1)));
+        CHECK(all.thaw());
+        all.queue("disk").flush();
+        CHECK(wrote == 1 && all.item("tell").is_pending() && !all.item("more").is_pending());
+        all.shutdown();
+    }
+    {
+        cmwq::workqueues all(shape());
+        CHECK(!all.item("tell").is_pending());
+    }
+    std::ofstream(file, std::ios::app) << "bad\n";
+    try {
+        cmwq::workqueues none(shape());
+        CHECK(false);
+    } catch (const cmwq::bad_journal &why) {
+        CHECK(why.line() == 5);
+    }
+    cmwq::workqueues plain(cmwq::shape{}.queue("a", cmwq::max_active(1)).item("i", "a", [&](cmwq::run &) { told++; }));
+    CHECK(plain.item("i").queue());
+    REFUSED_AS(plain.leave(), CMWQ_REFUSED);
+    REFUSED_AS(plain.sync(), CMWQ_REFUSED);
+    plain.shutdown();
+    CHECK(told == 2);
+    for (const char *ending : {"", ".1", ".lock", ".new"}) unlink((file + ending).c_str());
+    CHECK(rmdir(folder) == 0);
+}
+
 int main(int argc, char **argv)
 {
     unsigned rounds = argc > 1 ? unsigned(std::atoi(argv[1])) : 100;
@@ -546,11 +631,13 @@ int main(int argc, char **argv)
     moved();
     limits();
     dropped_handles();
+    batches();
     numbers_come_back();
     dropped_functions_call();
+    durable();
 #if !defined __SANITIZE_ADDRESS__ && !defined __SANITIZE_THREAD__
     forked(); // another thread may hold a lock of a sanitizer's own at a fork: the child hangs then
 #endif
-    CHECK(refuse(allocations_left) > 20 && refuse(threads_left) > 4);
+    CHECK(refuse(allocations_left) > 20 && refuse(threads_left) >= 2);
     std::printf("%u trials, %zu refused as circles\n", rounds, circles);
 }

@@ -172,10 +172,34 @@ static long judges(void)
     }
 }
 
+/* How many the calls that resume a history take. */
+static long resumes(void)
+{
+    static const char text[] = "history 2\nshape 1 2 1 2 50\nwq 1 -\nc0 0 queue 1 0 0 = yes 0\n";
+    struct cmwq_shape shape = {.keep = 77};
+    struct cmwq_call calls[2];
+    size_t queues = 77, count = 77;
+    uint64_t line = 77;
+    uint8_t none = 0;
+
+    for (long many = 0;; many++) {
+        uint32_t status;
+
+        left = many;
+        status = cmwq_resume((const uint8_t *)text, sizeof text - 1, &none, 1, &shape, &queues, calls, 2, &count,
+                             &line);
+        CHECK(live == 0 && line == 77);
+        if (status == CMWQ_OK)
+            return many;
+        CHECK(status == CMWQ_NO_MEMORY && count == 77 && queues == 77 && shape.keep == 77);
+    }
+}
+
 int main(void)
 {
     CHECK(opens() > 10);
     CHECK(judges() > 10);
+    CHECK(resumes() > 10);
     CHECK(boards() > 10);
     CHECK(heads() > 0);
     return 0;

@@ -1,5 +1,5 @@
-// The headers in C++11: a book that closes itself, and the hub.
-#include "cmwq_hub.h"
+// The headers in C++11: a book that closes itself, and the hub. That of the loop needs only to compile.
+#include "cmwq_loop.h"
 #include <cstdio>
 #include <string>
 

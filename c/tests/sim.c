@@ -290,9 +290,11 @@ static void moves(unsigned p)
         }
         return;
     case WAITS:
-        if (may_leave && !party->runs && below(12) == 0 && cmwq_board_leave(&board, party->by, &wakes) == CMWQ_OK) {
+        if (may_leave && below(12) == 0 && cmwq_board_leave(&board, party->by, &wakes) == CMWQ_OK) {
             wake();
-            party->state = READY;
+            party->state = party->runs ? RUNS : READY;
+            party->blocks = party->blocks || party->runs; /* it sleeps until it is woken */
+            party->asleep = false;
             left_waits++;
             return;
         }

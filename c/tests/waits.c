@@ -5,8 +5,15 @@
 
 enum { MOST = 24, TEXT = 1 << 22 };
 
-/* What the function of an item waits for, and what came of that. */
-struct item { enum cmwq_kind kind; uint16_t other; bool waits; unsigned ran; int result; };
+/* What the function of an item waits for, and what came of that. @run: its function, in place of that of all. */
+struct item {
+    enum cmwq_kind kind;
+    uint16_t other;
+    bool waits;
+    unsigned ran;
+    int result;
+    void (*run)(struct cmwq_run *run, void *data);
+};
 
 static struct cmwq_hub hub;
 static struct item items[MOST];
@@ -85,7 +92,7 @@ static void open_hub(unsigned cpus, unsigned workers, const struct cmwq_queue *q
     for (int i = 0; i < MOST; i++) {
         items[i].ran = 0;
         items[i].result = -99;
-        works[i].run = work;
+        works[i].run = items[i].run ? items[i].run : work;
         works[i].data = &items[i];
     }
     CHECK(cmwq_hub_open(&hub, &options) == CMWQ_OK);
@@ -229,6 +236,71 @@ static void random_waits(unsigned seed)
     close_hub();
 }
 
+static unsigned told; /* bits: the first wait was left; the other run waits for the one that left */
+
+static bool is_told(unsigned bit) { return __atomic_load_n(&told, __ATOMIC_ACQUIRE) & bit; }
+
+/* Item 0 blocks until item 1 waits for nothing any more. */
+static void block_on(struct cmwq_run *run, void *data)
+{
+    (void)data;
+    CHECK(cmwq_worker_sleeping(run->hub) == 1);
+    while (!is_told(2))
+        usleep(1000);
+    CHECK(cmwq_worker_running(run->hub) == 1);
+}
+
+/* Item 1 leaves its wait for item 2, and item 2 waits for item 1 then. */
+static void leave(struct cmwq_run *run, void *data)
+{
+    (void)data;
+    for (unsigned k = 0; k < 3; k++) {
+        CHECK(cmwq_flush_work(run->hub, 2, 1) == -CMWQ_TIMED_OUT);
+        CHECK(cmwq_cancel_work_sync(run->hub, 0, k) == -CMWQ_TIMED_OUT);
+        CHECK(cmwq_queue_work_on(run->hub, 0, 0, 3) >= 0); /* the run is awake */
+    }
+    CHECK(cmwq_worker_sleeping(run->hub) == 1 && cmwq_flush_workqueue(run->hub, 1, 1) == -CMWQ_TIMED_OUT);
+    __atomic_or_fetch(&told, 1, __ATOMIC_RELEASE);
+    while (!is_told(4))
+        usleep(1000);
+    usleep(10000);
+    CHECK(cmwq_worker_running(run->hub) == 1);
+    __atomic_or_fetch(&told, 2, __ATOMIC_RELEASE);
+    CHECK(cmwq_flush_work(run->hub, 0, 60000) >= 0);
+}
+
+static void wait_for_it(struct cmwq_run *run, void *data)
+{
+    (void)data;
+    CHECK(cmwq_worker_sleeping(run->hub) == 1);
+    while (!is_told(1))
+        usleep(1000);
+    CHECK(cmwq_worker_running(run->hub) == 1);
+    __atomic_or_fetch(&told, 4, __ATOMIC_RELEASE);
+    CHECK(cmwq_flush_work(run->hub, 1, CMWQ_FOREVER) >= 0);
+}
+
+/* A wait of a run with a time limit is left. */
+static void time_limits(void)
+{
+    struct cmwq_queue queues[2] = {{.max_active = 8}, {.max_active = 8}};
+
+    nobody_waits();
+    told = 0;
+    items[0].run = block_on;
+    items[1].run = leave;
+    items[2].run = wait_for_it;
+    open_hub(1, 4, queues, 2, 4);
+    queue_item(0, 1, 0);
+    queue_item(2, 0, 0);
+    while (cmwq_work_busy(&hub, 0) != 2 || cmwq_work_busy(&hub, 2) != 2)
+        usleep(1000);
+    queue_item(1, 0, 0);
+    CHECK(cmwq_flush_workqueue(&hub, 0, CMWQ_FOREVER) == 1);
+    close_hub();
+    CHECK(items[3].ran >= 1);
+}
+
 int main(int argc, char **argv)
 {
     unsigned seeds = argc > 1 ? (unsigned)atoi(argv[1]) : 100;
@@ -243,6 +315,7 @@ int main(int argc, char **argv)
     held(2, 1, 0, -CMWQ_DEADLOCK);
     held(2, 2, 0, 1);
     held(1, 1, 1, 1);
+    time_limits();
     for (unsigned seed = 0; seed < seeds; seed++)
         random_waits(seed);
     return 0;

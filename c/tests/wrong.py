@@ -1,33 +1,38 @@
 #!/usr/bin/env python3
 """Wrong shells, each of which a test must find: c/tests/wrong.py LIBRARY [--quick | NAME..]
 
-A wrong shell is an edit of cmwq_shell.h, cmwq_hub.h or cmwq.hpp. Each is built with the tests `stress`, `faults`,
-`ends` and `forks`, or with `hpp`, in a folder of its own. The first that fails, or does not end in time, has found it.
-With --quick a few are tried, and the shell as it is is not, as tools/c tries it. CC and CXX name the compilers; what
-is skipped has a line `skipped: WHAT: WHY`. The last line is `N passed, M failed`.
+A wrong shell is an edit of cmwq_shell.h, cmwq_hub.h, cmwq_durable.h, cmwq_loop.h or cmwq.hpp. Each is built with the
+tests `stress`, `faults`, `ends`, `forks` and `durable`, with `durable` and `lives`, with `loop`, or with `hpp`, in a
+folder of its own. The first that fails, or does not end
+in time, has found it. With --quick a few are tried, and the shell as it is is not, as tools/c tries it. CC and CXX name
+the compilers; what is skipped has a line `skipped: WHAT: WHY`. The last line is `N passed, M failed`.
 """
-import concurrent.futures
 import os
 import shutil
 import subprocess
-import sys
 import tempfile
+
+import edits
 
 C = os.path.join(os.path.dirname(os.path.realpath(__file__)), "..")
 
-# How many are tried at a time, and the seconds after which a test doesn't end.
-AT_ONCE, SECONDS = 2, 60
+# The seconds after which a test doesn't end.
+SECONDS = 60
 
 # The tests, with their arguments: 200 rounds, from the first on, of at most 5 seconds each.
-TESTS = (("stress.c", ["200", "0", "5"]), ("faults.c", []), ("ends.c", []), ("forks.c", []))
-TESTS_OF_HPP = (("hpp.cc", ["10"]),)
+DURABLE = (("durable.c", []), ("lives.c", ["40"]))
+TESTS = (("stress.c", ["200", "0", "5"]), ("faults.c", []), ("ends.c", []), ("forks.c", []), ("threads.c", []),
+         DURABLE[0])
+TESTS_OF = {"hpp": (("hpp.cc", ["10"]),), "loop": (("loop.c", ["1000"]),), "durable": DURABLE}
 
-HEADERS = {"shell": "cmwq_shell.h", "hub": "cmwq_hub.h", "hpp": "cmwq.hpp"}
+HEADERS = {"shell": "cmwq_shell.h", "hub": "cmwq_hub.h", "loop": "cmwq_loop.h", "hpp": "cmwq.hpp",
+           "durable": "cmwq_durable.h"}
 
 COMPILERS = {".c": (os.environ.get("CC", "cc"), "-std=gnu11"), ".cc": (os.environ.get("CXX", "c++"), "-std=c++17")}
 
 # Those that are tried by --quick.
-QUICK = ("a sleeper does not look before it sleeps", "the lock is let go too early")
+QUICK = ("a sleeper does not look before it sleeps", "the lock is let go too early", "a resume in its own call is lost",
+         "a reply comes before its sync")
 
 # Names, headers, what stands there, and what stands there instead. A sanitizer where one is needed to see it.
 EDITS = (
@@ -55,6 +60,30 @@ EDITS = (
         "status = cmwq_hub_note_(hub, cmwq_board_call(&hub->board, call, reply, &hub->wakes));",
         "status = cmwq_board_call(&hub->board, call, reply, &hub->wakes); cmwq_hub_unlock_(hub); "
         "sched_yield(); pthread_mutex_lock(&hub->lock); cmwq_hub_note_(hub, status);",
+    ),
+    (
+        "a batch goes on after a call that fails",
+        "hub",
+        "for (; k < last && result >= 0; k++) {",
+        "for (; k < last; k++) {",
+    ),
+    (
+        "a batch ends after its first hold of the lock",
+        "hub",
+        "for (size_t k = 0; k < count && result >= 0;) {",
+        "for (size_t k = 0; k < count && k < CMWQ_BATCH && result >= 0;) {",
+    ),
+    (
+        "a batch says of all items that they were queued",
+        "hub",
+        "if (queued && result > 0) queued[k / 64] |=",
+        "if (queued && result >= 0) queued[k / 64] |=",
+    ),
+    (
+        "a batch of a run is not the run's",
+        "hub",
+        "if (run && !run->asleep) call.who = run->who;",
+        "if (0) call.who = run->who;",
     ),
     (
         "a sleeper does not look before it sleeps",
@@ -85,7 +114,7 @@ EDITS = (
     (
         "all that wait for a drain are named late",
         "shell",
-        "cmwq_hub_name_(hub, &hub->parties[hub->workers + wakes->callers[k] - 1u]);",
+        "cmwq_hub_name_(hub, &hub->parties[hub->workers + wakes->callers[k] - hub->own]);",
         "cmwq_hub_name_(hub, &hub->parties[hub->workers]);",
     ),
     (
@@ -97,8 +126,8 @@ EDITS = (
     (
         "a run is an outsider",
         "hub",
-        "run = here ? here->run : NULL;",
-        "run = NULL;",
+        "if (here) *run = here->run;",
+        "",
     ),
     (
         "a run that sleeps is not woken before it finishes",
@@ -146,6 +175,55 @@ EDITS = (
         "",
     ),
     (
+        "a worker that is named gets no thread",
+        "shell",
+        "        party->wanted = true;\n",
+        "        party->wanted = true;\n        return;\n",
+    ),
+    (
+        "workers that have no thread do not look when all are named",
+        "shell",
+        "        if (!hub->parties[k].started) cmwq_hub_look_(hub, &hub->parties[k]);\n",
+        "        {}\n",
+    ),
+    (
+        "a run that was started for a worker is left",
+        "shell",
+        "        party->given = true;\n",
+        "",
+    ),
+    (
+        "whoever closes a hub starts no threads",
+        "hub",
+        "        if (hub->unborn) cmwq_hub_bear_(hub);\n        else pthread_cond_wait",
+        "        pthread_cond_wait",
+    ),
+    (
+        "a hub goes on without a thread",
+        "shell",
+        "if (!hub->threadless) cmwq_hub_note_(hub, cmwq_board_fail(&hub->board, &hub->wakes));",
+        "",
+    ),
+    (
+        "all threads start at open",
+        "shell",
+        "    for (unsigned k = 0; k < hub->workers; k++) cmwq_hub_look_(hub, &hub->parties[k]);\n",
+        "    for (unsigned k = 0; k < hub->workers; k++) cmwq_hub_name_(hub, &hub->parties[k]);\n",
+    ),
+    (
+        "a thread has another caller at its next call",
+        "hub",
+        "    if (at < hub->taken && pthread_equal(hub->threads[at], self)) return (uint8_t)(at + 1);\n"
+        "    for (at = 0; at < hub->taken && !pthread_equal(hub->threads[at], self); at++) {}\n",
+        "    at = hub->taken;\n",
+    ),
+    (
+        "threads share caller 0",
+        "hub",
+        "    else if (status == CMWQ_OK) call.who.index = cmwq_hub_caller_(hub);\n    if",
+        "    if",
+    ),
+    (
         "the journal's end is counted without the lock",
         "hub",
         "    if (hub->is.journal && !hub->deaf) hub->deaf =",
@@ -171,15 +249,19 @@ EDITS = (
     (
         "a wait is not left",
         "shell",
-        "status = cmwq_hub_note_(hub, cmwq_board_leave(&hub->board, by, &hub->wakes));",
-        "status = CMWQ_OK;",
+        "uint32_t status = cmwq_hub_note_(hub, cmwq_board_leave(&hub->board, by, &hub->wakes));",
+        "uint32_t status = CMWQ_OK; (void)by;",
+    ),
+    (
+        "a run that has left its wait sleeps on",
+        "shell",
+        "if (status == CMWQ_OK && run && !run->asleep) {",
+        "if (status == CMWQ_OK && run && run->asleep) {",
     ),
     (
         "a journal that calls the hub",
         "hub",
-        "else if (here && !run)\n"
-        "        status = CMWQ_NOT_NOW; /* in the journal */\n"
-        "    ",
+        "if (here && !here->run) return CMWQ_NOT_NOW; /* in the journal */",
         "",
     ),
     (
@@ -191,8 +273,8 @@ EDITS = (
     (
         "space is not looked for",
         "hub",
-        "if (!here || run) cmwq_hub_space_(hub, hub->is.keep);",
-        "",
+        "cmwq_hub_space_(hub, hub->is.keep);\n    return",
+        "return",
     ),
     (
         "numbers are cut off",
@@ -216,7 +298,7 @@ EDITS = (
     (
         "threads are left where one does not start",
         "hub",
-        "    cmwq_hub_close(hub);\n"
+        "    cmwq_hub_end_(hub, hub->disk.is);\n"
         "    return -CMWQ_NO_THREAD;",
         "    return cmwq_hub_free_(hub, -CMWQ_NO_THREAD);",
         "-fsanitize=address",
@@ -255,9 +337,244 @@ EDITS = (
         "-fsanitize=address",
     ),
     (
+        "a reply comes before its sync",
+        "hub",
+        "if (hub->is.each && !run && (status == CMWQ_OK || status == CMWQ_TIMED_OUT)) {",
+        "if (0) {",
+    ),
+    (
+        "the replies of a batch come before its sync",
+        "hub",
+        "if (hub->is.each && !run && (result < 0 ? many > 0 : k == count)) {",
+        "if (0) {",
+    ),
+    (
+        "a disk that failed is told as the end of the hub",
+        "hub",
+        "if ((over || status == CMWQ_STOPPED) && hub->disk.failed)",
+        "if (0 && (over || status == CMWQ_STOPPED) && hub->disk.failed)",
+    ),
+    (
+        "a hub that is left starts what is queued",
+        "shell",
+        "        if (hub->keeps && !me->given) break;\n",
+        "",
+    ),
+    (
+        "a run that is told that its wait is over has ended",
+        "shell",
+        "            if (run.broken_) break;\n",
+        "",
+    ),
+    (
+        "a run can queue nothing while its hub is left",
+        "shell",
+        "&& !(hub->keeps && run)",
+        "",
+    ),
+    (
+        "a child keeps the files",
+        "shell",
+        "        cmwq_disk_free_(&hub->disk);\n"
+        "        pthread_mutex_init",
+        "        pthread_mutex_init",
+    ),
+    (
+        "a torn line is taken",
+        "durable",
+        "    while (len && text[len - 1] != '\\n') len--;\n",
+        "",
+    ),
+    (
+        "zeros are taken",
+        "durable",
+        "if (to == len || to % 512 == 0) len = from;",
+        "",
+    ),
+    (
+        "all zeros are torn, with what follows",
+        "durable",
+        "if (to == len || to % 512 == 0) len = from;",
+        "len = from;",
+    ),
+    (
+        "a short write counts as a whole one",
+        "durable",
+        "        at += many;\n"
+        "        len -= (size_t)many;\n",
+        "        len = 0;\n",
+    ),
+    (
+        "nothing is synced",
+        "durable",
+        "could = cmwq_disk_sync_(disk);",
+        "",
+    ),
+    (
+        "what is made while a sync goes on counts as synced",
+        "durable",
+        "disk->synced = upto;",
+        "disk->synced = cmwq_board_len(&hub->board);",
+    ),
+    (
+        "a sync that failed is tried again",
+        "durable",
+        "    if (!could) cmwq_disk_fail_(hub);\n"
+        "    else if (syncs",
+        "    if (!could) ;\n"
+        "    else if (syncs",
+    ),
+    (
+        "nobody is told that the disk has failed",
+        "durable",
+        "    while (disk->synced < mine && !disk->failed) {",
+        "    while (disk->synced < mine) {",
+    ),
+    (
+        "a new journal takes the place before it is synced",
+        "durable",
+        "(hub->is.sync == CMWQ_SYNC_NONE || fsync(hub->disk.file) == 0)",
+        "1",
+    ),
+    (
+        "the folder is not synced",
+        "durable",
+        "(hub->is.sync == CMWQ_SYNC_NONE || fsync(folder) == 0)",
+        "1",
+    ),
+    (
+        "for a moment there is no journal",
+        "durable",
+        "linkat(folder, name, folder, old, 0) != 0",
+        "renameat(folder, name, folder, old) != 0",
+    ),
+    (
+        "two hubs share a journal",
+        "durable",
+        "flock(disk->lock, LOCK_EX | LOCK_NB) != 0",
+        "0",
+    ),
+    (
+        "nothing is resumed",
+        "durable",
+        "k < count && could && status == CMWQ_OK",
+        "0",
+    ),
+    (
+        "all runs that were broken off are had again",
+        "durable",
+        "else if (!hub->is.again(hub->is.again_data, made[k].item)) continue;",
+        "else hub->is.again(hub->is.again_data, made[k].item);",
+    ),
+    (
+        "a smaller shape takes the place",
+        "durable",
+        "(shape.items > items || shape.cpus > hub->shape.cpus || queues > hub->is.queue_count)",
+        "0",
+    ),
+    (
+        "what a hub left at its end is resumed",
+        "durable",
+        "    bool ended = cmwq_disk_is_ended_(text, len);\n",
+        "    bool ended = false && cmwq_disk_is_ended_(text, len);\n",
+    ),
+    (
+        "an end is not written",
+        "durable",
+        "!hub->disk.failed && cmwq_disk_write_(&hub->disk, last, len)",
+        "!hub->disk.failed && (last || len)",
+    ),
+    (
+        "a resume in its own call is lost",
+        "loop",
+        "        run->calls++;\n",
+        "        run->calls++;\n"
+        "        run->resumed_ = false;\n",
+    ),
+    (
+        "a run that has not ended stays awake",
+        "loop",
+        "if (!over && !run->intensive_) cmwq_loop_turn_(loop, run, CMWQ_SLEEP);",
+        "",
+    ),
+    (
+        "a run ends before its wait",
+        "loop",
+        "if (over && !run->party_) {",
+        "if (over) {",
+    ),
+    (
+        "a call of a run that waits is the run's",
+        "loop",
+        "(kind <= CMWQ_CANCEL && !run->asleep_)",
+        "kind <= CMWQ_CANCEL",
+    ),
+    (
+        "a wait is left twice",
+        "loop",
+        "    if (!wait->goes_on_) return 0;\n",
+        "",
+    ),
+    (
+        "a wait in line is not told of a caller that is free",
+        "loop",
+        "    loop->lends = true;\n"
+        "    wait->goes_on_ = false;\n",
+        "    wait->goes_on_ = false;\n",
+    ),
+    (
+        "a wait in line is not told of a ticket that has ended",
+        "loop",
+        "if (loop->line && (cmwq_board_news(&loop->board) & CMWQ_LEFT_ENDED)) loop->lends = true;",
+        "",
+    ),
+    (
+        "a run that has left its wait is not called again",
+        "loop",
+        "    run->result = -CMWQ_TIMED_OUT;\n    run->resumed_ = true;\n",
+        "    run->result = -CMWQ_TIMED_OUT;\n",
+    ),
+    (
+        "the end of the line is a wait that has left it",
+        "loop",
+        "    else loop->line_end = wait->before_;\n",
+        "",
+    ),
+    (
+        "a wait sleeps before the board is asked",
+        "loop",
+        "    cmwq_loop_name_(loop, loop->workers + by); /* so that the board is asked */\n",
+        "",
+    ),
+    (
+        "the fd is not set after a call",
+        "loop",
+        "    if (loop->open) cmwq_loop_arm_(loop);\n",
+        "",
+    ),
+    (
+        "nobody looks at the timers after a drain",
+        "loop",
+        "    if (wakes->clock) loop->due = 0;",
+        "",
+    ),
+    (
+        "a close tells nobody who waits",
+        "loop",
+        "    while (loop->line) cmwq_loop_next_(loop);\n"
+        "    for (unsigned by = 1; by < loop->shape.callers; by++) cmwq_loop_end_(loop, (uint8_t)by);\n",
+        "",
+    ),
+    (
+        "durable workqueues run what is queued at their end",
+        "hpp",
+        "if (hub_->end(hub_->of.disk.is) == -CMWQ_NOT_NOW)",
+        "if (hub_->end(false) == -CMWQ_NOT_NOW)",
+    ),
+    (
         "a second shutdown drops the functions",
         "hpp",
-        "if (result == CMWQ_OK || result == -CMWQ_NO_JOURNAL)",
+        "if (result == CMWQ_OK || result == -CMWQ_NO_JOURNAL || result == -CMWQ_DISK_FAILED)",
         "if (result != -CMWQ_NOT_NOW)",
     ),
     (
@@ -302,7 +619,7 @@ EDITS = (
         "another thread closes what is dropped in a run",
         "hpp",
         "detail::hub::leave(hub_);",
-        "std::thread([hub = hub_] { hub->end(); }).detach();",
+        "std::thread([hub = hub_] { hub->end(hub->of.disk.is); }).detach();",
     ),
     (
         "an item that was moved from has its number",
@@ -313,58 +630,31 @@ EDITS = (
 )
 
 
-def fails(program, words):
-    quiet = {"stdin": subprocess.DEVNULL, "stdout": subprocess.DEVNULL, "stderr": subprocess.DEVNULL}
-    try:
-        return subprocess.run([program, *words], timeout=SECONDS, check=False, **quiet).returncode != 0
-    except subprocess.TimeoutExpired:
-        return True
-
-
 def found_by(library, name, header, old, new, sanitizer=None):
     """The test that finds it, or None."""
     with tempfile.TemporaryDirectory() as folder:
         for it in ("cmwq.h", *HEADERS.values()):
             shutil.copy(f"{C}/{it}", folder)
-        path = f"{folder}/{HEADERS[header]}"
-        with open(path, encoding="utf-8") as it:
-            text = it.read()
-        if old not in text:
-            sys.exit(f"{name}: the edit does not apply")
-        with open(path, "w", encoding="utf-8") as it:
-            it.write(text.replace(old, new))
-        for test, words in TESTS_OF_HPP if header == "hpp" else TESTS:
-            flags = ["-O1" if sanitizer is None else "-O0", "-w", *([sanitizer] if sanitizer else [])]
+        edits.edit(name, f"{folder}/{HEADERS[header]}", old, new)
+        for test, words in TESTS_OF.get(header, TESTS):
+            flags = edits.flags_of(sanitizer)
             sources = [f"-I{folder}", f"-I{C}/tests", f"{C}/tests/{test}", library, "-lpthread"]
             program = f"{folder}/program"
             subprocess.run([*COMPILERS[os.path.splitext(test)[1]], *flags, *sources, "-o", program], check=True)
-            if fails(program, words):
+            if edits.fails(program, words, SECONDS):
                 return test
     return None
 
 
 def main():
-    if not sys.argv[1:] or sys.argv[1].startswith("-"):
-        print(__doc__.strip())
-        sys.exit(0 if sys.argv[1:] == ["--help"] else 2)
-    library, names, failed = sys.argv[1], sys.argv[2:], 0
-    is_quick = names == ["--quick"]
-    names = QUICK if is_quick else names
-    edits = [it for it in EDITS if not names or it[0] in names]
+    library, names, is_quick = edits.library_and_names(__doc__, QUICK)
+    chosen = [it for it in EDITS if not names or it[0] in names]
     if not shutil.which(COMPILERS[".cc"][0]):
-        edits = [it for it in edits if it[1] != "hpp"]
+        chosen = [it for it in chosen if it[1] != "hpp"]
         print(f"skipped: wrong shells in C++: there is no {COMPILERS['.cc'][0]}")
-    for header in sorted({"shell" if it[1] == "hub" else it[1] for it in edits}) if not is_quick else ():
-        test = found_by(library, "no edit", header, "", "")
-        if test:
-            print(f"the shell as it is fails {test}\n0 passed, 1 failed")
-            sys.exit(1)
-    with concurrent.futures.ThreadPoolExecutor(AT_ONCE) as pool:
-        for edit, test in zip(edits, pool.map(lambda it: found_by(library, *it), edits)):
-            failed += not test
-            print(f"{edit[0]}: {test or 'NOT FOUND'}", flush=True)
-    print(f"{len(edits) - failed} passed, {failed} failed")
-    sys.exit(1 if failed else 0)
+    for header in sorted({"shell" if it[1] == "hub" else it[1] for it in chosen}) if not is_quick else ():
+        edits.end_if_fails("the shell", found_by(library, "no edit", header, "", ""))
+    edits.try_all(chosen, lambda *it: found_by(library, *it))
 
 
 if __name__ == "__main__":

@@ -1,5 +1,5 @@
 """Workqueues with threads, as Linux has them: items of work that run one at a time each, queues that limit how many are
-active, delays, and flushes and cancellations that wait.
+active, delays, and flushes and cancellations that wait. `AsyncHub` has them in an event loop of asyncio.
 
 A CPU's pool runs one awake run of a plain queue at a time. So `workers=4` runs four items at once only if their queue
 is CPU intensive, if they are on several CPUs, or if runs sleep, which they do in calls that wait and in `Run.block`.
@@ -16,16 +16,19 @@ Calls in a work function are calls of its run, by whatever handle. A run that wa
 that could never end raises Itself or Deadlock. Every exception of this package is an Error, but an argument of the
 wrong type raises TypeError. What work functions raise is logged by the logger "cmwq".
 """
+from ._aio import AsyncHub, AsyncItem, AsyncQueue
+from ._aio_shell import AsyncRun
 from ._book import Book, Refused, Shape, check
 from ._errors import (Closed, Deadlock, Draining, Error, Foreign, Full, Gone, HistoryError, Invalid, Itself, NoItem,
-                      NoMemory, NotAHistory, NotRun, NoThread, RunEnded, TimedOut, TimeoutInRun, Timers, TooManyWaits,
+                      NoMemory, NotAHistory, NotRun, NoThread, RunEnded, TimedOut, Timers, TooManyWaits,
                       VersionMismatch, WorkError)
 from ._hub import Hub, Item, Queue
 from ._library import VERSION as __version__
 from ._options import QueueOptions, max_active
 from ._run import Block, Run
 
-__all__ = ["Block", "Book", "Closed", "Deadlock", "Draining", "Error", "Foreign", "Full", "Gone", "HistoryError", "Hub",
-           "Invalid", "Item", "Itself", "NoItem", "NoMemory", "NoThread", "NotAHistory", "NotRun", "Queue",
-           "QueueOptions", "Refused", "Run", "RunEnded", "Shape", "TimedOut", "TimeoutInRun", "Timers", "TooManyWaits",
-           "VersionMismatch", "WorkError", "__version__", "check", "max_active"]
+__all__ = ["AsyncHub", "AsyncItem", "AsyncQueue", "AsyncRun", "Block", "Book", "Closed", "Deadlock", "Draining",
+           "Error", "Foreign", "Full", "Gone", "HistoryError", "Hub", "Invalid", "Item", "Itself", "NoItem",
+           "NoMemory", "NoThread", "NotAHistory", "NotRun", "Queue", "QueueOptions", "Refused", "Run", "RunEnded",
+           "Shape", "TimedOut", "Timers", "TooManyWaits", "VersionMismatch", "WorkError", "check",
+           "max_active", "__version__"]

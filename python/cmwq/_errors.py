@@ -72,10 +72,6 @@ class TimedOut(Error, TimeoutError):
     drained takes no work, and an item that is being cancelled can't be queued."""
 
 
-class TimeoutInRun(Error):
-    """A call in a work function can't have a time limit."""
-
-
 class NotRun(Error):
     """Items were queued that did not run, since the hub has failed. `items` has them. Raised by `Hub.shutdown` and the
     end of `with`."""

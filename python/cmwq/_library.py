@@ -22,6 +22,7 @@ ITSELF, DEADLOCK, NO_CALLER, WAITS, RESTS, OVER, LOOK_AGAIN = range(11, 18)
  FINISHED, SLEPT, WOKE, RETIRED, KEPT, WIDTH, FROZEN, THAWED, GONE, TIMERS) = range(35)
 CALLER, WORKER, HIGH_WORKER = range(3)
 PENDING_TIMER, NOBODY, LINE, NEVER = 1, 255, 256, 2 ** 64 - 1
+LEFT_ENDED = 1
 
 # The kind of the reply to a call that was not made.
 NONE = 255
@@ -104,7 +105,7 @@ _CALLS = {
     "board_end": (_U32, _AT, _U8, _AT), "board_leave": (_U32, _AT, _U8, _AT),
     "board_advance": (_U32, _AT, _U8, _U32, _AT, _AT), "board_time": (_U64, _AT), "board_due": (_U64, _AT),
     "board_item": (_U32, _AT, _U16, _AT), "board_stop": (_U32, _AT, _AT), "board_fail": (_U32, _AT, _AT),
-    "board_len": (_U64, _AT), "board_hand_out": (_U32, _AT, _AT),
+    "board_len": (_U64, _AT), "board_news": (_U32, _AT), "board_hand_out": (_U32, _AT, _AT),
     "lines_open": (_U32, _AT, _AT), "lines_close": (None, _AT), "lines_write": (_U32, _AT, _AT, _SIZE, _AT),
     "lines_forget": (_U32, _AT),
 }

@@ -1,25 +1,15 @@
 """What a work function is given."""
-from typing import Any, Tuple
+from typing import Any
 
 from . import _arguments as arguments
 from . import _errors as errors
 from . import _library as library
+from ._handles import BaseRun
 from ._shell import PENDING, Shell, here
 
 
-class Run(arguments.Single):
-    """A run of a work function, to which it is given. Calls in a work function are calls of its run, by whatever
-    handle. Once the run has ended, the calls below raise RunEnded."""
-
-    def __init__(self, worker: Tuple[int, int, int], item: Any) -> None:
-        self._worker, self._item = worker, item
-
-    def _own(self) -> Any:
-        """The item, as long as it is in this run."""
-        item = self._item
-        if item is None:
-            raise errors.RunEnded("the run has ended")
-        return item
+class Run(BaseRun):
+    __doc__ = BaseRun.__doc__
 
     def _queue(self, item: Any) -> int:
         """The queue of which this is a run: that of the last call that has made the item pending. While it runs it
@@ -29,25 +19,11 @@ class Run(arguments.Single):
             puts.pop()
         return puts[-1][1].queue if puts else item._queue._number
 
-    def requeue(self) -> bool:
-        """Queues the item that is running, where it runs. Returns False if it is pending."""
-        item = self._own()
-        return item._shell.put(library.QUEUE, item, self._queue(item), self._worker[2]) == library.YES
-
-    def requeue_after(self, seconds: float) -> bool:
-        """Queues the item that is running once this time has passed. Returns False if it is pending."""
-        item = self._own()
-        return item._shell.delay(library.DELAY, item, self._queue(item), self._worker[2], seconds) != library.NO
-
     def block(self) -> "Block":
         """`with run.block():` is to be around what blocks. The run sleeps meanwhile, so another item of its pool can
         run."""
         self._own()
         return Block(self)
-
-    def __repr__(self) -> str:
-        item = self._item
-        return "<cmwq.Run: ended>" if item is None else f"<cmwq.Run of {item!r}>"
 
 
 class Block(arguments.Single):

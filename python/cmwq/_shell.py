@@ -172,7 +172,7 @@ class Call(Record):
         _pack(buffer, 0, 0, ticks, number, kind, queue, 0, *who, NONE)
         self.log: List[Tuple[int, Any]] = []
         self.dropped: List[Any] = []
-        self.thread, self.is_left = 0, False
+        self.thread, self.is_left, self.sleeps = 0, False, False
 
     def reply(self) -> Tuple[int, int, int, int]:
         """Its number, other, item and kind."""
@@ -586,8 +586,6 @@ class Shell:
         call.thread = threading.get_ident()
         deadline = arguments.deadline(timeout)
         in_run = call.who is not CALLER_0
-        if in_run and deadline is not None:
-            raise errors.TimeoutInRun(f"timeout={timeout!r} is given in a work function, whose waits can't be left")
         if not in_run and getattr(here, "owner", None) is self:  # in a finalizer, for one
             raise errors.Itself("a thread of the hub, whose help a wait may need, waits in its runs only")
         if len(self.full) >= MOST_FULL:
@@ -628,7 +626,7 @@ class Shell:
                 break
             left = None if deadline is None else deadline - time.monotonic()
             if left is not None and left <= 0:
-                self.leave(call)
+                (self.leave if call.who is CALLER_0 else self.go_on)(call)
                 status = library.TIMED_OUT
                 break
             if status == library.WAITS:
@@ -644,7 +642,12 @@ class Shell:
         self.make(call, lib.cmwq_board_leave, call.party())
 
     def go_on(self, call: Call) -> None:
-        """Waits until this wait of a run has ended. It can't be left."""
+        """Leaves this wait of a run, if it has not ended. Unless it slept before, the run is awake again."""
         if call.is_open():
-            self._end(call, None)
+            call.sleeps = not here.sleeps
+            self.leave(call)
+        if call.sleeps:
+            wake = Call(library.WAKE, call.who)
+            self.make(wake, lib.cmwq_board_call, wake.at, wake.at + library.REPLY_AT)
+            call.sleeps = False
         self.waits.discard(call)

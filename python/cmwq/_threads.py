@@ -7,6 +7,7 @@ from typing import Any, Iterable, Iterator, Optional, Tuple
 
 from . import _errors as errors
 from . import _library as library
+from ._handles import keep_error
 from ._library import OK, lib, step
 from ._report import let_go, report
 from ._run import Run
@@ -25,27 +26,36 @@ class Worker:
     def __init__(self, shell: Shell, who: Tuple[int, int, int]) -> None:
         self._shell, self._who, self._place = shell, who, shell.place_of(who)
         self._start, self._finish = Call(library.TAKE, who), Call(library.FINISH, who)
+        self._thrown: Optional[BaseException] = None
+        self._is_over = False
 
     def work(self) -> None:
         here.owner, here.shell, here.worker, here.sleeps, here.wait = self._shell, None, self._who, False, None
-        try:
-            while not self._is_over():
-                pass
-        finally:
-            self._shell.workers.discard(self._who)
-            ring(self._shell.clock)
-            del self._shell
+        # An exception may also be thrown where another has just been caught, or where a loop begins anew.
+        while not self._is_over:
+            try:
+                while not self._is_over:
+                    try:
+                        self._work_until_over()
+                    except BaseException as why:
+                        self._thrown = why
+            except BaseException as why:
+                self._thrown = why
+        del self._shell
 
-    def _is_over(self) -> bool:
-        try:
-            if self._start.status() == OK:
-                self._go_on()
-            self._work_on()
-            return True
-        except BaseException as why:  # thrown into this thread, but not into a work function
-            report("the thread %s goes on after an exception", threading.current_thread(), why)
+    def _work_until_over(self) -> None:
+        """Works until the hub is over. After an exception that was thrown into this thread, but not into a work
+        function, it goes on from where it was, however many come in a row."""
+        if self._thrown is not None:
             self._shell.look_after(self._finish)
-            return False
+            report("the thread %s goes on after an exception", threading.current_thread(), self._thrown)
+            self._thrown = None
+        if self._start.status() == OK:
+            self._go_on()
+        self._work_on()
+        self._shell.workers.discard(self._who)
+        ring(self._shell.clock)
+        self._is_over = True
 
     def _work_on(self) -> None:
         start = self._start
@@ -88,15 +98,7 @@ class Worker:
             run._item._work(run)
             run._item._error = None
         except BaseException as why:
-            self._keep(run._item, why)
-
-    def _keep(self, item: Any, why: BaseException) -> None:
-        """Tells of the exception of a work function, and keeps it without the locals of its frames."""
-        why.__traceback__ = why.__traceback__ and why.__traceback__.tb_next
-        item._error = why, why.__traceback__
-        item._queue._hub._note(item, why)
-        del item
-        let_go(why)
+            keep_error(run._item, why, 1)
 
     def _end_run(self, run: Run) -> None:
         shell, finish = self._shell, self._finish

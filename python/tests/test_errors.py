@@ -418,20 +418,38 @@ class Errors(Case):
             item.queue()
             threading.Timer(0.05, gate.go.release).start()
             hub.flush(timeout=math.inf)
-            told = []
+        judged(self.text)
+
+    def test_time_limits_in_work_functions(self):
+        with self.hub(workers=8) as hub:
+            gate, told = Gate(), []
+            slow = hub.item(gate)
+            has_left = threading.Event()
 
             @hub.item
-            def inside(run):
-                told.append(item.flush(math.inf))
-                try:
-                    item.flush(5)
-                except cmwq.TimeoutInRun as why:
-                    told.append(str(why))
+            def awaited(run):
+                with run.block():
+                    has_left.wait(20)
+                leaves.flush()  # which would be a deadlock, had it not left its wait
+                told.append("flushed")
 
-            inside.queue()
-            inside.flush()
-            self.assertEqual(told[0], False)
-            self.assertIn("timeout=5", told[1])
+            @hub.item
+            def leaves(run):
+                for limit in (0, 0.001, 0.01):
+                    self.assertRaises(cmwq.TimedOut, awaited.flush, limit)
+                    self.assertRaises(cmwq.TimedOut, slow.cancel_sync, limit)
+                with run.block():
+                    self.assertRaises(cmwq.TimedOut, awaited.flush, 0.001)
+                has_left.set()
+                with run.block():
+                    time.sleep(0.05)
+                gate.go.release()
+                slow.flush(20)
+
+            for item in (slow, awaited, leaves):
+                item.queue()
+            hub.flush()
+            self.assertEqual(told, ["flushed"])
         judged(self.text)
 
     def test_handles_are_shown(self):

@@ -64,6 +64,24 @@ class Hubs(Case):
             hub.flush()
         judged(self.text)
 
+    def test_many_items_are_queued_at_once(self):
+        ran, gate = [], threading.Event()
+        with self.hub(cpus=2, queues={"a": cmwq.max_active(9), "b": cmwq.max_active(9)}) as hub:
+            queue = hub.queue("a")
+            items = [queue.item(lambda run: ran.append(gate.wait(10))) for _ in range(9)]
+            self.assertEqual(queue.queue_all(items[:4]), 4)
+            self.assertEqual(queue.queue_all(iter(items[6:])), 3)
+            gate.set()
+            queue.flush()
+            self.assertEqual((len(ran), queue.queue_all([])), (7, 0))
+            self.assertEqual(hub.queue("b").queue_all(items), 9)
+            hub.flush()
+            self.assertRaises(TypeError, queue.queue_all, [items[0], "b", items[1]])
+            self.assertRaises(TypeError, queue.queue_all, 3)
+            hub.flush()
+            self.assertEqual(len(ran), 17)
+        judged(self.text)
+
     def test_delays_last_as_long_as_they_say(self):
         ends, begun = [], time.monotonic()
         with self.hub() as hub:
@@ -195,13 +213,13 @@ class Hubs(Case):
                 told["queued"] = slow.queue()
                 told["flushed"] = slow.flush()  # the run sleeps meanwhile, so that the other can run
                 told["itself"] = outcome(hub.flush)
-                told["timed"] = outcome(slow.flush, 1)
+                told["timed"] = outcome(slow.flush, 1)  # it is neither queued nor running
                 told["shutdown"] = outcome(hub.shutdown) if told.get("last") else None
 
             outer.queue()
             outer.flush()
             self.assertEqual(told, {"queued": True, "flushed": True, "itself": cmwq.Itself,
-                                    "timed": cmwq.TimeoutInRun, "shutdown": None})
+                                    "timed": False, "shutdown": None})
             # two items that would wait for one another
             gate, items = threading.Barrier(2), []
 

@@ -245,6 +245,27 @@ except KeyboardInterrupt:
             hub.errors.clear()
         judged(self.text)
 
+    def test_exceptions_that_are_thrown_into_a_worker_in_a_row(self):
+        """Each while the one before is reported: the worker goes on."""
+        reported, report = [], cmwq._threads.report
+
+        def report_and_raise(text, about, why):
+            reported.append(why)
+            if len(reported) < 5:
+                raise Interrupt
+
+        self.addCleanup(setattr, cmwq._threads, "report", report)
+        cmwq._threads.report = report_and_raise
+        with self.hub(workers=1) as hub:
+            worker, = (thread.ident for thread in hub._shell.threads if thread.name[5:6].isdigit())
+            item = hub.item(lambda run: None)
+            ctypes.pythonapi.PyThreadState_SetAsyncExc(ctypes.c_ulong(worker), ctypes.py_object(Interrupt))
+            while len(reported) < 5:
+                item.queue()
+                item.flush(timeout=5)
+        self.assertTrue(all(isinstance(why, Interrupt) for why in reported))
+        judged(self.text)
+
     def test_ctrl_c_leaves_a_wait(self):
         """The next call isn't refused because of that wait."""
         with self.hub(waits=1) as hub, Alarm(signal.default_int_handler):

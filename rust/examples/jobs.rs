@@ -61,7 +61,7 @@ fn main() -> Result<()> {
                 let is_root = load == "fanout" && at % each % block == 0;
                 queues[at / each].item_on(0, move |_| {
                     own.fetch_add(1, Relaxed);
-                    lasts.map(work);
+                    lasts.into_iter().for_each(work);
                     if is_root {
                         let others = &known.get().unwrap()[at + 1..at + block];
                         if is_batch {

@@ -22,7 +22,7 @@ pub enum Error {
         /// The version of this crate.
         expected: String,
     },
-    /// The workqueues are shut down.
+    /// The workqueues are shut down, or an executor has dropped a task of theirs.
     Closed,
     /// The room for entries is used up.
     Full,
@@ -43,8 +43,8 @@ pub enum Error {
     /// The time limit has passed. The wait has begun, and the library ends it later: until then a queue that is being
     /// drained takes no work, and an item that is being cancelled can't be queued.
     TimedOut,
-    /// A call in a work function can't have a time limit.
-    TimeoutInRun,
+    /// The run has ended whose [`aio::Run`](crate::aio::Run) this is.
+    RunEnded,
     /// The item's work function has panicked.
     Poisoned,
     /// So many items were queued and did not run, since the workqueues have failed.
@@ -84,7 +84,7 @@ impl fmt::Display for Error {
             Error::Deadlock => f.write_str("the wait could never end"),
             Error::TooManyWaits => f.write_str("too many calls wait"),
             Error::TimedOut => f.write_str("the time limit has passed"),
-            Error::TimeoutInRun => f.write_str("a wait in a work function can't have a time limit"),
+            Error::RunEnded => f.write_str("the run has ended"),
             Error::Poisoned => f.write_str("the item's work function has panicked"),
             Error::NotRun(count) => write!(f, "queued items did not run: {count}"),
             Error::Panicked(count) => write!(f, "work functions have panicked: {count}"),

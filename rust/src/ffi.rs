@@ -173,6 +173,11 @@ pub mod status {
     const _: () = assert!(LOOK_AGAIN == 17);
 }
 
+/// `enum cmwq_news`
+pub mod news {
+    pub const LEFT_ENDED: u32 = 1;
+}
+
 /// A status other than that the call was made.
 pub type Fault = u32;
 
@@ -223,6 +228,7 @@ extern "C" {
     fn cmwq_board_advance(board: *mut Handle, caller: u8, ticks: u32, now: *mut u64, wakes: *mut Wakes) -> u32;
     fn cmwq_board_time(board: *mut Handle) -> u64;
     fn cmwq_board_due(board: *mut Handle) -> u64;
+    fn cmwq_board_news(board: *mut Handle) -> u32;
     fn cmwq_board_item(board: *mut Handle, item: u16, state: *mut ItemState) -> u32;
     fn cmwq_board_stop(board: *mut Handle, wakes: *mut Wakes) -> u32;
     fn cmwq_board_fail(board: *mut Handle, wakes: *mut Wakes) -> u32;
@@ -446,6 +452,12 @@ impl Board {
     pub fn due(&mut self) -> u64 {
         // SAFETY: see `call`
         unsafe { cmwq_board_due(&mut self.0) }
+    }
+
+    /// Whether a ticket that was left has ended since this was asked last.
+    pub fn has_ended_left(&mut self) -> bool {
+        // SAFETY: see `call`
+        unsafe { cmwq_board_news(&mut self.0) & news::LEFT_ENDED != 0 }
     }
 
     pub fn item(&mut self, item: u16) -> ItemState {

@@ -1,22 +1,17 @@
-//! The shell: a lock, a condition variable for each party, threads, a clock and a journal. It locks, makes calls of the
-//! board, unlocks, and wakes those whom the board has named. What is to be done is decided by the board.
+//! The shell with threads: a condition variable for each party, a thread for each worker, and a clock. It locks, makes
+//! calls of the board, unlocks, and wakes those whom the board has named. What is to be done is decided by the board.
 mod clock;
-mod items;
-mod journal;
-
-pub(crate) use journal::kept;
 
 use crate::error::{Error, Result};
-use crate::ffi::{call, reply, PENDING_TIMER};
-use crate::ffi::{Begun, Board, Call, Ended, Fault, Reply, Shape, Start, Wakes, Who};
-use crate::ffi::{CALLER, HIGH_WORKER};
-use items::{told, Slot};
-use journal::{Journal, MOST_FULL};
+use crate::ffi::{call, reply, Begun, Call, Ended, Reply, Shape, Start, Wakes, Who, CALLER};
+use crate::shell::{discard, place_of, told, workers_of};
+use crate::shell::{Guarded, Hold as _, Items, Left, Shell, State, Tick, Ticks, OUTSIDE};
 use std::cell::Cell;
 use std::hint::spin_loop;
+use std::io::{self, Write};
 use std::panic::{catch_unwind, AssertUnwindSafe};
 use std::sync::atomic::{AtomicBool, AtomicU32, Ordering::Acquire, Ordering::Relaxed, Ordering::Release};
-use std::sync::{Arc, Condvar, Mutex, MutexGuard, PoisonError};
+use std::sync::{Arc, Condvar, MutexGuard, PoisonError};
 use std::time::{Duration, Instant};
 
 pub(crate) type Work = Box<dyn FnMut(&mut crate::Run<'_>) + Send>;
@@ -31,35 +26,18 @@ struct Place {
     condvar: Condvar,
 }
 
-/// What the lock guards.
-pub(crate) struct State {
-    board: Board,
-    slots: Box<[Slot]>,
-    /// The numbers that no item has.
-    free: Vec<u16>,
-    /// The tick at which the clock looks next.
-    due: u64,
-    /// Whether an item was ever delayed.
-    has_timers: bool,
-    closing: bool,
-    ended: bool,
-    /// How many calls wait.
-    waits: usize,
-    panics: usize,
-    journal: Journal,
-}
+/// What the lock guards beside what all shells have: how many calls wait.
+pub(crate) type Waits = usize;
 
 /// The shell of a board.
 pub(crate) struct Hub {
-    state: Mutex<State>,
+    guarded: Guarded<Work, Waits>,
     /// Of the workers, and then of the callers.
     places: Box<[Place]>,
     clock: Condvar,
-    journal: Condvar,
-    space: Condvar,
-    pub(crate) shape: Shape,
+    shape: Shape,
     begun: Instant,
-    tick: Duration,
+    tick: Tick,
     spins: u32,
 }
 
@@ -89,7 +67,7 @@ impl Woken<'_> {
     #[inline]
     fn add(&mut self, wakes: &Wakes) {
         for worker in wakes.workers() {
-            self.add_place(self.hub.place_of(worker));
+            self.add_place(place_of(&self.hub.shape, worker));
         }
         for caller in wakes.callers() {
             self.add_place(self.hub.place_of_caller(*caller));
@@ -126,37 +104,54 @@ impl Drop for Woken<'_> {
             hub.clock.notify_one();
         }
         if self.journal {
-            hub.journal.notify_one();
+            hub.guarded.journal.notify_one();
         }
     }
 }
 
 /// A hold of the lock. When it is dropped, first the lock is let go, and then those are woken who were named.
 pub(crate) struct Hold<'a> {
-    state: MutexGuard<'a, State>,
+    state: MutexGuard<'a, State<Work, Waits>>,
     woken: Woken<'a>,
 }
 
-impl<'a> Hold<'a> {
-    /// Makes a call of the board, and adds those whom it names. There is space for its entries, and for the ends of
-    /// all waits that were left.
+impl crate::shell::Hold for Hold<'_> {
+    type Work = Work;
+    type Own = Waits;
+
     #[inline]
-    fn make<T>(&mut self, call: impl FnOnce(&mut Board, &mut Wakes) -> std::result::Result<T, Fault>) -> Result<T> {
-        let mut wakes = Wakes::NOBODY;
-        if self.state.board.len() >= self.state.journal.next {
-            self.state.hand_out();
-            self.woken.journal |= self.state.journal.writes;
+    fn state(&mut self) -> &mut State<Work, Waits> {
+        &mut self.state
+    }
+
+    #[inline]
+    fn wake(&mut self, wakes: &Wakes) {
+        self.woken.add(wakes);
+    }
+
+    fn wake_clock(&mut self) {
+        self.woken.clock = true;
+    }
+
+    fn wake_journal(&mut self) {
+        self.woken.journal = true;
+    }
+
+    #[inline]
+    fn who(&mut self) -> Who {
+        self.woken.hub.who(false)
+    }
+}
+
+impl<'a> Hold<'a> {
+    /// The wait by this caller is left. A run that was awake before is awake again.
+    fn leaves(&mut self, party: u8, who: Who) -> Result<()> {
+        self.make(|board, wakes| board.leave(party, wakes))?;
+        if who.kind != CALLER && RUN.get().is_some_and(|(_, _, sleeps)| !sleeps) {
+            let wake = Call { kind: call::WAKE, who, ..Call::default() };
+            self.make(|board, wakes| board.call(&wake, wakes))?;
         }
-        let made = call(&mut self.state.board, &mut wakes);
-        self.woken.add(&wakes);
-        if wakes.clock() {
-            self.look();
-        }
-        if !self.state.journal.armed {
-            self.state.journal.armed = true;
-            self.woken.journal = true;
-        }
-        made.map_err(Error::of)
+        Ok(())
     }
 
     /// Sleeps as this party, which the board has just told to sleep, until it is named or the deadline has passed.
@@ -176,7 +171,7 @@ impl<'a> Hold<'a> {
                 }
                 spin_loop();
             }
-            state = hub.lock();
+            state = hub.guarded.lock();
         }
         let helped = place.named.load(Relaxed);
         place.in_vain.store(if helped { 0 } else { in_vain.wrapping_add(1) }, Relaxed);
@@ -197,45 +192,31 @@ impl<'a> Hold<'a> {
     }
 }
 
-/// How many panics of drops are dropped in turn. What panics whenever it is dropped is never dropped then.
-const MOST_DROPS: usize = 16;
+impl Shell for Hub {
+    type Work = Work;
+    type Hold<'a> = Hold<'a>;
 
-/// Drops what users made, which may panic with what may panic itself when it is dropped. The lock is not held. Returns
-/// whether it has panicked.
-pub(crate) fn discard<T>(value: T) -> bool {
-    let mut left = catch_unwind(AssertUnwindSafe(|| drop(value))).err();
-    let panicked = left.is_some();
-    for _ in 0..MOST_DROPS {
-        let Some(payload) = left else {
-            return panicked;
-        };
-        left = catch_unwind(AssertUnwindSafe(|| drop(payload))).err();
+    #[inline]
+    fn hold(&self) -> Hold<'_> {
+        self.hold_of(self.guarded.enter())
     }
-    std::mem::forget(left);
-    panicked
+
+    fn cpus(&self) -> u8 {
+        self.shape.cpus
+    }
+
+    fn ticks(&self, delay: Duration) -> Option<Ticks> {
+        self.tick.delay(self.begun.elapsed(), delay)
+    }
 }
 
 impl Hub {
-    pub(crate) fn new(board: Board, shape: Shape, most: u32, writes: bool, tick: Duration, spins: u32) -> Hub {
-        let parties = 2 * usize::from(shape.cpus) * usize::from(shape.workers) + usize::from(shape.callers);
-        let state = State {
-            board,
-            slots: (0..shape.items).map(|_| Slot::default()).collect(),
-            free: (0..shape.items).rev().collect(),
-            due: u64::MAX,
-            has_timers: false,
-            closing: false,
-            ended: false,
-            waits: 0,
-            panics: 0,
-            journal: Journal::new(writes, most),
-        };
+    pub(crate) fn new(state: State<Work, Waits>, shape: Shape, tick: Tick, spins: u32) -> Hub {
+        let parties = workers_of(&shape) + usize::from(shape.callers);
         Hub {
-            state: Mutex::new(state),
+            guarded: Guarded::new(state),
             places: (0..parties).map(|_| Place::default()).collect(),
             clock: Condvar::new(),
-            journal: Condvar::new(),
-            space: Condvar::new(),
             shape,
             begun: Instant::now(),
             tick,
@@ -243,35 +224,14 @@ impl Hub {
         }
     }
 
-    #[inline]
-    fn place_of(&self, worker: &Who) -> usize {
-        let pool = 2 * usize::from(worker.cpu) + usize::from(worker.kind == HIGH_WORKER);
-        pool * usize::from(self.shape.workers) + usize::from(worker.index)
-    }
-
     fn place_of_caller(&self, caller: u8) -> usize {
-        2 * usize::from(self.shape.cpus) * usize::from(self.shape.workers) + usize::from(caller)
+        workers_of(&self.shape) + usize::from(caller)
     }
 
     #[inline]
-    fn lock(&self) -> MutexGuard<'_, State> {
-        self.state.lock().unwrap_or_else(PoisonError::into_inner)
-    }
-
-    #[inline]
-    fn hold_of<'a>(&'a self, state: MutexGuard<'a, State>) -> Hold<'a> {
+    fn hold_of<'a>(&'a self, state: MutexGuard<'a, State<Work, Waits>>) -> Hold<'a> {
         let woken = Woken { hub: self, places: [0; 16], count: 0, all: false, clock: false, journal: false };
         Hold { state, woken }
-    }
-
-    /// Takes the lock, once the journal has kept up.
-    #[inline]
-    pub(crate) fn hold(&self) -> Hold<'_> {
-        let mut state = self.lock();
-        while state.journal.full.len() >= MOST_FULL {
-            state = self.space.wait(state).unwrap_or_else(PoisonError::into_inner);
-        }
-        self.hold_of(state)
     }
 
     /// Whose calls this thread makes: those of the run that it is in, and else those of the user's own caller. A run
@@ -280,7 +240,7 @@ impl Hub {
     pub(crate) fn who(&self, waits: bool) -> Who {
         match RUN.get() {
             Some((hub, worker, sleeps)) if std::ptr::eq(hub, self) && (waits || !sleeps) => worker,
-            _ => Who { kind: CALLER, index: 0, cpu: 0 },
+            _ => OUTSIDE,
         }
     }
 
@@ -297,11 +257,7 @@ impl Hub {
     /// A call that waits. Returns the reply with which it began.
     pub(crate) fn wait(&self, kind: u8, item: u16, queue: u8, timeout: Option<Duration>) -> Result<Reply> {
         let call = Call { kind, item, queue, who: self.who(true), ..Call::default() };
-        if call.who.kind != CALLER {
-            if timeout.is_some() {
-                return Err(Error::TimeoutInRun);
-            }
-        } else if self.is_own_thread() {
+        if call.who.kind == CALLER && self.is_own_thread() {
             return Err(Error::Itself); // what a work function has captured waits when a worker drops it
         }
         let deadline = timeout.and_then(|timeout| Instant::now().checked_add(timeout));
@@ -310,11 +266,11 @@ impl Hub {
             Begun::Ended(reply) => return told(reply),
             Begun::Waits(party, reply) => (party, reply),
         };
-        hold.state.waits += 1;
+        hold.state.own += 1;
         let ended = loop {
             match hold.make(|board, wakes| board.end(party, wakes)) {
                 Ok(Ended::Waits | Ended::LookAgain) if deadline.is_some_and(|it| it <= Instant::now()) => {
-                    break hold.make(|board, wakes| board.leave(party, wakes)).and(Err(Error::TimedOut));
+                    break hold.leaves(party, call.who).and(Err(Error::TimedOut));
                 }
                 Ok(Ended::Waits) => hold = hold.sleep(self.place_of_caller(party), deadline),
                 Ok(Ended::LookAgain) => {
@@ -326,9 +282,9 @@ impl Hub {
                 Err(fault) => break Err(fault),
             }
         };
-        hold.state.waits -= 1;
-        if hold.state.closing && hold.state.waits == 0 {
-            self.space.notify_all();
+        hold.state.own -= 1;
+        if hold.state.closing && hold.state.own == 0 {
+            self.guarded.space.notify_all();
         }
         ended
     }
@@ -345,7 +301,7 @@ impl Hub {
                     let (work, panicked) = self.run(worker, item, queue, work);
                     hold = self.finish(worker, item, work, panicked);
                 }
-                Ok(Start::Rests) => hold = hold.sleep(self.place_of(&worker), None),
+                Ok(Start::Rests) => hold = hold.sleep(place_of(&self.shape, &worker), None),
                 Ok(Start::Over) | Err(_) => return,
             }
         }
@@ -370,14 +326,7 @@ impl Hub {
 
     fn finish(&self, worker: Who, item: u16, work: Option<Work>, panicked: bool) -> Hold<'_> {
         let mut hold = self.hold();
-        let slot = &mut hold.state.slots[usize::from(item)];
-        slot.work = work;
-        slot.poisoned |= panicked;
-        let orphan = slot.orphan;
-        hold.state.panics += usize::from(panicked);
-        let finished = hold.make(|board, wakes| board.finish(&worker, wakes));
-        debug_assert!(finished.is_ok());
-        let dropped = if orphan { hold.state.release(item) } else { None };
+        let dropped = hold.finish(&worker, item, work, panicked);
         if dropped.is_some() {
             drop(hold);
             discard(dropped);
@@ -408,56 +357,24 @@ impl Hub {
 
     // ---- the end ----
 
-    /// Takes no more work, lets frozen queues go on, and takes back what is delayed.
-    pub(crate) fn stop(&self) {
-        let mut hold = self.hold();
-        hold.state.closing = true;
-        hold.woken.clock = true;
-        for item in 0..self.shape.items {
-            if hold.state.board.item(item).pending == PENDING_TIMER {
-                let cancel = Call { kind: call::CANCEL, item, ..Call::default() };
-                let _ = hold.make(|board, wakes| board.call(&cancel, wakes));
-                drop(hold);
-                hold = self.hold();
-            }
-        }
-        let thaw = Call { kind: call::THAW, ..Call::default() };
-        let _ = hold.make(|board, wakes| board.call(&thaw, wakes));
-        let _ = hold.make(Board::stop);
-    }
-
     /// Nobody makes an entry any more, once all workers have ended.
-    pub(crate) fn end(&self) -> Left {
+    pub(crate) fn end(&self) -> Left<Work> {
         let mut state = self.hold().state;
-        while state.waits > 0 {
-            state = self.space.wait(state).unwrap_or_else(PoisonError::into_inner);
+        while state.own > 0 {
+            state = self.guarded.space.wait(state).unwrap_or_else(PoisonError::into_inner);
         }
-        let mut hold = self.hold_of(state);
-        let _ = hold.make(Board::fail);
-        hold.state.hand_out();
-        hold.state.journal.over = true;
-        hold.woken.journal = true;
-        hold.state.ended = true;
-        let state = &mut *hold.state;
-        Left {
-            works: state.slots.iter_mut().filter_map(|slot| slot.work.take()).collect(),
-            not_run: (0..self.shape.items).filter(|item| state.board.item(*item).pending != 0).count(),
-            panics: state.panics,
-        }
+        self.hold_of(state).end()
     }
-}
 
-/// What there is at the end.
-pub(crate) struct Left {
-    pub(crate) works: Vec<Work>,
-    /// How many items are still pending.
-    pub(crate) not_run: usize,
-    /// How many work functions have panicked.
-    pub(crate) panics: usize,
+    /// What the journal's thread does.
+    pub(crate) fn keep_journal(&self, head: &[u8], writer: Box<dyn Write + Send>) -> io::Result<()> {
+        self.guarded.keep_journal(head, writer)
+    }
 }
 
 #[cfg(test)]
 mod tests {
+    use crate::shell::{Hold, Shell};
     use crate::{max_active, Error, Workqueues};
 
     #[test]
@@ -468,7 +385,7 @@ mod tests {
         all.freeze()?;
         items[0].queue()?;
         items[2].queue_delayed(std::time::Duration::from_secs(3600))?;
-        all.hub.hold().make(super::Board::fail)?;
+        all.hub.hold().make(crate::ffi::Board::fail)?;
         assert!(matches!(all.shutdown(), Err(Error::NotRun(2))));
         assert!(items[0].is_pending() && !items[1].is_pending());
         Ok(())

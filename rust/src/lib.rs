@@ -22,6 +22,8 @@
 //! # }
 //! ```
 //!
+//! [`aio`] has the same workqueues over futures, for programs that have an executor.
+//!
 //! # Who makes a call
 //!
 //! Calls in a work function are calls of its run, by whatever handle. A run that waits sleeps meanwhile, so that other
@@ -38,23 +40,27 @@
 #[cfg(not(all(target_os = "linux", target_arch = "x86_64", target_env = "gnu")))]
 compile_error!("cmwq runs on x86_64-unknown-linux-gnu only: its proved library is built for that target");
 
+pub mod aio;
 pub mod book;
 mod error;
 #[allow(unsafe_code, missing_docs)]
 mod ffi;
 mod hub;
+mod shell;
 #[cfg(test)]
 mod sim;
 
 pub use error::{Error, Result};
-use ffi::{call, reply, status, Board, Call, QueueShape, Shape, Who, CALLER, HIGH_WORKER, WORKER};
-use hub::{discard, Hub, Work};
+use ffi::{call, reply, status, QueueShape, Who, CALLER, WORKER};
+use hub::Hub;
+use shell::{builder_calls, calls_of_all, item_calls, queue_calls, shown};
+use shell::{number_of_queue, spawn, Hold, Items, Own, QueueOf, Setup, Shell, Tick};
 use std::fmt;
 use std::io::{self, Write};
 use std::marker::PhantomData;
 use std::mem::ManuallyDrop;
 use std::sync::Arc;
-use std::thread::{self, JoinHandle};
+use std::thread::JoinHandle;
 use std::time::Duration;
 
 /// The version of this crate, which is that of its library.
@@ -146,70 +152,29 @@ impl QueueOptions {
 /// Makes [`Workqueues`].
 #[must_use]
 pub struct Builder {
-    shape: Shape,
-    waits: u8,
-    names: Vec<String>,
-    queues: Vec<QueueShape>,
-    tick: Duration,
-    history: Option<Box<dyn Write + Send>>,
+    setup: Setup,
     spins: u32,
 }
 
 impl Builder {
-    /// How many CPUs there are, 1 to 64. Each has its own pool of workers. They are numbers, not processors. By
-    /// default 1.
-    pub fn cpus(mut self, cpus: u8) -> Self {
-        self.shape.cpus = cpus;
-        self
-    }
+    builder_calls!();
 
     /// How many threads each pool has, 1 to 64. By default 4.
     pub fn workers(mut self, workers: u8) -> Self {
-        self.shape.workers = workers;
-        self
-    }
-
-    /// How many items there may be at once, 1 to 65,535. By default 256.
-    pub fn items(mut self, items: u16) -> Self {
-        self.shape.items = items;
+        self.setup.shape.workers = workers;
         self
     }
 
     /// How many calls may wait at once, 1 to 254. By default 63.
     pub fn waits(mut self, waits: u8) -> Self {
-        self.waits = waits;
-        self
-    }
-
-    /// Adds a queue. There are 1 to 255.
-    pub fn queue(mut self, name: &str, options: QueueOptions) -> Self {
-        self.names.push(name.to_owned());
-        self.queues.push(options.0);
-        self
-    }
-
-    /// The unit of delays. By default a millisecond.
-    pub fn tick(mut self, tick: Duration) -> Self {
-        self.tick = tick;
+        self.setup.waits = waits;
         self
     }
 
     /// Writes the history as text, which [`check`] reads. A thread writes each entry within a tenth of a second. If it
     /// falls behind, calls wait for it, so the writer must not call these workqueues. By default no history is written.
     pub fn history(mut self, writer: impl Write + Send + 'static) -> Self {
-        self.history = Some(Box::new(writer));
-        self
-    }
-
-    /// How many entries there may be, up to 2^62. By default 2^62.
-    pub fn room(mut self, room: u64) -> Self {
-        self.shape.room = room;
-        self
-    }
-
-    /// How many entries are kept before they are written or dropped. By default 1024.
-    pub fn keep(mut self, keep: u32) -> Self {
-        self.shape.keep = keep;
+        self.setup.history = Some(Box::new(writer));
         self
     }
 
@@ -225,28 +190,13 @@ impl Builder {
     /// # Errors
     /// [`Error::Invalid`], [`Error::NoMemory`], [`Error::Thread`], [`Error::Version`].
     pub fn build(mut self) -> Result<Workqueues> {
-        check_version()?;
-        if self.waits == 0 || self.waits == 255 {
-            return Err(Error::Invalid("waits"));
-        }
-        if self.tick.is_zero() {
-            return Err(Error::Invalid("the tick"));
-        }
-        if (1..self.names.len()).any(|at| self.names[..at].contains(&self.names[at])) {
-            return Err(Error::Invalid("two queues of one name"));
-        }
-        self.shape.callers = 1 + self.waits;
-        let most = self.shape.keep.max(1);
-        self.shape.keep = hub::kept(most, self.shape.items);
-        let invalid = |fault| match fault {
-            status::REFUSED => Error::Invalid("a count of the builder"),
-            fault => Error::of(fault),
-        };
-        let head = ffi::head(&self.shape, &self.queues).map_err(invalid)?;
-        let board = Board::open(&self.shape, &self.queues, self.waits).map_err(invalid)?;
-        let hub = Arc::new(Hub::new(board, self.shape, most, self.history.is_some(), self.tick, self.spins));
-        let mut made = Workqueues { hub, names: self.names, workers: Vec::new(), clock: None, journal: None };
-        if let Some(writer) = self.history {
+        let (state, head) = self.setup.open(|_| 0)?;
+        let Setup { shape, tick, .. } = self.setup;
+        let hub = Arc::new(Hub::new(state, shape, tick, self.spins));
+        let workers: Vec<Who> = self.setup.workers().collect();
+        let Setup { names, history, .. } = self.setup;
+        let mut made = Workqueues { hub, names, workers: Vec::new(), clock: None, journal: None };
+        if let Some(writer) = history {
             let hub = made.hub.clone();
             let journal = move || {
                 hub.enter();
@@ -256,19 +206,14 @@ impl Builder {
         }
         let hub = made.hub.clone();
         made.clock = Some(spawn("cmwq clock", move || hub.keep_time())?);
-        let is_high = self.queues.iter().any(|queue| queue.high != 0);
-        for cpu in 0..self.shape.cpus {
-            for kind in [WORKER, HIGH_WORKER].into_iter().take(1 + usize::from(is_high)) {
-                for index in 0..self.shape.workers {
-                    let (hub, who) = (made.hub.clone(), Who { kind, index, cpu });
-                    let name = format!("cmwq {cpu}{}{index}", if kind == WORKER { 'n' } else { 'h' });
-                    let work = move || {
-                        hub.enter();
-                        hub.work(who);
-                    };
-                    made.workers.push(spawn(&name, work)?);
-                }
-            }
+        for who in workers {
+            let Who { kind, index, cpu } = who;
+            let hub = made.hub.clone();
+            let work = move || {
+                hub.enter();
+                hub.work(who);
+            };
+            made.workers.push(spawn(&format!("cmwq {cpu}{}{index}", if kind == WORKER { 'n' } else { 'h' }), work)?);
         }
         Ok(made)
     }
@@ -276,24 +221,10 @@ impl Builder {
 
 impl fmt::Debug for Builder {
     fn fmt(&self, f: &mut fmt::Formatter<'_>) -> fmt::Result {
-        let queues: Vec<_> = self.names.iter().zip(&self.queues).collect();
-        f.debug_struct("Builder")
-            .field("cpus", &self.shape.cpus)
-            .field("workers", &self.shape.workers)
-            .field("items", &self.shape.items)
-            .field("waits", &self.waits)
-            .field("queues", &queues)
-            .field("tick", &self.tick)
-            .field("history", &self.history.is_some())
-            .field("room", &self.shape.room)
-            .field("keep", &self.shape.keep)
-            .field("spins", &self.spins)
-            .finish()
+        let mut shown = f.debug_struct("Builder");
+        self.setup.show(&mut shown);
+        shown.field("spins", &self.spins).finish()
     }
-}
-
-fn spawn<T: Send + 'static>(name: &str, body: impl FnOnce() -> T + Send + 'static) -> Result<JoinHandle<T>> {
-    thread::Builder::new().name(name.to_owned()).spawn(body).map_err(Error::Thread)
 }
 
 /// Queues with their threads. When they are dropped, they are shut down, as by [`shutdown`](Workqueues::shutdown).
@@ -308,38 +239,10 @@ pub struct Workqueues {
 impl Workqueues {
     /// A builder with the defaults, and no queue.
     pub fn builder() -> Builder {
-        Builder {
-            shape: Shape { room: 1 << 62, keep: 1024, items: 256, cpus: 1, workers: 4, callers: 0 },
-            waits: 63,
-            names: Vec::new(),
-            queues: Vec::new(),
-            tick: Duration::from_millis(1),
-            history: None,
-            spins: 1000,
-        }
+        Builder { setup: Setup::new(4, 63), spins: 1000 }
     }
 
-    /// Returns the queue of this name.
-    ///
-    /// # Errors
-    /// [`Error::NoQueue`].
-    pub fn queue(&self, name: &str) -> Result<Queue> {
-        match self.names.iter().position(|own| own == name) {
-            Some(number) => Ok(Queue { hub: self.hub.clone(), number: number as u8 }),
-            None => Err(Error::NoQueue(name.to_owned())),
-        }
-    }
-
-    /// Stops the freezable queues: runs go on, and nothing else of them starts. Returns `false` if they are stopped
-    /// already. (`freeze_workqueues_begin()`)
-    pub fn freeze(&self) -> Result<bool> {
-        self.hub.call(call::FREEZE, 0, 0).map(|reply| reply.kind == reply::FROZEN)
-    }
-
-    /// Lets the freezable queues go on. Returns `false` if they are not stopped. (`thaw_workqueues()`)
-    pub fn thaw(&self) -> Result<bool> {
-        self.hub.call(call::THAW, 0, 0).map(|reply| reply.kind == reply::THAWED)
-    }
+    calls_of_all!();
 
     /// Takes no more work, thaws, cancels what is delayed, lets what is queued run, joins all threads, and drops all
     /// work functions. What a run queues is run too. What it delays is refused.
@@ -362,15 +265,10 @@ impl Workqueues {
         if let Some(clock) = self.clock.take() {
             let _ = clock.join();
         }
-        let left = self.hub.end();
-        left.works.into_iter().for_each(|work| _ = discard(work));
-        if let Some(Ok(Err(why))) = self.journal.take().map(JoinHandle::join) {
-            return Err(Error::History(why));
-        }
-        match (left.not_run, left.panics) {
-            (0, 0) => Ok(()),
-            (0, panics) => Err(Error::Panicked(panics)),
-            (not_run, _) => Err(Error::NotRun(not_run)),
+        let told = self.hub.end().discard();
+        match self.journal.take().map(JoinHandle::join) {
+            Some(Ok(Err(why))) => Err(Error::History(why)),
+            _ => told,
         }
     }
 }
@@ -397,18 +295,9 @@ impl Drop for Workqueues {
     }
 }
 
-impl fmt::Debug for Workqueues {
-    fn fmt(&self, f: &mut fmt::Formatter<'_>) -> fmt::Result {
-        f.debug_struct("Workqueues").field("queues", &self.names).finish_non_exhaustive()
-    }
-}
-
 /// A handle of a queue.
 #[derive(Clone)]
-pub struct Queue {
-    hub: Arc<Hub>,
-    number: u8,
-}
+pub struct Queue(QueueOf<Hub>);
 
 impl Queue {
     /// Makes an item of this queue, on a CPU that is chosen once. At most one run of its work function is going on at
@@ -418,7 +307,7 @@ impl Queue {
     /// [`Error::NoItem`], and [`Error::Closed`] from the beginning of the shutdown on. Work functions make items until
     /// they have ended.
     pub fn item(&self, work: impl FnMut(&mut Run<'_>) + Send + 'static) -> Result<Item> {
-        self.add(None, Box::new(work))
+        self.0.add(None, Box::new(work)).map(Item)
     }
 
     /// Makes an item of this queue on this CPU.
@@ -426,42 +315,13 @@ impl Queue {
     /// # Errors
     /// As [`item`](Queue::item), and [`Error::Invalid`].
     pub fn item_on(&self, cpu: u8, work: impl FnMut(&mut Run<'_>) + Send + 'static) -> Result<Item> {
-        if cpu >= self.hub.shape.cpus {
-            return Err(Error::Invalid("the CPU"));
-        }
-        self.add(Some(cpu), Box::new(work))
+        self.0.add(Some(cpu), Box::new(work)).map(Item)
     }
 
-    fn add(&self, cpu: Option<u8>, work: Work) -> Result<Item> {
-        let in_run = self.hub.who(false).kind != CALLER;
-        // a work function that is not taken is dropped without the lock
-        let added = self.hub.hold().add(self.number, work, in_run);
-        let number = added.map_err(|(why, _work)| why)?;
-        let cpu = cpu.unwrap_or((number % u16::from(self.hub.shape.cpus)) as u8);
-        Ok(Item(Arc::new(Own { hub: self.hub.clone(), number, queue: self.number, cpu })))
-    }
-
-    /// Queues many items, with one hold of the lock for each 64. Returns how many were not pending.
-    ///
-    /// # Errors
-    /// As [`Item::queue`]. The items before the one that fails are queued.
-    ///
-    /// # Panics
-    /// If an item is of other workqueues.
-    pub fn queue_all<'a>(&self, items: impl IntoIterator<Item = &'a Item>) -> Result<usize> {
-        let (mut items, mut queued) = (items.into_iter().peekable(), 0);
-        while items.peek().is_some() {
-            let batch: Vec<Call> = items.by_ref().take(64).map(|item| item.call(self, item.0.cpu)).collect();
-            let mut hold = self.hub.hold();
-            for call in &batch {
-                queued += usize::from(hold.queue(call)?.kind == reply::YES);
-            }
-        }
-        Ok(queued)
-    }
+    queue_calls!();
 
     fn wait(&self, kind: u8, timeout: Option<Duration>) -> Result<()> {
-        self.hub.wait(kind, 0, self.number, timeout).map(drop)
+        self.0.hub.wait(kind, 0, self.0.number, timeout).map(drop)
     }
 
     /// Waits until everything that was queued on the queue has ended. (`flush_workqueue()`)
@@ -476,7 +336,7 @@ impl Queue {
     /// As [`flush`](Queue::flush), for at most this time.
     ///
     /// # Errors
-    /// Also [`Error::TimedOut`]. In a work function [`Error::TimeoutInRun`].
+    /// Also [`Error::TimedOut`].
     pub fn flush_timeout(&self, timeout: Duration) -> Result<()> {
         self.wait(call::FLUSH, Some(timeout))
     }
@@ -492,7 +352,7 @@ impl Queue {
     /// As [`drain`](Queue::drain), for at most this time. After a timeout the queue is drained on.
     ///
     /// # Errors
-    /// Also [`Error::TimedOut`]. In a work function [`Error::TimeoutInRun`].
+    /// Also [`Error::TimedOut`].
     pub fn drain_timeout(&self, timeout: Duration) -> Result<()> {
         self.wait(call::DRAIN, Some(timeout))
     }
@@ -505,104 +365,14 @@ impl Queue {
     pub fn destroy(&self) -> Result<()> {
         self.wait(call::DESTROY, None)
     }
-
-    /// Sets how many items may be active on each CPU, 1 or more. Returns the limit that holds, which is at most 512.
-    /// (`workqueue_set_max_active()`)
-    ///
-    /// # Errors
-    /// [`Error::Invalid`], [`Error::Gone`].
-    pub fn set_max_active(&self, limit: u32) -> Result<u32> {
-        self.hub.call(call::SET_MAX, self.number, limit).map(|reply| reply.number as u32)
-    }
-}
-
-impl fmt::Debug for Queue {
-    fn fmt(&self, f: &mut fmt::Formatter<'_>) -> fmt::Result {
-        f.debug_tuple("Queue").field(&self.number).finish()
-    }
-}
-
-struct Own {
-    hub: Arc<Hub>,
-    number: u16,
-    queue: u8,
-    cpu: u8,
-}
-
-impl Drop for Own {
-    fn drop(&mut self) {
-        // the work function is dropped without the lock: it may have handles
-        let work = self.hub.hold().orphan(self.number);
-        drop(work);
-    }
 }
 
 /// A handle of an item of work: a `work_struct` with its function. An item that is dropped while it is pending runs.
 #[derive(Clone)]
-pub struct Item(Arc<Own>);
+pub struct Item(Arc<Own<Hub>>);
 
 impl Item {
-    fn call(&self, queue: &Queue, cpu: u8) -> Call {
-        let own = &*self.0;
-        assert!(Arc::ptr_eq(&own.hub, &queue.hub), "the item is of other workqueues");
-        let who = own.hub.who(false);
-        Call { kind: call::QUEUE, item: own.number, queue: queue.number, cpu, who, ..Call::default() }
-    }
-
-    /// Queues the item on its queue and CPU. Returns `false` if it was pending. (`queue_work()`)
-    ///
-    /// # Errors
-    /// [`Error::Foreign`], [`Error::Draining`], [`Error::Gone`], [`Error::Poisoned`], [`Error::Full`],
-    /// [`Error::Closed`].
-    #[inline]
-    pub fn queue(&self) -> Result<bool> {
-        let own = &*self.0;
-        let (kind, who) = (call::QUEUE, own.hub.who(false));
-        let call = Call { kind, item: own.number, queue: own.queue, cpu: own.cpu, who, ..Call::default() };
-        own.hub.hold().queue(&call).map(|reply| reply.kind == reply::YES)
-    }
-
-    /// Queues the item on any queue and CPU. Returns `false` if it was pending. (`queue_work_on()`)
-    ///
-    /// # Errors
-    /// As [`queue`](Item::queue), and [`Error::Invalid`].
-    ///
-    /// # Panics
-    /// If the queue is of other workqueues.
-    pub fn queue_on(&self, queue: &Queue, cpu: u8) -> Result<bool> {
-        let call = self.call(queue, cpu);
-        self.0.hub.hold().queue(&call).map(|reply| reply.kind == reply::YES)
-    }
-
-    fn delay(&self, kind: u8, delay: Duration) -> Result<u8> {
-        let own = &*self.0;
-        own.hub.delay(kind, own.number, own.queue, own.cpu, delay).map(|reply| reply.kind)
-    }
-
-    /// Queues the item once this time has passed. Returns `false` if it was pending. (`queue_delayed_work()`)
-    ///
-    /// # Errors
-    /// As [`queue`](Item::queue), and [`Error::Invalid`] of a delay of more than 2^32 - 1 ticks.
-    pub fn queue_delayed(&self, delay: Duration) -> Result<bool> {
-        self.delay(call::DELAY, delay).map(|kind| kind != reply::NO)
-    }
-
-    /// Queues the item once this time has passed, whether or not it is pending. Returns `true` if it was pending.
-    /// (`mod_delayed_work()`)
-    ///
-    /// # Errors
-    /// As [`queue_delayed`](Item::queue_delayed).
-    pub fn modify(&self, delay: Duration) -> Result<bool> {
-        self.delay(call::MODIFY, delay).map(|kind| matches!(kind, reply::AGAIN | reply::REBOOKED))
-    }
-
-    /// Cancels the item if it is pending, which is returned. It may be running. (`cancel_delayed_work()`)
-    ///
-    /// # Errors
-    /// [`Error::Closed`].
-    pub fn cancel(&self) -> Result<bool> {
-        self.0.hub.cancel(self.0.number)
-    }
+    item_calls!();
 
     fn wait(&self, kind: u8, timeout: Option<Duration>) -> Result<bool> {
         let reply = self.0.hub.wait(kind, self.0.number, 0, timeout)?;
@@ -623,7 +393,7 @@ impl Item {
     /// is not running.
     ///
     /// # Errors
-    /// Also [`Error::TimedOut`]. In a work function [`Error::TimeoutInRun`].
+    /// Also [`Error::TimedOut`].
     pub fn cancel_sync_timeout(&self, timeout: Duration) -> Result<bool> {
         self.wait(call::CANCEL_SYNC, Some(timeout))
     }
@@ -640,7 +410,7 @@ impl Item {
     /// As [`flush`](Item::flush), for at most this time.
     ///
     /// # Errors
-    /// Also [`Error::TimedOut`]. In a work function [`Error::TimeoutInRun`].
+    /// Also [`Error::TimedOut`].
     pub fn flush_timeout(&self, timeout: Duration) -> Result<bool> {
         self.wait(call::FLUSH_ITEM, Some(timeout))
     }
@@ -656,27 +426,13 @@ impl Item {
     /// As [`flush_delayed`](Item::flush_delayed), for at most this time.
     ///
     /// # Errors
-    /// Also [`Error::TimedOut`]. In a work function [`Error::TimeoutInRun`].
+    /// Also [`Error::TimedOut`].
     pub fn flush_delayed_timeout(&self, timeout: Duration) -> Result<bool> {
         self.wait(call::FLUSH_DELAYED, Some(timeout))
     }
-
-    /// Whether the item is delayed, or queued and not started. (`work_pending()`)
-    pub fn is_pending(&self) -> bool {
-        self.0.hub.hold().item(self.0.number).pending != 0
-    }
-
-    /// Whether the work function is running.
-    pub fn is_running(&self) -> bool {
-        self.0.hub.hold().item(self.0.number).runs != 0
-    }
 }
 
-impl fmt::Debug for Item {
-    fn fmt(&self, f: &mut fmt::Formatter<'_>) -> fmt::Result {
-        f.debug_tuple("Item").field(&self.0.number).finish()
-    }
-}
+shown!(Item, Queue, Workqueues);
 
 /// A run of a work function.
 pub struct Run<'a> {
@@ -698,9 +454,7 @@ impl<'a> Run<'a> {
     /// # Errors
     /// As [`Item::queue`].
     pub fn requeue(&mut self) -> Result<bool> {
-        let (kind, cpu) = (call::QUEUE, self.worker.cpu);
-        let call = Call { kind, item: self.item, queue: self.queue, cpu, who: self.worker, ..Call::default() };
-        self.hub.hold().queue(&call).map(|reply| reply.kind == reply::YES)
+        self.hub.hold().put(self.item, self.queue, self.worker.cpu)
     }
 
     /// Queues the item that is running once this time has passed. Returns `false` if it is pending.
@@ -708,8 +462,9 @@ impl<'a> Run<'a> {
     /// # Errors
     /// As [`Item::queue_delayed`].
     pub fn requeue_after(&mut self, delay: Duration) -> Result<bool> {
-        let made = self.hub.delay(call::DELAY, self.item, self.queue, self.worker.cpu, delay);
-        made.map(|reply| reply.kind != reply::NO)
+        let ticks = self.hub.ticks(delay);
+        let made = self.hub.hold().delay(call::DELAY, self.item, self.queue, self.worker.cpu, ticks);
+        made.map(|kind| kind != reply::NO)
     }
 
     /// Does what blocks, such as reading a file. The run sleeps meanwhile, so another item of its pool can run. (In

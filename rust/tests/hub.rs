@@ -1,11 +1,11 @@
 mod common;
 
-use cmwq::{check, max_active, Error, Result, Verdict, Workqueues};
-use common::{watchdog, Text};
+use cmwq::{check, max_active, Error, Item, Result, Verdict, Workqueues};
+use common::{watchdog, Bomb, Text};
 use std::io::{self, Write};
 use std::panic::panic_any;
 use std::sync::atomic::{AtomicBool, AtomicUsize, Ordering::SeqCst};
-use std::sync::{mpsc, Arc, Barrier, Mutex};
+use std::sync::{mpsc, Arc, Barrier, Mutex, OnceLock};
 use std::thread;
 use std::time::{Duration, Instant};
 
@@ -352,11 +352,52 @@ fn waits_with_a_time_limit() -> Result<()> {
     while delayed.is_pending() {
         thread::yield_now();
     }
-    let own = queue.clone();
+    all.shutdown()?;
+    text.judge();
+    Ok(())
+}
+
+/// A run leaves its wait when the time has passed, and goes on awake. Then what it waited for may wait for it.
+#[test]
+fn waits_of_runs_with_a_time_limit() -> Result<()> {
+    let _dog = watchdog();
+    let text = Text::default();
+    let all = Workqueues::builder().queue("a", max_active(8)).waits(4).history(text.clone()).build()?;
+    let queue = all.queue("a")?;
+    let ((go, work), soon) = (gate(), Duration::from_millis(1));
+    let slow = queue.item(work)?;
+    let (leaves, left): (Arc<OnceLock<Item>>, _) = (Arc::default(), Arc::new(AtomicBool::new(false)));
+    let (own, its) = (leaves.clone(), left.clone());
     let (send, receive) = mpsc::channel();
-    let inside = queue.item(move |_| send.send(own.flush_timeout(soon)).unwrap())?;
-    inside.queue()?;
-    assert!(matches!(receive.recv().unwrap(), Err(Error::TimeoutInRun)));
+    let awaited = queue.item(move |run| {
+        run.block(|| {
+            while !its.load(SeqCst) {
+                thread::yield_now();
+            }
+        });
+        send.send(own.get().unwrap().flush().is_ok()).unwrap();
+    })?;
+    let (one, two, tells) = (awaited.clone(), slow.clone(), left.clone());
+    let item = queue.item(move |run| {
+        for _ in 0..3 {
+            assert!(matches!(one.flush_timeout(soon), Err(Error::TimedOut)));
+            assert!(matches!(two.cancel_sync_timeout(Duration::ZERO), Err(Error::TimedOut)));
+        }
+        run.block(|| assert!(matches!(two.flush_timeout(soon), Err(Error::TimedOut))));
+        tells.store(true, SeqCst);
+        run.block(|| thread::sleep(Duration::from_millis(20)));
+        go.send(()).unwrap();
+        assert!(two.flush().is_ok());
+    })?;
+    assert!(leaves.set(item.clone()).is_ok());
+    slow.queue()?;
+    awaited.queue()?;
+    while !slow.is_running() || !awaited.is_running() {
+        thread::yield_now();
+    }
+    item.queue()?;
+    assert!(receive.recv().unwrap(), "the old wait is not held against it");
+    queue.flush()?;
     all.shutdown()?;
     text.judge();
     Ok(())
@@ -565,17 +606,6 @@ fn a_run_of_other_workqueues_is_a_caller() -> Result<()> {
     receive.recv().unwrap()?;
     one.shutdown()?;
     other.shutdown()
-}
-
-/// What panics when it is dropped, with one that does so less often.
-struct Bomb(u32);
-
-impl Drop for Bomb {
-    fn drop(&mut self) {
-        if self.0 > 0 {
-            panic_any(Bomb(self.0 - 1));
-        }
-    }
 }
 
 #[test]

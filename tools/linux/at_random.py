@@ -11,10 +11,13 @@ import scenarios
 STEPS = 30
 
 # How many waits may be unended at once. A scenario in four has more than 15 flushes of a queue, of which the others are
-# in overflow: it has more steps, of which most begin a flush.
+# in overflow: it has more steps, of which most begin a flush. In half of these there are drains as well, which in the
+# kernel also use up what is served.
 MOST_WAITS, MANY_WAITS = 10, 24
 
+# How many flushes of a queue are served at once, and which waits count as such: here, and in a kernel.
 SERVED = 15
+SERVED_KINDS = (("flush",), ("flush", "drain", "destroy"))
 
 FLAGS = ("-", "-", "-", "h", "i", "hi", "f", "hf", "if")
 
@@ -24,8 +27,12 @@ OFTEN = {"end": 30, "wake": 8, "queue": 28, "delay": 7, "modify": 7, "cancel": 5
 
 OFTEN_OF_MANY = {**OFTEN, "end": 12, "wait": 70, "tick": 1, "set_max": 1, "freeze": 1}
 
+# The same of the waits.
+WAITS, WAITS_OF_MANY, WAITS_WITH_DRAINS = (4, 2, 1, 4, 3, 4), (40, 0, 0, 2, 1, 1), (40, 4, 0, 2, 1, 1)
+
 # The scenarios of examples/linux after which known ways are called.
-WAYS = ("again_at_once", "cancel_wakes_nobody", "modify_wakes_nobody", "cancel_sync_wakes_nobody", "flush_in_overflow")
+WAYS = ("again_at_once", "again_beside_others", "cancel_wakes_nobody", "modify_wakes_nobody",
+        "cancel_sync_wakes_nobody", "flush_in_overflow", "flush_beside_a_drain")
 
 TAKES_BACK = ("cancel", "modify", "cancel_sync")
 
@@ -39,8 +46,6 @@ def queues(chance):
     lines, freezable = [], set()
     for _ in range(chance.randint(1, 3)):
         flags = chance.choice(FLAGS)
-        if "f" in flags and "h" in flags in freezable:
-            flags = "-"
         if "f" in flags:
             if ("h" in flags) in freezable:
                 flags = flags.replace("f", "") or "-"
@@ -57,7 +62,7 @@ class Maker:
         self.cpus, self.items = chance.randint(1, 3), chance.randint(2, 6)
         head = queues(chance)
         self.queues = len(head)
-        self.many = chance.random() < 0.25
+        self.many, self.drains = chance.random() < 0.25, chance.random() < 0.5
         self.talk = scenarios.Talk(program, [f"shape {self.cpus} 8 1 {self.items} 100000", *head])
         self.is_frozen = False
         # most items stay on one queue, so that they often run where they are queued again
@@ -97,7 +102,8 @@ class Maker:
         if kind == "tick":
             return f"tick {chance.randint(1, 2)}"
         if kind == "wait":
-            word = chance.choices(scenarios.WAITS, (40, 1, 0, 2, 1, 1) if self.many else (4, 2, 1, 4, 3, 4))[0]
+            often = WAITS if not self.many else WAITS_WITH_DRAINS if self.drains else WAITS_OF_MANY
+            word = chance.choices(scenarios.WAITS, often)[0]
             queue = 0 if self.many else queue
             return f"{word} {queue if word in ('flush', 'drain', 'destroy') else item}"
         if kind == "set_max":
@@ -160,7 +166,7 @@ def known_way(played, recorded, is_pending_in_cancel):
         return None
     if ": started " in difference:
         return way_of_starts(ours, theirs)
-    return "flush_in_overflow" if ": done " in difference and is_of_overflow(played, ours, theirs) else None
+    return way_of_flushes(played, ours, theirs) if ": done " in difference else None
 
 
 def way_of_starts(ours, theirs):
@@ -168,7 +174,11 @@ def way_of_starts(ours, theirs):
     word = ours.call.split()[1]
     more = [it for it in theirs.started if it not in ours.started]
     less = [it for it in ours.started if it not in theirs.started]
-    if word == "finish" and any([item] == ours.ended for item, _ in more):
+    again = [it for it in theirs.started if word == "finish" and [it[0]] == ours.ended]
+    if again and not more and not less:
+        # the item that ended has its worker again, which first had a barrier to execute: another one was faster
+        return "again_beside_others" if again[0] != theirs.of_pool(again[0][1])[0] else None
+    if any(it in more for it in again):
         # the item that ended has its worker again, before another that would have started there, or beside it
         pool = next(pool for item, pool in more if [item] == ours.ended)
         if all(it[1] == pool for it in more + less):
@@ -178,20 +188,24 @@ def way_of_starts(ours, theirs):
     return None
 
 
-def is_of_overflow(played, ours, theirs):
-    """Whether a kernel ends more flushes of a queue than the program does, all of which were in overflow: more than are
-    served began before them, and were unended."""
-    ended = [it[0] for it in theirs.done if it not in ours.done]
-    if not ended or not set(ours.done) <= set(theirs.done):
-        return False
+def way_of_flushes(played, ours, theirs):
+    """The same of a step after which other flushes end: all of them were in overflow. The kernel ends more, because all
+    in overflow get one colour, or fewer, because drains and destroys use up colours."""
+    for ended, other, way, kinds in ((ours, theirs, "flush_in_overflow", SERVED_KINDS[0]),
+                                     (theirs, ours, "flush_beside_a_drain", SERVED_KINDS[1])):
+        others = [it[0] for it in other.done if it not in ended.done]
+        if others and set(ended.done) <= set(other.done):
+            return way if all(in_overflow(played, it, kinds) for it in others) else None
+    return None
+
+
+def in_overflow(played, ticket, kinds):
+    """Whether a flush had to wait before it was served, if waits of these kinds for its queue are served as it is: more
+    than are served began before it, and were unended."""
     calls = {str(it.number): it.call.split()[1:] for it in played.steps}
-    return all(calls.get(it, [""])[0] == "flush" and in_overflow(played, it, calls) for it in ended)
-
-
-def in_overflow(played, ticket, calls):
-    """Whether a flush had to wait for older ones of its queue before it was served."""
     done = {}
     for step in played.steps:
         done.update((number, step.number) for number, *_ in step.done)
-    older = [it for it, call in calls.items() if call == calls[ticket] and int(it) < int(ticket)]
-    return sum(done.get(it, int(ticket) + 1) > int(ticket) for it in older) >= SERVED
+    older = [it for it, call in calls.items()
+             if call[0] in kinds and call[1:] == calls[ticket][1:] and int(it) < int(ticket)]
+    return calls[ticket][0] == "flush" and sum(done.get(it, int(ticket) + 1) > int(ticket) for it in older) >= SERVED

@@ -1,5 +1,5 @@
 // SPDX-License-Identifier: GPL-2.0
-/* Process 1: loads the player, which turns the machine off at its end. */
+/* Process 1: loads the module, which turns the machine off at its end. */
 #include <fcntl.h>
 #include <stdio.h>
 #include <sys/syscall.h>
@@ -7,10 +7,10 @@
 
 int main(void)
 {
-	int file = open("/player.ko", O_RDONLY);
+	int file = open("/module.ko", O_RDONLY);
 
 	if (file < 0 || syscall(SYS_finit_module, file, "", 0))
-		perror("player.ko");
+		perror("module.ko");
 	for (;;)
 		pause();
 }

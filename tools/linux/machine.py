@@ -130,13 +130,13 @@ class Cache:
                 return it
         raise Failed(f"the lists of packages have no {' and no '.join(packages)}")
 
-    def module(self, release):
-        """Builds the player for a kernel: the path of the module."""
-        folder = f"{self.at}/made/{release}"
+    def module(self, release, name):
+        """Builds a module for a kernel: its path."""
+        folder = f"{self.at}/made/{release}-{name}"
         os.makedirs(folder, exist_ok=True)
-        shutil.copy(f"{HERE}/player.c", folder)
+        shutil.copy(f"{HERE}/{name}.c", folder)
         with open(f"{folder}/Makefile", "w", encoding="utf-8") as it:
-            it.write("obj-m := player.o\n")
+            it.write(f"obj-m := {name}.o\n")
         headers = f"{self.at}/root/usr/src/linux-headers-{release}"
         # the headers of Debian name their common part by the path that it has when it is installed
         with open(f"{headers}/Makefile", encoding="utf-8") as it:
@@ -145,18 +145,19 @@ class Cache:
             it.write(re.sub(r"^include \S*/usr/src/", f"include {self.at}/root/usr/src/", text, flags=re.MULTILINE))
         words = ["nice", "make", "-s", "-C", headers, f"M={folder}", "CONFIG_DEBUG_INFO_BTF_MODULES=", "modules"]
         ran(words, log=f"{folder}/make.log")
-        return f"{folder}/player.ko"
+        return f"{folder}/{name}.ko"
 
-    def boot(self, release, script):
-        """Boots a kernel that plays a script: the lines of its log, also if it did not come to its end."""
+    def boot(self, release, script, name="player", threads="single"):
+        """Boots a kernel in which a module plays a script: the lines of its log, also if it did not come to its end.
+        Its CPUs take turns, or each has a thread (`multi`), which is faster and less alike from time to time."""
         words, extra = self.emulator()
         init, archive, log = (f"{self.at}/made/{release}.{it}" for it in ("init", "cpio", "log"))
         ran(["cc", "-static", "-O1", "-Wall", "-Wextra", "-o", init, f"{HERE}/init.c"])
         with open(archive, "wb") as it:
-            it.write(b"".join(parts_of_archive({"init": init, "player.ko": self.module(release)}, script)))
+            it.write(b"".join(parts_of_archive({"init": init, "module.ko": self.module(release, name)}, script)))
         kernel = f"{self.at}/root/boot/vmlinuz-{release}"
         machine = ["-nodefaults", "-display", "none", "-no-reboot", "-m", "1024", "-smp", "4", "-accel",
-                   "tcg,thread=single", "-kernel", kernel, "-initrd", archive, "-serial", f"file:{log}", "-append",
+                   f"tcg,thread={threads}", "-kernel", kernel, "-initrd", archive, "-serial", f"file:{log}", "-append",
                    OPTIONS]
         try:
             ran(["nice", "-n", "10", *words, *machine], env={**os.environ, **extra}, timeout=LONGEST)

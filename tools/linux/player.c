@@ -4,7 +4,7 @@
  *
  * /script has a line for each call (README.md lists them). A work function is a small server: it begins awake, that is,
  * it spins and counts as runnable, and the script lets it sleep on a completion, wake, make a call, and end. Calls that
- * wait are made by threads of their own, on the CPU of the player; work runs on the others.
+ * wait are made by threads of their own, on the CPU of the player, or by a run that sleeps; work runs on the others.
  *
  * After each call the player waits until the machine is quiet: every kernel thread is blocked and off its CPU, except
  * the runs that spin, in several looks between which no thread switched. So that nothing started is known without a
@@ -60,6 +60,7 @@ struct run {
 	const char *call;
 	const long *numbers;
 	int returned;
+	struct wait *wait;	/* a call that it is to make or makes, and then sleeps on */
 };
 
 struct wait {
@@ -85,6 +86,7 @@ static struct scenario {
 	int nr_items, nr_runs, nr_waits, nr_events, nr_queues;
 	unsigned long begun, now;	/* in jiffies; in ticks since then */
 	int step;
+	bool is_plain;		/* no item is delayed */
 	bool is_over;
 } *scenario;
 
@@ -104,6 +106,7 @@ static struct {
 /* --- runs --- */
 
 static int call_by_number(const char *call, const long *n);
+static int wait_function(void *data);
 
 static void happened(struct run *run, bool is_end)
 {
@@ -149,6 +152,11 @@ static void work_function(struct work_struct *work)
 			WRITE_ONCE(run->sleeps, true);
 			smp_store_release(&run->order, NONE);
 			wait_for_completion(&run->gate);
+			while (READ_ONCE(run->wait)) {
+				wait_function(run->wait);
+				WRITE_ONCE(run->wait, NULL);
+				wait_for_completion(&run->gate);
+			}
 			WRITE_ONCE(run->sleeps, false);
 		} else {
 			run->returned = call_by_number(run->call, run->numbers);
@@ -384,7 +392,7 @@ static int call_by_number(const char *call, const long *n)
 	if (!strcmp(call, "modify"))
 		return mod_delayed_work_on(n[2], queue, &item->work, delay_of(n[3]));
 	if (!strcmp(call, "cancel"))
-		return cancel_delayed_work(&item->work);
+		return scenario->is_plain ? cancel_work(&item->work.work) : cancel_delayed_work(&item->work);
 	return -EINVAL;
 }
 
@@ -407,12 +415,19 @@ static int wait_function(void *data)
 	else if (!strcmp(wait->call, "flush_delayed"))
 		wait->returned = flush_delayed_work(work);
 	else
-		wait->returned = cancel_delayed_work_sync(work);
+		wait->returned = scenario->is_plain ? cancel_work_sync(&work->work) : cancel_delayed_work_sync(work);
 	smp_store_release(&wait->ended, true);
 	return 0;
 }
 
-static int begin_wait(const char *call, const long *n)
+static bool waits(const char *call)
+{
+	return !strcmp(call, "flush") || !strcmp(call, "drain") || !strcmp(call, "destroy") ||
+	       !strcmp(call, "flush_item") || !strcmp(call, "flush_delayed") || !strcmp(call, "cancel_sync");
+}
+
+/* Begins a wait, of a run that sleeps or of a thread of its own. */
+static int begin_wait(const char *call, const long *n, struct run *run)
 {
 	struct wait *wait = &scenario->waits[scenario->nr_waits];
 
@@ -421,6 +436,12 @@ static int begin_wait(const char *call, const long *n)
 	wait->call = call;
 	wait->of = n[0];
 	wait->number = scenario->step;
+	if (run) {
+		scenario->nr_waits++;
+		WRITE_ONCE(run->wait, wait);
+		complete(&run->gate);
+		return -ENODATA;
+	}
 	wait->thread = kthread_create(wait_function, wait, "wait%d", wait->number);
 	if (IS_ERR(wait->thread))
 		return PTR_ERR(wait->thread);
@@ -429,6 +450,12 @@ static int begin_wait(const char *call, const long *n)
 	kthread_bind(wait->thread, PLAYERS_CPU);
 	wake_up_process(wait->thread);
 	return -ENODATA;
+}
+
+/* Whether a run sleeps, and makes no call that waits. */
+static bool sleeps_only(const struct run *run)
+{
+	return READ_ONCE(run->sleeps) && !READ_ONCE(run->wait);
 }
 
 static int order(struct run *run, enum order order)
@@ -443,7 +470,7 @@ static int order(struct run *run, enum order order)
 
 static int wake(struct run *run)
 {
-	if (!run || !READ_ONCE(run->sleeps))
+	if (!run || !sleeps_only(run))
 		return -ESRCH;
 	complete(&run->gate);
 	return 0;
@@ -464,13 +491,15 @@ static int call_by_run(struct run *run, const char *call, const long *n)
 /* Makes a call: what it returned, -ENODATA if that is nothing, or another error if it could not be made. */
 static int make(const char *call, const long *n, bool is_by_run)
 {
+	struct run *run = is_by_run ? run_of(n[0]) : NULL;
 	int failed = 0;
 
+	if (is_by_run && waits(call))
+		return run && sleeps_only(run) ? begin_wait(call, n + 1, run) : -ESRCH;
 	if (is_by_run)
-		return call_by_run(run_of(n[0]), call, n + 1);
-	if (!strcmp(call, "flush") || !strcmp(call, "drain") || !strcmp(call, "destroy") ||
-	    !strcmp(call, "flush_item") || !strcmp(call, "flush_delayed") || !strcmp(call, "cancel_sync"))
-		return begin_wait(call, n);
+		return call_by_run(run, call, n + 1);
+	if (waits(call))
+		return begin_wait(call, n, NULL);
 	if (!strcmp(call, "fire"))
 		return fire();
 	if (!strcmp(call, "expire"))
@@ -591,7 +620,8 @@ static void end_scenario(void)
 			destroy_workqueue(scenario->queues[i]);
 	settle();
 	for (i = 0; i < scenario->nr_waits; i++)
-		put_task_struct(scenario->waits[i].thread);
+		if (scenario->waits[i].thread)
+			put_task_struct(scenario->waits[i].thread);
 	vfree(scenario);
 	scenario = NULL;
 }
@@ -650,6 +680,8 @@ static void play(char *line)
 			break;
 	if (!strcmp(word, "wq")) {
 		add_queue(numbers[0], number);
+	} else if (!strcmp(word, "plain")) {
+		scenario->is_plain = true;
 	} else if (!strcmp(word, "items")) {
 		scenario->nr_items = numbers[0];
 	} else if (!strcmp(word, "at")) {

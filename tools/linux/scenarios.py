@@ -31,6 +31,9 @@ ASKS = ("take", "end", "retire")
 
 WAITS = ("flush", "drain", "destroy", "flush_item", "flush_delayed", "cancel_sync")
 
+# Without these calls all items are plain works (work_struct), otherwise all are delayed_work.
+OF_TIMERS = ("delay", "modify", "flush_delayed")
+
 # What the kernel's function returns where the program gives such a reply (Kernel.antt); others return nothing.
 RETURNS = {
     "queue": {"yes": 1, "booked": 1, "no": 0},
@@ -61,6 +64,10 @@ class Facts:
     def starts(self):
         """Those of each pool in their order; pools work side by side."""
         return sorted(self.started, key=lambda it: it[1])
+
+    def of_pool(self, pool):
+        """The runs that started in a pool."""
+        return [it for it in self.started if it[1] == pool]
 
     def lists(self):
         """The facts as text, by their kinds."""
@@ -133,6 +140,7 @@ class State:
         self.booked = set()
         self.runs = {}           # (item, queue of its queueing, asleep) by worker
         self.waits = {}          # the call of an unended wait, by its number
+        self.waiter = {}         # who made it
         self.gone = set()
 
     def enter(self, number, who, call, reply):
@@ -151,7 +159,7 @@ class State:
         elif word == "unbooked":
             self.booked.discard(item)
         elif word == "ticket":
-            self.waits[str(number)] = call
+            self.waits[str(number)], self.waiter[str(number)] = call, who
             if reply[2:] == ["queued"]:
                 self.open(number, item, self.queue_of[item])
             elif reply[2:3] == ["cancelled"]:
@@ -231,13 +239,14 @@ class Played:
         for what, number, most in (("CPUs", cpus, 3), ("items", items, 1024), ("queues", self.queues(), 16)):
             if int(number) > most:
                 raise Broken(f"{name} has {number} {what}; a kernel is asked about at most {most}")
-        lines = [f"scenario {name}", *self.head[-self.queues():], f"items {items}"]
+        plain = [] if any(call[0] in OF_TIMERS for _, call, _ in self.entries) else ["plain"]
+        lines = [f"scenario {name}", *plain, *self.head[-self.queues():], f"items {items}"]
         state = State()
         for number, (who, call, reply) in enumerate(self.entries):
             if reply[0] in ("misuse", "gone"):
                 raise Broken(f"entry {number}: a kernel cannot be made to do this ({reply[0]})")
             if call[0] not in ASKS:
-                item = state.runs[who][0] if who in state.runs else ""
+                item = by_run(state, who)
                 words = ["expire"] if expires and call[0] == "fire" else call
                 if item and len(call) == 1:
                     words = [call[0], item]
@@ -252,7 +261,7 @@ class Played:
         state = State()
         for number, (who, call, reply) in enumerate(self.entries):
             if call[0] not in ASKS:
-                by = state.runs[who][0] if who in state.runs else ""
+                by = by_run(state, who)
                 yield f"{call[0]} {by}" if by and len(call) == 1 else f"{f'by {by} ' * bool(by)}{' '.join(call)}"
             state.enter(number, who, call, reply)
 
@@ -265,6 +274,13 @@ class Played:
     def calls(self):
         """The scenario as a file of calls."""
         return "\n".join([*self.head, *(f"{who} {' '.join(call)}" for who, call, _ in self.entries), ""])
+
+
+def by_run(state, who):
+    """The item by whose run a call is made, or nothing: a worker makes it, or the caller that is lent to the item."""
+    if who in state.runs:
+        return state.runs[who][0]
+    return str(int(who[1:]) - 1) if who[0] == "c" and who != "c0" else ""
 
 
 def returned(call, reply):
@@ -317,9 +333,16 @@ class Talk:
                                         text=True)
         self.process.stdin.write("".join(f"{line}\n" for line in head))
 
-    def close(self):
+    def stop(self):
         self.process.communicate()
+
+    def close(self):
+        self.stop()
         return Played(self.head, self.entries)
+
+    def calls(self):
+        """What was said, as a file of calls."""
+        return "\n".join([*self.head, *(f"{who} {' '.join(call)}" for who, call, _ in self.entries), ""])
 
     def say(self, who, *call):
         """Makes a call: its reply."""
@@ -345,7 +368,11 @@ class Talk:
     def step(self, line):
         """Makes the call of a line: `queue 0 0 0`; of a run, `by ITEM queue 0 0 0` or `sleep ITEM`. Then it asks."""
         words = line.split()
-        if words[0] == "by":
+        if words[0] == "by" and words[2] in WAITS:
+            if not self.state.runs[self.worker(words[1])][2]:
+                raise Broken(f"the run of item {words[1]} makes a call that waits, and does not sleep")
+            reply = self.say(f"c{int(words[1]) + 1}", *words[2:])
+        elif words[0] == "by":
             reply = self.say(self.worker(words[1]), *words[2:])
         elif words[0] in ("sleep", "wake", "finish"):
             reply = self.say(self.worker(words[1]), words[0])
@@ -354,7 +381,7 @@ class Talk:
         self.steps += 1
         for pool in self.enlisted:
             self.take_all(pool)
-        while any([self.say("c0", "end", it) == ["done"] for it in [*self.state.waits]]):
+        while any([self.say(self.state.waiter[it], "end", it) == ["done"] for it in [*self.state.waits]]):
             pass
         return reply
 

@@ -2,18 +2,21 @@
 //! threads or plays their schedules in one. It reads a file or standard input, and writes standard output.
 #![tactic(auto)]
 
+mod leave_out;
 mod lines;
 mod noticing;
 mod packed;
 
+use crate::leave_out::{NoItems, left_out};
 use crate::lines::{Failures, Lines};
 use crate::noticing::{Noticing, Reason};
 use crate::packed::packer_of;
 use clap::error::ErrorKind;
-use cmwq_base::{BufferedSink, FromStd, Sink, Source};
+use cmwq_base::{BufferedSink, FromStd, NoMemory, Sink, Source};
 use cmwq_cli::{Asked, Schedules, Word, word_of};
 use cmwq_cmd_explore::{Seeding, Task, run_explore, run_follow, run_path};
 use cmwq_cmd_history::{run_step, run_step_live};
+use cmwq_cmd_resume::run_resume;
 use cmwq_cmd_run::run_run;
 use cmwq_explain::{Kept, explain_calls, explain_history, explain_unkept};
 use cmwq_explain_json::{explain_scenario, explain_script};
@@ -131,6 +134,17 @@ fn run<S: Source, P: Source, O: Sink, E: Sink, T: Threads + Wait + Clock + Sync>
         Word::Upgrade => run_upgrade(alloc, input, output, errors),
         Word::Summary => run_summary(alloc, input, output, errors),
         Word::Open { front } => run_open(alloc, input, output, errors, front),
+        Word::Resume { front } => match left_out(alloc, asked.leave_out) {
+            Ok(left_out) => run_resume(alloc, input, output, errors, front, &left_out),
+            Err(NoItems::NoList) => {
+                tell(errors, "leave-out: not the numbers of items");
+                WRONG_USE
+            }
+            Err(NoItems::NoMemory) => {
+                tell(errors, NoMemory);
+                OUT_OF_MEMORY
+            }
+        },
         Word::Chart { from, to, all } => {
             run_chart(alloc, input, output, errors, window(from, to), all)
         }
@@ -169,6 +183,7 @@ fn explain_words<E: Sink>(alloc: Global, word: Word, status: u8, bytes: &[u8], e
         Word::Upgrade => explain_history(alloc, "upgrade", status, bytes, false, errors),
         Word::Summary => explain_history(alloc, "summary", status, bytes, false, errors),
         Word::Open { front } => explain_history(alloc, "open", status, bytes, front, errors),
+        Word::Resume { front } => explain_history(alloc, "resume", status, bytes, front, errors),
         Word::Chart { .. } => explain_history(alloc, "chart", status, bytes, false, errors),
         Word::Trace => explain_history(alloc, "trace", status, bytes, false, errors),
         Word::Page { .. } => explain_history(alloc, "page", status, bytes, false, errors),

@@ -141,6 +141,7 @@ fn measure<N: HubName + Send + Sync + 'static, R: Threads + Wait + Sync>(
 ) -> Result<u64, RunFault>
     requires layout { parts.shape ≡ N.layout }
     requires book { parts.opening.book ≡ N.book }
+    requires lends { parts.dispatch.first_lent ≡ N.first_lent }
     requires ledger { (parts.blank.name ≡ N.name) × (parts.blank.parts ≡ N.parts) }
     requires item { 0 < parts.shape.items }
 {

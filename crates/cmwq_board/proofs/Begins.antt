@@ -33,6 +33,7 @@ use Rattle.cmwq_board.specs.declared.fault.WaitFault.TheVariants as wait
 use Rattle.cmwq_board.specs.declared.fault.WaitFault.{WaitFault}
 use Rattle.cmwq_board.specs.declared.lending.Lending.{Lending}
 use Rattle.cmwq_board.specs.declared.lending.Lending.TheVariants.{Free, Waits}
+use Rattle.cmwq_board.specs.declared.news.News.{News}
 
 -- ---- the first that is free
 
@@ -156,17 +157,17 @@ pub record MayLend (d : Dispatched) (t : Tailed Entry) (lent : List Lending) (ru
   pub free : slice_index_or lent place Free ≡ Free
   pub at : caller ≡ caller_of d.history.layout lent place
 
-lent_here : (d : Dispatched) (t : Tailed Entry) (lent : List Lending) (run : Option WorkerId) (c : Call) (place : ℕ)
+lent_here : (d : Dispatched) (t : Tailed Entry) (lent : List Lending) (news : News) (run : Option WorkerId) (c : Call) (place : ℕ)
     → t.all ≡ d.history.entries → AreLent d.history.layout (past_now d) lent
-    → lent_place (board_of d t.given t.room lent) ≡ Some place → MayBegin (board_of d t.given t.room lent) run c place
-    → MayLend (with_firing d) t lent run c place (caller_at (board_of d t.given t.room lent) place)
-lent_here d t lent run c place kept are first may =
-    let free = lent_is_free (board_of d t.given t.room lent) place first in
+    → lent_place (board_of d t.given t.room lent news) ≡ Some place → MayBegin (board_of d t.given t.room lent news) run c place
+    → MayLend (with_firing d) t lent run c place (caller_at (board_of d t.given t.room lent news) place)
+lent_here d t lent news run c place kept are first may =
+    let free = lent_is_free (board_of d t.given t.room lent news) place first in
     let there = caller_there d.history.layout lent place are.few free.less in
     let entries = leb-true (length d.history.entries + 3) (t.room + t.given) may.waits.space in
     record {
       call = may.waits.call;
-      fits = wait_fits d.history.layout (caller_at (board_of d t.given t.room lent) place) c there may.waits.call
+      fits = wait_fits d.history.layout (caller_at (board_of d t.given t.room lent news) place) c there may.waits.call
           may.waits.numbers;
       there = may.waits.there;
       may = firing_may d.failed d.closed 1 may.waits.lives refl;
@@ -177,20 +178,20 @@ lent_here d t lent run c place kept are first may =
       at = refl;
     }
 
-pub may_lend : (d n : Dispatched) (t : Tailed Entry) (lent : List Lending) (b : Boarded) (run : Option WorkerId)
-    (c : Call) (place : ℕ) (caller : CallerId) → n ≡ with_firing d → board_of d t.given t.room lent ≡ b
+pub may_lend : (d n : Dispatched) (t : Tailed Entry) (lent : List Lending) (news : News) (b : Boarded) (run : Option WorkerId)
+    (c : Call) (place : ℕ) (caller : CallerId) → n ≡ with_firing d → board_of d t.given t.room lent news ≡ b
     → caller ≡ caller_at b place → t.all ≡ d.history.entries → AreLent d.history.layout (past_now d) lent
     → lent_place b ≡ Some place → early_fault b run c ≡ None
     → lent_fault b run c (stuck_now b run c) ≡ None → MayLend n t lent run c place caller
-may_lend d n t lent b run c place caller new view is kept are first early none =
-    let here = board_of d t.given t.room lent in
+may_lend d n t lent news b run c place caller new view is kept are first early none =
+    let here = board_of d t.given t.room lent news in
     let its_first : lent_place here ≡ Some place = subst (λ x. lent_place x ≡ Some place) (sym view) first in
     let its_early : early_fault here run c ≡ None = subst (λ x. early_fault x run c ≡ None) (sym view) early in
     let its_none : lent_fault here run c (stuck_now here run c) ≡ None =
     subst (λ (x : Boarded). lent_fault x run c (stuck_now x run c) ≡ None) (sym view) none in
     subst (λ m. MayLend m t lent run c place caller) (sym new)
     (subst (λ k. MayLend (with_firing d) t lent run c place k) (sym (is ∙ ap (λ x. caller_at x place) (sym view)))
-    (lent_here d t lent run c place kept are its_first (no_lent_fault here run c place its_first its_early its_none)))
+    (lent_here d t lent news run c place kept are its_first (no_lent_fault here run c place its_first its_early its_none)))
 
 -- the caller of a place waits by the ticket that its call got, if it got one
 pub lending_waits : (run : Option WorkerId) (slept : Bool) (t : Ticket) (r : Reply) → gives_ticket r ≡ true

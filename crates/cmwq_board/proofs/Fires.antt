@@ -1,21 +1,24 @@
 -- A caller that fires, time after time.
-use Rattle.std.specs.Prelude.{◌≡◌, ◌+◌, ◌&&◌, ◌||◌, ◌==◌, ◌∷◌, [], ℕ, Bool, true, false, not, suc, zero, nat_lt}
+use Rattle.std.specs.Prelude.{◌≡◌, ◌<◌, ◌+◌, ◌-◌, ◌&&◌, ◌||◌, ◌==◌, ◌∷◌, [], ℕ, Bool, true, false, not, suc, zero}
+use Rattle.std.specs.Prelude.{nat_lt}
 use Rattle.std.specs.Prelude.{length}
 use Rattle.std.proofs.lemmas.Bool.Decides.{nat_tests}
-use Rattle.std.proofs.Common.{refl, sym, ap, ◌∙◌, subst, arith, add-one, length-append, true≢false}
-use Rattle.cmwq_core.specs.History.{History, next_entry, with_entry}
+use Rattle.std.proofs.Common.{refl, sym, ap, ◌∙◌, subst, arith, length-append, true≢false}
+use Rattle.cmwq_core.specs.History.{History, next_entry, takes, with_entry}
 use Rattle.cmwq_dispatch.specs.Asleep.{SleepOn}
 use Rattle.cmwq_dispatch.specs.Dispatched.{Dispatched, MayEnter, is_over, past_now}
 use Rattle.cmwq_dispatch.specs.declared.wakes.Wakes.{Wakes}
 use Rattle.cmwq_dispatch.proofs.Steady.{newest}
-use Rattle.cmwq_model.specs.Prelude.{IsLegal, Layout, unended_tickets}
+use Rattle.cmwq_model.specs.Prelude.{IsLegal, Layout, is_nothing, unended_tickets}
 use Rattle.cmwq_model.specs.declared.call.Call.TheVariants as call
 use Rattle.cmwq_model.specs.declared.entry.Entry.{Entry}
 use Rattle.cmwq_model.specs.declared.id.CallerId.{CallerId}
 use Rattle.cmwq_model.specs.declared.id.Who.TheVariants.{Caller}
 use Rattle.cmwq_state.specs.Tails.{Tailed}
 use Rattle.cmwq_board.specs.Lent.{SameTickets}
-use Rattle.cmwq_board.specs.Steps.{Stays, after_call, after_fires, may_fire}
+use Rattle.cmwq_board.specs.Fires.{fired_once}
+unfoldable use Rattle.cmwq_board.specs.Fires.{fired}
+use Rattle.cmwq_board.specs.Steps.{FiresDue, Stays, after_call, may_fire}
 use Rattle.cmwq_board.proofs.Sleepers.{sleep_on_more}
 use Rattle.cmwq_board.proofs.Tickets.{same_by_plain}
 use Rattle.cmwq_theory_steps.proofs.TicketSteps.{unended_go_on}
@@ -43,11 +46,57 @@ pub firing_enters : (d : Dispatched) (e : Entry) → may_fire d ≡ true → May
 firing_enters d e may =
     (firing_lives d may, λ c over who. absurd (true≢false (sym over ∙ fires_on d may)))
 
--- ---- so far
+-- ---- one fire, of which there may be so many more
 
+pub fired_zero : (h : History) (c : CallerId) → fired zero h c ≡ h
+unfolding fired
+fired_zero h c = refl
+
+pub fired_full : (n : ℕ) (h : History) (c : CallerId) → takes h (Caller c) call.Fire ≡ false → fired (suc n) h c ≡ h
+unfolding fired
+fired_full n h c full = rw full refl
+
+pub fired_last : (n : ℕ) (h : History) (c : CallerId) → takes h (Caller c) call.Fire ≡ true
+    → is_nothing (fired_once h c).reply ≡ true → fired (suc n) h c ≡ with_entry h (fired_once h c)
+unfolding fired
+fired_last n h c takes nothing = rw (takes, nothing) refl
+
+pub fired_next : (n : ℕ) (h : History) (c : CallerId) → takes h (Caller c) call.Fire ≡ true
+    → is_nothing (fired_once h c).reply ≡ false → fired (suc n) h c ≡ fired n (with_entry h (fired_once h c)) c
+unfolding fired
+fired_next n h c takes other = rw (takes, other) refl
+
+-- ---- a loop of fires, of which so many are made
+
+-- whatever is fired from now on leaves what is to be left
+abbrev pub GoesOn : ℕ → ℕ → CallerId → History → History → Type 0
+GoesOn k items c left now = (n : ℕ) → k + n ≡ items → fired n now c ≡ left
+
+pub all_fired : (k items : ℕ) (c : CallerId) (left now : History) → k ≡ items → GoesOn k items c left now → now ≡ left
+all_fired k items c left now e on = sym (fired_zero now c) ∙ on zero (omega (arith, e))
+
+pub no_room : (k items : ℕ) (c : CallerId) (left now : History) → k < items → GoesOn k items c left now
+    → takes now (Caller c) call.Fire ≡ false → now ≡ left
+no_room k items c left now less on full =
+    sym (fired_full (items - suc k) now c full) ∙ on (suc (items - suc k)) (omega (arith, less))
+
+pub nothing_fired : (k items : ℕ) (c : CallerId) (left now next : History) → k < items → GoesOn k items c left now
+    → takes now (Caller c) call.Fire ≡ true → is_nothing (fired_once now c).reply ≡ true
+    → next ≡ with_entry now (fired_once now c) → next ≡ left
+nothing_fired k items c left now next less on takes nothing made =
+    made ∙ sym (fired_last (items - suc k) now c takes nothing)
+    ∙ on (suc (items - suc k)) (omega (arith, less))
+
+pub something_fired : (k items : ℕ) (c : CallerId) (left now next : History) → GoesOn k items c left now
+    → takes now (Caller c) call.Fire ≡ true → is_nothing (fired_once now c).reply ≡ false
+    → next ≡ with_entry now (fired_once now c) → GoesOn (k + 1) items c left next
+something_fired k items c left now next on takes other made n e =
+    ap (λ h. fired n h c) made ∙ sym (fired_next n now c takes other) ∙ on (suc n) (omega (arith, e))
+
+-- so far
 pub record HasFired (k : ℕ) (c : CallerId) (old now : Dispatched) (t u : Tailed Entry) (before after : Wakes)
     : Type 0 where
-  pub fires : now ≡ record (after_fires k old c) { asleep = now.asleep }
+  pub fires : now ≡ record old { history = now.history; asleep = now.asleep }
   pub stays : Stays old now
   pub may : may_fire now ≡ true
   pub many : length now.history.entries ≡ length old.history.entries + k
@@ -69,12 +118,10 @@ fired_more k c old now next t u v x y z so made tail named legal =
     let layout : next.history.layout ≡ now.history.layout = ap (λ (h : History). h.layout) history in
     let legal_e : IsLegal now.history.layout (e ∷ past_now now) =
     subst (λ (s : Layout). IsLegal s (e ∷ past_now now)) layout (subst (IsLegal next.history.layout) past legal) in
-    let steps : after_fires (k + 1) old c ≡ after_call (after_fires k old c) (Caller c) call.Fire =
-    rw (add-one k) refl in
     record {
       fires = made
-          ∙ ap (λ (d : Dispatched). record (after_call d (Caller c) call.Fire) { asleep = next.asleep }) so.fires
-          ∙ ap (λ (d : Dispatched). record d { asleep = next.asleep }) (sym steps);
+          ∙ ap (λ (h : History). record now { history = h; asleep = next.asleep }) (sym history)
+          ∙ ap (λ (d : Dispatched). record d { history = next.history; asleep = next.asleep }) so.fires;
       stays = record {
         layout = layout ∙ so.stays.layout;
         room = ap (λ (h : History). h.room) history ∙ so.stays.room;
@@ -95,3 +142,14 @@ fired_more k c old now next t u v x y z so made tail named legal =
           ∙ same_by_plain now.history.layout (past_now now) (e ∷ past_now now) e
           (unended_go_on now.history.layout (past_now now) e legal_e) legal_e refl (λ n. refl) ∙ so.tickets;
     }
+
+-- ---- all was fired
+
+pub fires_all : (k : ℕ) (c : CallerId) (old now next : Dispatched) (t u : Tailed Entry) (x y z : Wakes)
+    → HasFired k c old now t u x y → next ≡ now → z ≡ y
+    → now.history ≡ fired old.history.layout.items old.history c → FiresDue c old next x z
+fires_all k c old now next t u x y z so same nobody left = rw (same, nobody)
+    (record {
+      fires = so.fires ∙ ap (λ (h : History). record old { history = h; asleep = now.asleep }) left;
+      named = so.named;
+    })

@@ -5,8 +5,13 @@ pub mod Once
 pub mod Places
 pub mod Started
 pub mod WaitingRuns
+pub mod LeftWaits
 pub mod Woken
 pub mod Slept
 pub mod Begins
 pub mod Items
 pub mod Sought
+pub mod Ends
+pub mod Cores
+pub mod Cleared
+pub mod Moves

@@ -28,6 +28,7 @@ use Rattle.cmwq_state.specs.Tails.{Tailed}
 use Rattle.cmwq_board.specs.Boarded.{board_of}
 use Rattle.cmwq_board.specs.Steps.{Makes, after_call}
 use Rattle.cmwq_board.specs.declared.lending.Lending.{Lending}
+use Rattle.cmwq_board.specs.declared.news.News.{News}
 use Rattle.cmwq_board.specs.Lent.{EndsTicketOf, GivesBy, SameTickets, TicketsGoOn, is_of_drain, is_other}
 use Rattle.cmwq_board.specs.Lent.{unended_drains}
 
@@ -228,11 +229,12 @@ kept_found p q [] x is passes = cc
 kept_found p q (y ∷ ys) x is passes = kept_step p q y ys x (λ h. kept_found p q ys x h passes) is passes
 
 -- a call that is made on the parts of a board is made on the board
-pub makes_in : (d n : Dispatched) (t u : Tailed Entry) (lent : List Lending) (who : Who) (c : Call) (v w : Wakes)
+pub makes_in : (d n : Dispatched) (t u : Tailed Entry) (lent : List Lending) (news : News) (who : Who) (c : Call)
+    (v w : Wakes)
     → n ≡ record (after_call d who c) { asleep = n.asleep } → SleepOn who d.asleep n.asleep v w
     → u ≡ record t { all = n.history.entries }
-    → Makes who c (board_of d t.given t.room lent) (board_of n u.given u.room lent) v w
-makes_in d n t u lent who c v w made named kept = (
+    → Makes who c (board_of d t.given t.room lent news) (board_of n u.given u.room lent news) v w
+makes_in d n t u lent news who c v w made named kept = (
   record { made = made; named = named },
-  ap (λ (x : Tailed Entry). board_of n x.given x.room lent) kept,
+  ap (λ (x : Tailed Entry). board_of n x.given x.room lent news) kept,
 )

@@ -28,7 +28,7 @@ use Rattle.cmwq_waits.specs.HeldUp.{AreWaiting}
 use Rattle.cmwq_waits.specs.Refused.{AreApart}
 use Rattle.cmwq_waits.specs.declared.run_wait.RunWait.{RunWait}
 use Rattle.cmwq_waits.proofs.Begun.{runs_by}
-use Rattle.cmwq_waits.proofs.GoOn.{is_running}
+use Rattle.cmwq_waits.proofs.Running.{is_running}
 use Rattle.cmwq_waits.proofs.Loops.{at_place}
 use Rattle.cmwq_board.specs.Lent.{AreLent, RunsWaitOnce, caller_of, is_wait_of, ticket_at}
 use Rattle.cmwq_board.specs.Runs.{wait_in, waits_in}
@@ -99,7 +99,7 @@ waits_are_waiting s past lent legal are w here =
     }
 
 -- two workers that run the same are one
-one_runner : (s : Layout) (past : List Entry) (v w : WorkerId) (x y : Queueing) → IsLegal s past
+pub one_runner : (s : Layout) (past : List Entry) (v w : WorkerId) (x y : Queueing) → IsLegal s past
     → queueing_run past (Worker v) ≡ Some x → queueing_run past (Worker w) ≡ Some y → x.number ≡ y.number → v ≡ w
 one_runner s past v w x y legal runs also same =
     let a = runs_by past v x runs in

@@ -1,6 +1,6 @@
 -- A run wakes if it sleeps. So a run that went to sleep for a wait sleeps no more once the wait has ended.
-use Rattle.std.specs.Prelude.{◌≡◌, ◌≤◌, ◌&&◌, ◌∷◌, ℕ, Bool, true, false, zero, suc, Option, Some, None, List}
-use Rattle.std.specs.Prelude.{IsTrue, if◌then◌else◌, is_some, nat_lt}
+use Rattle.std.specs.Prelude.{◌≡◌, ◌≤◌, ◌&&◌, ◌∷◌, ℕ, Bool, true, false, Some, List}
+use Rattle.std.specs.Prelude.{IsTrue, if◌then◌else◌, nat_lt}
 use Rattle.std.specs.Cmp.Derive.{both_true}
 use Rattle.std.proofs.Common.{refl, sym, ap, ap₂, ◌∙◌, subst, arith}
 use Rattle.std.proofs.lemmas.Bool.{and_parts, le-leb}
@@ -9,12 +9,11 @@ use Rattle.cmwq_dispatch.specs.Dispatched.{Dispatched, past_now}
 use Rattle.cmwq_dispatch.specs.declared.wakes.Wakes.{Wakes}
 use Rattle.cmwq_dispatch.proofs.Steady.{newest}
 unfoldable use Rattle.cmwq_model.specs.Prelude.{IsLegal, answer, is_asleep}
-use Rattle.cmwq_model.specs.Prelude.{Layout, asleep_after, fits, has_run, is_drain, room_needed, runs_asleep}
-use Rattle.cmwq_model.specs.declared.call.Call.{Call}
+use Rattle.cmwq_model.specs.Prelude.{Layout, asleep_after, fits, has_run, room_needed, runs_asleep}
 use Rattle.cmwq_model.specs.declared.call.Call.TheVariants as call
 use Rattle.cmwq_model.specs.declared.entry.Entry.{Entry}
 use Rattle.cmwq_model.specs.declared.id.CallerId.{CallerId}
-use Rattle.cmwq_model.specs.declared.id.Who.TheVariants.{Caller, Worker}
+use Rattle.cmwq_model.specs.declared.id.Who.TheVariants.{Worker}
 use Rattle.cmwq_model.specs.declared.id.WorkerId.{WorkerId}
 use Rattle.cmwq_model.specs.declared.record.Ticket.{Ticket}
 use Rattle.cmwq_model.specs.declared.reply.Reply.TheVariants as reply
@@ -22,15 +21,17 @@ use Rattle.cmwq_theory_laws.proofs.WithinRoom.{promised_have_time}
 use Rattle.cmwq_theory_steps.specs.RoomSteps.{is_promised}
 use Rattle.cmwq_theory_steps.proofs.ItemRuns.{same_worker_itself}
 use Rattle.cmwq_theory_steps.proofs.Promised.{promised_need_no_more}
-use Rattle.cmwq_theory_steps.proofs.RunSteps.{workers_run_on}
 use Rattle.cmwq_board.specs.Boarded.{Boarded, layout_of, past_of_board}
-use Rattle.cmwq_board.specs.Steps.{after_call, after_fires, has_worker}
-use Rattle.cmwq_board.specs.Waits.{Ends, EndsAt, EndsBy, EndsLeft, EndsOrWaits, IsAwakeThen, IsWoken, MayEnterOf}
-use Rattle.cmwq_board.specs.Waits.{MayFire, SleepsNoMore, ThenClears, lending_at, sleeper, sleeper_at}
+use Rattle.cmwq_board.specs.Steps.{has_worker}
+use Rattle.cmwq_board.specs.NewsAfter.{after_left}
+use Rattle.cmwq_board.specs.Waits.{Ends, EndsAt, EndsLeft, EndsOrWaits, IsAwakeThen, IsWoken, MayEnterOf}
+use Rattle.cmwq_board.specs.Waits.{SleepsNoMore, ThenClears, lending_at, sleeper, sleeper_at}
 use Rattle.cmwq_board.specs.Waits.EndsLeft.{more, nothing}
 use Rattle.cmwq_board.specs.declared.board.Ended.TheVariants.{Done}
 use Rattle.cmwq_board.specs.declared.lending.Lending.{Lending}
 use Rattle.cmwq_board.specs.declared.lending.Lending.TheVariants.{Free, Waits}
+use Rattle.cmwq_board.proofs.Cores.{keeps_by_end}
+use Rattle.cmwq_board.proofs.Ends.{Keeps, keeps_more, keeps_same}
 
 -- ---- a run that sleeps wakes
 
@@ -84,74 +85,11 @@ woken w d n v u is = by (runs_asleep (past_now d) w) refl is
 
 -- ---- what callers do changes nothing of that
 
-record Keeps (w : WorkerId) (d n : Dispatched) : Type 0 where
-  legal : IsLegal n.history.layout (past_now n) → IsLegal d.history.layout (past_now d)
-  sleeps : IsLegal n.history.layout (past_now n) → runs_asleep (past_now n) w ≡ runs_asleep (past_now d) w
-
-keeps_same : (w : WorkerId) (d n : Dispatched) → n.history ≡ d.history → Keeps w d n
-keeps_same w d n same = record {
-  legal = λ legal. subst (λ (h : History). IsLegal h.layout (past_in h)) same legal;
-  sleeps = λ legal. ap (λ (h : History). runs_asleep (past_in h) w) same;
-}
-
-keeps_more : (w : WorkerId) (a b c : Dispatched) → Keeps w a b → Keeps w b c → Keeps w a c
-keeps_more w a b c one next = record {
-  legal = λ legal. one.legal (next.legal legal);
-  sleeps = λ legal. next.sleeps legal ∙ one.sleeps (next.legal legal);
-}
-
-keeps_call : (w : WorkerId) (d n : Dispatched) (c : CallerId) (cl : Call)
-    → n.history ≡ with_entry d.history (next_entry d.history (Caller c) cl) → Keeps w d n
-unfolding IsLegal is_asleep
-keeps_call w d n c cl made = record {
-  legal = λ legal. (before legal).2;
-  sleeps = λ legal. ap (λ p. runs_asleep p w) past
-      ∙ ap (λ (r : Option ℕ). is_some r && is_asleep (past_now d) w)
-      (workers_run_on d.history.layout (past_now d) e w (before legal));
-}
-  where
-    e : Entry
-    e = next_entry d.history (Caller c) cl
-
-    past : past_now n ≡ e ∷ past_now d
-    past = newest d.history n.history e made
-
-    before : IsLegal n.history.layout (past_now n) → IsLegal d.history.layout (e ∷ past_now d)
-    before legal =
-        subst (λ (s : Layout). IsLegal s (e ∷ past_now d)) (ap (λ (h : History). h.layout) made)
-        (subst (IsLegal n.history.layout) past legal)
-
-keeps_fires : (w : WorkerId) (k : ℕ) (d : Dispatched) (c : CallerId) → Keeps w d (after_fires k d c)
-keeps_fires w zero d c = keeps_same w d d refl
-keeps_fires w (suc k) d c =
-    keeps_more w d (after_fires k d c) (after_call (after_fires k d c) (Caller c) call.Fire) (keeps_fires w k d c)
-    (keeps_call w (after_fires k d c) (after_call (after_fires k d c) (Caller c) call.Fire) c call.Fire refl)
-
-keeps_firing : (w : WorkerId) (b : Bool) (c : CallerId) (d n : Dispatched) (v u : Wakes) → MayFire b c d n v u
-    → Keeps w d n
-keeps_firing w true c d n v u fires =
-    keeps_more w d (after_fires fires.times d c) n (keeps_fires w fires.times d c)
-    (keeps_same w (after_fires fires.times d c) n (ap (λ (x : Dispatched). x.history) fires.fires))
-keeps_firing w false c d n v u same = keeps_same w d n (ap (λ (x : Dispatched). x.history) same.0)
-
--- the end of a ticket by which no run waits
-keeps_ends : (w : WorkerId) (t : Ticket) (callers : List Lending) (a b : Boarded) (v u : Wakes)
-    → EndsBy t None callers a b v u → Keeps w a.dispatch b.dispatch
-keeps_ends w t callers a b v u is =
-    keeps_more w a.dispatch is.ends.ended b.dispatch
-    (keeps_call w a.dispatch is.ends.ended t.caller (call.End t.number)
-    (ap (λ (x : Dispatched). x.history) is.ends.ends.made))
-    (keeps_more w is.ends.ended is.ends.fired b.dispatch
-    (keeps_firing w (is_drain t.call) t.caller is.ends.ended is.ends.fired is.ends.then_ended is.ends.then_fired
-    is.ends.fires)
-    (keeps_same w is.ends.fired b.dispatch
-    (ap (λ (x : Dispatched). x.history) is.settles.settled ∙ ap (λ (x : Dispatched). x.history) is.ends.wakes.0)))
-
-keeps_left : (w : WorkerId) (a b : Boarded) (v u : Wakes) → EndsLeft a b v u → Keeps w a.dispatch b.dispatch
-keeps_left w a b v u (nothing x y) = keeps_same w x.dispatch x.dispatch refl
-keeps_left w a b v u (more x y z p q r ends first) =
-    keeps_more w x.dispatch y.dispatch z.dispatch (keeps_left w x y p q ends)
-    (keeps_ends w first.ticket y.lent y z q r first.ends)
+keeps_left : (a b : Boarded) (v u : Wakes) → EndsLeft a b v u → Keeps a.dispatch.history b.dispatch.history
+keeps_left a b v u (nothing x y) = keeps_same x.dispatch.history x.dispatch.history refl
+keeps_left a b v u (more x y z p q r ends first) =
+    keeps_more x.dispatch.history y.dispatch.history z.dispatch.history (keeps_left x y p q ends)
+    (keeps_by_end first.ticket y.lent (after_left first.ticket.call y.news) y z q r first.ends)
 
 -- ---- once the wait has ended
 
@@ -160,10 +98,11 @@ ended_awake : (w : WorkerId) (place : ℕ) (t : Ticket) (a b : Boarded) (v u : W
     → runs_asleep (past_of_board b) w ≡ false
 ended_awake w place t a b v u is legal =
     let ends = is.step.ends in
-    let keeps = keeps_more w is.step.ended is.mid.dispatch b.dispatch
-    (keeps_same w is.step.ended is.mid.dispatch (ap (λ (x : Dispatched). x.history) is.step.settles.settled))
-    (keeps_left w is.mid b is.meanwhile u is.clears.ends) in
-    keeps.sleeps legal ∙ woken w ends.fired is.step.ended ends.then_fired is.step.then_ended ends.wakes
+    let keeps = keeps_more is.step.ended.history is.mid.dispatch.history b.dispatch.history
+    (keeps_same is.step.ended.history is.mid.dispatch.history
+    (ap (λ (x : Dispatched). x.history) is.step.settles.settled))
+    (keeps_left is.mid b is.meanwhile u is.clears.ends) in
+    keeps.sleeps legal w ∙ woken w ends.fired is.step.ended ends.then_fired is.step.then_ended ends.wakes
 
 pub sleeps_no_more : (c : CallerId) (a b : Boarded) (v u : Wakes) → EndsOrWaits c Done a b v u
     → IsLegal (layout_of b) (past_of_board b) → SleepsNoMore c Done a b

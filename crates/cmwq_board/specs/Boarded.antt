@@ -7,19 +7,23 @@ use Rattle.cmwq_model.specs.declared.id.Who.{Who}
 use Rattle.cmwq_dispatch.specs.Asleep.{Asleep}
 use Rattle.cmwq_dispatch.specs.Dispatched.{Dispatched, is_new, past_now}
 use Rattle.cmwq_board.specs.Lent.{AreLent, RunsWaitOnce, first_lent, is_before, unended_drains}
+use Rattle.cmwq_board.specs.NewsAfter.{quiet}
 use Rattle.cmwq_board.specs.declared.lending.Lending.{Lending}
 use Rattle.cmwq_board.specs.declared.lending.Lending.TheVariants.{Free}
+use Rattle.cmwq_board.specs.declared.news.News.{News}
 
 -- The history, and who sleeps. How many entries were handed out, and how many of the others are kept at most. What each
--- of the callers does that are lent to waits.
+-- of the callers does that are lent to waits. What has changed since a shell asked.
 pub record Boarded : Type 0 where
   pub dispatch : Dispatched
   pub given : ℕ
   pub keeps : ℕ
   pub lent : List Lending
+  pub news : News
 
-abbrev pub board_of : Dispatched → ℕ → ℕ → List Lending → Boarded
-board_of d given keeps lent = record { dispatch = d; given = given; keeps = keeps; lent = lent }
+abbrev pub board_of : Dispatched → ℕ → ℕ → List Lending → News → Boarded
+board_of d given keeps lent news =
+    record { dispatch = d; given = given; keeps = keeps; lent = lent; news = news }
 
 abbrev pub layout_of : Boarded → Layout
 layout_of b = b.dispatch.history.layout
@@ -43,7 +47,7 @@ least_kept s = 2 * most_made s
 -- serve threads outside the hub too, and a run may be asleep already when it begins to wait.
 abbrev pub is_new_board : Layout → ℕ → ℕ → Asleep → Boarded
 is_new_board s kept lent asleep =
-    board_of (is_new s s.room s.callers asleep) 0 (max kept (least_kept s)) (replicate lent Free)
+    board_of (is_new s s.room s.callers asleep) 0 (max kept (least_kept s)) (replicate lent Free) quiet
 
 -- Whoever may fire keeps it from being over: there is one while any drain is unended.
 abbrev pub firing_for : ℕ → ℕ
@@ -72,6 +76,10 @@ kept_in b = drop b.given b.dispatch.history.entries
 
 abbrev pub handed_out : Boarded → Boarded
 handed_out b = record b { given = length b.dispatch.history.entries }
+
+-- the board once a shell has asked for the news
+abbrev pub asked : Boarded → Boarded
+asked b = record b { news = quiet }
 
 -- the board once it is stopped, and once it has failed
 abbrev pub stopped : Boarded → Boarded

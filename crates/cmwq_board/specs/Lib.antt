@@ -2,8 +2,11 @@ pub mod Asked
 pub mod Faults
 pub mod Lent
 pub mod Left
+pub mod NewsAfter
 pub mod Boarded
 pub mod Runs
+pub mod Fires
 pub mod Steps
 pub mod Waits
 pub mod Items
+pub mod Machine

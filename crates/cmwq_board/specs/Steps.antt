@@ -1,11 +1,11 @@
 -- What the calls of a board make of it, and why they make nothing.
-use Rattle.std.specs.Prelude.{◌≡◌, ◌⊎◌, ◌≤◌, ◌&&◌, ◌||◌, ℕ, Bool, true, false, not, zero, suc}
+use Rattle.std.specs.Prelude.{◌≡◌, ◌&&◌, ◌||◌, ℕ, Bool, true, false, not}
 use Rattle.std.specs.Prelude.{Option, Some, None, if◌then◌else◌, nat_lt}
-use Rattle.cmwq_core.specs.History.{IsItemOf, next_entry, takes, with_entry}
-use Rattle.cmwq_dispatch.specs.Asleep.{Rests, SleepOn}
-use Rattle.cmwq_dispatch.specs.Dispatched.{Dispatched, is_over, past_now}
+use Rattle.cmwq_core.specs.History.{History, next_entry, takes, with_entry}
+use Rattle.cmwq_dispatch.specs.Asleep.{SleepOn}
+use Rattle.cmwq_dispatch.specs.Dispatched.{Dispatched}
 use Rattle.cmwq_dispatch.specs.declared.wakes.Wakes.{Wakes}
-use Rattle.cmwq_model.specs.Prelude.{Layout, fits, has_run, number_started, runs_awake, number_finished, is_retired}
+use Rattle.cmwq_model.specs.Prelude.{Layout, fits, has_run, is_retired, number_finished, runs_awake}
 use Rattle.cmwq_model.specs.declared.call.Call.{Call}
 use Rattle.cmwq_model.specs.declared.call.Call.TheVariants as call
 use Rattle.cmwq_model.specs.declared.reply.Reply.{Reply}
@@ -14,14 +14,12 @@ use Rattle.cmwq_model.specs.declared.id.CallerId.{CallerId}
 use Rattle.cmwq_model.specs.declared.id.Who.{Who}
 use Rattle.cmwq_model.specs.declared.id.Who.TheVariants.{Caller, Worker}
 use Rattle.cmwq_model.specs.declared.id.WorkerId.{WorkerId}
-use Rattle.cmwq_refinement.specs.Timers.{item_due}
 use Rattle.cmwq_theory_wakes.specs.Starting.{would_start}
 use Rattle.cmwq_board.specs.Asked.{is_single}
-use Rattle.cmwq_board.specs.Boarded.{Boarded, has_space, is_own, layout_of, past_of_board, with_asleep}
+use Rattle.cmwq_board.specs.Boarded.{Boarded, has_space, is_own, layout_of, past_of_board}
 use Rattle.cmwq_board.specs.Boarded.{most_made}
+use Rattle.cmwq_board.specs.Fires.{fired}
 use Rattle.cmwq_board.specs.declared.board.Finish.{Finish}
-use Rattle.cmwq_board.specs.declared.board.Start.{Start}
-use Rattle.cmwq_board.specs.declared.board.Start.TheVariants.{Runs, Rests as Resting, Over}
 use Rattle.cmwq_board.specs.declared.fault.BoardFault.{BoardFault}
 use Rattle.cmwq_board.specs.declared.fault.BoardFault.TheVariants as fault
 
@@ -81,17 +79,6 @@ start_fault b w = if not (has_worker (layout_of b) w) then Some fault.Refused
     else if starts_now b w && not (has_space b 1) then Some fault.Crowded
     else None
 
--- It runs the queueing of this number, which is of this item. Or it would start nothing: it rests from now on, or it is
--- over.
-abbrev pub Starts : Boarded → WorkerId → Start → Boarded → Wakes → Wakes → Type 0
-Starts old w (Runs item n) new before after =
-    Makes (Worker w) call.Take old new before after × (number_started (reply_now old (Worker w) call.Take) ≡ Some n)
-    × IsItemOf (past_of_board old) n (Some item)
-Starts old w Resting new before after =
-    (starts_now old w ≡ false) × (is_over old.dispatch ≡ false) × (new ≡ with_asleep old new.dispatch.asleep)
-    × Rests w old.dispatch.asleep new.dispatch.asleep × (after ≡ before)
-Starts old w Over new before after = (is_over old.dispatch ≡ true) × (new ≡ old) × (after ≡ before)
-
 -- ---- a worker finishes
 
 abbrev pub finish_fault : Boarded → WorkerId → Option BoardFault
@@ -103,15 +90,14 @@ finish_fault b w = if not (has_worker (layout_of b) w) then Some fault.Refused
     else None
 
 -- it would be sent to the reserve now, and there is room for that
-abbrev pub retires_now : Dispatched → WorkerId → Bool
-retires_now d w =
-    is_retired (next_entry d.history (Worker w) call.Retire).reply && takes d.history (Worker w) call.Retire
+abbrev pub retires_now : History → WorkerId → Bool
+retires_now h w = is_retired (next_entry h (Worker w) call.Retire).reply && takes h (Worker w) call.Retire
 
 -- it is sent to the reserve if it would be
 abbrev pub MayRetire : Dispatched → WorkerId → Bool → Dispatched → Wakes → Wakes → Type 0
 MayRetire old w true new before after =
-    (retires_now old w ≡ true) × Enters (Worker w) call.Retire old new before after
-MayRetire old w false new before after = (retires_now old w ≡ false) × (new ≡ old) × (after ≡ before)
+    (retires_now old.history w ≡ true) × Enters (Worker w) call.Retire old new before after
+MayRetire old w false new before after = (retires_now old.history w ≡ false) × (new ≡ old) × (after ≡ before)
 
 -- the run ends, and then the worker may be sent to the reserve
 pub record FinishesRun (w : WorkerId) (f : Finish) (old new : Dispatched) (before after : Wakes) : Type 0 where
@@ -121,24 +107,12 @@ pub record FinishesRun (w : WorkerId) (f : Finish) (old new : Dispatched) (befor
   pub finish : Enters (Worker w) call.Finish old mid before meanwhile
   pub retire : MayRetire mid w f.retired new meanwhile after
 
-abbrev pub Finishes : WorkerId → Finish → Boarded → Boarded → Wakes → Wakes → Type 0
-Finishes w f old new before after =
-    FinishesRun w f old.dispatch new.dispatch before after × (new ≡ with_dispatch old new.dispatch)
-
 -- ---- timers fire
 
--- it fires so many times
-abbrev pub after_fires : ℕ → Dispatched → CallerId → Dispatched
-after_fires zero d c = d
-after_fires (suc k) d c = after_call (after_fires k d c) (Caller c) call.Fire
-
--- a caller fires until nothing is due, or there is no room, or it fired as often as there are items
+-- a caller fires what is due, as often as there are items at most
 pub record FiresDue (c : CallerId) (old new : Dispatched) (before after : Wakes) : Type 0 where
-  pub times : ℕ
-  pub few : times ≤ old.history.layout.items
-  pub fires : new ≡ record (after_fires times old c) { asleep = new.asleep }
-  pub until : (item_due (past_now new) ≡ None) ⊎ (takes new.history (Caller c) call.Fire ≡ false)
-      ⊎ (times ≡ old.history.layout.items)
+  pub fires : new
+      ≡ record old { history = fired old.history.layout.items old.history c; asleep = new.asleep }
   pub named : SleepOn (Caller c) old.asleep new.asleep before after
 
 -- what no entry changes
@@ -169,7 +143,3 @@ pub record Ticks (c : CallerId) (ticks : ℕ) (old new : Dispatched) (before aft
   pub meanwhile : Wakes
   pub tick : Enters (Caller c) (call.Tick ticks) old mid before meanwhile
   pub fires : FiresDue c mid new meanwhile after
-
-abbrev pub Advances : CallerId → ℕ → Boarded → Boarded → Wakes → Wakes → Type 0
-Advances c ticks old new before after =
-    Ticks c ticks old.dispatch new.dispatch before after × (new ≡ with_dispatch old new.dispatch)

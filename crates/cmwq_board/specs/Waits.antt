@@ -29,7 +29,8 @@ use Rattle.cmwq_board.specs.Boarded.{Boarded, firing_for, first_place, has_space
 use Rattle.cmwq_board.specs.Boarded.{past_of_board, with_asleep}
 use Rattle.cmwq_board.specs.Faults.{fault_of_stuck}
 use Rattle.cmwq_board.specs.Left.{is_free, sought_of}
-use Rattle.cmwq_board.specs.Lent.{caller_of, is_wait_of, ticket_at, unended_drains}
+use Rattle.cmwq_board.specs.Lent.{EndsTicketOf, caller_of, is_wait_of, ticket_at, unended_drains}
+use Rattle.cmwq_board.specs.NewsAfter.{after_end, after_left}
 use Rattle.cmwq_board.specs.Runs.{waiting_runs}
 use Rattle.cmwq_board.specs.Steps.{Enters, FiresDue, has_worker, with_dispatch}
 use Rattle.cmwq_board.specs.declared.board.Begun.{Begun}
@@ -44,6 +45,7 @@ use Rattle.cmwq_board.specs.declared.lending.Lending.{Lending}
 use Rattle.cmwq_board.specs.declared.lending.Lending.TheVariants.{Free, Waits}
 use Rattle.cmwq_board.specs.declared.left.Sought.{Sought}
 use Rattle.cmwq_board.specs.declared.left.Sought.TheVariants.{Ready, For}
+use Rattle.cmwq_board.specs.declared.news.News.{News}
 
 -- ---- the lent callers
 
@@ -216,6 +218,7 @@ pub record BeginsAnew (run : Option WorkerId) (c : Call) (answer : Begun) (old n
       (record { caller = caller_at old place; call = c; number = number }) reply)
   pub settles : Settles (unended_drains (past_now called)) called new.dispatch then_called after
   pub kept : (new.given ≡ old.given) × (new.keeps ≡ old.keeps)
+  pub news : new.news ≡ old.news
 
 -- The wait goes on by a ticket that was left, with the reply that a new call would get but for its number. No entry is
 -- made.
@@ -264,8 +267,8 @@ abbrev pub TellsTime : Bool → Wakes → Wakes → Type 0
 TellsTime true before after = (names_completions after ≡ true) × NamesMore before after
 TellsTime false before after = after ≡ before
 
--- The ticket is ended, and what its caller does is this from then on.
-pub record EndsBy (t : Ticket) (run : Option WorkerId) (callers : List Lending) (old new : Boarded)
+-- The ticket is ended, and what its caller does, and the news, is this from then on.
+pub record EndsBy (t : Ticket) (run : Option WorkerId) (callers : List Lending) (news : News) (old new : Boarded)
     (before after : Wakes) : Type 0 where
   pub ended : Dispatched
   pub then_ended : Wakes
@@ -274,11 +277,13 @@ pub record EndsBy (t : Ticket) (run : Option WorkerId) (callers : List Lending) 
   pub settles : Settles (unended_drains (past_now ended)) ended new.dispatch then_ended then_settled
   pub tells : TellsTime (is_drain t.call) then_settled after
   pub lent : new.lent ≡ callers
+  pub told : new.news ≡ news
   pub kept : (new.given ≡ old.given) × (new.keeps ≡ old.keeps)
 
 -- the caller of the place may be lent again
 abbrev pub EndsAt : ℕ → Ticket → Option WorkerId → Boarded → Boarded → Wakes → Wakes → Type 0
-EndsAt place t run old new before after = EndsBy t run (slice_set old.lent place Free) old new before after
+EndsAt place t run old new before after =
+    EndsBy t run (slice_set old.lent place Free) (after_end t.call old.news) old new before after
 
 -- the first ticket is ended that was left and is ready
 pub record EndsFirst (old new : Boarded) (before after : Wakes) : Type 0 where
@@ -287,7 +292,10 @@ pub record EndsFirst (old new : Boarded) (before after : Wakes) : Type 0 where
   pub first : place_with old Ready ≡ Some place
   pub ready : sought_at old Ready place ≡ Some ticket
   pub space : has_space old (most_made (layout_of old)) ≡ true
-  pub ends : EndsBy ticket None old.lent old new before after
+  pub ends : EndsBy ticket None old.lent (after_left ticket.call old.news) old new before after
+  pub tickets : EndsTicketOf ticket (past_of_board old) (past_of_board new)
+  pub drains : is_drain ticket.call ≡ false
+      → unended_drains (past_of_board new) ≡ unended_drains (past_of_board old)
 
 pub data EndsLeft : Boarded → Boarded → Wakes → Wakes → Type 0 where
   nothing : (b : Boarded) (w : Wakes) → EndsLeft b b w w
@@ -370,17 +378,9 @@ SleepsNoMore c ended old new = (w : WorkerId) → ended ≡ Done → sleeper_at 
 
 -- ---- a wait is left
 
-abbrev pub may_leave : Lending → Bool
-may_leave (Waits t None slept) = true
-may_leave l = false
-
-abbrev pub leaves_at : Boarded → Option ℕ → Bool
-leaves_at b (Some place) = may_leave (lending_at b place)
-leaves_at b None = false
-
 abbrev pub leave_fault : Boarded → CallerId → Option BoardFault
 leave_fault b c = if not (is_some (place_of b c)) then Some fault.Refused
-    else if not (leaves_at b (place_of b c)) then Some fault.Misuse
+    else if not (waiting_at b (place_of b c)) then Some fault.Misuse
     else if b.dispatch.failed then Some fault.Failed
     else None
 
@@ -388,8 +388,16 @@ leave_fault b c = if not (is_some (place_of b c)) then Some fault.Refused
 abbrev pub IsLeft : ℕ → Boarded → Boarded → Type 0
 IsLeft place new awake = new ≡ record awake { lent = slice_set awake.lent place Free }
 
-pub record Leaves (c : CallerId) (old new : Boarded) (before after : Wakes) : Type 0 where
-  pub place : ℕ
-  pub is_place : place_of old c ≡ Some place
-  pub left : IsAwakeThen c (IsLeft place new) old
-  pub nobody : after ≡ before
+-- the worker whose run waits by a caller, if one does
+abbrev pub waiter : Lending → Option WorkerId
+waiter Free = None
+waiter (Waits t run slept) = run
+
+abbrev pub waiter_at : Boarded → Option ℕ → Option WorkerId
+waiter_at b (Some place) = waiter (lending_at b place)
+waiter_at b None = None
+
+-- The run that waited by this caller waits no more, so that it may begin another wait.
+abbrev pub WaitsNoMore : CallerId → Boarded → Boarded → Type 0
+WaitsNoMore c old new =
+    (w : WorkerId) → waiter_at old (place_of old c) ≡ Some w → list_any (is_wait_of w) new.lent ≡ false

@@ -3,17 +3,18 @@
 ghost use Rattle.std.specs.Prelude.{◌≡◌, ◌≤◌, IfOk, IfErr, OnErr, IsTrue, None, Some, [], is_ok, length, min};
 ghost use Rattle.std.specs.Prelude.{max, replicate, vec_capacity};
 ghost use Rattle.cmwq_model.specs.Prelude.{IsLegal, unended_tickets};
+ghost use Rattle.cmwq_model.specs.declared.id.Who.TheVariants as who;
 ghost use Rattle.cmwq_dispatch.specs.Asleep.{NobodySleeps};
 ghost use Rattle.cmwq_dispatch.specs.Dispatched.{Stands, is_new, is_over, past_now};
 ghost use Rattle.cmwq_dispatch.specs.Naming.{NamesAll, NamesMore};
-ghost use Rattle.cmwq_board.specs.Boarded.{IsBoard, board_of, failed, handed_out, is_new_board, is_own, kept_in};
+ghost use Rattle.cmwq_board.specs.Boarded.{IsBoard, asked, board_of, failed, handed_out, is_new_board, is_own, kept_in};
 ghost use Rattle.cmwq_board.specs.Boarded.{layout_of};
 ghost use Rattle.cmwq_board.specs.Boarded.{least_kept, most_made, past_of_board, stopped, with_asleep};
 ghost use Rattle.cmwq_board.specs.Lent.{first_lent};
+ghost use Rattle.cmwq_board.specs.NewsAfter.{quiet};
+ghost use Rattle.cmwq_board.specs.Machine.{Named, StartNamed, bare, step};
+ghost use Rattle.cmwq_board.specs.Machine.Move.{Calls, Finishes, Starts};
 ghost use Rattle.cmwq_board.specs.Runs.{waiting_runs};
-ghost use Rattle.cmwq_board.specs.Steps.{Finishes, Makes, Starts, call_fault, finish_fault};
-ghost use Rattle.cmwq_board.specs.Steps.{reply_now, start_fault};
-ghost use Rattle.cmwq_board.specs.Waits.{ThenClears};
 ghost use Rattle.cmwq_waits.specs.HeldUp.{AreWaiting};
 ghost use Rattle.cmwq_waits.specs.Refused.{AreApart};
 
@@ -27,6 +28,7 @@ use crate::calls::is_single;
 use crate::entering::{Startable, enter, finish_run, has_worker, make, plan_of};
 use crate::fault::BoardFault;
 use crate::lending::Lending;
+use crate::news::{News, QUIET};
 use crate::runs::Runs;
 use cmwq_core::Full;
 use cmwq_dispatch::{Dispatch, Firing, Sleep, Wakes};
@@ -34,6 +36,7 @@ use cmwq_model::{Call, CallerId, Entry, ItemId, NoMemory, Number, Reply, Shape, 
 use cmwq_state::Tail;
 use std::alloc::{AllocError, Global};
 use std::marker::Model;
+use std::mem::replace;
 
 /// What a worker does next.
 #[derive(Clone, Copy, Debug)]
@@ -73,8 +76,8 @@ pub enum Ended {
     Not(Sleep),
 }
 
-/// A hub without threads. Contracts see its history, who sleeps, how many entries were handed out, and what the callers
-/// do that are lent to waits.
+/// A hub without threads. Contracts see its history, who sleeps, how many entries were handed out, what the callers do
+/// that are lent to waits, and the news.
 pub struct Board {
     dispatch: Dispatch,
     tail: Tail<Entry>,
@@ -86,6 +89,8 @@ pub struct Board {
     firing: Option<Firing>,
     /// Whether a ticket may have been left that is unended. If not, no ticket is looked at.
     left: bool,
+    /// What has changed since a shell asked.
+    news: News,
     /// Room for the runs that wait.
     runs: Runs,
 }
@@ -98,7 +103,7 @@ impl Model for Board {
 
     ghost Value = { Boarded };
 
-    ghost view = { λ b. board_of b.dispatch b.tail.given b.tail.room b.lent.items };
+    ghost view = { λ b. board_of b.dispatch b.tail.given b.tail.room b.lent.items b.news };
 
     ghost invariant = { λ b. (b.tail.all ≡ b.dispatch.history.entries)
         × (b.drains ≡ unended_drains (past_now b.dispatch)) × (is_some b.firing ≡ nat_lt 0 b.drains)
@@ -172,7 +177,7 @@ impl Board {
         requires none { unended_tickets (past_now dispatch) ≡ [] }
         requires board { IsBoard dispatch tail.room lent.items }
         requires room { length lent.items ≤ runs }
-        ensures { result ≡ board_of dispatch tail.given tail.room lent.items }
+        ensures { result ≡ board_of dispatch tail.given tail.room lent.items quiet }
     {
         Board {
             dispatch,
@@ -181,6 +186,7 @@ impl Board {
             drains: 0,
             firing: None,
             left: false,
+            news: QUIET,
             runs,
         }
     }
@@ -194,6 +200,7 @@ impl Board {
             drains: _,
             firing,
             left: _,
+            news: _,
             runs: _runs,
         } = self;
         if let Some(firing) = firing {
@@ -240,11 +247,9 @@ impl Board {
     /// set_max, freeze and thaw, and of workers sleep, wake and retire. Then the tickets are ended that were left and
     /// are ready now.
     pub fn call(&mut self, who: Who, call: Call, wakes: &mut Wakes) -> Result<Reply, BoardFault>
-        ensures reply { IfOk result (λ reply. reply ≡ reply_now self.old who call) }
-        ensures made { IfOk result (λ _. ThenClears (Makes who call) self.old self.new wakes.old wakes.new) }
-        ensures taken { IfOk result (λ _. call_fault self.old who call ≡ None) }
-        ensures refused { IfErr result (λ fault. call_fault self.old who call ≡ Some fault) }
-        ensures same { OnErr result ((self.new ≡ self.old) × (wakes.new ≡ wakes.old)) }
+        ensures core { bare self.new ≡ (step (bare self.old) (Calls who call)).core }
+        ensures outcome { result ≡ (step (bare self.old) (Calls who call)).outcome }
+        ensures named { Named result who self.old self.new wakes.old wakes.new }
     {
         if !is_single(&call) || !self.is_own(who) || !self.dispatch.shape().fits(who, call) {
             return Err(BoardFault::Refused);
@@ -261,6 +266,7 @@ impl Board {
         let entered = enter(&mut self.dispatch, &mut self.tail, who, call, wakes);
         match entered {
             Ok(reply) => {
+                self.news = self.news.after_reply(reply);
                 self.clears(wakes);
                 Ok(reply)
             }
@@ -271,10 +277,9 @@ impl Board {
     /// The worker starts the next queueing of its pool. If it would start nothing it rests from now on, in the same
     /// call, until it is named; or it may go.
     pub fn start(&mut self, worker: WorkerId, wakes: &mut Wakes) -> Result<Start, BoardFault>
-        ensures starts { IfOk result (λ start. Starts self.old worker start self.new wakes.old wakes.new) }
-        ensures taken { IfOk result (λ _. start_fault self.old worker ≡ None) }
-        ensures refused { IfErr result (λ fault. start_fault self.old worker ≡ Some fault) }
-        ensures same { OnErr result ((self.new ≡ self.old) × (wakes.new ≡ wakes.old)) }
+        ensures core { bare self.new ≡ (step (bare self.old) (Starts worker)).core }
+        ensures outcome { result ≡ (step (bare self.old) (Starts worker)).outcome }
+        ensures named { StartNamed result worker self.old self.new wakes.old wakes.new }
     {
         if !has_worker(self.dispatch.shape(), worker) {
             return Err(BoardFault::Refused);
@@ -303,11 +308,9 @@ impl Board {
     /// The worker's run ends. The worker is sent to the reserve if it would be. Then the tickets are ended that were
     /// left and are ready now.
     pub fn finish(&mut self, worker: WorkerId, wakes: &mut Wakes) -> Result<Finish, BoardFault>
-        ensures made { IfOk result
-            (λ finish. ThenClears (Finishes worker finish) self.old self.new wakes.old wakes.new) }
-        ensures taken { IfOk result (λ _. finish_fault self.old worker ≡ None) }
-        ensures refused { IfErr result (λ fault. finish_fault self.old worker ≡ Some fault) }
-        ensures same { OnErr result ((self.new ≡ self.old) × (wakes.new ≡ wakes.old)) }
+        ensures core { bare self.new ≡ (step (bare self.old) (Finishes worker)).core }
+        ensures outcome { result ≡ (step (bare self.old) (Finishes worker)).outcome }
+        ensures named { Named result (who.Worker worker) self.old self.new wakes.old wakes.new }
     {
         if !has_worker(self.dispatch.shape(), worker) {
             return Err(BoardFault::Refused);
@@ -350,6 +353,14 @@ impl Board {
         ensures more { NamesMore wakes.old wakes.new }
     {
         self.dispatch.fail(wakes);
+    }
+
+    /// What has changed since this was called last. From then on that is news no more.
+    pub fn news(&mut self) -> News
+        ensures told { result ≡ self.old.news }
+        ensures new { self.new ≡ asked self.old }
+    {
+        replace(&mut self.news, QUIET)
     }
 
     /// Whether nobody will have anything to do any more.

@@ -90,7 +90,7 @@ pub(crate) fn enter(
     }
 }
 
-/// A caller fires until nothing is due.
+/// A caller fires until nothing is fired, or there is no room, or it fired as often as there are items.
 pub(crate) fn fire_due(
     dispatch: &mut Dispatch,
     tail: &mut Tail<Entry>,
@@ -111,18 +111,19 @@ pub(crate) fn fire_due(
 {
     let items = dispatch.shape().counts().items;
     for _ in 0..items {
-        if dispatch.execution().state().first_due().is_none() {
-            return;
-        }
         let fired = enter(dispatch, tail, Who::Caller(caller), Call::Fire, wakes);
         match fired {
-            Ok(_) => {}
+            Ok(reply) => {
+                if reply.is_nothing() {
+                    return;
+                }
+            }
             Err(Full) => return,
         }
     }
 }
 
-/// After the end of a drain its caller fires until nothing is due.
+/// After the end of a drain its caller fires what is due.
 fn fire_after(dispatch: &mut Dispatch, tail: &mut Tail<Entry>, ticket: Ticket, wakes: &mut Wakes)
     requires there { ticket.caller.0 < dispatch.old.history.layout.callers }
     requires may { is_drain ticket.call ≡ true → may_fire dispatch.old ≡ true }

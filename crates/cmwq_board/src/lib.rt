@@ -9,11 +9,15 @@ mod entering;
 mod fault;
 mod firing;
 mod item_state;
+mod laws;
 mod left;
 mod lending;
+mod news;
 mod runs;
 
 pub use board::{Begun, Board, Ended, Finish, Start};
 pub use fault::{BoardFault, WaitFault};
 pub use item_state::{ItemState, Pending};
+pub use laws::waits_that_were_left_refuse_nothing;
 pub use lending::Lending;
+pub use news::News;

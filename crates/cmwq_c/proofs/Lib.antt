@@ -6,3 +6,4 @@ pub mod Filled
 pub mod Growing
 pub mod Telling
 pub mod Faults
+pub mod Resumed

@@ -1,15 +1,16 @@
 -- What the calls of a board make of it and of the numbers that C reads.
-use Rattle.cmwq_c.specs.Common.{Who, Call, Entry, Layout}
-use Rattle.std.specs.Prelude.{◌≡◌, ℕ, Option, None, Some, IfSome, List}
-use Rattle.cmwq_model.specs.Calls as model
+use Rattle.cmwq_c.specs.Common.{Who, Caller, Worker, Call, Reply, Entry, Layout}
+use Rattle.std.specs.Prelude.{◌≡◌, ℕ, Option, None, Some, IfSome, List, Ok}
 use Rattle.cmwq_model.specs.declared.id.WorkerId.{WorkerId}
 use Rattle.cmwq_dispatch.specs.Asleep.{NobodySleeps}
 use Rattle.cmwq_dispatch.specs.Naming.{NamesAll, NamesNobody}
 use Rattle.cmwq_dispatch.specs.declared.wakes.Wakes.{Wakes}
-use Rattle.cmwq_board.specs.Boarded.{Boarded, failed, is_new_board, past_of_board, stopped, with_asleep}
+use Rattle.cmwq_board.specs.Boarded.{Boarded, failed, is_new_board, stopped, with_asleep}
 use Rattle.cmwq_board.specs.Items.{IsDue}
-use Rattle.cmwq_board.specs.Steps.{Advances, Finishes, Makes, Starts, reply_now}
-use Rattle.cmwq_board.specs.Waits.{Begins, EndsOrWaits, Leaves, ThenClears}
+use Rattle.cmwq_board.specs.Machine.{GoesOn, Moves, RisesFirst, StartNamed}
+use Rattle.cmwq_board.specs.Machine.Move.{Calls as CallMove, Finishes as FinishMove, Leaves as LeaveMove}
+use Rattle.cmwq_board.specs.Machine.Move.{Advances as AdvanceMove, Starts as StartMove}
+use Rattle.cmwq_board.specs.Waits.{Begins, EndsOrWaits, WaitsNoMore}
 use Rattle.cmwq_board.specs.declared.board.Begun.{Begun}
 use Rattle.cmwq_board.specs.declared.board.Ended.{Ended}
 use Rattle.cmwq_board.specs.declared.board.Finish.{Finish}
@@ -36,16 +37,20 @@ IsNewBoard s kept lent b = (b ≡ is_new_board s kept lent b.dispatch.asleep) ×
 abbrev pub Calls : Option (Who × Call) → Boarded → Boarded → ReplyNumbers → WakesNumbers → Type 0
 Calls asked old new reply told =
     IfSome asked
-    (λ a. Tells (ThenClears (Makes a.0 a.1) old new) told × (reply ≡ reply_numbers (reply_now old a.0 a.1)))
+    (λ a. (r : Reply) × Moves (CallMove a.0 a.1) (Ok r) old new × Tells (GoesOn a.0 old new) told
+    × (reply ≡ reply_numbers r))
 
 -- the worker starts something, rests or is over
 abbrev pub StartsAs : Option WorkerId → Start → Boarded → Boarded → WakesNumbers → Type 0
-StartsAs worker start old new told = IfSome worker (λ w. Tells (Starts old w start new) told)
+StartsAs worker start old new told =
+    IfSome worker
+    (λ w. Moves (StartMove w) (Ok start) old new × Tells (StartNamed (Ok start) w old new) told)
 
 -- the worker's run ends
 abbrev pub Ends : Option WorkerId → Boarded → Boarded → WakesNumbers → Type 0
 Ends worker old new told =
-    IfSome worker (λ w. (f : Finish) × Tells (ThenClears (Finishes w f) old new) told)
+    IfSome worker
+    (λ w. (f : Finish) × Moves (FinishMove w) (Ok f) old new × Tells (GoesOn (Worker w) old new) told)
 
 -- a wait begins: it has ended with this reply, or goes on by this lent caller
 abbrev pub BeginsAs : Option (Who × Call) → Begun → Boarded → Boarded → WakesNumbers → Type 0
@@ -55,14 +60,17 @@ BeginsAs asked answer old new told = IfSome asked (λ a. Tells (Begins (run_of a
 abbrev pub EndsAs : ℕ → Ended → Boarded → Boarded → WakesNumbers → Type 0
 EndsAs party answer old new told = Tells (EndsOrWaits (caller_of party) answer old new) told
 
--- nobody waits by this party any more
+-- nobody waits by this party any more, and a run that did may begin another wait
 abbrev pub LeavesBy : ℕ → Boarded → Boarded → WakesNumbers → Type 0
-LeavesBy party old new told = Tells (ThenClears (Leaves (caller_of party)) old new) told
+LeavesBy party old new told =
+    Moves (LeaveMove (caller_of party)) (Ok tt) old new × WaitsNoMore (caller_of party) old new
+    × Tells (RisesFirst (caller_of party) old new) told
 
 -- so many ticks go by, and then it is this tick
 abbrev pub AdvancesTo : ℕ → ℕ → Boarded → Boarded → ℕ → WakesNumbers → Type 0
 AdvancesTo caller ticks old new now told =
-    Tells (Advances (caller_of caller) ticks old new) told × (now ≡ model.now (past_of_board new))
+    Moves (AdvanceMove (caller_of caller) ticks) (Ok now) old new
+    × Tells (GoesOn (Caller (caller_of caller)) old new) told
 
 -- nobody sleeps any more, and everybody is named
 abbrev pub Rouses : Boarded → Boarded → Wakes → Wakes → Type 0

@@ -1,13 +1,15 @@
 -- The statuses of a board's calls.
 use Rattle.cmwq_c.specs.Common.{Who, Caller, Worker, Call, Entry, Reply, nat_lt}
-use Rattle.std.specs.Prelude.{ℕ, ◌==◌, ◌||◌, ◌&&◌, if◌then◌else◌, nat_le, List, [], ◌∷◌, length}
-use Rattle.std.specs.Prelude.{Option, None, Some}
+use Rattle.std.specs.Prelude.{ℕ, ◌+◌, ◌==◌, ◌||◌, ◌&&◌, if◌then◌else◌, nat_le, List, [], ◌∷◌, length}
+use Rattle.std.specs.Prelude.{Option, None, Some, Result, Ok, Err}
 use Rattle.cmwq_model.specs.declared.id.CallerId.{CallerId}
 use Rattle.cmwq_model.specs.declared.id.WorkerId.{WorkerId}
 use Rattle.cmwq_text.specs.EntryText.{entry_text}
 use Rattle.cmwq_board.specs.Boarded.{Boarded, layout_of}
-use Rattle.cmwq_board.specs.Steps.{advance_fault, call_fault, finish_fault, start_fault}
-use Rattle.cmwq_board.specs.Waits.{begin_fault, end_fault, leave_fault}
+use Rattle.cmwq_board.specs.Machine.{bare, step}
+use Rattle.cmwq_board.specs.Machine.Move.{Calls as CallMove, Finishes as FinishMove, Leaves as LeaveMove}
+use Rattle.cmwq_board.specs.Machine.Move.{Advances as AdvanceMove, Starts as StartMove}
+use Rattle.cmwq_board.specs.Waits.{begin_fault, end_fault}
 use Rattle.cmwq_board.specs.declared.board.Begun.{Begun}
 use Rattle.cmwq_board.specs.declared.board.Begun.TheVariants as begun
 use Rattle.cmwq_board.specs.declared.board.Ended.{Ended}
@@ -21,6 +23,7 @@ use Rattle.cmwq_board.specs.declared.fault.BoardFault.{BoardFault}
 use Rattle.cmwq_board.specs.declared.fault.BoardFault.TheVariants as fault
 use Rattle.cmwq_board.specs.declared.fault.WaitFault.{WaitFault}
 use Rattle.cmwq_board.specs.declared.fault.WaitFault.TheVariants as wait
+use Rattle.cmwq_board.specs.declared.news.News.{News}
 use Rattle.cmwq_c.specs.Lined.{Lined}
 use Rattle.cmwq_c.specs.Statuses.{found_status, space_status}
 
@@ -49,19 +52,24 @@ abbrev pub wait_fault_status : Option WaitFault → ℕ
 wait_fault_status None = 0
 wait_fault_status (Some f) = wait_fault_number f
 
+-- of what a move came to
+abbrev pub outcome_status : {A : Type 0} → Result A BoardFault → ℕ
+outcome_status (Ok a) = 0
+outcome_status (Err f) = fault_number f
+
 -- ---- of each call, by the meaning of its numbers: 1 where these mean none
 
 abbrev pub single_status : Boarded → Option (Who × Call) → ℕ
 single_status b None = 1
-single_status b (Some asked) = fault_status (call_fault b asked.0 asked.1)
+single_status b (Some asked) = outcome_status (step (bare b) (CallMove asked.0 asked.1)).outcome
 
 abbrev pub start_status : Boarded → Option WorkerId → ℕ
 start_status b None = 1
-start_status b (Some w) = fault_status (start_fault b w)
+start_status b (Some w) = outcome_status (step (bare b) (StartMove w)).outcome
 
 abbrev pub finish_status : Boarded → Option WorkerId → ℕ
 finish_status b None = 1
-finish_status b (Some w) = fault_status (finish_fault b w)
+finish_status b (Some w) = outcome_status (step (bare b) (FinishMove w)).outcome
 
 -- the run that waits, where a worker calls
 abbrev pub run_of : Who → Option WorkerId
@@ -79,10 +87,10 @@ abbrev pub end_status : Boarded → ℕ → ℕ
 end_status b party = fault_status (end_fault b (caller_of party))
 
 abbrev pub leave_status : Boarded → ℕ → ℕ
-leave_status b party = fault_status (leave_fault b (caller_of party))
+leave_status b party = outcome_status (step (bare b) (LeaveMove (caller_of party))).outcome
 
 abbrev pub advance_status : Boarded → ℕ → ℕ → ℕ
-advance_status b caller ticks = fault_status (advance_fault b (caller_of caller) ticks)
+advance_status b caller ticks = outcome_status (step (bare b) (AdvanceMove (caller_of caller) ticks)).outcome
 
 abbrev pub item_status : Boarded → ℕ → ℕ
 item_status b item = found_status (nat_lt item (layout_of b).items)
@@ -131,6 +139,12 @@ begin_done status = if status == 14 then 0 else status
 
 abbrev pub end_done : ℕ → ℕ
 end_done status = if status == 14 || status == 16 || status == 17 then 0 else status
+
+-- ---- what has changed
+
+-- bits: a ticket that was left has ended; a timer may be due earlier
+abbrev pub news_number : News → ℕ
+news_number n = (if n.left_ended then 1 else 0) + (if n.due_earlier then 2 else 0)
 
 -- ---- of lines
 

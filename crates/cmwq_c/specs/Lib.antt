@@ -10,3 +10,4 @@ pub mod Items
 pub mod Lined
 pub mod BoardStatuses
 pub mod BoardCalls
+pub mod Resumed

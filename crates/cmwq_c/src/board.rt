@@ -3,7 +3,7 @@ ghost use Rattle.std.specs.Prelude.{◌≡◌, ◌≢◌, ◌⊎◌, ◌≤◌, 
 ghost use Rattle.cmwq_model.specs.Calls as model;
 ghost use Rattle.cmwq_model.specs.Prelude.{is_layout};
 ghost use Rattle.cmwq_dispatch.specs.Dispatched.{is_over};
-ghost use Rattle.cmwq_board.specs.Boarded.{layout_of, past_of_board};
+ghost use Rattle.cmwq_board.specs.Boarded.{asked, layout_of, past_of_board};
 ghost use Rattle.cmwq_board.specs.Items.{item_state};
 ghost use Rattle.cmwq_board.specs.declared.board.Begun.{Begun};
 ghost use Rattle.cmwq_board.specs.declared.board.Ended.{Ended};
@@ -13,8 +13,8 @@ ghost use Rattle.cmwq_c.specs.BoardCalls.{LeavesBy, StartsAs, Stops, due_number}
 ghost use Rattle.cmwq_c.specs.BoardStatuses.{advance_status, begin_done, begin_status, begun_number, begun_reply};
 ghost use Rattle.cmwq_c.specs.BoardStatuses.{end_done, end_status, ended_number, finish_status, item_after};
 ghost use Rattle.cmwq_c.specs.BoardStatuses.{item_status};
-ghost use Rattle.cmwq_c.specs.BoardStatuses.{leave_status, number_after, party_after, single_status, start_done};
-ghost use Rattle.cmwq_c.specs.BoardStatuses.{start_number, start_status};
+ghost use Rattle.cmwq_c.specs.BoardStatuses.{leave_status, news_number, number_after, party_after, single_status};
+ghost use Rattle.cmwq_c.specs.BoardStatuses.{start_done, start_number, start_status};
 ghost use Rattle.cmwq_c.specs.Items.{item_numbers};
 ghost use Rattle.cmwq_c.specs.Numbers.{asked_of, reply_numbers, shape_of, worker_meant};
 ghost use Rattle.cmwq_c.specs.Statuses.{if_live};
@@ -207,8 +207,9 @@ pub extern "C" fn cmwq_board_end(
     }
 }
 
-/// Nobody waits by this party any more. Its ticket is ended by a later call once it is ready. 0 done, 1 no lent caller,
-/// 2 closed, 9 failed, 10 nobody waits by it, or a run does.
+/// Nobody waits by this party any more. Its ticket is ended by a later call once it is ready, and nobody is named then.
+/// A run that went to sleep for the wait sleeps until its worker wakes it by a call. 0 done, 1 no lent caller, 2
+/// closed, 9 failed, 10 nobody waits by it.
 #[unsafe(no_mangle)]
 pub extern "C" fn cmwq_board_leave(
     alloc: Global,
@@ -380,6 +381,25 @@ pub extern "C" fn cmwq_board_is_over(alloc: Global, board: &mut BoardHandle) -> 
             answer
         }
         None => true,
+    }
+}
+
+/// What has changed since this was called last, of which no call told: 1 a ticket that was left has ended, plus 2 a
+/// drain has ended, or an item was delayed. 0 where the handle is closed.
+#[unsafe(no_mangle)]
+pub extern "C" fn cmwq_board_news(alloc: Global, board: &mut BoardHandle) -> u32
+    ensures live { board.new.live ≡ board.old.live }
+    ensures asked { board.old.live ≡ true → board.new.held.board ≡ asked board.old.held.board }
+    ensures news { board.old.live ≡ true → result ≡ news_number board.old.held.board.news }
+    ensures closed { board.old.live ≡ false → result ≡ 0 }
+{
+    match mem::replace(board, BoardHandle::none()).into_box(alloc) {
+        Some(mut made) => {
+            let answer = made.as_mut().news();
+            *board = BoardHandle::of(made);
+            answer
+        }
+        None => 0,
     }
 }
 

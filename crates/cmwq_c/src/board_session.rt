@@ -3,7 +3,7 @@ ghost use Rattle.std.specs.Prelude.{◌≡◌, ◌≢◌, ◌⊎◌, ◌≤◌, 
 ghost use Rattle.cmwq_model.specs.Calls as model;
 ghost use Rattle.cmwq_model.specs.Prelude.{is_layout};
 ghost use Rattle.cmwq_dispatch.specs.Dispatched.{is_over};
-ghost use Rattle.cmwq_board.specs.Boarded.{handed_out, kept_in, layout_of, past_of_board};
+ghost use Rattle.cmwq_board.specs.Boarded.{asked, handed_out, kept_in, layout_of, past_of_board};
 ghost use Rattle.cmwq_board.specs.Items.{item_state};
 ghost use Rattle.cmwq_board.specs.declared.board.Begun.{Begun};
 ghost use Rattle.cmwq_board.specs.declared.board.Ended.{Ended};
@@ -13,7 +13,7 @@ ghost use Rattle.cmwq_c.specs.BoardCalls.{IsDueNumber, IsNewBoard, LeavesBy, Sta
 ghost use Rattle.cmwq_c.specs.BoardStatuses.{advance_status, begin_done, begin_status, begun_number, begun_reply};
 ghost use Rattle.cmwq_c.specs.BoardStatuses.{end_done, end_status, ended_number, finish_status, hand_out_status};
 ghost use Rattle.cmwq_c.specs.BoardStatuses.{item_after};
-ghost use Rattle.cmwq_c.specs.BoardStatuses.{item_status, leave_status, number_after, party_after, run_of};
+ghost use Rattle.cmwq_c.specs.BoardStatuses.{item_status, leave_status, news_number, number_after, party_after, run_of};
 ghost use Rattle.cmwq_c.specs.BoardStatuses.{single_status, start_done, start_number, start_status};
 ghost use Rattle.cmwq_c.specs.Items.{item_numbers};
 ghost use Rattle.cmwq_c.specs.Lined.{no_lines};
@@ -29,7 +29,7 @@ use crate::status::{
 };
 use crate::told;
 use crate::wakes::{forget, tell};
-use cmwq_board::{Begun, Board, Ended, Start};
+use cmwq_board::{Begun, Board, Ended, News, Start};
 use cmwq_dispatch::{Sleep, Wakes};
 use cmwq_model::{CallerId, ItemId, NoMemory, Shape, Who, WorkerId};
 use std::alloc::Global;
@@ -149,6 +149,21 @@ fn ended_number(ended: Ended) -> u32
         Ended::Not(Sleep::Over) => OVER,
         Ended::Not(Sleep::LooksAgain) => LOOK_AGAIN,
     }
+}
+
+/// A ticket that was left has ended.
+const LEFT_ENDED: u32 = 1;
+
+/// A drain has ended, or an item was delayed.
+const DUE_EARLIER: u32 = 2;
+
+/// What has changed, as bits.
+fn news_number(news: News) -> u32
+    ensures { result ≡ news_number news }
+{
+    let left_ended = if news.left_ended { LEFT_ENDED } else { 0 };
+    let due_earlier = if news.due_earlier { DUE_EARLIER } else { 0 };
+    left_ended + due_earlier
 }
 
 impl BoardSession {
@@ -388,6 +403,14 @@ impl BoardSession {
         ensures { result ≡ is_over self.now.dispatch }
     {
         self.board.is_over()
+    }
+
+    /// What has changed since this was called last.
+    pub fn news(&mut self) -> u32
+        ensures told { result ≡ news_number self.old.news }
+        ensures new { self.new ≡ asked self.old }
+    {
+        news_number(self.board.news())
     }
 
     /// How many entries there are.

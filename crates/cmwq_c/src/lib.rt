@@ -31,6 +31,7 @@ mod judge;
 mod laws;
 mod lines;
 mod numbers;
+mod resume;
 mod session;
 mod status;
 mod taken;

@@ -149,7 +149,7 @@ fn of_place(
 
 /// The numbers of a call.
 #[tactic(auto, unfolding(crate::specs::Numbers::call_numbers))]
-fn call_numbers(who: WhoNumbers, call: Call) -> CallNumbers
+pub fn call_numbers(who: WhoNumbers, call: Call) -> CallNumbers
     ensures { result ≡ call_numbers who call }
 {
     match call {

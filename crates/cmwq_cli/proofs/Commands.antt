@@ -8,18 +8,19 @@ use Rattle.cmwq_cli.specs.Word.{asked_found, word_found}
 use Rattle.cmwq_cli.specs.Explore.{followed_found, has_flag, other_found}
 
 -- what is asked, of its parts
-pub asked : (name : Text) (rows : List Row) (w : Word) (e : Bool) (f o : Option Text)
+pub asked : (name : Text) (rows : List Row) (w : Word) (e : Bool) (f o l : Option Text)
     → word_found (name, rows) ≡ Some w → e ≡ has_flag (codes "explain") rows → f ≡ first_of (codes "FILE") rows
-    → o ≡ other_found rows
-    → Some (record { word = w; explain = e; file = f; other = o }) ≡ asked_found (name, rows)
-asked name rows w e f o is explains has_file has_other =
+    → o ≡ other_found rows → l ≡ first_of (codes "leave-out") rows
+    → Some (record { word = w; explain = e; file = f; other = o; leave_out = l }) ≡ asked_found (name, rows)
+asked name rows w e f o l is explains has_file has_other leaves_out =
     let other = other_found rows in
-    let parts : Some (record { word = w; explain = e; file = f; other = o }) ≡ Some (record {
+    let parts : Some (record { word = w; explain = e; file = f; other = o; leave_out = l }) ≡ Some (record {
       word = w;
       explain = has_flag (codes "explain") rows;
       file = first_of (codes "FILE") rows;
       other = other;
-    }) = rw (explains, has_file, has_other) refl in
+      leave_out = first_of (codes "leave-out") rows;
+    }) = rw (explains, has_file, has_other, leaves_out) refl in
     parts ∙ ap
     (option_map
     (λ (v : Word). record {
@@ -27,6 +28,7 @@ asked name rows w e f o is explains has_file has_other =
       explain = has_flag (codes "explain") rows;
       file = first_of (codes "FILE") rows;
       other = other;
+      leave_out = first_of (codes "leave-out") rows;
     })) (sym is)
 
 -- the name of the file with the moves, if there is one

@@ -6,13 +6,14 @@ use Rattle.cmwq_cli.specs.declared.table.Argument.{Argument}
 use Rattle.cmwq_cli.specs.declared.table.Kind.{Kind}
 use Rattle.cmwq_cli.specs.declared.table.Kind.TheVariants as kind
 use Rattle.cmwq_cli.specs.declared.table.Subcommand.{Subcommand}
-use Rattle.cmwq_cli.specs.Word.{file_option, flag_rule, number_rule}
+use Rattle.cmwq_cli.specs.Word.{file_option, flag_rule, items_option, number_rule}
 
 -- an argument, by its kind and its name
 abbrev pub rule_by : Kind → List ℕ → Rule
 rule_by kind.Flag name = flag_rule name
 rule_by kind.Number name = number_rule name
 rule_by kind.File name = file_option name
+rule_by kind.Items name = items_option name
 rule_by kind.Input name = record (new_rule name) { action = Some Set }
 
 abbrev pub rule_told : Argument → Rule

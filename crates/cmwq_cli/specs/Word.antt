@@ -39,6 +39,7 @@ word_found found =
     else if bytes_eq found.0 (codes "upgrade") then Some word.Upgrade
     else if bytes_eq found.0 (codes "summary") then Some word.Summary
     else if bytes_eq found.0 (codes "open") then Some (word.Open (has_flag (codes "front") found.1))
+    else if bytes_eq found.0 (codes "resume") then Some (word.Resume (has_flag (codes "front") found.1))
     else if bytes_eq found.0 (codes "chart")
     then chart_found found.1
     else if bytes_eq found.0 (codes "trace") then Some word.Trace
@@ -49,13 +50,14 @@ word_found found =
     else if bytes_eq found.0 (codes "explore") then option_map word.Explore (schedules_of (options_found found.1))
     else None
 
--- what is asked: the word, whether it explains, the name of the file that it reads, if one is given, and that of the
--- file with names, with moves or with a history
+-- what is asked: the word, whether it explains, the name of the file that it reads, if one is given, that of the file
+-- with names, with moves or with a history, and the items whose runs are left out
 pub record Request : Type 0 where
   pub word : Word
   pub explain : Bool
   pub file : Option Text
   pub other : Option Text
+  pub leave_out : Option Text
 
 abbrev pub request : Asked → Request
 request a =
@@ -64,6 +66,7 @@ request a =
       explain = a.explain;
       file = option_map (λ s. s.now) a.file;
       other = option_map (λ s. s.now) a.other;
+      leave_out = option_map (λ s. s.now) a.leave_out;
     }
 
 abbrev pub asked_found : Text × List Row → Option Request
@@ -74,6 +77,7 @@ asked_found found =
       explain = has_flag (codes "explain") found.1;
       file = first_of (codes "FILE") found.1;
       other = other_found found.1;
+      leave_out = first_of (codes "leave-out") found.1;
     }) (word_found found)
 
 -- what clap reads of the program's command line: a word is a subcommand, and there is one
@@ -116,21 +120,30 @@ number_rule name =
 abbrev pub file_option : List ℕ → Rule
 file_option name = record (new_rule name) { long = Some name; action = Some Set; value_names = 1 }
 
+-- an option with the numbers of items: two dashes, its name and these
+abbrev pub items_option : List ℕ → Rule
+items_option name = record (new_rule name) { long = Some name; action = Some Set; value_names = 1 }
+
 -- a word that shows a history may have names
 abbrev pub with_named : App → App → App
 with_named a command = with_command a (with_rule command (file_option (codes "names")))
 
--- the words whose inputs are lines and whose outputs are too, of which `step` also has `--live`, and `check` and `open`
--- have `--front`; then those that draw a history, of which `chart` and `page` have `--from` and `--to`, and `chart` has
--- `--all`
-abbrev pub with_texts : App
-with_texts =
+-- the words whose inputs are lines and whose outputs are too, of which `step` also has `--live`, `check`, `open` and
+-- `resume` have `--front`, and `resume` has `--leave-out`; then those that draw a history, of which `chart` and `page`
+-- have `--from` and `--to`, and `chart` has `--all`
+abbrev pub with_open : App
+with_open =
     with_named
     (with_named
     (with_word
     (with_flagged (with_flagged without_words (codes "step") (codes "live")) (codes "check") (codes "front"))
     (codes "upgrade")) (new_app (codes "summary")))
     (with_rule (new_app (codes "open")) (flag_rule (codes "front")))
+
+abbrev pub with_texts : App
+with_texts =
+    with_command with_open
+    (with_rule (with_rule (new_app (codes "resume")) (flag_rule (codes "front"))) (items_option (codes "leave-out")))
 
 abbrev pub chart_word : App
 chart_word =

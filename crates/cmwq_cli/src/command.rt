@@ -37,6 +37,10 @@ fn arg<'a>(alloc: Global, argument: &Argument<'a>) -> Arg<'a>
             .long(argument.name)
             .action(ArgAction::Set)
             .value_name("FILE"),
+        Kind::Items => arg
+            .long(argument.name)
+            .action(ArgAction::Set)
+            .value_name("ITEMS"),
         Kind::Input => arg.action(ArgAction::Set),
     }
 }

@@ -8,6 +8,7 @@ pub(crate) enum Page {
     Upgrade,
     Summary,
     Open,
+    Resume,
     Chart,
     Trace,
     Page,
@@ -24,6 +25,7 @@ impl Page {
             Page::Upgrade => FORMER_HELP,
             Page::Summary => FIGURES_HELP,
             Page::Open => STANDING_HELP,
+            Page::Resume => RESUME_HELP,
             Page::Chart => PICTURE_HELP,
             Page::Trace => TRACE_HELP,
             Page::Page => PAGE_HELP,
@@ -50,6 +52,10 @@ pub(crate) const FRONT_HELP: &str =
 /// What the help of a word says of its option of names.
 pub(crate) const NAMES_HELP: &str =
     "Shows the names of items, queues and callers that this script gives, in place of their numbers";
+
+/// What the help of `resume` says of its option of items.
+pub(crate) const LEAVE_OUT_HELP: &str =
+    "Does not queue the runs of these items again that were broken off: their numbers, with commas between them";
 
 /// What the help of `step` shows below its usage.
 const CALLS_HELP: &str =
@@ -138,6 +144,30 @@ A queueing has the number of the entry that opened it, and a ticket that of the 
 has not started says why. A run that sleeps says since when, and by which caller it waits, if the history shows that. A
 wait that nothing holds up says `may end`. Of an illegal history nothing is written, and the verdict goes to standard
 error.";
+
+/// What the help of `resume` shows below its usage.
+const RESUME_HELP: &str =
+    r"The input is a legal history of any format, or with `--front` one whose writing was cut off:
+
+  history 2
+  shape 1 2 1 3 100
+  wq 1 -
+  c0 0 queue 0 0 0 = yes 0
+  w0n0 0 take = started 0 enlist 1
+  c0 1 delay 1 0 0 9 = booked 9
+
+gives the calls by which a new history takes over what was left, which `step` reads:
+
+  shape 1 2 1 3 100
+  wq 1 -
+  c0 queue 0 0 0
+  c0 delay 1 0 0 9
+
+They are, in this order: `set_max` where the width is not that of the shape; `destroy` and `end` of each queue that is
+gone; `freeze`; `queue` of what ran, and then of what was pending; `delay` by one tick of what was due, and `tick 1`;
+`delay` by the ticks that were left of what was booked for later. Standard error has a line for each run that was broken
+off, and says what becomes of it, and one for each wait, which is over. Of an illegal history nothing is written, and
+the verdict goes to standard error.";
 
 /// What the help of `chart` shows below its usage.
 const PICTURE_HELP: &str = r"A history of any format, as `step` and `run` write it:

@@ -1,6 +1,6 @@
 //! The subcommands in their order, and the arguments of each.
 
-use crate::help::{EXPLAIN_HELP, FILE_HELP, FRONT_HELP, NAMES_HELP, Page};
+use crate::help::{EXPLAIN_HELP, FILE_HELP, FRONT_HELP, LEAVE_OUT_HELP, NAMES_HELP, Page};
 
 /// What follows an argument's name on the command line.
 #[derive(Clone, Copy)]
@@ -11,6 +11,8 @@ pub(crate) enum Kind {
     Number,
     /// `--name` and the name of a file.
     File,
+    /// `--name` and the numbers of items.
+    Items,
     /// The name of a file by itself.
     Input,
 }
@@ -62,7 +64,7 @@ const NAMES: Argument<'static> = Argument {
 };
 
 /// The subcommands.
-pub(crate) const SUBCOMMANDS: [Subcommand<'static>; 11] = [
+pub(crate) const SUBCOMMANDS: [Subcommand<'static>; 12] = [
     Subcommand {
         name: "step",
         about: "Reads call lines and writes the history of their answers",
@@ -101,6 +103,21 @@ pub(crate) const SUBCOMMANDS: [Subcommand<'static>; 11] = [
         about: "Reads a history and writes what is still going on at its end, if it is legal",
         page: Page::Open,
         arguments: &[FRONT, NAMES, INPUT, EXPLAIN],
+    },
+    Subcommand {
+        name: "resume",
+        about: "Reads a history and writes the calls by which a new one takes it over, if it is legal",
+        page: Page::Resume,
+        arguments: &[
+            FRONT,
+            Argument {
+                name: "leave-out",
+                kind: Kind::Items,
+                help: LEAVE_OUT_HELP,
+            },
+            INPUT,
+            EXPLAIN,
+        ],
     },
     Subcommand {
         name: "chart",

@@ -34,6 +34,11 @@ pub enum Word {
         /// Whether it is told of the whole lines that are there.
         front: bool,
     },
+    /// Writes the calls by which a new history takes over what a legal one left, or the front of one.
+    Resume {
+        /// Whether it takes over the whole lines that are there.
+        front: bool,
+    },
     /// Writes the picture of a legal history.
     Chart {
         /// From which entry on, if not from the first.
@@ -108,6 +113,8 @@ pub struct Asked<'a> {
     pub file: Option<&'a str>,
     /// The name of the file with the names, or with the moves or the history of `explore`.
     pub other: Option<&'a str>,
+    /// The items whose runs `resume` leaves out, as they were given.
+    pub leave_out: Option<&'a str>,
 }
 
 /// The window that the matches of a word ask for: from where, and up to where.
@@ -168,6 +175,9 @@ fn word_found(name: &str, matches: &ArgMatches) -> Option<Word>
         "open" => Some(Word::Open {
             front: has_flag(matches, "front"),
         }),
+        "resume" => Some(Word::Resume {
+            front: has_flag(matches, "front"),
+        }),
         "chart" => chart_found(matches),
         "trace" => Some(Word::Trace),
         "page" => page_found(matches),
@@ -211,6 +221,7 @@ fn asked_found<'a>(name: &str, matches: &ArgMatches<'a>) -> Option<Asked<'a>>
             explain: has_flag(matches, "explain"),
             file: matches.get_str("FILE"),
             other: other_found(matches),
+            leave_out: matches.get_str("leave-out"),
         }),
         None => None,
     }

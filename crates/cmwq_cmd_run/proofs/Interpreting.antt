@@ -10,8 +10,8 @@ use Rattle.cmwq_monitor.specs.Calls.{Extends}
 use Rattle.std.specs.Prelude.{◌⊎◌}
 use Rattle.cmwq_json_script.specs.declared.action.Action.TheVariants as action
 use Rattle.cmwq_rt.specs.Running.{MakesOne}
-use Rattle.cmwq_rt.specs.Waiting.{HadNoRoom, HasWaited, MayNotWait, fault_after_wait, is_refusal, is_wait}
-use Rattle.cmwq_rt.specs.Waiting.{left_out_after}
+use Rattle.cmwq_rt.specs.Waiting.{HasWaited, IsAwake, IsRefusedFor, WasLookedAt, WhyNot, fault_after_wait}
+use Rattle.cmwq_rt.specs.Waiting.{is_for_itself, is_refusal, is_wait, left_out_after}
 use Rattle.cmwq_model.specs.declared.id.ItemId.{ItemId}
 use Rattle.cmwq_rt.specs.declared.wait_fault.WaitFault.{WaitFault}
 use Rattle.cmwq_rt.specs.declared.wait_fault.WaitFault.TheVariants as waits
@@ -71,39 +71,43 @@ slept_if s v m w r answer (Ok u) before middle after asleep made refused full no
 slept_if s v m w r answer (Err f) before middle after asleep made refused full none kept is = tt
 
 -- a wait that was refused or had no room is counted, and the run has met no fault
-was_left_out : (s : Layout) (item : ItemId) (c : Call) (v w : View) (f : WaitFault) (before after : Option RunFault)
-    (old new : LeftOut) → (is_refusal f ≡ true → (w ≡ v) ⊎ MakesOne s v call.Wake w)
-    → (f ≡ waits.Run Full → HadNoRoom s v w)
-    → MayNotWait s (record { item = item; participant = v; fault = None; left_out = no_waits }) c f
-    → (is_refusal f ≡ true) ⊎ (f ≡ waits.Run Full)
+was_left_out : (s : Layout) (first : ℕ) (item : ItemId) (c : Call) (v w : View) (f : WaitFault) (before after : Option RunFault)
+    (old new : LeftOut) → WhyNot s first item v c f w → (is_refusal f ≡ true) ⊎ (f ≡ waits.Run Full)
     → before ≡ None → after ≡ fault_after_wait (Err f) before → new ≡ left_out_after (Err f) old
     → (after ≡ None) × WaitsIfMay s item old new v c w
-was_left_out s item c v w waits.Itself before after old new refused full why passes none is counts =
-    (is ∙ none, inr (inl ((refused refl, (waits.Itself, refl, why)), counts)))
-was_left_out s item c v w waits.Deadlock before after old new refused full why passes none is counts =
-    (is ∙ none, inr (inl ((refused refl, (waits.Deadlock, refl, why)), counts)))
-was_left_out s item c v w waits.NoCaller before after old new refused full why passes none is counts =
-    (is ∙ none, inr (inl ((refused refl, (waits.NoCaller, refl, why)), counts)))
-was_left_out s item c v w (waits.Run f) before after old new refused full why (inl never) none is counts =
-    absurd (cc never)
-was_left_out s item c v w (waits.Run f) before after old new refused full why (inr same) none is counts = (
+was_left_out s first item c v w waits.Itself before after old new why passes none is counts =
+    (is ∙ none, (first, inr (inl ((waits.Itself, refl, why), counts))))
+was_left_out s first item c v w waits.Deadlock before after old new why passes none is counts =
+    (is ∙ none, (first, inr (inl ((waits.Deadlock, refl, why), counts))))
+was_left_out s first item c v w waits.NoCaller before after old new why passes none is counts =
+    (is ∙ none, (first, inr (inl ((waits.NoCaller, refl, looked why), counts))))
+  where
+    looked : IsRefusedFor s first item v c waits.NoCaller w → ((is_for_itself item c ≡ true) × (w ≡ v))
+        ⊎ ((awake : View) × IsAwake s v awake × WasLookedAt s first awake c None w)
+    looked (inl own) = inl own
+    looked (inr (awake, is_awake, lacked)) = inr (awake, is_awake, lacked.looked)
+was_left_out s first item c v w (waits.Run f) before after old new why (inl never) none is counts = absurd (cc never)
+was_left_out s first item c v w (waits.Run f) before after old new why (inr same) none is counts = (
   subst (λ e. after ≡ fault_after_wait (Err e) before) same is ∙ none,
-  inr (inr (full same, subst (λ e. new ≡ left_out_after (Err e) old) same counts)),
+  (
+    first,
+    inr (inr (
+      subst (λ e. WhyNot s first item v c e w) same why,
+      subst (λ e. new ≡ left_out_after (Err e) old) same counts,
+    )),
+  ),
 )
 
-waits_or_not : (s : Layout) (item : ItemId) (c : Call) (v w : View) (answer : Result Reply WaitFault)
+waits_or_not : (s : Layout) (first : ℕ) (item : ItemId) (c : Call) (v w : View) (answer : Result Reply WaitFault)
     (before after : Option RunFault) (old new : LeftOut)
-    → IfOk answer (λ r. HasWaited s v c r w)
-    → IfErr answer (λ f. is_refusal f ≡ true → (w ≡ v) ⊎ MakesOne s v call.Wake w)
-    → IfErr answer (λ f. f ≡ waits.Run Full → HadNoRoom s v w)
-    → IfErr answer (MayNotWait s (record { item = item; participant = v; fault = None; left_out = no_waits }) c)
+    → IfOk answer (λ r. HasWaited s first v c r w) → IfErr answer (λ f. WhyNot s first item v c f w)
     → IfErr answer (λ f. (is_refusal f ≡ true) ⊎ (f ≡ waits.Run Full))
     → before ≡ None → after ≡ fault_after_wait answer before → new ≡ left_out_after answer old
     → (after ≡ None) × WaitsIfMay s item old new v c w
-waits_or_not s item c v w (Ok r) before after old new waited refused full why passes none is counts =
-    (is ∙ none, inl (r, waited, counts))
-waits_or_not s item c v w (Err f) before after old new waited refused full why passes none is counts =
-    was_left_out s item c v w f before after old new refused full why passes none is counts
+waits_or_not s first item c v w (Ok r) before after old new waited why passes none is counts =
+    (is ∙ none, (first, inl (r, waited, counts)))
+waits_or_not s first item c v w (Err f) before after old new waited why passes none is counts =
+    was_left_out s first item c v w f before after old new why passes none is counts
 
 -- an action that waits
 acts_by_wait : (s : Layout) (item : ItemId) (c : Call) (old new : LeftOut) (v w : View) → is_own c ≡ true
@@ -111,22 +115,17 @@ acts_by_wait : (s : Layout) (item : ItemId) (c : Call) (old new : LeftOut) (v w 
     → Acts s item (action.Call c) old new v w
 acts_by_wait s item c old new v w own numbers other left = rw own (rw numbers (rw other left))
 
-pub waits_if_may : (s : Layout) (item : ItemId) (c : Call) (v w : View) (answer : Result Reply WaitFault)
+pub waits_if_may : (s : Layout) (first : ℕ) (item : ItemId) (c : Call) (v w : View) (answer : Result Reply WaitFault)
     (passed : Result (Unit {0}) RunFault) (before after : Option RunFault) (old new : LeftOut)
     → is_own c ≡ true → has_numbers s c ≡ true → is_workers c ≡ false
-    → IfOk answer (λ r. HasWaited s v c r w)
-    → IfErr answer (λ f. is_refusal f ≡ true → (w ≡ v) ⊎ MakesOne s v call.Wake w)
-    → IfErr answer (λ f. f ≡ waits.Run Full → HadNoRoom s v w)
-    → IfErr answer (MayNotWait s (record { item = item; participant = v; fault = None; left_out = no_waits }) c)
+    → IfOk answer (λ r. HasWaited s first v c r w) → IfErr answer (λ f. WhyNot s first item v c f w)
     → IfOk passed (λ _. IfErr answer (λ f. (is_refusal f ≡ true) ⊎ (f ≡ waits.Run Full)))
     → before ≡ None → after ≡ fault_after_wait answer before → new ≡ left_out_after answer old
     → IfOk passed (λ _. (after ≡ None) × Acts s item (action.Call c) old new v w)
-waits_if_may s item c v w answer (Ok u) before after old new own numbers other waited refused full why passes none is
-    counts =
-    let left = waits_or_not s item c v w answer before after old new waited refused full why passes none is counts in
+waits_if_may s first item c v w answer (Ok u) before after old new own numbers other waited why passes none is counts =
+    let left = waits_or_not s first item c v w answer before after old new waited why passes none is counts in
     (left.0, acts_by_wait s item c old new v w own numbers other left.1)
-waits_if_may s item c v w answer (Err f) before after old new own numbers other waited refused full why passes none is
-    counts = tt
+waits_if_may s first item c v w answer (Err f) before after old new own numbers other waited why passes none is counts = tt
 
 -- a call that items make and workers don't is one by which a run waits
 pub own_waits : (c : Call) → is_own c ≡ true → is_workers c ≡ false → is_wait c ≡ true

@@ -1,10 +1,10 @@
 -- What a run of an item makes: what its actions make, in their order.
 use Rattle.std.specs.Prelude.{◌≡◌, ◌⊎◌, ◌&&◌, ◌∷◌, true, None}
-use Rattle.cmwq_cmd_run.specs.Common.{List, [], MatchBool, MatchOption, slice_get, Call, Layout, has_numbers}
+use Rattle.cmwq_cmd_run.specs.Common.{ℕ, List, [], MatchBool, MatchOption, slice_get, Call, Layout, has_numbers}
 use Rattle.cmwq_cmd_run.specs.Common.{is_workers, View, Refused, Full, Behavior, MakesOne, Action, is_own, LeftOut}
 use Rattle.cmwq_cmd_run.specs.Common.{no_waits, one_refused, one_without_room}
 use Rattle.cmwq_model.specs.declared.reply.Reply.{Reply}
-use Rattle.cmwq_rt.specs.Waiting.{HadNoRoom, HasWaited, IsAwake, MayNotWait, is_refusal}
+use Rattle.cmwq_rt.specs.Waiting.{HadNoRoom, HasWaited, IsAwake, WasLookedAt, is_for_itself, is_refusal, stuck_of}
 use Rattle.cmwq_rt.specs.declared.wait_fault.WaitFault.{WaitFault}
 use Rattle.cmwq_model.specs.declared.id.ItemId.{ItemId}
 use Rattle.cmwq_model.specs.declared.call.Call.TheVariants as call
@@ -23,19 +23,20 @@ SleepsOnce s v w = ((asleep : View) × MakesOne s v call.Sleep asleep × MakesIf
 abbrev pub TakesLock : Layout → View → View → Type 0
 TakesLock s v w = (w ≡ v) ⊎ SleepsOnce s v w
 
--- The wait of an item's run was refused, with nothing made, but that a run that was asleep woke. There was a reason: it
--- was for the run itself, or it could never end, as was found under the lock; or it might have ended, and no caller was
--- left to be lent.
-abbrev pub IsRefused : Layout → ItemId → View → Call → View → Type 0
-IsRefused s item v c w = IsAwake s v w × ((f : WaitFault) × (is_refusal f ≡ true)
-    × MayNotWait s (record { item = item; participant = v; fault = None; left_out = no_waits }) c f)
+-- The wait of an item's run was refused, where callers from this number on are lent to runs. There was a reason: it was
+-- for the run itself, or it could never end, as was found under the lock; or it might have ended, and no caller was left
+-- to be lent.
+abbrev pub IsRefused : Layout → ℕ → ItemId → View → Call → View → Type 0
+IsRefused s first item v c w = (f : WaitFault) × (is_refusal f ≡ true) × (((is_for_itself item c ≡ true) × (w ≡ v))
+    ⊎ ((awake : View) × IsAwake s v awake × WasLookedAt s first awake c (stuck_of f) w))
 
 -- A wait of a run that had left out so many, `old`, and then has left out `new`: by a caller that was lent to the run
--- the call was made while it slept; or it was refused; or there was no room for it.
+-- the call was made while it slept; or it was refused; or there was no room for it. Callers from some number on are lent
+-- to runs.
 abbrev pub WaitsIfMay : Layout → ItemId → LeftOut → LeftOut → View → Call → View → Type 0
-WaitsIfMay s item old new v c w = ((r : Reply) × HasWaited s v c r w × (new ≡ old))
-    ⊎ (IsRefused s item v c w × (new ≡ one_refused old))
-    ⊎ (HadNoRoom s v w × (new ≡ one_without_room old))
+WaitsIfMay s item old new v c w = (first : ℕ) × (((r : Reply) × HasWaited s first v c r w × (new ≡ old))
+    ⊎ (IsRefused s first item v c w × (new ≡ one_refused old))
+    ⊎ (HadNoRoom s first v c w × (new ≡ one_without_room old)))
 
 -- what a call of an item makes: its worker makes it, or the run waits
 abbrev pub Calls : Layout → ItemId → LeftOut → LeftOut → View → Call → View → Type 0

@@ -185,6 +185,7 @@ fn serve<N: HubName + Send + Sync + 'static, R: Threads + Wait + Sync>(
 ) -> Result<(Log, Vec<Entry>), RunFault>
     requires layout { parts.shape ≡ N.layout }
     requires book { parts.opening.book ≡ N.book }
+    requires lends { parts.dispatch.first_lent ≡ N.first_lent }
     requires ledger { (parts.blank.name ≡ N.name) × (parts.blank.parts ≡ N.parts) }
     requires numbers { HasNumbers parts.shape }
 {

@@ -187,6 +187,7 @@ fn run_parts<
 ) -> (Rest, Result<Tally, RunFault>)
     requires layout { parts.shape ≡ N.layout }
     requires book { parts.opening.book ≡ N.book }
+    requires lends { (C.roles crew.now parts.shape).threads ≡ N.first_lent }
     requires ledger { (parts.blank.name ≡ N.name) × (parts.blank.parts ≡ N.parts) }
     requires fits { C.fits crew.now N.layout }
     ensures rest { IsRest N.layout result.0.first result.0.entries.items }

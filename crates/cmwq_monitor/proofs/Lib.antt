@@ -7,3 +7,5 @@ pub mod Whole
 pub mod Fitting
 mod Predicted
 pub mod Sleepers
+pub mod Tickets
+pub mod Allowed

@@ -18,6 +18,8 @@ use Rattle.cmwq_dispatch.proofs.Cared.{all_named, sleep_same}
 use Rattle.cmwq_dispatch.proofs.OneNamed.{names_more}
 use Rattle.cmwq_monitor.specs.Sleeping.{RestsUntil, WaitsFor}
 use Rattle.cmwq_monitor.specs.Held.{GoesOn, Held, IsOpenTo, SleepersGoOn, dispatched, held_of, history_of, is_over}
+use Rattle.cmwq_monitor.specs.Held.{is_shut_to}
+use Rattle.cmwq_waits.specs.Begun.{is_lent}
 use Rattle.cmwq_monitor.specs.Participants.{is_caller}
 
 -- ---- a monitor is a dispatch
@@ -35,18 +37,18 @@ dispatch_is s d given keeps sleeps layout room =
 
 -- ---- who may make an entry
 
-closed_then : (c f a r : Bool) → (c && true) ≡ false → f ≡ false → (f || (c && a && r)) ≡ true → ⊥
-closed_then false false a r shut lives over = true≢false (sym over)
-closed_then true f a r shut lives over = true≢false shut
-closed_then false true a r shut lives over = true≢false lives
+closed_then : (c f a r l : Bool) → (c || l) ≡ false → f ≡ false → (f || (c && a && r)) ≡ true → ⊥
+closed_then false false a r l shut lives over = true≢false (sym over)
+closed_then true f a r l shut lives over = true≢false shut
+closed_then false true a r l shut lives over = true≢false lives
 
 pub open_may_enter : (s : Layout) (h : Held) (e : Entry) → IsOpenTo h e.who → MayEnter (dispatched s h) e
 open_may_enter s h e taken = (taken.0, λ c over who. absurd (at c over who))
   where
     at : (c : CallerId) → is_over s h ≡ true → e.who ≡ Caller c → ⊥
     at c over who =
-        let shut : (h.closed && true) ≡ false = ap (λ w. h.closed && is_caller w) (sym who) ∙ taken.1 in
-        closed_then h.closed h.failed _ _ shut taken.0 over
+        let shut : (h.closed || is_lent h.first_lent (Caller c)) ≡ false = ap (is_shut_to h) (sym who) ∙ taken.1 in
+        closed_then h.closed h.failed _ _ (is_lent h.first_lent (Caller c)) shut taken.0 over
 
 pub lives_may_enter : (s : Layout) (h : Held) (e : Entry) → h.failed ≡ false
     → (is_caller e.who && is_over s h) ≡ false → MayEnter (dispatched s h) e

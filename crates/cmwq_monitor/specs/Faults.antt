@@ -13,8 +13,8 @@ Differs w own book = ((own ≡ w.serial) × (book ≢ own)) ⊎ ((own ≡ length
 abbrev pub IsStranger : View → RunFault → Type 0
 IsStranger w f = (own : ℕ) × (book : ℕ) × (f ≡ Stranger own book) × Differs w own book
 
--- There was no room for the call after all that it now sees; or the hub isn't its own; or it is closed, which is told
--- to callers alone. A call of one entry begins no ticket, and answers no other fault.
+-- There was no room for the call after all that it now sees; or the hub isn't its own; or it takes none of this one,
+-- which is told to callers alone. A call of one entry begins no ticket, and answers no other fault.
 abbrev pub SaysFault : Layout → View → Call → RunFault → Type 0
 SaysFault s w call (NoMemory ticket) = ticket ≡ None
 SaysFault s w call Full = has_room s s.room (past_of w.seen) w.who call ≡ false

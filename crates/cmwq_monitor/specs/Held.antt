@@ -1,19 +1,22 @@
 -- What contracts see of what a hub keeps under its lock.
-use Rattle.std.specs.Prelude.{◌≡◌, ◌⊎◌, ◌+◌, ◌-◌, ◌*◌, ◌&&◌, ◌||◌, nat_lt, nat_le}
+use Rattle.std.specs.Prelude.{◌≡◌, ◌⊎◌, ◌+◌, ◌-◌, ◌*◌, ◌<◌, ◌≤◌, ◌&&◌, ◌||◌, nat_lt, nat_le, not}
+use Rattle.std.specs.List.{list_any}
+use Rattle.cmwq_model.specs.Tickets.{is_held_by, unended_tickets}
 use Rattle.cmwq_monitor.specs.Common.{ℕ, Bool, true, false, List, [], length, Who, Entry, Layout, past_of}
 use Rattle.cmwq_monitor.specs.Common.{Call, Caller, None, Option, Worker, History}
-use Rattle.cmwq_core.specs.History.{takes_with}
+use Rattle.cmwq_model.specs.declared.call.Call.TheVariants as call
+use Rattle.cmwq_core.specs.History.{takes, takes_with}
 use Rattle.cmwq_dispatch.specs.Asleep.{Asleep, SleepOn}
 use Rattle.cmwq_dispatch.specs.Dispatched as Dispatch
 use Rattle.cmwq_dispatch.specs.Dispatched.{Dispatched, dispatched_of}
 use Rattle.cmwq_dispatch.specs.Naming.{NamesAll, names_journal}
 use Rattle.cmwq_dispatch.specs.declared.wakes.Wakes.{Wakes}
-use Rattle.cmwq_waits.specs.Begun.{waits_of}
+use Rattle.cmwq_waits.specs.Begun.{is_lent, waits_of}
 use Rattle.cmwq_waits.specs.Registered.{refusal_of}
 use Rattle.cmwq_waits.specs.declared.waits.Stuck.{Stuck}
 use Rattle.cmwq_monitor.specs.Participants.{is_caller}
 use Rattle.cmwq_monitor.specs.declared.fault.RunFault.{RunFault}
-use Rattle.cmwq_monitor.specs.declared.fault.RunFault.TheVariants.{NoMemory, Closed}
+use Rattle.cmwq_monitor.specs.declared.fault.RunFault.TheVariants.{NoMemory}
 
 -- The history, with the oldest entry first. A closed hub takes no calls of callers, a failed one none at all. How many
 -- callers may still fire, whether somebody sleeps until there is space, from which number on callers are lent to runs,
@@ -67,9 +70,14 @@ history_of s entries = record { layout = s; room = s.room; entries = entries }
 abbrev pub dispatched : Layout → Held → Dispatched
 dispatched s h = dispatched_of (history_of s h.history) h.closed h.failed h.crowded h.firing h.first_lent h.asleep
 
+-- It takes no call of this one: once it is closed, of no caller, and never of one that is lent to runs, which makes
+-- only the calls by which they wait.
+abbrev pub is_shut_to : Held → Who → Bool
+is_shut_to h who = is_caller who && (h.closed || is_lent h.first_lent who)
+
 -- it takes the calls of this one
 abbrev pub IsOpenTo : Held → Who → Type 0
-IsOpenTo h who = (h.failed ≡ false) × ((h.closed && is_caller who) ≡ false)
+IsOpenTo h who = (h.failed ≡ false) × (is_shut_to h who ≡ false)
 
 -- how many active queueings are open
 abbrev pub active_in : Layout → List Entry → ℕ
@@ -110,9 +118,40 @@ refusal_after s first history (Caller k) c = None
 abbrev pub refusal_at : Layout → Held → Who → Call → Option Stuck
 refusal_at s h who c = refusal_after s h.first_lent h.history who c
 
--- there is room for the call, with what is owed then, and for a sleep and a wake
-abbrev pub has_room_to_wait : Layout → Held → Who → Call → Bool
-has_room_to_wait s h who c = takes_with (history_of s h.history) who c 2
+-- After these entries there is room for the worker's sleep, and for the call of this caller, for what is owed then, and
+-- for the sleep and the wake.
+abbrev pub has_room_after : Layout → List Entry → Who → Who → Call → Bool
+has_room_after s history worker caller c =
+    takes (history_of s history) worker call.Sleep && takes_with (history_of s history) caller c 2
+
+abbrev pub has_room_at : Layout → Held → Who → Who → Call → Bool
+has_room_at s h worker caller c = has_room_after s h.history worker caller c
+
+-- this one waits: it has an unended ticket
+abbrev pub has_ticket : List Entry → Who → Bool
+has_ticket past who = list_any (is_held_by who) (unended_tickets past)
+
+abbrev pub caller_waits : List Entry → ℕ → Bool
+caller_waits past c = has_ticket past (Caller (record { 0 = c }))
+
+-- each caller that is lent to runs waits, where those from a number on are
+abbrev pub AllLentWait : Layout → ℕ → List Entry → Type 0
+AllLentWait s first past = (c : ℕ) → first ≤ c → c < s.callers → caller_waits past c ≡ true
+
+-- one of them does not
+abbrev pub SomeLentIsFree : Layout → ℕ → List Entry → Type 0
+SomeLentIsFree s first past = (c : ℕ) × (first ≤ c) × (c < s.callers) × (caller_waits past c ≡ false)
+
+-- whether this is one of them that does not
+abbrev pub is_free : ℕ → List Entry → Who → Bool
+is_free first past who = is_lent first who && not (has_ticket past who)
+
+-- A wait of this worker's run by this caller may begin: it is not refused, the caller is lent to runs and does not wait,
+-- and there is room.
+pub record MayWaitBy (s : Layout) (h : Held) (worker : Who) (c : Call) (caller : Who) : Type 0 where
+  pub free : is_free h.first_lent (past_of h.history) caller ≡ true
+  pub allowed : refusal_at s h worker c ≡ None
+  pub room : has_room_at s h worker caller c ≡ true
 
 -- ---- steps
 
@@ -127,12 +166,10 @@ pub record GoesOn (old new : Held) : Type 0 where
   pub given : new.given ≡ old.given
   pub keeps : new.keeps ≡ old.keeps
 
--- What a fault leaves: want of memory a hub that has failed, any other one as it was. Only a closed one answers that it
--- is closed.
+-- What a fault leaves: want of memory a hub that has failed, any other one as it was.
 abbrev pub LeavesHeld : Held → RunFault → Held → Type 0
 LeavesHeld old (NoMemory ticket) new =
     (new.closed ≡ old.closed) × (new.failed ≡ true) × (new.first_lent ≡ old.first_lent)
-LeavesHeld old Closed new = (new ≡ old) × (old.closed ≡ true)
 LeavesHeld old f new = new ≡ old
 
 -- It has failed, and nobody sleeps.

@@ -1,12 +1,13 @@
 -- What one step under the lock leaves.
-use Rattle.std.specs.Prelude.{◌≡◌, ◌⊎◌, ◌&&◌, ◌≤◌, ◌∷◌, ◌++◌}
+use Rattle.std.specs.Prelude.{◌≡◌, ◌⊎◌, ◌≤◌, ◌∷◌, ◌++◌}
 use Rattle.cmwq_model.specs.Prelude.{is_drain, is_retired}
 use Rattle.cmwq_monitor.specs.Common.{ℕ, Bool, true, false, List, [], length, All, Option, Some, None, MatchBool, Call}
 use Rattle.cmwq_monitor.specs.Common.{Reply, Entry, Layout, serial_of, IsLegal, past_of, has_room}
 use Rattle.cmwq_model.specs.declared.call.Call.TheVariants as call
 use Rattle.cmwq_model.specs.declared.reply.Reply.TheVariants as reply
-use Rattle.cmwq_monitor.specs.Participants.{View, Gains, is_caller, made_by}
-use Rattle.cmwq_monitor.specs.Held.{Held, IsOpenTo, failed_from}
+use Rattle.cmwq_waits.specs.Allowed.{BeginsAllowed}
+use Rattle.cmwq_monitor.specs.Participants.{View, Gains, made_by}
+use Rattle.cmwq_monitor.specs.Held.{Held, IsOpenTo, failed_from, is_shut_to}
 use Rattle.cmwq_monitor.specs.Calls.{own_entry}
 use Rattle.cmwq_monitor.specs.Whole.{Fires, EndsOwn, EndsFiring, IsFire, EndsTicket, PartEnd, Stops}
 use Rattle.cmwq_monitor.specs.declared.fault.RunFault.{RunFault}
@@ -18,15 +19,19 @@ use Rattle.cmwq_monitor.specs.declared.fault.Shortage.TheVariants.{Room, Memory}
 abbrev pub InStep : List Entry → View → Type 0
 InStep history v = (serial_of (past_of history) v.who ≡ v.serial) × (length v.seen ≤ length history)
 
--- Which fault a call answers where there are several: to a caller that the hub is closed, then that it has failed, then
+-- Which fault a call answers where there are several: that the hub takes none of this one, then that it has failed, then
 -- that it isn't the participant's own, then that there is no room for the call. Memory may run out once the call is let
 -- in.
 abbrev pub TellsFirst : Held → View → RunFault → Type 0
-TellsFirst h v Closed = (h.closed && is_caller v.who) ≡ true
-TellsFirst h v (NoMemory ticket) = ((h.closed && is_caller v.who) ≡ false) × ((h.failed ≡ true) ⊎ InStep h.history v)
+TellsFirst h v Closed = is_shut_to h v.who ≡ true
+TellsFirst h v (NoMemory ticket) = (is_shut_to h v.who ≡ false) × ((h.failed ≡ true) ⊎ InStep h.history v)
 TellsFirst h v (Stranger own book) = IsOpenTo h v.who
 TellsFirst h v Full = IsOpenTo h v.who × InStep h.history v
 TellsFirst h v f = ⊥
+
+-- A wait that the call begins, if it begins one, was not refused just before its run fell asleep.
+abbrev pub MayBegin : Layout → Held → View → Call → Type 0
+MayBegin s h v call = BeginsAllowed h.first_lent s (past_of h.history) (own_entry s h.history v call)
 
 -- what was short, and what that leaves
 abbrev pub Lacks : Layout → Held → View → Call → Shortage → Held → Type 0

@@ -19,7 +19,8 @@ pub enum RunFault {
     /// All callers, or all workers, are given out.
     #[error("no place")]
     NoPlace,
-    /// The hub is closed.
+    /// The hub is closed; or it lends this caller to runs, and takes no other calls of it; or a run would wait, and its
+    /// worker was given none of the callers that the hub lends.
     #[error("closed")]
     Closed,
     /// The hub has another count of this caller's or worker's entries than it has itself, or a shorter history than it

@@ -3,7 +3,7 @@ ghost use Rattle.std.specs.Prelude.{◌≡◌, ◌⊎◌, ◌≤◌, ◌<◌, �
 ghost use Rattle.std.specs.Prelude.{IfOk, IfErr, IfSome, IsTrue, MatchOption, MatchBool, None, Some, if◌then◌else◌};
 ghost use Rattle.std.specs.Prelude.{is_some, nat_lt, not};
 ghost use Rattle.cmwq_model.specs.declared.call.Call.{Call};
-ghost use Rattle.cmwq_model.specs.Prelude.{Layout, fits, past_of, IsLegal, has_numbers};
+ghost use Rattle.cmwq_model.specs.Prelude.{IsLegal, Layout, fits, has_numbers, is_layout, past_of};
 ghost use Rattle.cmwq_model.specs.declared.call.Call.TheVariants as calls;
 ghost use Rattle.cmwq_model.specs.declared.reply.Reply.TheVariants as replies;
 ghost use Rattle.cmwq_core.specs.Plans.{IsPlan};
@@ -12,24 +12,27 @@ ghost use Rattle.cmwq_dispatch.specs.Dispatched.{MayEnter, Stands, is_new};
 ghost use Rattle.cmwq_dispatch.specs.Naming.{NamesAll, NamesMore, names_journal};
 ghost use Rattle.cmwq_monitor.specs.Participants.{View, Gains, is_caller};
 ghost use Rattle.cmwq_monitor.specs.Held.{GoesOn, IsOpenTo, LeavesHeld, SleepersGoOn, active_in, dispatched};
-ghost use Rattle.cmwq_monitor.specs.Held.{failed_from, has_room_to_wait, has_space, held_at_first, held_of, history_of};
-ghost use Rattle.cmwq_monitor.specs.Held.{is_over, is_writer_wanted, refusal_at};
+ghost use Rattle.cmwq_monitor.specs.Held.{failed_from, has_space, held_at_first, held_of, history_of};
+ghost use Rattle.cmwq_monitor.specs.Held.{is_over, is_shut_to, is_writer_wanted};
 ghost use mathlib.Core.List.{IsPrefix};
-ghost use Rattle.cmwq_waits.specs.Begun.{is_lent};
+ghost use Rattle.cmwq_waits.specs.Allowed.{WaitsWereAllowed};
 ghost use Rattle.cmwq_monitor.specs.Calls.{Extends, own_entry};
 ghost use Rattle.cmwq_monitor.specs.Faults.{SaysFault, Refused, IsStranger, is_full};
+ghost use Rattle.cmwq_monitor.specs.declared.fault.RunFault.TheVariants.{Closed};
 ghost use Rattle.cmwq_monitor.specs.Whole.{Stops};
 ghost use Rattle.cmwq_monitor.specs.Steps.{InStep, IsFiring, TellsFirst, Lacks, HasFired, HasFiredSome};
-ghost use Rattle.cmwq_monitor.specs.Steps.{IsViewKept};
+ghost use Rattle.cmwq_monitor.specs.Steps.{IsViewKept, MayBegin};
 ghost use Rattle.cmwq_monitor.specs.Sleeping.{EndsOrWaits, Starts, StartsOrRests, WhetherDone, makes_no_end};
 ghost use Rattle.cmwq_monitor.specs.Sleeping.{makes_no_start};
 ghost use Rattle.cmwq_monitor.specs.Settled.{Settles};
+
+mod waits;
 
 use crate::fault::{RunFault, Shortage};
 use crate::journal::{Journal, Rest};
 use crate::participant::Participant;
 use cmwq_core::{Full, Plan};
-use cmwq_dispatch::{Dispatch, EndPlan, Firing, Sleep, Stuck, Wakes};
+use cmwq_dispatch::{Dispatch, EndPlan, Firing, Sleep, Wakes};
 use cmwq_model::{Call, Entry, ItemId, NoMemory, Number, Reply, Who};
 use cmwq_publish::{HubName, Publisher};
 use cmwq_state::Tail;
@@ -37,7 +40,7 @@ use std::marker::Model;
 use std::sync::ledger::Share;
 use std::sync::{Wait, ledger};
 
-/// How many timers are fired in one hold of the lock, at most.
+/// How many timers `Monitor::fire_some` fires, at most.
 pub const MOST_FIRES: u16 = 128;
 
 /// What a hub keeps under its lock. Contracts see its history, which is legal and is the execution's and the published
@@ -71,6 +74,8 @@ pub enum Next {
 
 impl<N: HubName> Model for Monitor<N> {
     ghost use Rattle.std.specs.Prelude.{◌≡◌, false, length, true};
+    ghost use Rattle.cmwq_model.specs.Prelude.{past_of};
+    ghost use Rattle.cmwq_waits.specs.Allowed.{WaitsWereAllowed};
     ghost use Rattle.cmwq_monitor.specs.Held.{Held, held_of, is_writer_wanted};
 
     ghost Value = { Held };
@@ -81,7 +86,9 @@ impl<N: HubName> Model for Monitor<N> {
         × (d.publisher.entries ≡ d.dispatch.history.entries)
         × (d.entries.total ≡ length d.dispatch.history.entries) × (d.tail.all ≡ d.dispatch.history.entries)
         × (d.writer_sleeps ≡ true
-        → is_writer_wanted N.layout (held_of d.dispatch d.tail.given d.tail.room d.writer_sleeps) ≡ false) };
+        → is_writer_wanted N.layout (held_of d.dispatch d.tail.given d.tail.room d.writer_sleeps) ≡ false)
+        × WaitsWereAllowed d.dispatch.first_lent N.layout (past_of d.dispatch.history.entries)
+        × (d.dispatch.first_lent ≡ N.first_lent) };
 }
 
 impl<N: HubName> Monitor<N> {
@@ -92,11 +99,11 @@ impl<N: HubName> Monitor<N> {
         publisher: Publisher<N>,
         entries: ledger::Book<N>,
     ) -> Monitor<N>
-        requires dispatch { dispatch ≡ is_new N.layout N.layout.room dispatch.first_lent dispatch.asleep }
+        requires dispatch { dispatch ≡ is_new N.layout N.layout.room N.first_lent dispatch.asleep }
         requires tail { tail ≡ record { all = []; given = 0; room = tail.room } }
         requires publisher { publisher.entries ≡ [] }
         requires entries { entries.total ≡ 0 }
-        ensures { result ≡ held_at_first tail.room dispatch.first_lent dispatch.asleep }
+        ensures { result ≡ held_at_first tail.room N.first_lent dispatch.asleep }
     {
         Monitor {
             dispatch,
@@ -107,14 +114,19 @@ impl<N: HubName> Monitor<N> {
         }
     }
 
-    /// What holds under the lock whoever has it. Nobody is forgotten, nobody sleeps once the hub is over, and the one
-    /// who writes the history down does not sleep while there is something to write. Nothing runs.
+    /// What holds under the lock whoever has it. Nobody is forgotten, nobody sleeps once the hub is over, the one who
+    /// writes the history down does not sleep while there is something to write, and each wait of a run that began was
+    /// not refused just before the run fell asleep. Nothing runs.
     pub fn stands(&self)
         ensures dispatch { Stands (dispatched N.layout self.now) }
         ensures writer { self.now.writer_sleeps ≡ true → is_writer_wanted N.layout self.now ≡ false }
         ensures legal { IsLegal N.layout (past_of self.now.history) }
+        ensures allowed { WaitsWereAllowed N.first_lent N.layout (past_of self.now.history) }
+        ensures lent { self.now.first_lent ≡ N.first_lent }
+        ensures layout { IsTrue (is_layout N.layout) }
     {
         self.dispatch.stands();
+        let _counts = self.dispatch.shape().counts();
     }
 
     /// Makes the entry that was planned: it is published, then it is made, and its participant has seen it.
@@ -132,6 +144,7 @@ impl<N: HubName> Monitor<N> {
         requires plan { IsPlan (history_of N.layout self.old.history) participant.old.who call plan.now }
         requires may { MayEnter (dispatched N.layout self.old)
             (own_entry N.layout self.old.history participant.old call) }
+        requires begins { MayBegin N.layout self.old participant.old call }
         ensures made { IfOk result (λ reply. Extends N.layout participant.old call reply participant.new
             × InStep self.new.history participant.new) }
         ensures reply { IfOk result
@@ -176,6 +189,7 @@ impl<N: HubName> Monitor<N> {
         requires step { InStep self.old.history participant.old }
         requires may { MayEnter (dispatched N.layout self.old)
             (own_entry N.layout self.old.history participant.old call) }
+        requires begins { MayBegin N.layout self.old participant.old call }
         ensures made { IfOk result (λ reply. Extends N.layout participant.old call reply participant.new) }
         ensures seen { IfOk result (λ _. participant.new.seen ≡ self.old.history
             ++ own_entry N.layout self.old.history participant.old call ∷ []) }
@@ -226,7 +240,8 @@ impl<N: HubName> Monitor<N> {
         Ok(())
     }
 
-    /// Whether the hub takes a call of the participant's: a closed one takes none of callers, a failed one none at all.
+    /// Whether the hub takes a call of the participant's: a closed one takes none of callers, a failed one none at all,
+    /// and none takes one of a caller that is lent to runs, but for the calls by which they wait.
     #[inline(always)]
     fn admits(&self, participant: &Participant<N>) -> Result<(), RunFault>
         ensures open { IfOk result (λ _. IsOpenTo self.now participant.now.who) }
@@ -235,13 +250,23 @@ impl<N: HubName> Monitor<N> {
         ensures first { IfErr result (λ f. TellsFirst self.now participant.now f) }
         ensures leaves { IfErr result (λ f. LeavesHeld self.now f self.now) }
     {
-        if self.dispatch.is_closed() && matches!(participant.who(), Who::Caller(_)) {
+        if self.is_shut_to(participant) {
             return Err(RunFault::Closed);
         }
         if self.dispatch.has_failed() {
             return Err(RunFault::NoMemory { ticket: None });
         }
         self.compare(participant)
+    }
+
+    /// Whether it takes no call of the participant's, whatever else is so.
+    fn is_shut_to(&self, participant: &Participant<N>) -> bool
+        ensures { result ≡ is_shut_to self.now participant.now.who }
+    {
+        match participant.who() {
+            Who::Caller(_) => self.dispatch.is_closed() || self.is_lent(participant),
+            Who::Worker(_) => false,
+        }
     }
 
     /// Whether the hub takes a call by a caller that is lent to a run: it does, also once it is closed, until it is
@@ -252,6 +277,7 @@ impl<N: HubName> Monitor<N> {
         ensures lives { IfOk result (λ _. (is_caller participant.now.who && is_over N.layout self.now) ≡ false) }
         ensures step { IfOk result (λ _. InStep self.now.history participant.now) }
         ensures says { IfErr result (λ f. (call : Call) → SaysFault N.layout participant.now call f) }
+        ensures over { IfErr result (λ f. f ≡ Closed → (self.now.failed ≡ false) × (is_over N.layout self.now ≡ true)) }
         ensures leaves { IfErr result (λ f. LeavesHeld self.now f self.now) }
     {
         if self.dispatch.has_failed() {
@@ -263,7 +289,7 @@ impl<N: HubName> Monitor<N> {
         self.compare(participant)
     }
 
-    /// A call of one entry. A closed hub refuses those of callers.
+    /// A call of one entry. A closed hub refuses those of callers, and any hub those of callers that it lends to runs.
     pub fn call<R: Wait>(
         &mut self,
         rt: &R,
@@ -294,7 +320,8 @@ impl<N: HubName> Monitor<N> {
         }
     }
 
-    /// The same by a caller that is lent to a run. A closed hub takes it too.
+    /// The same by a caller that is lent to a run, as the next entry after the run fell asleep, where its wait was not
+    /// refused before that. A closed hub takes it too, until it is over.
     pub fn call_in_run<R: Wait>(
         &mut self,
         rt: &R,
@@ -302,13 +329,15 @@ impl<N: HubName> Monitor<N> {
         call: Call,
         wakes: &mut Wakes,
     ) -> Result<Reply, RunFault>
-        requires { IsTrue (fits N.layout participant.old.who call) }
+        requires fits { IsTrue (fits N.layout participant.old.who call) }
+        requires begins { MayBegin N.layout self.old participant.old call }
         ensures made { IfOk result (λ reply. Extends N.layout participant.old call reply participant.new
             × InStep self.new.history participant.new) }
         ensures seen { IfOk result (λ _. participant.new.seen ≡ self.old.history
             ++ own_entry N.layout self.old.history participant.old call ∷ []) }
         ensures goes_on { IfOk result (λ _. (self.old.failed ≡ false) × GoesOn self.old self.new) }
         ensures refused { IfErr result (λ f. Refused N.layout participant.old call f participant.new) }
+        ensures over { IfErr result (λ f. f ≡ Closed → (self.old.failed ≡ false) × (is_over N.layout self.old ≡ true)) }
         ensures leaves { IfErr result (λ f. LeavesHeld self.old f self.new) }
         ensures named { SleepersGoOn participant.old.who self.old self.new wakes.old wakes.new }
     {
@@ -324,53 +353,10 @@ impl<N: HubName> Monitor<N> {
         }
     }
 
-    /// Why a wait of what the worker runs, by this call of a caller that is lent to it, is refused, if it is.
-    pub fn refuses(
-        &mut self,
-        participant: &Participant<N>,
-        call: Call,
-    ) -> Result<Option<Stuck>, RunFault>
-        requires { has_numbers N.layout call ≡ true }
-        ensures is { IfOk result (λ stuck. stuck ≡ refusal_at N.layout self.old participant.now.who call) }
-        ensures step { IfOk result (λ _. InStep self.old.history participant.now) }
-        ensures older { IfOk result (λ _. IsPrefix participant.now.seen self.old.history) }
-        ensures legal { IsLegal N.layout (past_of self.old.history) }
-        ensures stranger { IfErr result (λ f. IsStranger participant.now f) }
-        ensures same { self.new ≡ self.old }
-    {
-        self.stands();
-        self.compare(participant)?;
-        participant.begins(self.publisher.prefix());
-        match participant.who() {
-            Who::Worker(worker) => Ok(self.dispatch.refuses(worker, call)),
-            Who::Caller(_) => Ok(None),
-        }
-    }
-
-    /// Whether there is room for the caller's call, with what would be owed then, and for a sleep and a wake.
-    pub fn has_room_to_wait(&self, caller: &Participant<N>, call: Call) -> bool
-        requires { IsTrue (fits N.layout caller.now.who call) }
-        ensures { result ≡ has_room_to_wait N.layout self.now caller.now.who call }
-    {
-        self.dispatch
-            .execution()
-            .has_room_with(caller.who(), call, 2)
-    }
-
-    /// Whether it is a caller that is lent to runs, by its number.
-    pub fn is_lent(&self, participant: &Participant<N>) -> bool
-        ensures { result ≡ is_lent self.now.first_lent participant.now.who }
-    {
-        match participant.who() {
-            Who::Caller(caller) => self.dispatch.first_lent().0 <= caller.0,
-            Who::Worker(_) => false,
-        }
-    }
-
-    /// Fires what is due, at most `left` times in all, and at most `MOST_FIRES` in this hold of the lock. Answers how
-    /// many times it may still be fired, or None once all is: there was nothing more, or no room, or it was fired so
-    /// many times. A closed hub fires too. Whoever has begun to fire keeps it from being over (`begins_firing`), so a
-    /// hub that is over fails.
+    /// Fires what is due, at most `left` times in all, and at most `MOST_FIRES` now, so that a hub may drop what it
+    /// keeps before the next. Returns how many times it may still be fired, or None once all is: there was nothing
+    /// more, or no room, or it was fired so many times. A closed hub fires too. Whoever has begun to fire keeps it from
+    /// being over (`begins_firing`), so a hub that is over fails.
     pub fn fire_some<R: Wait>(
         &mut self,
         rt: &R,

@@ -20,7 +20,7 @@ use Rattle.cmwq_waits.specs.Refused.{AreApart, is_other}
 use Rattle.cmwq_waits.specs.Registered.{registered, wait_of}
 use Rattle.cmwq_waits.specs.declared.run_wait.RunWait.{RunWait}
 use Rattle.cmwq_waits.proofs.Exact.{apart_with}
-use Rattle.cmwq_waits.proofs.GoOn.{is_running}
+use Rattle.cmwq_waits.proofs.Running.{is_running}
 use Rattle.cmwq_play.specs.Waiting.{are_there, noted_doing}
 unfoldable use Rattle.cmwq_play.specs.Waiting.{noted, noted_at, waits_in}
 use Rattle.cmwq_play.specs.declared.place.Doing.{Doing}

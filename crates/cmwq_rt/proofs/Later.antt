@@ -4,6 +4,7 @@ use Rattle.cmwq_rt.specs.Common.{IfErr, MatchBool, Call, Reply, Entry, Layout, V
 use Rattle.cmwq_rt.specs.Common.{prefix_trans}
 use Rattle.cmwq_model.specs.declared.call.Call.TheVariants as call
 use Rattle.cmwq_model.specs.declared.reply.Reply.TheVariants as replies
+use Rattle.cmwq_monitor.specs.Settled.{Settles}
 use Rattle.cmwq_rt.specs.Later.{Later}
 
 pub later_self : (v : View) → Later v v
@@ -36,3 +37,8 @@ pub later_retired : (s : Layout) (v w : View) (r : Result Bool RunFault)
 later_retired s v w (Ok true) x n = later_made s v w call.Retire replies.Retired x
 later_retired s v w (Ok false) same n = subst (Later v) (sym same) (later_self v)
 later_retired s v w (Err f) x refused = later_refused s v w call.Retire f refused
+
+-- whoever has seen all entries that there are
+pub later_settled : (history : List Entry) (v w : View) → Settles history v w → Later v w
+later_settled history v w (same, older, counts) =
+    subst (Later v) (sym same) (refl, omega arith, λ front p. prefix_trans front v.seen history p older)

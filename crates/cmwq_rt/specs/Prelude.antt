@@ -26,6 +26,6 @@ pub use Rattle.cmwq_rt.specs.Sums.{added, no_waits, plus, one_refused, one_witho
 pub use Rattle.cmwq_rt.specs.Running.{Running, fault_after, breaks_off, MakesOne, Behavior, RunsItem, EndsRun}
 pub use Rattle.cmwq_rt.specs.Running.{RunsInTurn, HasWorked, IsNextStart}
 pub use Rattle.cmwq_rt.specs.Waiting.{SleepsThrough, HasWaited, is_refusal, IsOfRun, fault_after_wait}
-pub use Rattle.cmwq_rt.specs.Waiting.{left_out_after, IsAwake, MayNotWait, is_wait}
+pub use Rattle.cmwq_rt.specs.Waiting.{left_out_after, IsAwake, IsRefusedFor, WhyNot, is_wait}
 pub use Rattle.cmwq_rt.specs.Promises.{MadeOrRefused, DoneOrBrokeOff, MadeInRun, WaitedInRun}
 pub use Rattle.cmwq_rt.specs.Lent.{HasOnlyWaited, WaitsInTurn}

@@ -1,11 +1,14 @@
 //! A caller of a hub.
-ghost use Rattle.std.specs.Prelude.{◌≡◌, ◌<◌, ◌≤◌, ◌&&◌, [], true, false, length, IfOk, IfErr, MatchOption, Some, None};
+ghost use Rattle.std.specs.Prelude.{◌≡◌, ◌<◌, ◌≤◌, ◌&&◌, ◌++◌, ◌∷◌, [], true, false, length, IfOk, IfErr};
+ghost use Rattle.std.specs.Prelude.{MatchOption, Some, None};
 ghost use Rattle.std.specs.List.{list_all};
 ghost use mathlib.Core.List.{IsPrefix};
 ghost use Rattle.cmwq_model.specs.Prelude.{has_numbers, is_callers, past_of, IsLegal, bits, is_tick};
 ghost use Rattle.cmwq_model.specs.declared.call.Call.TheVariants as calls;
 ghost use Rattle.cmwq_model.specs.declared.id.Who.TheVariants as whos;
+ghost use Rattle.cmwq_monitor.specs.Calls.{own_entry};
 ghost use Rattle.cmwq_monitor.specs.Participants.{Agree, Gains, is_caller, made_by, newcomer};
+ghost use Rattle.cmwq_monitor.specs.Steps.{MayBegin};
 ghost use Rattle.cmwq_monitor.specs.Faults.{IsStranger};
 ghost use Rattle.cmwq_monitor.specs.Whole.{Completes, BrokeOff};
 ghost use Rattle.cmwq_monitor.specs.Settled.{Settles};
@@ -210,7 +213,8 @@ impl<N: HubName> Caller<N> {
         ensures broke { IfErr result.1 (λ f. BrokeOff N.layout self.old call f self.new) }
     {
         let _who = self.participant.who();
-        let mut hold = hub.spacious(rt, hold, self.participant.who(), 1);
+        let most = hub.most_at_once(call);
+        let mut hold = hub.spacious(rt, hold, self.participant.who(), most);
         let held = &mut hold;
         let called = held
             .monitor
@@ -230,7 +234,7 @@ impl<N: HubName> Caller<N> {
         (hold, Ok(reply))
     }
 
-    /// The same for a run that waits. A closed hub takes it too.
+    /// The same for a run that waits, as the next entry after the run fell asleep. A closed hub takes it too.
     pub(crate) fn wait_in_run<'a, R: Wait>(
         &mut self,
         rt: &R,
@@ -241,7 +245,10 @@ impl<N: HubName> Caller<N> {
         requires callers { is_callers call ≡ true }
         requires numbers { has_numbers N.layout call ≡ true }
         requires waits { is_tick call ≡ false }
+        requires begins { MayBegin N.layout hold.monitor.value self.old call }
         ensures done { IfOk result.1 (λ reply. Completes N.layout self.old call reply self.new) }
+        ensures at_once { IfOk result.1 (λ _. IsPrefix (hold.entry.monitor.value.history
+            ++ own_entry N.layout hold.entry.monitor.value.history self.old call ∷ []) self.new.seen) }
         ensures nothing_yet { IfOk result.1
             (λ _. made_by self.old.who hold.entry.monitor.value.history ≡ made_by self.old.who self.old.seen) }
         ensures broke { IfErr result.1 (λ f. BrokeOff N.layout self.old call f self.new) }
@@ -278,8 +285,9 @@ impl<N: HubName> Caller<N> {
         ensures done { IfOk result.1 (λ reply. Completes N.layout self.old (calls.Tick ticks) reply self.new) }
         ensures broke { IfErr result.1 (λ f. BrokeOff N.layout self.old (calls.Tick ticks) f self.new) }
     {
-        let mut hold = hub.spacious(rt, hold, self.participant.who(), hub.with_fires());
         let call = Call::Tick { ticks };
+        let most = hub.most_at_once(call);
+        let mut hold = hub.spacious(rt, hold, self.participant.who(), most);
         let held = &mut hold;
         let called = held
             .monitor

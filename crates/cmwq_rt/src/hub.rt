@@ -1,5 +1,6 @@
 //! The hub: one monitor behind a lock.
-ghost use Rattle.std.specs.Prelude.{◌≡◌, ◌⊎◌, ◌<◌, ◌++◌, [], OnErr, true, false, IsTrue, IfOk, IfErr, None, Some};
+ghost use Rattle.std.specs.Prelude.{◌≡◌, ◌⊎◌, ◌<◌, ◌≤◌, ◌+◌, ◌++◌, [], OnErr, true, false, IsTrue, IfOk, IfErr};
+ghost use Rattle.std.specs.Prelude.{None, Some};
 ghost use Rattle.cmwq_model.specs.declared.call.Call.TheVariants as calls;
 ghost use Rattle.cmwq_model.specs.declared.reply.Reply.TheVariants as replies;
 ghost use Rattle.cmwq_model.specs.Prelude.{fits, past_of, IsLegal};
@@ -20,7 +21,6 @@ ghost use Rattle.cmwq_turns.specs.declared.party.Awaited.TheVariants.{Work};
 use crate::caller::Caller;
 use crate::condvars::Condvars;
 use crate::hold::Hold;
-use crate::parts::HubParts;
 use crate::worker::Worker;
 use cmwq_model::{Call, Entry, ItemId, Number, Reply, Shape};
 use cmwq_monitor::{
@@ -97,9 +97,43 @@ impl<N: HubName> Hub<N> {
         self.stop_turns(rt);
     }
 
-    /// How many entries are made in one hold of the lock, at most, where what is due is fired after the first.
-    pub(crate) fn with_fires(&self) -> u32 {
-        HubParts::least_kept(&self.shape)
+    /// How many timers are fired after this call or after its end, at most.
+    fn most_fires(&self, call: Call) -> u16
+        ensures { result ≤ N.layout.items }
+    {
+        if call.is_tick() || call.is_drain() {
+            self.shape.counts().items
+        } else {
+            0
+        }
+    }
+
+    /// How many entries a whole call makes in one hold of the lock, at most: itself, what is fired after a tick, and
+    /// where it may wait what its end makes.
+    pub(crate) fn most_at_once(&self, call: Call) -> u32
+        ensures { result ≤ 3 + N.layout.items }
+    {
+        let fires = u32::from(self.most_fires(call));
+        if may_give_ticket(call) {
+            3 + fires
+        } else {
+            1 + fires
+        }
+    }
+
+    /// How many entries the wait of a run makes in one hold of the lock, at most: the sleep, the call, and what its end
+    /// makes.
+    pub(crate) fn most_in_run(&self, call: Call) -> u32
+        ensures { result ≤ 4 + N.layout.items }
+    {
+        4 + u32::from(self.most_fires(call))
+    }
+
+    /// How many entries the end of a wait makes, at most: the end, what is fired after a drain, and the wake of a run.
+    pub(crate) fn most_at_end(&self, call: Call) -> u32
+        ensures { result ≤ 2 + N.layout.items }
+    {
+        2 + u32::from(self.most_fires(call))
     }
 
     /// A journal of a hub that has no entry yet, or of what comes from now on. `spare` is an empty buffer, at least as
@@ -224,7 +258,8 @@ impl<N: HubName> Hub<N> {
         (hold, fired)
     }
 
-    /// Fires what is due, `MOST_FIRES` timers in a hold of the lock, so that others come in between.
+    /// Fires what is due, in this hold of the lock, for which there is space. A hub that drops its history makes space
+    /// for `MOST_FIRES` timers at a time, and for the wake of a run.
     fn fire_all<'a, R: Wait>(
         &'a self,
         rt: &R,
@@ -241,8 +276,7 @@ impl<N: HubName> Hub<N> {
         let mut hold = hold;
         let mut left = self.shape.counts().items;
         for _ in rt.forever() {
-            let most = u32::from(left.min(MOST_FIRES));
-            hold = self.spacious(rt, hold, participant.who(), most);
+            self.drop_if_crowded(&mut hold, u32::from(left.min(MOST_FIRES)) + 1);
             let held = &mut hold;
             match held
                 .monitor
@@ -252,7 +286,6 @@ impl<N: HubName> Hub<N> {
                 Ok(None) => return (hold, Ok(())),
                 Err(fault) => return (hold, Err(fault)),
             }
-            hold = self.let_in(rt, hold);
         }
         unreachable!()
     }
@@ -296,11 +329,7 @@ impl<N: HubName> Hub<N> {
         ensures ended { IfOk result.1 (λ _. HasEnded N.layout participant.old call ticket participant.new) }
         ensures stopped { IfErr result.1 (λ f. HasEndedSome N.layout participant.old call ticket f participant.new) }
     {
-        let most = match call {
-            Call::Drain { .. } => self.with_fires(),
-            _ => 1,
-        };
-        let (hold, ended) = self.until_done(rt, hold, participant, call, ticket, most);
+        let (hold, ended) = self.until_done(rt, hold, participant, call, ticket);
         match ended {
             Ok(()) => {}
             Err(fault) => return (hold, Err(fault)),
@@ -314,7 +343,8 @@ impl<N: HubName> Hub<N> {
         self.fire_all(rt, hold, participant, firing)
     }
 
-    /// Sleeps until the ticket's end is done.
+    /// Sleeps until the ticket's end is done. In this hold of the lock there is space for what the end makes; in each
+    /// later one it is asked for.
     fn until_done<'a, R: Wait>(
         &'a self,
         rt: &R,
@@ -322,7 +352,6 @@ impl<N: HubName> Hub<N> {
         participant: &mut Participant<N>,
         call: Call,
         ticket: Number,
-        most: u32,
     ) -> (Hold<'a, N>, Result<(), RunFault>)
         requires { is_caller participant.old.who ≡ true }
         ensures done { IfOk result.1
@@ -331,8 +360,8 @@ impl<N: HubName> Hub<N> {
             (λ f. (participant.new ≡ participant.old) × Stops participant.old (Some ticket) f) }
     {
         let mut hold = hold;
+        let most = self.most_at_end(call);
         for _ in rt.forever() {
-            hold = self.spacious(rt, hold, participant.who(), most);
             let held = &mut hold;
             match held
                 .monitor
@@ -348,11 +377,13 @@ impl<N: HubName> Hub<N> {
                 }
                 Err(fault) => return (hold, Err(fault)),
             }
+            hold = self.spacious(rt, hold, participant.who(), most);
         }
         unreachable!()
     }
 
     /// Sleeps until the worker may start a queueing, or may go: none, as nothing active is open; and lets the lock go.
+    /// In this hold of the lock there is space for the start; in each later one it is asked for.
     pub(crate) fn until_start<'a, R: Wait>(
         &'a self,
         rt: &R,
@@ -366,7 +397,6 @@ impl<N: HubName> Hub<N> {
     {
         let mut hold = hold;
         for _ in rt.forever() {
-            hold = self.spacious(rt, hold, participant.who(), 1);
             match next_start(rt, &mut hold, participant) {
                 Ok(Next::Runs(item)) => {
                     self.leave(rt, hold);
@@ -385,6 +415,7 @@ impl<N: HubName> Hub<N> {
                     return Err(fault);
                 }
             }
+            hold = self.spacious(rt, hold, participant.who(), 1);
         }
         unreachable!()
     }
@@ -425,6 +456,19 @@ impl<N: HubName> Hub<N> {
         } = self;
         monitor.into_inner()
     }
+}
+
+/// Whether the call may give a ticket.
+fn may_give_ticket(call: Call) -> bool {
+    matches!(
+        call,
+        Call::Flush { .. }
+            | Call::Drain { .. }
+            | Call::Destroy { .. }
+            | Call::FlushItem { .. }
+            | Call::FlushDelayed { .. }
+            | Call::CancelSync { .. }
+    )
 }
 
 /// Lets the hub fail: somebody would fire in a hub that is over. Nobody who has begun to fire in the hold of a tick, or

@@ -1,8 +1,11 @@
 //! Callers that are lent to runs that wait, each for one wait at a time.
-ghost use Rattle.std.specs.Prelude.{◌≡◌, ◌&&◌, true, false, is_ok, IfOk, IfErr};
+ghost use Rattle.std.specs.Prelude.{◌≡◌, ◌&&◌, ◌++◌, ◌∷◌, [], true, false, is_ok, IfOk, IfErr};
+ghost use mathlib.Core.List.{IsPrefix};
 ghost use Rattle.cmwq_model.specs.Prelude.{has_numbers, is_callers, is_tick};
 ghost use Rattle.cmwq_model.specs.declared.id.Who.TheVariants as whos;
+ghost use Rattle.cmwq_monitor.specs.Calls.{own_entry};
 ghost use Rattle.cmwq_monitor.specs.Participants.{is_caller, made_by};
+ghost use Rattle.cmwq_monitor.specs.Steps.{MayBegin};
 ghost use Rattle.cmwq_monitor.specs.Whole.{BrokeOff, Completes};
 ghost use Rattle.cmwq_rt.specs.Lent.{HasOnlyWaited};
 ghost use Rattle.cmwq_rt.specs.Waiting.{is_wait};
@@ -56,7 +59,7 @@ impl<N: HubName> LentCaller<N> {
         }
     }
 
-    /// The caller, once it is lent no more.
+    /// The caller, once it is lent no more. A hub that lends it takes no calls of it either.
     ///
     /// # Errors
     /// The caller, if it was not new when it was lent, or a wait of it has broken off. Otherwise its entries are those
@@ -90,7 +93,7 @@ impl<N: HubName> LentCaller<N> {
         self.caller.participant()
     }
 
-    /// The whole call of a run that waits.
+    /// The whole call of a run that waits, which fell asleep by the last entry.
     pub(crate) fn wait_in_run<'a, R: Wait>(
         &mut self,
         rt: &R,
@@ -102,7 +105,10 @@ impl<N: HubName> LentCaller<N> {
         requires callers { is_callers call ≡ true }
         requires numbers { has_numbers N.layout call ≡ true }
         requires waits { is_tick call ≡ false }
+        requires begins { MayBegin N.layout hold.monitor.value self.old call }
         ensures done { IfOk result.1 (λ reply. Completes N.layout self.old call reply self.new) }
+        ensures at_once { IfOk result.1 (λ _. IsPrefix (hold.entry.monitor.value.history
+            ++ own_entry N.layout hold.entry.monitor.value.history self.old call ∷ []) self.new.seen) }
         ensures nothing_yet { IfOk result.1
             (λ _. made_by self.old.who hold.entry.monitor.value.history ≡ made_by self.old.who self.old.seen) }
         ensures broke { IfErr result.1 (λ f. BrokeOff N.layout self.old call f self.new) }

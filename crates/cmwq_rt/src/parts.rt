@@ -1,5 +1,5 @@
 //! The parts of a hub that has no name yet.
-ghost use Rattle.std.specs.Prelude.{◌≡◌, ◌+◌, ◌≤◌, [], IfOk, IfErr, None};
+ghost use Rattle.std.specs.Prelude.{◌≡◌, ◌+◌, [], IfOk, IfErr, None};
 ghost use Rattle.cmwq_dispatch.specs.Dispatched.{is_new};
 ghost use Rattle.cmwq_monitor.specs.declared.fault.RunFault.TheVariants as faults;
 ghost use Rattle.cmwq_rt.specs.Places.{all_free, shares};
@@ -18,6 +18,9 @@ use std::sync::{Arc, Wait};
 
 /// How many shares the ledger of a hub's entries is cut into: one for each caller and each worker that there may be.
 const SHARES: u64 = MOST_CALLERS as u64 + 2 * MOST_WORKERS as u64 * MOST_CPUS as u64;
+
+/// How many entries a hub keeps that drops them, at most: those of a move with one portion of its fires.
+const MOST_KEPT: u32 = 4 + MOST_FIRES as u32;
 
 /// All that a hub needs. No call of the hub takes memory.
 pub struct HubParts {
@@ -96,13 +99,13 @@ impl HubParts {
         HubParts::with_readers(rt, alloc, shape, kept, readers)
     }
 
-    /// How many entries a hub of this shape is to keep at a time, at least: those of one hold of the lock. Where fewer
-    /// are kept, a tick and the end of a drain wait for ever for space.
+    /// How many entries a hub of this shape is to keep at a time, at least: those of one move. There are most where a
+    /// run drains a queue that is drained at once: it sleeps, the call and its end are made, each item may fire, and it
+    /// wakes. Where fewer are kept, such a move waits for ever for space.
     pub fn least_kept(shape: &Shape) -> u32
-        ensures few { shape.now.items ≤ 128 → result ≡ 1 + shape.now.items }
-        ensures many { 128 ≤ shape.now.items → result ≡ 129 }
+        ensures { result ≡ 4 + shape.now.items }
     {
-        1 + u32::from(shape.counts().items.min(MOST_FIRES))
+        4 + u32::from(shape.counts().items)
     }
 
     /// The same, where so many entries are kept until a journal takes them (`least_kept`).
@@ -181,7 +184,7 @@ impl HubParts {
         ensures lends { IfOk result (λ p. p.dispatch.first_lent ≡ shape.now.callers) }
         ensures fault { IfErr result (λ f. f ≡ faults.NoMemory None) }
     {
-        let kept = HubParts::least_kept(shape);
+        let kept = HubParts::least_kept(shape).min(MOST_KEPT);
         let mut parts = HubParts::with_readers(rt, alloc, shape, kept, readers)?;
         parts.is_dropping = true;
         Ok(parts)
@@ -209,8 +212,8 @@ impl HubParts {
         Ok(parts)
     }
 
-    /// The same of a hub whose callers from this number on are lent to runs that wait (`Lent`). Without this call none
-    /// is, and each wait of a run returns `NoCaller`.
+    /// The same of a hub whose callers from this number on are lent to runs that wait (`Lent`), and make no other
+    /// calls: each returns `Closed`. Without this call none is lent, and each wait of a run returns `NoCaller`.
     pub fn lending_from(self, first: CallerId) -> HubParts
         ensures lends { result.dispatch.first_lent ≡ first.0 }
         ensures shape { result.shape ≡ self.shape }
@@ -229,6 +232,7 @@ impl<N: HubName> Hub<N> {
     pub fn open(parts: HubParts) -> (Hub<N>, Participants<N>)
         requires layout { parts.shape ≡ N.layout }
         requires book { parts.opening.book ≡ N.book }
+        requires lends { parts.dispatch.first_lent ≡ N.first_lent }
         requires ledger { (parts.blank.name ≡ N.name) × (parts.blank.parts ≡ N.parts) }
         ensures { result.1 ≡ all_free }
     {

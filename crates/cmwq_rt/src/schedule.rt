@@ -185,7 +185,8 @@ impl<N: HubName> Hub<N> {
         Hold::new(self.condvars.wait(rt, monitor, who))
     }
 
-    /// Sleeps until there is space for so many entries, or makes it where nobody wants them.
+    /// Sleeps until there is space for so many entries, or makes it where nobody wants them. It is asked once for all
+    /// entries of a move, before the first: so want of space says when a move is made, and never what it is.
     #[inline(always)]
     pub(crate) fn spacious<'a, R: Wait>(
         &'a self,
@@ -222,6 +223,13 @@ impl<N: HubName> Hub<N> {
             hold = self.sleep(rt, hold, who, Awaited::Space);
         }
         unreachable!()
+    }
+
+    /// In a hub that drops its history there is space for so many entries from now on. It lets nobody in.
+    pub(crate) fn drop_if_crowded(&self, hold: &mut Hold<N>, entries: u32) {
+        if self.is_dropping && !hold.monitor.has_space(entries) {
+            hold.monitor.drop_kept();
+        }
     }
 
     /// Sleeps until there is something to write down.

@@ -15,7 +15,7 @@ pub enum WaitFault {
     /// It would wait for what cannot end or start before this run, or runs that wait for it, have ended.
     #[error("runs that wait for one another")]
     Deadlock,
-    /// No caller is left to be lent to it, or the hub does not lend the one that is (`HubParts::lending_from`).
+    /// All callers that are lent to runs wait, or there are none (`HubParts::lending_from`).
     #[error("no caller to wait by")]
     NoCaller,
     /// A fault of the hub. The run may have slept and woken.

@@ -13,8 +13,8 @@ ghost use Rattle.cmwq_rt.specs.Starting.{HasStarted};
 ghost use Rattle.cmwq_rt.specs.Promises.{MadeInRun, WaitedInRun};
 ghost use Rattle.cmwq_rt.specs.Running.{RunsItem, MakesOne, breaks_off};
 ghost use Rattle.cmwq_rt.specs.Sums.{no_waits};
-ghost use Rattle.cmwq_rt.specs.Waiting.{HadNoRoom, HasWaited, MakesNothing, MayNotWait, SleepsThrough, TellsWhy};
-ghost use Rattle.cmwq_rt.specs.Waiting.{fault_after_wait, is_for_itself, is_refusal, is_wait, left_out_after};
+ghost use Rattle.cmwq_rt.specs.Waiting.{HasWaited, SleepsThrough, TellsWhy, WhyNot, fault_after_wait, is_for_itself};
+ghost use Rattle.cmwq_rt.specs.Waiting.{is_wait, left_out_after};
 ghost use Rattle.cmwq_rt.specs.declared.wait_fault.WaitFault.TheVariants as waits;
 
 use crate::batch::BatchFault;
@@ -233,7 +233,7 @@ impl<'a, N: HubName, R: Wait> Calls for RunCtx<'a, N, R> {
 
     ghost made = { λ v c answer w. MadeInRun N.layout v c answer w };
 
-    ghost waited = { λ v c answer w. WaitedInRun N.layout v c answer w };
+    ghost waited = { λ v c answer w. WaitedInRun N.layout N.first_lent v c answer w };
 
     /// Makes a call of the worker.
     ///
@@ -284,13 +284,10 @@ impl<'a, N: HubName, R: Wait> RunCtx<'a, N, R> {
         requires numbers { has_numbers N.layout call ≡ true }
         ensures later { Later self.old.participant self.new.participant }
         ensures waited { IfOk result
-            (λ reply. HasWaited N.layout self.old.participant call reply self.new.participant) }
+            (λ reply. HasWaited N.layout N.first_lent self.old.participant call reply self.new.participant) }
         ensures itself { is_for_itself self.old.item call ≡ true → (result ≡ Err waits.Itself) × (self.new ≡ self.old) }
-        ensures refused { IfErr result (λ f. is_refusal f ≡ true → (self.new.participant ≡ self.old.participant)
-            ⊎ MakesOne N.layout self.old.participant calls.Wake self.new.participant) }
-        ensures stuck { IfErr result (MayNotWait N.layout self.old call) }
-        ensures full { IfErr result
-            (λ f. f ≡ waits.Run Full → HadNoRoom N.layout self.old.participant self.new.participant) }
+        ensures why { IfErr result
+            (λ f. WhyNot N.layout N.first_lent self.old.item self.old.participant call f self.new.participant) }
         ensures fault { self.new.fault ≡ fault_after_wait result self.old.fault }
         ensures item { self.new.item ≡ self.old.item }
         ensures left_out { self.new.left_out ≡ self.old.left_out }
@@ -302,18 +299,15 @@ impl<'a, N: HubName, R: Wait> RunCtx<'a, N, R> {
     }
 
     /// Waits by a caller that is lent to the run.
-    #[tactic(auto, using(crate::proofs::Sleeping::waits_by_caller))]
+    #[tactic(auto, using(crate::proofs::Sleeping::waits_by_caller, crate::proofs::Sleeping::why_once_awake))]
     fn wait_lent(&mut self, call: Call) -> Result<Reply, WaitFault>
         requires waits { is_wait call ≡ true }
         requires numbers { has_numbers N.layout call ≡ true }
         ensures later { Later self.old.participant self.new.participant }
         ensures waited { IfOk result
-            (λ reply. HasWaited N.layout self.old.participant call reply self.new.participant) }
-        ensures refused { IfErr result (λ f. is_refusal f ≡ true → (self.new.participant ≡ self.old.participant)
-            ⊎ MakesOne N.layout self.old.participant calls.Wake self.new.participant) }
-        ensures stuck { IfErr result (MayNotWait N.layout self.old call) }
-        ensures full { IfErr result
-            (λ f. f ≡ waits.Run Full → HadNoRoom N.layout self.old.participant self.new.participant) }
+            (λ reply. HasWaited N.layout N.first_lent self.old.participant call reply self.new.participant) }
+        ensures why { IfErr result
+            (λ f. WhyNot N.layout N.first_lent self.old.item self.old.participant call f self.new.participant) }
         ensures fault { self.new.fault ≡ fault_after_wait result self.old.fault }
         ensures item { self.new.item ≡ self.old.item }
         ensures left_out { self.new.left_out ≡ self.old.left_out }
@@ -354,11 +348,9 @@ impl<'a, N: HubName, R: Wait> RunCtx<'a, N, R> {
         requires kind { is_wait call ≡ true }
         ensures later { Later self.old.participant self.new.participant }
         ensures waited { IfOk result
-            (λ reply. SleepsThrough N.layout self.old.participant call reply self.new.participant) }
-        ensures refused { IfErr result (λ f. is_refusal f ≡ true → self.new.participant ≡ self.old.participant) }
-        ensures stuck { IfErr result (TellsWhy N.layout self.old.participant call) }
-        ensures full { IfErr result
-            (λ f. f ≡ waits.Run Full → MakesNothing N.layout self.old.participant self.new.participant) }
+            (λ reply. SleepsThrough N.layout N.first_lent self.old.participant call reply self.new.participant) }
+        ensures why { IfErr result
+            (λ f. TellsWhy N.layout N.first_lent self.old.participant call f self.new.participant) }
         ensures fault { self.new.fault ≡ fault_after_wait result self.old.fault }
         ensures item { self.new.item ≡ self.old.item }
         ensures left_out { self.new.left_out ≡ self.old.left_out }

@@ -21,6 +21,10 @@ use std::marker::Model;
 use std::sync::Wait;
 use std::sync::ledger::Share;
 
+/// How many entries a worker makes in one hold of the lock, at most: the end of a run, the way to the reserve, and the
+/// next start.
+const MOST_AT_FINISH: u32 = 3;
+
 /// A worker: it runs what is queued on its pool. Contracts see who it is, its serial and the history that it has seen.
 #[derive(Drop)]
 pub struct Worker<N: HubName> {
@@ -213,7 +217,8 @@ impl<N: HubName> Hub<N> {
         ensures idle { IfOk result (λ _. active_in N.layout participant.new.seen ≡ 0) }
         ensures later { Later participant.old participant.new }
     {
-        let mut next = self.until_start(rt, self.lock(rt), participant)?;
+        let hold = self.spacious(rt, self.lock(rt), participant.who(), 1);
+        let mut next = self.until_start(rt, hold, participant)?;
         let mut left_out = LeftOut::none();
         for _ in rt.forever() {
             let Some(item) = next else {
@@ -238,7 +243,7 @@ impl<N: HubName> Hub<N> {
             × IsNextStart N.layout ended o participant.new) }
         ensures later { Later participant.old participant.new }
     {
-        let mut hold = self.spacious(rt, self.lock(rt), participant.who(), 1);
+        let mut hold = self.spacious(rt, self.lock(rt), participant.who(), MOST_AT_FINISH);
         let held = &mut hold;
         let finished = held
             .monitor
@@ -247,7 +252,6 @@ impl<N: HubName> Hub<N> {
             self.leave(rt, hold);
             return Err(with_room(fault));
         }
-        hold = self.spacious(rt, hold, participant.who(), 1);
         let held = &mut hold;
         let retired = held.monitor.retire(rt, participant, &mut held.wakes);
         if let Err(fault) = retired {

@@ -137,6 +137,7 @@ fn write_parts<
 ) -> Result<Tally, Unwritten>
     requires layout { parts.shape ≡ N.layout }
     requires book { parts.opening.book ≡ N.book }
+    requires lends { (C.roles crew.now parts.shape).threads ≡ N.first_lent }
     requires ledger { (parts.blank.name ≡ N.name) × (parts.blank.parts ≡ N.parts) }
     requires fits { C.fits crew.now N.layout }
     requires spare { spare.items ≡ [] }
@@ -172,9 +173,10 @@ fn write_parts<
 }
 
 /// Runs a crew and its work on a new hub, as `cmwq_engine::run` does, and writes the history with its shape in format 3
-/// while it is made, flushed after each batch: so many entries are kept at a time, or as many as a hold of the lock
-/// may make where that is more, and what is made is written after a tenth of a second at the latest. The journal is
-/// kept in this thread, beside one that runs all others. So many callers have a reader (`HubParts::with_readers`).
+/// while it is made, flushed after each batch: so many entries are kept at a time, or as many as one move may make if
+/// that is more (`HubParts::least_kept`), and what is made is written after a tenth of a second at the latest. The
+/// journal is kept in this thread, beside one that runs all others. So many callers have a reader
+/// (`HubParts::with_readers`).
 ///
 /// # Errors
 /// `Sink` where the sink failed. `Run` with what `cmwq_engine::run` answers, all threads having ended, or with
@@ -205,7 +207,7 @@ pub fn run_with_journal<
     ensures tells { IfErr result (TellsOf shape.now (C.calls crew.now) (C.roles crew.now shape.now)) }
     ensures sink { IsErrOf result unwritten.Sink → Rises (O.troubles output.old) (O.troubles output.new) }
 {
-    // a tick is made only where there is space for its fires
+    // a move is made only where there is space for all its entries
     let kept = kept.max(HubParts::least_kept(shape));
     let Ok(spare) = Vec::with_capacity(alloc, kept as usize) else {
         return Err(Unwritten::Run(RunFault::NoMemory { ticket: None }));

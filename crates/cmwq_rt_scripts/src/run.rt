@@ -106,8 +106,8 @@ pub fn run_scripts_lending<'x, S: Scripts + Sync, W: Work + Sync, R: Threads + W
 }
 
 /// Runs scripts on a new hub, as `run_scripts_lending` does, and writes the history with its shape in format 3 while it
-/// is made. It keeps so many entries at a time, or as many as a hold of the lock may make if that is more, and flushes
-/// after each batch, a tenth of a second after an entry at the latest. The calling thread keeps the journal, beside one
+/// is made. It keeps so many entries at a time, or as many as one move may make if that is more, and flushes after
+/// each batch, a tenth of a second after an entry at the latest. The calling thread keeps the journal, beside one
 /// that runs those of callers and workers.
 ///
 /// # Errors

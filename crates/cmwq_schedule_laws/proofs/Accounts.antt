@@ -18,6 +18,7 @@ use Rattle.cmwq_json_script.specs.Scripts.{is_own}
 use Rattle.cmwq_json_script.specs.Views.{calls_in}
 use Rattle.cmwq_json_script.specs.declared.action.Action.{Action}
 use Rattle.cmwq_json_script.specs.declared.action.Action.TheVariants as action
+use Rattle.cmwq_monitor.specs.Calls.{own_entry}
 use Rattle.cmwq_monitor.specs.Faults.{Refused}
 use Rattle.cmwq_monitor.specs.Participants.{View, made_by, newcomer}
 use Rattle.cmwq_monitor.specs.declared.fault.RunFault.TheVariants.{Full}
@@ -81,7 +82,7 @@ pub record HasBegun (s : Layout) (c : ℕ) (t : Ticketed) (asleep : View) (log :
   pub reply : Reply
   pub view : View
   pub begun : IsBegun s before t reply view
-  pub saw_sleep : IsPrefix asleep.seen view.seen
+  pub at_once : IsPrefix (asleep.seen ++ own_entry s asleep.seen before t.call ∷ []) view.seen
   pub up : IsUpToDate log view
 
 -- ---- workers
@@ -95,7 +96,8 @@ SleepsOrNot s false v u log w = Refused s v call.Sleep Full u × (runs_awake (pa
 pub record IsWaitingBy (s : Layout) (w : WorkerId) (c : ℕ) (t : Ticketed) (v u : View) (log : List Entry) : Type 0 where
   pub wait : is_wait t.call ≡ true
   pub sleeps : MakesOne s v call.Sleep u
-  pub allowed : WasAllowed s v t.call (caller_numbered c) u
+  pub first : ℕ
+  pub allowed : WasAllowed s first v t.call (caller_numbered c) u
   pub asleep : runs_asleep (past_of log) w ≡ true
   pub begun : HasBegun s c t u log
 

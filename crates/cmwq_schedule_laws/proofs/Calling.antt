@@ -1,7 +1,7 @@
 -- What whole calls leave, as their callers see it.
 use Rattle.std.specs.Prelude.{if◌then◌else◌, MatchBool}
 use Rattle.std.specs.Option.{option_map_or}
-use Rattle.std.proofs.Common.{◌≡◌, ◌≢◌, ◌∷◌, ℕ, zero, suc, Bool, true, false, List, [], Option, Some, None}
+use Rattle.std.proofs.Common.{◌≡◌, ◌≢◌, ◌++◌, ◌∷◌, ℕ, zero, suc, Bool, true, false, List, [], Option, Some, None}
 use Rattle.std.proofs.Common.{refl, sym, ap, subst, inl}
 use mathlib.Core.List.{IsPrefix}
 use Rattle.cmwq_model.specs.Prelude.{is_drain, is_nothing, is_tick, ticket_told}
@@ -16,7 +16,7 @@ use Rattle.cmwq_monitor.specs.Calls.{Extends, own_entry}
 use Rattle.cmwq_monitor.specs.Participants.{View}
 use Rattle.cmwq_monitor.specs.Steps.{HasEnded, HasFired, IsFiring}
 use Rattle.cmwq_monitor.specs.Whole.{Completes, EndsFiring, EndsOwn}
-use Rattle.cmwq_monitor.proofs.Beginnings.{prefix_of_prefix, prefix_trans}
+use Rattle.cmwq_monitor.proofs.Beginnings.{prefix_self}
 use Rattle.cmwq_monitor.proofs.Entering.{view_after}
 use Rattle.cmwq_monitor.proofs.Fired.{ends_extended, fired_all, fired_full, fired_last, fired_more, firing_begins}
 use Rattle.cmwq_monitor.proofs.Serials.{stand_next}
@@ -160,13 +160,13 @@ pub record IsBegun (s : Layout) (v : View) (t : Ticketed) (r : Reply) (m : View)
   pub no_tick : is_tick t.call ≡ false
   pub gives : ticket_told r ≡ Some t.ticket
 
--- What came of a call: whoever made it has seen the history before it.
+-- What came of a call: whoever made it has seen the history before it, and its entry next.
 abbrev pub CameOf : Layout → History → View → Call → History → Called → Type 0
 CameOf s h v c g NoRoom = (g ≡ h) × (is_made h v.who c ≡ false)
 CameOf s h v c g Whole = (r : Reply) × (w : View) × Completes s v c r w × IsUpToDate g.entries w
-    × IsPrefix h.entries w.seen
+    × IsPrefix (h.entries ++ own_entry s h.entries v c ∷ []) w.seen
 CameOf s h v c g (Began t) = (r : Reply) × (m : View) × (t.call ≡ c) × IsBegun s v t r m × IsUpToDate g.entries m
-    × IsPrefix h.entries m.seen
+    × IsPrefix (h.entries ++ own_entry s h.entries v c ∷ []) m.seen
 
 plain_completes : (s : Layout) (v w : View) (c : Call) (r : Reply) → is_tick c ≡ false → ticket_told r ≡ None
     → Extends s v c r w → Completes s v c r w
@@ -215,8 +215,8 @@ module _ (s : Layout) (h : History) (v : View) (c : Call) (kept : IsKept s h) (f
   after_g : IsKept s g
   after_g = kept_after s h v.who c kept
 
-  saw : IsPrefix h.entries (view_after s h.entries v c).seen
-  saw = prefix_of_prefix h.entries (own_entry s h.entries v c ∷ [])
+  saw : IsPrefix (h.entries ++ own_entry s h.entries v c ∷ []) (view_after s h.entries v c).seen
+  saw = prefix_self (h.entries ++ own_entry s h.entries v c ∷ [])
 
   waits : (k : ℕ) → ticket_told r ≡ Some k → is_tick c ≡ false → (b : Bool) → ends g v.who k ≡ b
       → Came s h v c (if b then record { history = ended g v.who (record { ticket = k; call = c }); outcome = Whole }
@@ -230,8 +230,7 @@ module _ (s : Layout) (h : History) (v : View) (c : Call) (kept : IsKept s h) (f
         e.last,
         wait_completes s v w t r _ begun e,
         e.up,
-        prefix_trans h.entries w.seen e.last.seen saw
-            e.ended.gains.older,
+        e.ended.gains.older,
       )
   waits k gives no_tick false may = (
     r,
@@ -261,7 +260,7 @@ module _ (s : Layout) (h : History) (v : View) (c : Call) (kept : IsKept s h) (f
         fires.last,
         tick_completes s v w fires.last c r tick made.extends fires.fired,
         fires.up,
-        prefix_trans h.entries w.seen fires.last.seen saw fires.fired.gains.older,
+        fires.fired.gains.older,
       )
   told false no_tick = given (ticket_told r) refl no_tick
 

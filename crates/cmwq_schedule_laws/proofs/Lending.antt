@@ -1,6 +1,6 @@
 -- The wait of a run is left out, begins, or ends: what its worker and the caller that is lent have done then.
 use Rattle.std.specs.Prelude.{◌&&◌, if◌then◌else◌, not, is_some, option_and_then}
-use Rattle.std.proofs.Common.{◌≡◌, ◌∙◌, ℕ, Bool, true, false, List, Option, Some, None}
+use Rattle.std.proofs.Common.{◌≡◌, ◌++◌, ◌∙◌, ◌∷◌, ℕ, Bool, true, false, List, Option, Some, None, []}
 use Rattle.std.proofs.Common.{slice_get, nat_lt, refl, sym, ap, subst, inl, inr, true≢false}
 use mathlib.Core.List.{IsPrefix}
 use Rattle.cmwq_model.specs.Prelude.{Layout, answer, fits, has_numbers, is_workers, past_of, runs_asleep, runs_awake}
@@ -17,6 +17,7 @@ use Rattle.cmwq_json_script.specs.declared.action.Action.TheVariants as action
 use Rattle.cmwq_core.specs.History.{History, past_in}
 use Rattle.cmwq_waits.specs.Begun.{is_lent, waits_of}
 use Rattle.cmwq_waits.specs.Registered.{refusal_of}
+use Rattle.cmwq_monitor.specs.Calls.{own_entry}
 use Rattle.cmwq_monitor.specs.Participants.{View, is_caller, made_by}
 use Rattle.cmwq_monitor.specs.Whole.{Completes}
 use Rattle.cmwq_monitor.proofs.Beginnings.{prefix_trans}
@@ -41,10 +42,13 @@ use Rattle.cmwq_play.specs.declared.place.Ticketed.{Ticketed}
 use Rattle.cmwq_schedule_laws.proofs.Accounts.{DoesNext, HasRested, IsItems, IsRunning, IsWaitingBy, actions_at}
 use Rattle.cmwq_schedule_laws.proofs.Accounts.{runs_on}
 use Rattle.cmwq_schedule_laws.proofs.Calling.{CameOf, wait_completes}
-use Rattle.cmwq_schedule_laws.proofs.Keeping.{IsKept, IsUpToDate, kept_after, own_counted, up_later}
+use Rattle.cmwq_schedule_laws.proofs.Keeping.{IsKept, IsUpToDate, having_seen, kept_after, own_counted, seen_up}
+use Rattle.cmwq_schedule_laws.proofs.Keeping.{up_later}
 use Rattle.cmwq_schedule_laws.proofs.Numbered.{MakesBy, came_by, end_by, makes_by}
 use Rattle.cmwq_schedule_laws.proofs.Sparing.{GoesOn, Spares, called_goes, ended_goes, stepped_goes}
-use Rattle.cmwq_schedule_laws.proofs.Waiting.{HasRoom, has_room, nobody_left, none_found, refused_for, refusal_is}
+use Rattle.cmwq_schedule_laws.proofs.Waiting.{HasRoom, has_room, lacked_room, nobody_left, none_found, refused_for}
+use Rattle.cmwq_schedule_laws.proofs.Waiting.{refusal_is, wait_room_is}
+use Rattle.cmwq_rt.proofs.Sleeping.{waits_by_caller}
 use Rattle.cmwq_schedule_laws.proofs.Waiting.{some_found, waits_of_items, was_allowed}
 use Rattle.cmwq_schedule_laws.proofs.Working as working
 
@@ -132,48 +136,69 @@ module _ (s : Layout) (does : List (List Action)) (w : WorkerId) (cpu : nat_lt w
 
   -- ---- the wait is left out
 
-  left_out : (c : Call) → IsItems s c → (old : LeftOut) (v : View) → v.who ≡ Worker w → IsUpToDate h.entries v
-      → lent_for p w c ≡ None → (l : LeftOut) × WaitsIfMay s run.item old l v c v
+  -- each caller that is free is one of the shape, and is lent to runs
+  abbrev AreLendable : Type 0
+  AreLendable = (d : ℕ) → last_free p.free ≡ Some d
+      → (nat_lt d s.callers ≡ true) × (is_lent first (caller_numbered d) ≡ true)
+
+  -- the worker sees all entries then
+  left_out : (c : Call) → IsItems s c → is_workers c ≡ false → (old : LeftOut) (v : View) → v.who ≡ Worker w
+      → IsUpToDate h.entries v → AreLendable → lent_for p w c ≡ None
+      → (l : LeftOut) × WaitsIfMay s run.item old l v c (having_seen h.entries v)
   unfolding lent_for
-  left_out c own old v who up = of_may (may_wait h p.workers w c) refl
+  left_out c own other old v who up lendable = of_may (may_wait h p.workers w c) refl
     where
-      no_room : (l : LeftOut) × WaitsIfMay s run.item old l v c v
-      no_room = (one_without_room old, inr (inr (inr (v, inl refl, inl refl), refl)))
+      of_room : (d : ℕ) → last_free p.free ≡ Some d → refusal_of s (past_in h) (waits_in h p.workers) w c ≡ None
+          → (b : Bool) → has_wait_room h w (record { 0 = d }) c ≡ b → (if b then Some d else None) ≡ None
+          → (l : LeftOut) × WaitsIfMay s run.item old l v c (having_seen h.entries v)
+      of_room d last free true room is = absurd (cc is)
+      of_room d last free false room is =
+          let there = lendable d last in
+          let fit : fits s (caller_numbered d) c ≡ true =
+          rw (there.0, (waits_by_caller c (waits_of_items s c own other)).0, own.1) refl in
+          let lacked = sym (wait_room_is s h w (record { 0 = d }) c kept fit_sleep fit) ∙ room in (
+            one_without_room old,
+            (
+              first,
+              inr (inr (
+                lacked_room first s h p.workers w v kept who up c (same c) (caller_numbered d) there.1 free lacked,
+                refl,
+              )),
+            ),
+          )
 
-      of_room : (d : ℕ) → (b : Bool) → (if b then Some d else None) ≡ None
-          → (l : LeftOut) × WaitsIfMay s run.item old l v c v
-      of_room d true is = absurd (cc is)
-      of_room d false is = no_room
-
-      of_free : (o : Option ℕ) → refusal_of s (past_in h) (waits_in h p.workers) w c ≡ None
-          → option_and_then (with_room p w c) o ≡ None → (l : LeftOut) × WaitsIfMay s run.item old l v c v
-      of_free None free is =
-          (one_refused old, inr (inl (nobody_left first s h p.workers w v kept who up c (same c) run.item free, refl)))
-      of_free (Some d) free is = of_room d (has_wait_room h w (record { 0 = d }) c) is
+      of_free : (o : Option ℕ) → last_free p.free ≡ o → refusal_of s (past_in h) (waits_in h p.workers) w c ≡ None
+          → option_and_then (with_room p w c) o ≡ None
+          → (l : LeftOut) × WaitsIfMay s run.item old l v c (having_seen h.entries v)
+      of_free None last free is =
+          let nobody = nobody_left first s h p.workers w v kept who up c (same c) run.item free in
+          (one_refused old, (first, inr (inl (nobody, refl))))
+      of_free (Some d) last free is = of_room d last free (has_wait_room h w (record { 0 = d }) c) refl is
 
       of_may : (b : Bool) → may_wait h p.workers w c ≡ b
           → (if b then option_and_then (with_room p w c) (last_free p.free) else None) ≡ None
-          → (l : LeftOut) × WaitsIfMay s run.item old l v c v
-      of_may true may is = of_free (last_free p.free) (allowed c own may) is
+          → (l : LeftOut) × WaitsIfMay s run.item old l v c (having_seen h.entries v)
+      of_may true may is = of_free (last_free p.free) refl (allowed c own may) is
       of_may false may is =
           let why = some_found _ (sym (refusal c) ∙ not_false _ (sym (may_numbers c own) ∙ may)) in (
             one_refused old,
-            inr (inl (refused_for first s h p.workers w v kept who up c (same c) run.item why.0 why.1, refl)),
+            (first, inr (inl (refused_for first s h p.workers w v kept who up c (same c) run.item why.0 why.1, refl))),
           )
 
   pub waits_not : (acc : IsRunning s does w run h.entries) (c : Call) → run.doing ≡ Acts
-      → next_action ≡ Some (action.Call c) → IsItems s c → is_workers c ≡ false → lent_for p w c ≡ None
-      → IsRunning s does w (after_action run) h.entries
-  waits_not acc c acting next own other none =
+      → next_action ≡ Some (action.Call c) → IsItems s c → is_workers c ≡ false → AreLendable
+      → lent_for p w c ≡ None → IsRunning s does w (after_action run) h.entries
+  waits_not acc c acting next own other lendable none =
       of (subst (λ d. DoesNext s w next_action d acc.acted acc.view h.entries) acting acc.doing)
     where
       of : (acc.view ≡ acc.acted) × (runs_awake (past_of h.entries) w ≡ true)
           → IsRunning s does w (after_action run) h.entries
       of (still, awake) =
           let up = subst (IsUpToDate h.entries) still acc.up in
-          let l = left_out c own acc.left_out acc.acted acc.acted_who up none in
-          working.passes_on s does w cpu index run h acc (action.Call c) acting next l.0
-          (acts_by c own other acc.left_out l.0 acc.acted acc.acted l.1)
+          let l = left_out c own other acc.left_out acc.acted acc.acted_who up lendable none in
+          let now = having_seen h.entries acc.acted in
+          working.goes_on s does w cpu index run h.entries acc (action.Call c) next h.entries l.0 now
+          (acts_by c own other acc.left_out l.0 acc.acted now l.1) acc.acted_who (seen_up h.entries acc.acted up) awake
 
   -- ---- it begins
 
@@ -193,12 +218,13 @@ module _ (s : Layout) (does : List (List Action)) (w : WorkerId) (cpu : nat_lt w
   still_asleep old new spares asleep = spares.awake.asleep ∙ asleep
 
   -- the run waited, and goes on
-  has_waited : (v u before after z : View) (c : Call) (r : Reply) → MakesOne s v call.Sleep u
-      → WasAllowed s v c before.who u → made_by before.who u.seen ≡ made_by before.who before.seen
+  has_waited : (from : ℕ) (v u before after z : View) (c : Call) (r : Reply) → MakesOne s v call.Sleep u
+      → WasAllowed s from v c before.who u → made_by before.who u.seen ≡ made_by before.who before.seen
       → is_caller after.who ≡ true
-      → Completes s before c r after → MakesOne s u call.Wake z → IsPrefix u.seen after.seen
-      → IsPrefix after.seen z.seen → HasWaited s v c r z
-  has_waited v u before after z c r sleeps allowed nothing by whole wakes saw sees = (
+      → Completes s before c r after → MakesOne s u call.Wake z
+      → IsPrefix (u.seen ++ own_entry s u.seen before c ∷ []) after.seen
+      → IsPrefix after.seen z.seen → HasWaited s from v c r z
+  has_waited from v u before after z c r sleeps allowed nothing by whole wakes at_once sees = (
     v,
     inl refl,
     record {
@@ -211,7 +237,7 @@ module _ (s : Layout) (does : List (List Action)) (w : WorkerId) (cpu : nat_lt w
       by_caller = by;
       completes = whole;
       wakes = wakes;
-      saw_sleep = saw;
+      at_once = at_once;
       sees = sees;
     },
   )
@@ -254,10 +280,10 @@ module _ (s : Layout) (does : List (List Action)) (w : WorkerId) (cpu : nat_lt w
           rested_up.older)
 
       was_now : IsUpToDate h.entries acc.acted → (m : MakesBy s h acc.acted (Worker w) call.Sleep slept)
-          → WasAllowed s acc.acted cl (caller_numbered c) m.view
+          → WasAllowed s first acc.acted cl (caller_numbered c) m.view
       was_now up m =
           was_allowed first s h p.workers w acc.acted kept acc.acted_who up cl (same cl) m.view (caller_numbered c)
-          lendable (allowed cl own its.may) m.seen
+          lendable (allowed cl own its.may) room.whole m.seen
 
       of : (acc.view ≡ acc.acted) × (runs_awake (past_of h.entries) w ≡ true)
           → BegunAs c cl (called slept (caller_numbered c) cl).history (called slept (caller_numbered c) cl).outcome
@@ -282,24 +308,28 @@ module _ (s : Layout) (does : List (List Action)) (w : WorkerId) (cpu : nat_lt w
               let z = working.wakes_by s does w cpu index g m.view m.same goes.kept view_up asleep_on in
               let wakes_by_itself = (stepped_goes s (Worker w) g call.Wake goes.kept).spares (caller_numbered c) refl in
               let after_who : after.who ≡ caller_numbered c = whole.gains.same ∙ rested.who in
-              let saw_sleep = subst (λ (es : List Entry). IsPrefix es after.seen) (sym m.all) saw in
+              let at_once =
+              subst (λ (es : List Entry). IsPrefix (es ++ own_entry s es rested.view cl ∷ []) after.seen) (sym m.all)
+              saw in
               let sees : IsPrefix after.seen z.view.seen =
               subst (λ (es : List Entry). IsPrefix after.seen es) (sym z.all)
               (prefix_trans after.seen g.entries (stepped g (Worker w) call.Wake).entries up.older
               wakes_by_itself.longer) in (
                 working.goes_on s does w cpu index run h.entries acc (action.Call cl) next
                     (stepped g (Worker w) call.Wake).entries acc.left_out z.view
-                    (acts_by cl own other acc.left_out acc.left_out acc.acted z.view
-                    (inl (
-                      r,
-                      has_waited acc.acted m.view rested.view after z.view cl r
-                          (answer s (past_in h) (Worker w) call.Sleep, m.extends)
-                          (subst (λ (x : Who). WasAllowed s acc.acted cl x m.view) (sym rested.who)
-                          (was_now (subst (IsUpToDate h.entries) still acc.up) m))
-                          (nothing_yet m) (ap is_caller after_who) whole
-                          (answer s (past_in g) (Worker w) call.Wake, z.extends) saw_sleep sees,
-                      refl,
-                    ))) z.same z.up
+                    (acts_by cl own other acc.left_out acc.left_out acc.acted z.view (
+                      first,
+                      inl (
+                        r,
+                        has_waited first acc.acted m.view rested.view after z.view cl r
+                            (answer s (past_in h) (Worker w) call.Sleep, m.extends)
+                            (subst (λ (x : Who). WasAllowed s first acc.acted cl x m.view) (sym rested.who)
+                            (was_now (subst (IsUpToDate h.entries) still acc.up) m))
+                            (nothing_yet m) (ap is_caller after_who) whole
+                            (answer s (past_in g) (Worker w) call.Wake, z.extends) at_once sees,
+                        refl,
+                      ),
+                    )) z.same z.up
                     (working.awake_after_wake s does w cpu index g m.view goes.kept asleep_on z),
                 record {
                   view = after;
@@ -317,7 +347,9 @@ module _ (s : Layout) (does : List (List Action)) (w : WorkerId) (cpu : nat_lt w
                 record {
                   wait = ap is_wait call_is ∙ wait;
                   sleeps = (answer s (past_in h) (Worker w) call.Sleep, m.extends);
-                  allowed = subst (λ (d : Call). WasAllowed s acc.acted d (caller_numbered c) m.view) (sym call_is)
+                  first = first;
+                  allowed = subst (λ (d : Call). WasAllowed s first acc.acted d (caller_numbered c) m.view)
+                      (sym call_is)
                       (was_now (subst (IsUpToDate h.entries) still acc.up) m);
                   asleep = still_asleep slept.entries g.entries spared asleep;
                   begun = record {
@@ -328,7 +360,10 @@ module _ (s : Layout) (does : List (List Action)) (w : WorkerId) (cpu : nat_lt w
                     reply = r;
                     view = view;
                     begun = begun;
-                    saw_sleep = subst (λ (es : List Entry). IsPrefix es view.seen) (sym m.all) saw;
+                    at_once = subst (λ (d : Call). IsPrefix (m.view.seen
+                        ++ own_entry s m.view.seen rested.view d ∷ []) view.seen) (sym call_is)
+                        (subst (λ (es : List Entry). IsPrefix (es ++ own_entry s es rested.view cl ∷ []) view.seen)
+                        (sym m.all) saw);
                     up = up;
                   };
                 },
@@ -374,7 +409,9 @@ module _ (s : Layout) (does : List (List Action)) (w : WorkerId) (cpu : nat_lt w
           let wakes_by_itself = (stepped_goes s (Worker w) g call.Wake goes.kept).spares (caller_numbered c) refl in
           let last_who : e.last.who ≡ caller_numbered c = e.ended.gains.same ∙ view_who in
           let whole = wait_completes s b.before b.view t b.reply g.entries b.begun e in
-          let saw_sleep = prefix_trans acc.view.seen b.view.seen e.last.seen b.saw_sleep e.ended.gains.older in
+          let at_once =
+          prefix_trans (acc.view.seen ++ own_entry s acc.view.seen b.before t.call ∷ []) b.view.seen e.last.seen
+          b.at_once e.ended.gains.older in
           let sees : IsPrefix e.last.seen z.view.seen =
           subst (λ (es : List Entry). IsPrefix e.last.seen es) (sym z.all)
           (prefix_trans e.last.seen g.entries (stepped g (Worker w) call.Wake).entries e.up.older
@@ -382,15 +419,17 @@ module _ (s : Layout) (does : List (List Action)) (w : WorkerId) (cpu : nat_lt w
             working.goes_on s does w cpu index run h.entries acc (action.Call t.call) next
                 (stepped g (Worker w) call.Wake).entries acc.left_out z.view
                 (acts_by t.call (items t.call next) (not_workers t.call x.wait) acc.left_out acc.left_out acc.acted
-                z.view
-                (inl (
-                  b.reply,
-                  has_waited acc.acted acc.view b.before e.last z.view t.call b.reply x.sleeps
-                      (subst (λ (y : Who). WasAllowed s acc.acted t.call y acc.view) (sym b.who) x.allowed)
-                      b.nothing_yet (ap is_caller last_who) whole
-                      (answer s (past_in g) (Worker w) call.Wake, z.extends) saw_sleep sees,
-                  refl,
-                ))) z.same z.up (working.awake_after_wake s does w cpu index g acc.view goes.kept asleep_on z),
+                z.view (
+                  x.first,
+                  inl (
+                    b.reply,
+                    has_waited x.first acc.acted acc.view b.before e.last z.view t.call b.reply x.sleeps
+                        (subst (λ (y : Who). WasAllowed s x.first acc.acted t.call y acc.view) (sym b.who) x.allowed)
+                        b.nothing_yet (ap is_caller last_who) whole
+                        (answer s (past_in g) (Worker w) call.Wake, z.extends) at_once sees,
+                    refl,
+                  ),
+                )) z.same z.up (working.awake_after_wake s does w cpu index g acc.view goes.kept asleep_on z),
             record {
               view = e.last;
               who = last_who;

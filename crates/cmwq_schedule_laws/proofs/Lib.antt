@@ -21,3 +21,4 @@ pub mod Beginning
 pub mod Ending
 pub mod Leaving
 pub mod Counted
+pub mod Firing

@@ -88,7 +88,7 @@ module _ (s : Layout) (old new : List Entry) where
       reply = b.reply;
       view = b.view;
       begun = b.begun;
-      saw_sleep = b.saw_sleep;
+      at_once = b.at_once;
       up = later old new b.view (caller_numbered c) (b.begun.extends.gains.same ∙ b.who) spared b.up;
     }
 
@@ -103,6 +103,7 @@ module _ (s : Layout) (old new : List Entry) where
       record {
         wait = waits.wait;
         sleeps = waits.sleeps;
+        first = waits.first;
         allowed = waits.allowed;
         asleep = spares.awake.asleep ∙ waits.asleep;
         begun = begun_later c t u (spared c refl) waits.begun;

@@ -582,7 +582,9 @@ module _ (r : Run) (ok : IsPlayable r) (p : Stand) (st : Stands r p) where
               (not_waiting acting)
               (lending.waits_not r.layout r.does at.id works_here.cpu works_here.index p st.kept first
               (same_refusals at.id) run acc c
-              acting next (ok.does run.item.0 run.next c next) other none)
+              acting next (ok.does run.item.0 run.next c next) other
+              (λ d last. let free = is_lent_free d last in
+              (lent_there d free.lendable, lent_number d free.lendable)) none)
           by (Some caller) lent = begins c caller acting next other lent
 
       ends_wait : (c : ℕ) (t : Ticketed) → run.doing ≡ Waits c t → ends p.history (caller_numbered c) t.ticket ≡ true

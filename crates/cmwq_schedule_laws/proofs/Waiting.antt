@@ -15,15 +15,15 @@ use Rattle.cmwq_model.specs.declared.id.ItemId.{ItemId}
 use Rattle.cmwq_model.specs.declared.id.Who.{Who}
 use Rattle.cmwq_model.specs.declared.id.Who.TheVariants.{Caller, Worker}
 use Rattle.cmwq_model.specs.declared.id.WorkerId.{WorkerId}
-use Rattle.cmwq_core.specs.History.{History, past_in, takes_with}
+use Rattle.cmwq_core.specs.History.{History, past_in, takes, takes_with}
 use Rattle.cmwq_waits.specs.Begun.{is_lent, waits_of}
 use Rattle.cmwq_waits.specs.Registered.{refusal_of}
 use Rattle.cmwq_waits.specs.declared.waits.Stuck.{Stuck}
 use Rattle.cmwq_waits.specs.declared.waits.Stuck.TheVariants as stuck
 use Rattle.cmwq_monitor.specs.Calls.{own_entry}
-use Rattle.cmwq_monitor.specs.Held.{refusal_after}
+use Rattle.cmwq_monitor.specs.Held.{has_room_after, refusal_after}
 use Rattle.cmwq_monitor.specs.Participants.{View}
-use Rattle.cmwq_rt.specs.Waiting.{WasAllowed, WasLookedAt, is_wait}
+use Rattle.cmwq_rt.specs.Waiting.{HadNoRoom, WasAllowed, WasLookedAt, is_wait}
 use Rattle.cmwq_rt.specs.declared.wait_fault.WaitFault.TheVariants as fault
 use Rattle.cmwq_board.specs.Asked as board
 use Rattle.cmwq_board.proofs.Slept.{needs_more}
@@ -35,7 +35,7 @@ unfoldable use Rattle.cmwq_play.specs.Waiting.{is_refused}
 use Rattle.cmwq_play.specs.declared.place.WorkerAt.{WorkerAt}
 use Rattle.cmwq_schedule_laws.proofs.Accounts.{IsItems}
 use Rattle.cmwq_schedule_laws.proofs.Awake.{slept_reply}
-use Rattle.cmwq_schedule_laws.proofs.Keeping.{IsKept, IsUpToDate}
+use Rattle.cmwq_schedule_laws.proofs.Keeping.{IsKept, IsUpToDate, having_seen}
 
 -- ---- what was found of a wait
 
@@ -47,37 +47,55 @@ module _ (first : ℕ) (s : Layout) (h : History) (workers : List WorkerAt) (w :
       → refusal_after s first h.entries v.who c ≡ why
   found why is = subst (λ (x : Who). refusal_after s first h.entries x c ≡ why) (sym who) (same ∙ is)
 
-  looked_at : (why : Option Stuck) → refusal_of s (past_in h) (waits_in h workers) w c ≡ why → WasLookedAt s v c why
+  -- the worker sees all entries then
+  abbrev seen : View
+  seen = having_seen h.entries v
+
+  looked_at : (why : Option Stuck) → refusal_of s (past_in h) (waits_in h workers) w c ≡ why
+      → WasLookedAt s first v c why seen
   looked_at why is = record {
-    first = first;
-    history = h.entries;
     legal = kept.legal;
-    older = up.older;
-    counts = up.book;
+    settles = (refl, up.older, up.book);
     found = found why is;
   }
 
   pub was_allowed : (u : View) (caller : Who) → is_lent first caller ≡ true
       → refusal_of s (past_in h) (waits_in h workers) w c ≡ None
-      → u.seen ≡ h.entries ++ own_entry s h.entries v call.Sleep ∷ [] → WasAllowed s v c caller u
-  was_allowed u caller lent is seen = record {
-    first = first;
+      → has_room_after s h.entries (Worker w) caller c ≡ true
+      → u.seen ≡ h.entries ++ own_entry s h.entries v call.Sleep ∷ [] → WasAllowed s first v c caller u
+  was_allowed u caller lent is room slept = record {
     before = h.entries;
     lent = lent;
     allowed = found None is;
-    slept = seen;
+    room = subst (λ (x : Who). has_room_after s h.entries x caller c ≡ true) (sym who) room;
+    slept = slept;
   }
 
   -- it was refused for a reason, or since nobody was left
   pub refused_for : (item : ItemId) (why : Stuck) → refusal_of s (past_in h) (waits_in h workers) w c ≡ Some why
-      → IsRefused s item v c v
-  refused_for item stuck.Itself is =
-      (inl refl, (fault.Itself, refl, inr (v, inl refl, looked_at (Some stuck.Itself) is)))
-  refused_for item stuck.Circle is =
-      (inl refl, (fault.Deadlock, refl, inr (v, inl refl, looked_at (Some stuck.Circle) is)))
+      → IsRefused s first item v c seen
+  refused_for item stuck.Itself is = (fault.Itself, refl, inr (v, inl refl, looked_at (Some stuck.Itself) is))
+  refused_for item stuck.Circle is = (fault.Deadlock, refl, inr (v, inl refl, looked_at (Some stuck.Circle) is))
 
-  pub nobody_left : (item : ItemId) → refusal_of s (past_in h) (waits_in h workers) w c ≡ None → IsRefused s item v c v
-  nobody_left item is = (inl refl, (fault.NoCaller, refl, inr (v, inl refl, looked_at None is)))
+  pub nobody_left : (item : ItemId) → refusal_of s (past_in h) (waits_in h workers) w c ≡ None
+      → IsRefused s first item v c seen
+  nobody_left item is = (fault.NoCaller, refl, inr (v, inl refl, looked_at None is))
+
+  -- it was allowed, and there was no room for it
+  pub lacked_room : (caller : Who) → is_lent first caller ≡ true
+      → refusal_of s (past_in h) (waits_in h workers) w c ≡ None
+      → has_room_after s h.entries (Worker w) caller c ≡ false → HadNoRoom s first v c seen
+  unfolding looked_at
+  lacked_room caller lent is lacked = inr (
+    v,
+    inl refl,
+    record {
+      looked = looked_at None is;
+      caller = caller;
+      lent = lent;
+      lacked = subst (λ (x : Who). has_room_after s h.entries x caller c ≡ false) (sym who) lacked;
+    },
+  )
 
 -- whether it is refused
 fit_sleep : (s : Layout) (h : History) (w : WorkerId) → IsKept s h → fits s (Worker w) call.Sleep ≡ true
@@ -148,9 +166,32 @@ room_own h g w c cl kept after awake past fit wait room =
     takes_of : Layout → ℕ → List Entry → Bool
     takes_of l room past = has_time past cl && nat_le (room_needed l (entry_for l past (Caller c) cl ∷ past)) room
 
+-- a schedule looks for the room of a wait as the hub does
+pub wait_room_is : (s : Layout) (h : History) (w : WorkerId) (c : CallerId) (cl : Call) → IsKept s h
+    → fits s (Worker w) call.Sleep ≡ true → fits s (Caller c) cl ≡ true
+    → has_wait_room h w c cl ≡ has_room_after s h.entries (Worker w) (Caller c) cl
+unfolding has_wait_room
+wait_room_is s h w c cl kept =
+    subst (λ (l : Layout). IsKept l h → fits l (Worker w) call.Sleep ≡ true → fits l (Caller c) cl ≡ true
+    → has_wait_room h w c cl ≡ has_room_after l h.entries (Worker w) (Caller c) cl) kept.layout own_room kept
+  where
+    room_with : ℕ → Bool
+    room_with n =
+        takes (record { layout = h.layout; room = n; entries = h.entries }) (Worker w) call.Sleep
+        && takes_with (record { layout = h.layout; room = n; entries = h.entries }) (Caller c) cl 2
+
+    own_room : IsKept h.layout h → fits h.layout (Worker w) call.Sleep ≡ true → fits h.layout (Caller c) cl ≡ true
+        → has_wait_room h w c cl ≡ has_room_after h.layout h.entries (Worker w) (Caller c) cl
+    own_room here sleeps calls =
+        ap (λ b. (b && takes h (Worker w) call.Sleep) && (fits h.layout (Caller c) cl && takes_with h (Caller c) cl 2))
+        sleeps
+        ∙ ap (λ b. takes h (Worker w) call.Sleep && (b && takes_with h (Caller c) cl 2)) calls
+        ∙ ap room_with here.room
+
 pub record HasRoom (s : Layout) (h : History) (w : WorkerId) (c : CallerId) (cl : Call) : Type 0 where
   pub sleeps : is_made h (Worker w) call.Sleep ≡ true
   pub fit : fits s (Caller c) cl ≡ true
+  pub whole : has_room_after s h.entries (Worker w) (Caller c) cl ≡ true
   pub calls : (g : History) → IsKept s g → runs_awake (past_in h) w ≡ true
       → past_in g ≡ entry_for s (past_in h) (Worker w) call.Sleep ∷ past_in h → is_made g (Caller c) cl ≡ true
 
@@ -160,9 +201,11 @@ unfolding has_wait_room
 has_own h w c cl kept wait room =
     let parts = and_parts (is_made h (Worker w) call.Sleep) _ room in
     let call_parts = and_parts (fits h.layout (Caller c) cl) (takes_with h (Caller c) cl 2) parts.1 in
+    let sleep_parts = and_parts (fits h.layout (Worker w) call.Sleep) (takes h (Worker w) call.Sleep) parts.0 in
     record {
       sleeps = parts.0;
       fit = call_parts.0;
+      whole = sym (wait_room_is h.layout h w c cl kept sleep_parts.0 call_parts.0) ∙ room;
       calls = λ g after awake past. room_own h g w c cl kept after awake past call_parts.0 wait call_parts.1;
     }
 

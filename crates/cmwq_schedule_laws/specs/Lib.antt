@@ -1,1 +1,2 @@
+pub mod Firing
 pub mod Leaving

@@ -1,6 +1,7 @@
 //! What schedules leave, threads may leave.
 
 ghost use Rattle.cmwq_json_script.specs.Scripts.{MayRun, run_of};
+ghost use Rattle.cmwq_schedule_laws.specs.Firing.{BoardsFireAsSchedules};
 ghost use Rattle.cmwq_schedule_laws.specs.Leaving.{CallsLeftOutAreTold, SchedulesLeave, SchedulesLeaveHistories};
 
 use cmwq_json_script::Script;
@@ -22,4 +23,9 @@ pub fn scripts_leave_histories(script: &Script)
 /// A history tells how many calls of callers were left out.
 pub fn histories_tell_calls_left_out()
     ensures { CallsLeftOutAreTold }
+{}
+
+/// What a board fires after a tick or a drain is what a schedule fires.
+pub fn boards_fire_as_schedules()
+    ensures { BoardsFireAsSchedules }
 {}

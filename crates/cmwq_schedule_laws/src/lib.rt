@@ -4,4 +4,7 @@
 
 mod laws;
 
-pub use laws::{histories_tell_calls_left_out, schedules_leave_histories, scripts_leave_histories};
+pub use laws::{
+    boards_fire_as_schedules, histories_tell_calls_left_out, schedules_leave_histories,
+    scripts_leave_histories,
+};

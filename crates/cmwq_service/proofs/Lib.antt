@@ -3,3 +3,4 @@ pub mod Ending
 pub mod FirstOutside
 pub mod Served
 pub mod Ticking
+pub mod Waiting

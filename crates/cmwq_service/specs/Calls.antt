@@ -18,7 +18,7 @@ use Rattle.cmwq_monitor.specs.declared.fault.RunFault.TheVariants.{Full}
 use Rattle.cmwq_rt.specs.Batches.{StopsBatch}
 use Rattle.cmwq_rt.specs.Later.{Later}
 use Rattle.cmwq_rt.specs.declared.batch.BatchFault.{BatchFault}
-use Rattle.cmwq_rt.specs.Waiting.{HadNoRoom, HasWaited, IsAwake, TellsWhy, is_for_itself}
+use Rattle.cmwq_rt.specs.Waiting.{HadNoRoom, HasWaited, IsRefusedFor, is_for_itself}
 use Rattle.cmwq_rt.specs.declared.wait_fault.WaitFault.{WaitFault}
 use Rattle.cmwq_rt.specs.declared.wait_fault.WaitFault.TheVariants as wait
 use Rattle.cmwq_service.specs.Outside.{IsFirstOutside, IsOutside, is_allowed}
@@ -57,28 +57,21 @@ awaited_by (call.Flush q) = Some (Queue q.0)
 awaited_by (call.Drain q) = Some (Queue q.0)
 awaited_by c = None
 
--- The reason to refuse a wait of this item's run: it would wait for itself, or so it was found under the lock, once the
--- run was awake.
-abbrev pub IsReason : Layout → ItemId → View → Call → WaitFault → Type 0
-IsReason s own v c f = (is_for_itself own c ≡ true) ⊎ ((awake : View) × IsAwake s v awake × TellsWhy s awake c f)
-
--- A wait of this item's run was refused for this reason, which tells the item and what it would have waited for. No
--- entry was made, but that a run that was asleep is awake.
-pub record IsRefused (s : Layout) (own : ItemId) (v : View) (c : Call) (f : WaitFault) (n : ℕ) (a : Awaited)
-    (w : View) : Type 0 where
+-- A wait of this item's run was refused for this reason, which tells the item and what it would have waited for.
+pub record IsRefused (s : Layout) (first : ℕ) (own : ItemId) (v : View) (c : Call) (f : WaitFault) (n : ℕ)
+    (a : Awaited) (w : View) : Type 0 where
   pub item : n ≡ own.0
   pub awaited : awaited_by c ≡ Some a
-  pub reason : IsReason s own v c f
-  pub awake : IsAwake s v w
+  pub reason : IsRefusedFor s first own v c f w
 
 -- A run's wait was refused, or it broke off.
-abbrev pub Unwaited : Layout → ItemId → View → Call → Fault → View → Type 0
-Unwaited s own v c (Outside o) w = (has_numbers s c ≡ false) × IsOutside s c o × (w ≡ v)
-Unwaited s own v c (Run f) w = Later v w
-Unwaited s own v c (Itself i a) w = IsRefused s own v c wait.Itself i a w
-Unwaited s own v c (Deadlock i a) w = IsRefused s own v c wait.Deadlock i a w
-Unwaited s own v c (NoCaller i a) w = IsRefused s own v c wait.NoCaller i a w
-Unwaited s own v c (Own _) w = ⊥
+abbrev pub Unwaited : Layout → ℕ → ItemId → View → Call → Fault → View → Type 0
+Unwaited s first own v c (Outside o) w = (has_numbers s c ≡ false) × IsOutside s c o × (w ≡ v)
+Unwaited s first own v c (Run f) w = Later v w
+Unwaited s first own v c (Itself i a) w = IsRefused s first own v c wait.Itself i a w
+Unwaited s first own v c (Deadlock i a) w = IsRefused s first own v c wait.Deadlock i a w
+Unwaited s first own v c (NoCaller i a) w = IsRefused s first own v c wait.NoCaller i a w
+Unwaited s first own v c (Own _) w = ⊥
 
 -- the answer to a run that would wait for itself
 abbrev pub TellsItself : Result Reply Fault → Type 0
@@ -97,13 +90,13 @@ pub record DoneOrInterrupted (s : Layout) (v : View) (c : Call) (answer : Result
   pub done : IfOk answer (λ r. Completes s v c r w)
   pub broke : IfErr answer (λ f. Interrupted s v c f w)
 
--- a wait of this item's run
-pub record WaitedOrNot (s : Layout) (own : ItemId) (v : View) (c : Call) (answer : Result Reply Fault) (w : View)
-    : Type 0 where
-  pub waited : IfOk answer (λ r. HasWaited s v c r w)
-  pub unwaited : IfErr answer (λ f. Unwaited s own v c f w)
+-- a wait of this item's run, where callers from this number on are lent to runs
+pub record WaitedOrNot (s : Layout) (first : ℕ) (own : ItemId) (v : View) (c : Call) (answer : Result Reply Fault)
+    (w : View) : Type 0 where
+  pub waited : IfOk answer (λ r. HasWaited s first v c r w)
+  pub unwaited : IfErr answer (λ f. Unwaited s first own v c f w)
   pub itself : is_for_itself own c ≡ true → has_numbers s c ≡ true → TellsItself answer × (w ≡ v)
-  pub full : IfErr answer (λ f. f ≡ Run Full → HadNoRoom s v w)
+  pub full : IfErr answer (λ f. f ≡ Run Full → HadNoRoom s first v c w)
 
 -- ---- what a service sees of a hub
 

@@ -23,7 +23,7 @@ use std::sync::Wait;
 /// `Itself`, `Deadlock` or `NoCaller` if the run may not wait, and otherwise `Run` as the hub returns it: the run may
 /// have slept and woken.
 pub trait Context: RunCalls<Fault = Fault, WaitFault = Fault> {
-    ghost use Rattle.std.specs.Prelude.{◌≡◌, ◌≤◌, true, length, IfOk, IfErr, None, Result};
+    ghost use Rattle.std.specs.Prelude.{◌≡◌, ◌≤◌, ℕ, true, length, IfOk, IfErr, None, Result};
     ghost use Rattle.cmwq_model.specs.declared.call.Call.{Call};
     ghost use Rattle.cmwq_model.specs.declared.reply.Reply.{Reply};
     ghost use Rattle.cmwq_model.specs.Prelude.{Layout, is_workers};
@@ -38,6 +38,9 @@ pub trait Context: RunCalls<Fault = Fault, WaitFault = Fault> {
 
     /// The shape of its hub.
     ghost layout: { Layout };
+
+    /// From which number on the hub's callers are lent to runs.
+    ghost first_lent: { ℕ };
 
     /// The item that runs.
     ghost runs: { Self → ids.ItemId };
@@ -94,7 +97,7 @@ pub trait Context: RunCalls<Fault = Fault, WaitFault = Fault> {
 
     /// What each wait promises.
     ghost when_waited: { (v w : Self) (c : Call) (answer : Result Reply Fault) → Self.waited v c answer w
-        → WaitedOrNot layout (runs v) (view v) c answer (view w) × (runs w ≡ runs v) };
+        → WaitedOrNot layout first_lent (runs v) (view v) c answer (view w) × (runs w ≡ runs v) };
 }
 
 /// The context that `run` gives to a service: its worker is the one of its start, and sees all that it had seen.
@@ -144,8 +147,8 @@ impl<'a, N: HubName, B: Start, R: Wait> Calls for HubContext<'a, N, B, R> {
     ghost made = { λ v c answer w. MadeOrDenied N.layout v.run.participant c answer w.run.participant
         × (w.run.item ≡ v.run.item) };
 
-    ghost waited = { λ v c answer w. WaitedOrNot N.layout v.run.item v.run.participant c answer w.run.participant
-        × (w.run.item ≡ v.run.item) };
+    ghost waited = { λ v c answer w. WaitedOrNot N.layout N.first_lent v.run.item v.run.participant c answer
+        w.run.participant × (w.run.item ≡ v.run.item) };
 
     #[tactic(auto, using(crate::proofs::Continuing::after_later))]
     fn make(&mut self, call: Call) -> Result<Reply, Fault> {
@@ -159,7 +162,7 @@ impl<'a, N: HubName, B: Start, R: Wait> Calls for HubContext<'a, N, B, R> {
         }
     }
 
-    #[tactic(auto, using(crate::proofs::Continuing::after_later))]
+    #[tactic(auto, using(crate::proofs::Continuing::after_later, crate::proofs::Waiting::not_waited))]
     fn wait(&mut self, call: Call) -> Result<Reply, Fault> {
         let shape = self.run.shape();
         if !shape.has_numbers(call) {
@@ -176,6 +179,8 @@ impl<'a, N: HubName, B: Start, R: Wait> RunCalls for HubContext<'a, N, B, R> {}
 
 impl<'a, N: HubName, B: Start, R: Wait> Context for HubContext<'a, N, B, R> {
     ghost layout = { N.layout };
+
+    ghost first_lent = { N.first_lent };
 
     ghost runs = { λ c. c.run.item };
 

@@ -30,8 +30,8 @@ pub enum Unwritten {
 }
 
 /// The same as `run`, but the history is written to a sink while it is made, as text of format 3, and flushed after
-/// each batch. So many entries are kept at a time, or as many as a hold of the lock may make where that is more; who
-/// makes a call waits while there is no space for it. What is made is written after a tenth of a second at the latest.
+/// each batch. So many entries are kept at a time, or as many as one move may make where that is more; who makes a
+/// call waits while there is no space for it. What is made is written after a tenth of a second at the latest.
 /// The shape's room may be as great as any. The answer is how many entries were written, and the text ends with a line
 /// that says so.
 ///

@@ -29,13 +29,14 @@ use Rattle.cmwq_waits.specs.HeldUp.{is_ahead_of_item, is_held_up, is_held_up_by,
 use Rattle.cmwq_waits.specs.Refused.{CouldNeverEnd, Refuses, is_other, is_turned_away, next_ticket, next_wait}
 use Rattle.cmwq_waits.specs.Refused.{scene_after, waits_with}
 use Rattle.cmwq_waits.specs.declared.run_wait.RunWait.{RunWait}
-use Rattle.cmwq_waits.proofs.GoOn.{is_running}
+use Rattle.cmwq_waits.proofs.Running.{is_running}
 use Rattle.cmwq_waits_laws.specs.Lasting.{scene_of}
 use Rattle.cmwq_waits_laws.proofs.Alike.{HaveSameRuns, last_alike, members_alike, places_alike, runs_alike}
 use Rattle.cmwq_waits_laws.proofs.Alike.{workers_alike}
 use Rattle.cmwq_waits_laws.proofs.Kept.{Way, all_places, all_workers, by_way, its_run, way}
 use Rattle.cmwq_waits_laws.proofs.Made.{quiet, same_opened}
-use Rattle.cmwq_waiting.specs.Deadlocks.{AllowedTrapNone, MayTrap, NoDeadlock, RefusesIn, narrows, queues}
+use Rattle.cmwq_waits.specs.Allowed.{RefusesIn}
+use Rattle.cmwq_waiting.specs.Deadlocks.{AllowedTrapNone, MayTrap, NoDeadlock, narrows, queues}
 use Rattle.cmwq_waits.specs.Begun.{wait_begun, waits_of}
 use Rattle.cmwq_waiting.proofs.AllowedAsleep.{allowed_asleep_too}
 use Rattle.cmwq_waiting.proofs.Trapping.{entries_trap_none, held_back, holds_back, inactive_back}

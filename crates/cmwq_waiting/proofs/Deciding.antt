@@ -17,8 +17,8 @@ use Rattle.cmwq_waits.specs.HeldUp.{awaits}
 use Rattle.cmwq_waits.specs.Refused.{is_of_run, refusal}
 use Rattle.cmwq_waits.specs.declared.run_wait.RunWait.{RunWait}
 use Rattle.cmwq_waits.specs.declared.waits.Stuck.{Stuck}
-use Rattle.cmwq_waiting.specs.Deadlocks.{MayTrap, NoneMayTrap, RefusesIn, WaitsWereAllowed, before_last, narrows}
-use Rattle.cmwq_waiting.specs.Deadlocks.{queues}
+use Rattle.cmwq_waits.specs.Allowed.{RefusesIn, WaitsWereAllowed, before_last}
+use Rattle.cmwq_waiting.specs.Deadlocks.{MayTrap, NoneMayTrap, narrows, queues}
 use Rattle.cmwq_waiting.specs.Rest.{EachRunWaits, IsAtRest, NoneShutDown}
 use Rattle.cmwq_waits.specs.Begun.{wait_begun, waits_of}
 use Rattle.cmwq_waiting.proofs.Allowed.{no_width}

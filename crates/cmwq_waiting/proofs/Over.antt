@@ -33,7 +33,7 @@ use Rattle.cmwq_theory_steps.proofs.RunsActive.{run_is_active}
 use Rattle.cmwq_theory_steps.proofs.Widths.{width_same}
 use Rattle.cmwq_theory_wakes.specs.Readiness.{is_unready}
 use Rattle.cmwq_theory_wakes.proofs.Readiness.{released_by}
-use Rattle.cmwq_waits.proofs.GoOn.{is_running}
+use Rattle.cmwq_waits.proofs.Running.{is_running}
 use Rattle.cmwq_waiting.specs.Rest.{NoneActive, OverStaysOver, UnreadyStayUnready, ends_ticket}
 use Rattle.cmwq_waiting.proofs.Rest.{not_below}
 

@@ -7,7 +7,7 @@ use Rattle.cmwq_waits.specs.HeldUp.{AreWaiting}
 use Rattle.cmwq_waits.specs.Registered.{registered}
 use Rattle.cmwq_waits.specs.declared.run_wait.RunWait.{RunWait}
 use Rattle.cmwq_waits.proofs.Exact.{refusals_are_refused as exact}
-use Rattle.cmwq_waits.proofs.GoOn.{is_running}
+use Rattle.cmwq_waits.proofs.Running.{is_running}
 use Rattle.cmwq_waits_laws.specs.Lasting.{FinishAfterWaits, NoneLetsGo}
 use Rattle.cmwq_waits_laws.proofs.Lasting.{deadlocks_last as last}
 use Rattle.cmwq_waits_laws.proofs.Refused.{refused_waits_never_end}

@@ -43,7 +43,7 @@ use Rattle.cmwq_refinement.proofs.PlacesFit.{open_there}
 use Rattle.cmwq_waits.specs.Refused.{is_of_run}
 use Rattle.cmwq_waits.specs.Registered.{is_run_of}
 use Rattle.cmwq_waits.specs.declared.run_wait.RunWait.{RunWait}
-use Rattle.cmwq_waits.proofs.GoOn.{is_running}
+use Rattle.cmwq_waits.proofs.Running.{is_running}
 use Rattle.cmwq_waiting.specs.Rest.{EachRunWaits, NoneRuns, NoneStarts, OnlyFrozenAreOpen}
 use Rattle.cmwq_waits.specs.Begun.{waits_of}
 use Rattle.cmwq_waiting.proofs.Pools.{IdleOrAll, all_enlisted, idle_or_all, one_idle}

@@ -1,5 +1,5 @@
 -- Waits that could never end, by the history alone, and which entries can make a deadlock of waits that were none.
-use Rattle.std.specs.Prelude.{◌≡◌, ◌++◌, ◌∷◌, ◌<◌, Bool, Contains, List, None, Option, Some, ℕ, false, true, []}
+use Rattle.std.specs.Prelude.{◌≡◌, ◌++◌, ◌∷◌, ◌<◌, Bool, Contains, List, None, Some, ℕ, false, true}
 use Rattle.cmwq_model.specs.Prelude.{IsLegal, Layout, is_started, max_active, opening, still_open}
 use Rattle.cmwq_model.specs.declared.call.Call.{Call}
 use Rattle.cmwq_model.specs.declared.entry.Entry.{Entry}
@@ -11,14 +11,11 @@ use Rattle.cmwq_waits.specs.Refused.{Refuses, refusal}
 use Rattle.cmwq_waits.specs.declared.run_wait.RunWait.{RunWait}
 use Rattle.cmwq_waits.specs.declared.waits.Stuck.{Stuck}
 use Rattle.cmwq_waits_laws.specs.Lasting.{FinishAfterWaits, NoneLetsGo, scene_of}
+use Rattle.cmwq_waits.specs.Allowed.{RefusesIn, WaitsWereAllowed}
 use Rattle.cmwq_waits.specs.Begun.{wait_begun, waits_of}
 use Rattle.cmwq_waiting.specs.Waits.{IsPair}
 
 -- ---- which waits are refused
-
--- a wait of this run by this call is refused for this reason, or it is not
-abbrev pub RefusesIn : ℕ → Layout → List Entry → Queueing → Call → Option Stuck → Type 0
-RefusesIn first s past run c o = Refuses s past (waits_of first past) run c o
 
 -- the function is the definition
 abbrev pub RefusalsAreRefused : Type 0
@@ -80,16 +77,6 @@ AllowedTrapNone = (first : ℕ) (s : Layout) (past : List Entry) (sleep call : E
     → NoDeadlock first s past → NoDeadlock first s (call ∷ sleep ∷ past)
 
 -- ---- the same, told entry by entry
-
--- what lay before the last entry
-abbrev pub before_last : List Entry → List Entry
-before_last [] = []
-before_last (e ∷ past) = past
-
--- Each wait that began was not refused just before its run fell asleep. A hub sees to that.
-abbrev pub WaitsWereAllowed : ℕ → Layout → List Entry → Type 0
-WaitsWereAllowed first s = OfEachEntry (λ past e. (w : RunWait) → wait_begun first past e ≡ Some w
-    → RefusesIn first s (before_last past) w.run e.call None)
 
 -- No entry may trap waits. The program sees to that.
 abbrev pub NoneMayTrap : ℕ → Layout → List Entry → Type 0

@@ -11,7 +11,8 @@ use Rattle.cmwq_model_examples.specs.Words.{caller, cancel, drain, end, entry, f
 use Rattle.cmwq_model_examples.specs.Words.{normal, queue, retire, set_max, sleep, system, take, wake, wq, wqf}
 use Rattle.cmwq_theory_wakes.specs.Readiness.{is_unready}
 use Rattle.cmwq_waits.specs.declared.run_wait.RunWait.{RunWait}
-use Rattle.cmwq_waiting.specs.Deadlocks.{NoneMayTrap, WaitsWereAllowed}
+use Rattle.cmwq_waits.specs.Allowed.{WaitsWereAllowed}
+use Rattle.cmwq_waiting.specs.Deadlocks.{NoneMayTrap}
 use Rattle.cmwq_waiting.specs.Rest.{CallersOnlyEnd, EachRunWaits, IsAtRest, NoneActive, NoneShutDown}
 use Rattle.cmwq_waits.specs.Begun.{is_lent, waits_of}
 use Rattle.cmwq_waiting.specs.Waits.{LentFollowSleeps, WaitersMakeNone}

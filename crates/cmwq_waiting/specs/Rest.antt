@@ -18,7 +18,8 @@ use Rattle.cmwq_waits.specs.HeldUp.{IsDeadlock}
 use Rattle.cmwq_waits.specs.Refused.{is_of_run}
 use Rattle.cmwq_waits.specs.declared.run_wait.RunWait.{RunWait}
 use Rattle.cmwq_waits_laws.specs.Lasting.{scene_of}
-use Rattle.cmwq_waiting.specs.Deadlocks.{NoDeadlock, NoneMayTrap, WaitsWereAllowed}
+use Rattle.cmwq_waiting.specs.Deadlocks.{NoDeadlock, NoneMayTrap}
+use Rattle.cmwq_waits.specs.Allowed.{WaitsWereAllowed}
 use Rattle.cmwq_waits.specs.Begun.{waits_of}
 
 -- ---- rest
@@ -62,12 +63,16 @@ abbrev pub AtRestNoneRuns : Type 0
 AtRestNoneRuns = (first : ℕ) (s : Layout) (past : List Entry) → IsLegal s past → IsAtRest first s past
     → EachRunWaits first past → NoneShutDown s past → NoDeadlock first s past → NoneRuns past
 
--- A hub does not hang by itself. In a legal history of a layout, each wait that began was allowed, and no entry may
--- trap waits. If it is at rest, each run waits by the hub, and nothing open is shut down, then nothing is open.
+-- If no entry may trap waits, the history is at rest, each run waits by the hub, and nothing open is shut down, then
+-- nothing is open.
+abbrev pub NeverHangs : ℕ → Layout → List Entry → Type 0
+NeverHangs first s past = NoneMayTrap first s past → IsAtRest first s past → EachRunWaits first past
+    → NoneShutDown s past → still_open past ≡ []
+
+-- So it is in a legal history of a layout in which each wait that began was allowed: a hub does not hang by itself.
 abbrev pub HubsNeverHang : Type 0
 HubsNeverHang = (first : ℕ) (s : Layout) (past : List Entry) → IsTrue (is_layout s) → IsLegal s past
-    → WaitsWereAllowed first s past → NoneMayTrap first s past → IsAtRest first s past → EachRunWaits first past
-    → NoneShutDown s past → still_open past ≡ []
+    → WaitsWereAllowed first s past → NeverHangs first s past
 
 -- Where nothing is open, each ticket is ready.
 abbrev pub NoneOpenAllReady : Type 0

@@ -1,14 +1,19 @@
 //! The waits of a history.
 
+ghost use Rattle.cmwq_model.specs.Prelude.{past_of};
 ghost use Rattle.cmwq_waiting.specs.Deadlocks.{AllowedAsleepToo, AllowedTrapNone, DeadlocksLast, EntriesTrapNone};
 ghost use Rattle.cmwq_waiting.specs.Deadlocks.{NoDeadlockComesUp, RefusalsAreRefused, RefusedNeverEnd};
 ghost use Rattle.cmwq_waiting.specs.Examples.{EntriesMayTrap, WhoWaits};
 ghost use Rattle.cmwq_waiting.specs.Needed.{LentPremisesAreNeeded, OverPremisesAreNeeded, PremisesAreMet};
 ghost use Rattle.cmwq_waiting.specs.Needed.{PremisesAreNeeded};
-ghost use Rattle.cmwq_waiting.specs.Rest.{AtRestNoneRuns, AtRestWaitsAreDeadlock, HubsNeverHang, NoneOpenAllReady};
+ghost use Rattle.cmwq_waiting.specs.Rest.{AtRestNoneRuns, AtRestWaitsAreDeadlock, HubsNeverHang, NeverHangs};
+ghost use Rattle.cmwq_waiting.specs.Rest.{NoneOpenAllReady};
 ghost use Rattle.cmwq_waiting.specs.Rest.{OnlyFrozenAreOpen, OverStaysOver, UnreadyStayUnready};
 ghost use Rattle.cmwq_waiting.specs.Waits.{EntriesGoOn, LentTicketsAreWaits, PairsAddOne, SleepsAddNone};
 ghost use Rattle.cmwq_waits.specs.Begun.{WaitsAreApart, WaitsAreAsleep, WaitsAreFew, WaitsAreWaiting};
+
+use cmwq_monitor::Monitor;
+use cmwq_publish::HubName;
 
 // ---- who waits
 
@@ -128,6 +133,14 @@ pub fn at_rest_none_runs()
 pub fn hubs_never_hang()
     ensures { HubsNeverHang }
 {}
+
+/// A hub keeps the premises about its waits: none was refused just before its run fell asleep. So it does not hang by
+/// itself, if no entry may trap waits.
+pub fn hub_never_hangs<N: HubName>(monitor: &Monitor<N>)
+    ensures { NeverHangs N.first_lent N.layout (past_of monitor.now.history) }
+{
+    monitor.stands();
+}
 
 /// Where nothing is open, each ticket is ready.
 pub fn none_open_all_ready()

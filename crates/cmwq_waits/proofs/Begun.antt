@@ -32,7 +32,7 @@ use Rattle.cmwq_theory_steps.proofs.TicketSteps.{one_ticket_ends, unended_go_on}
 use Rattle.cmwq_waits.specs.Refused.{AreApart}
 use Rattle.cmwq_waits.specs.Registered.{is_for, is_run_of}
 use Rattle.cmwq_waits.specs.declared.run_wait.RunWait.{RunWait}
-use Rattle.cmwq_waits.proofs.GoOn.{is_running}
+use Rattle.cmwq_waits.proofs.Running.{is_running}
 use Rattle.cmwq_waits.proofs.Greatest.{later_apart}
 use Rattle.cmwq_waits.proofs.Held.{both}
 use Rattle.cmwq_waits.proofs.Loops.{at_place}

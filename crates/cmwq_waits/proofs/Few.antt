@@ -23,7 +23,7 @@ use Rattle.cmwq_refinement.proofs.PlacesFit.{open_there}
 use Rattle.cmwq_refinement.proofs.PoolNext.{runner_there}
 use Rattle.cmwq_waits.specs.Refused.{AreApart}
 use Rattle.cmwq_waits.specs.declared.run_wait.RunWait.{RunWait}
-use Rattle.cmwq_waits.proofs.GoOn.{is_running}
+use Rattle.cmwq_waits.proofs.Running.{is_running}
 use Rattle.cmwq_waits.proofs.Greatest.{later_apart}
 use Rattle.cmwq_waits.specs.Begun.{WaitsAreFew, waits_of}
 use Rattle.cmwq_waits.proofs.Begun.{in_waits, runs_by, waits_are_apart}

@@ -9,7 +9,8 @@ pub mod Queued
 pub mod Refusing
 pub mod Greatest
 pub mod Exact
-pub mod GoOn
+pub mod Running
 pub mod Begun
 pub mod Few
 pub mod Entered
+pub mod Allowed

@@ -5,3 +5,4 @@ pub mod Looks
 pub mod Narrowing
 pub mod Registered
 pub mod Begun
+pub mod Allowed

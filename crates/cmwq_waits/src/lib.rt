@@ -9,7 +9,7 @@ mod run_wait;
 mod search;
 mod waits;
 
-pub use laws::{refusals_are_exact, waits_go_on};
+pub use laws::refusals_are_exact;
 pub use run_wait::RunWait;
 pub use search::Search;
 pub use waits::{RunWaits, Stuck};

@@ -2,6 +2,7 @@
 #![allow(dead_code)]
 use cmwq::{check, Verdict};
 use std::io::{self, Write};
+use std::panic::panic_any;
 use std::sync::atomic::{AtomicUsize, Ordering::SeqCst};
 use std::sync::{Arc, Mutex};
 use std::time::Duration;
@@ -28,6 +29,33 @@ impl Text {
         match check(&text).unwrap() {
             Verdict::Legal { entries } => entries,
             Verdict::Illegal { line } => panic!("{line}\n{}", String::from_utf8_lossy(&text[..text.len().min(5000)])),
+        }
+    }
+
+    /// How many entries have a reply that begins so.
+    pub fn count(&self, word: &str) -> u64 {
+        let text = self.0.lock().unwrap();
+        let text = std::str::from_utf8(&text).unwrap();
+        text.lines().filter(|line| line.split_once(" = ").is_some_and(|(_, reply)| reply.starts_with(word))).count()
+            as u64
+    }
+
+    /// Waits until all of it is written.
+    pub fn wait_for_end(&self) {
+        while !self.0.lock().unwrap().rsplitn(3, |byte| *byte == b'\n').nth(1).is_some_and(|it| it.starts_with(b"end "))
+        {
+            std::thread::sleep(Duration::from_millis(1));
+        }
+    }
+}
+
+/// What panics when it is dropped, with one that does so less often.
+pub struct Bomb(pub u32);
+
+impl Drop for Bomb {
+    fn drop(&mut self) {
+        if self.0 > 0 {
+            panic_any(Bomb(self.0 - 1));
         }
     }
 }

@@ -2,8 +2,10 @@
 
 ghost use Rattle.std.specs.Prelude.{◌≡◌, ◌<◌, ◌⊎◌, IfSome, None, Some, false, length, true};
 ghost use Rattle.cmwq_model.specs.Prelude.{has_numbers};
+ghost use Rattle.cmwq_model.specs.declared.id.Who.{Who};
 ghost use Rattle.cmwq_board.specs.Boarded.{has_space, layout_of, most_made, past_of_board};
 ghost use Rattle.cmwq_board.specs.Left.{has_its_numbers};
+ghost use Rattle.cmwq_board.specs.Machine.{GoesOn, bare, cleared};
 ghost use Rattle.cmwq_board.specs.Waits.{Clears, EndsFirst, Resumes, lending_at, place_with, resumed_reply, sought_at};
 ghost use Rattle.cmwq_board.specs.declared.left.Sought.TheVariants as of;
 
@@ -64,12 +66,16 @@ impl Board {
     /// Ends the tickets that were left and are ready.
     pub(crate) fn clears(&mut self, wakes: &mut Wakes)
         requires { self.old.dispatch.failed ≡ false }
-        ensures { Clears self.old self.new wakes.old wakes.new }
+        ensures clears { Clears self.old self.new wakes.old wakes.new }
+        ensures core { bare self.new ≡ cleared (bare self.old) }
+        ensures goes { (who : Who) → GoesOn who self.old self.new wakes.old wakes.new }
+        ensures quiet { self.new.dispatch.history ≡ self.old.dispatch.history → wakes.new ≡ wakes.old }
     {
         if !self.left {
             return;
         }
         while self.ends_first(wakes) {}
+        self.stands();
         self.left = self.place_with(Sought::Any).is_some();
     }
 
@@ -97,7 +103,8 @@ impl Board {
             unreachable!()
         };
         let lending = self.lending_at(place);
-        self.ends(place, lending, ticket, None, &plan, wakes);
+        let news = self.news.after_left(ticket.call);
+        self.ends(place, lending, ticket, None, news, &plan, wakes);
         true
     }
 

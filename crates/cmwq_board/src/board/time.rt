@@ -1,11 +1,13 @@
 //! Time: ticks, and the timers that fire.
 
-ghost use Rattle.std.specs.Prelude.{◌≡◌, ◌<◌, IfErr, IfOk, None, OnErr, Some};
+ghost use Rattle.std.specs.Prelude.{◌≡◌, ◌<◌};
 ghost use Rattle.cmwq_core.specs.History.{past_in};
 ghost use Rattle.cmwq_model.specs.Calls as model;
+ghost use Rattle.cmwq_model.specs.declared.id.Who.TheVariants as who;
 ghost use Rattle.cmwq_board.specs.Boarded.{layout_of, past_of_board};
 ghost use Rattle.cmwq_board.specs.Items.{IsDue, due_of, lesser};
-ghost use Rattle.cmwq_board.specs.Steps.{Advances, advance_fault};
+ghost use Rattle.cmwq_board.specs.Machine.{Named, bare, step};
+ghost use Rattle.cmwq_board.specs.Machine.Move.{Advances};
 
 use crate::board::{Board, most_made};
 use crate::entering::tick;
@@ -23,11 +25,9 @@ impl Board {
         ticks: u32,
         wakes: &mut Wakes,
     ) -> Result<u64, BoardFault>
-        ensures advances { IfOk result (λ _. Advances caller ticks self.old self.new wakes.old wakes.new) }
-        ensures now { IfOk result (λ tick. tick ≡ model.now (past_of_board self.new)) }
-        ensures taken { IfOk result (λ _. advance_fault self.old caller ticks ≡ None) }
-        ensures refused { IfErr result (λ fault. advance_fault self.old caller ticks ≡ Some fault) }
-        ensures same { OnErr result ((self.new ≡ self.old) × (wakes.new ≡ wakes.old)) }
+        ensures core { bare self.new ≡ (step (bare self.old) (Advances caller ticks)).core }
+        ensures outcome { result ≡ (step (bare self.old) (Advances caller ticks)).outcome }
+        ensures named { Named result (who.Caller caller) self.old self.new wakes.old wakes.new }
     {
         if !self.is_own(Who::Caller(caller)) {
             return Err(BoardFault::Refused);

@@ -9,13 +9,15 @@ ghost use Rattle.cmwq_dispatch.specs.Dispatched.{past_now};
 ghost use Rattle.cmwq_dispatch.specs.Waiting.{IsKnown};
 ghost use Rattle.cmwq_model.specs.declared.call.Call.TheVariants as calls;
 ghost use Rattle.cmwq_model.specs.declared.id.Who.TheVariants as who;
-ghost use Rattle.cmwq_model.specs.Prelude.{is_done, ticket_of};
+ghost use Rattle.cmwq_model.specs.Prelude.{is_done, is_drain, ticket_of};
 ghost use Rattle.cmwq_board.specs.Boarded.{has_space, layout_of, most_made, past_of_board, with_asleep};
-ghost use Rattle.cmwq_board.specs.Lent.{MayBecome};
+ghost use Rattle.cmwq_board.specs.Lent.{EndsTicketOf, MayBecome, unended_drains};
 ghost use Rattle.cmwq_board.specs.declared.lending.Lending.TheVariants as free;
-ghost use Rattle.cmwq_board.specs.Waits.{EndsAt, EndsBy, EndsOrWaits, IsAwakeThen, IsLeft, Leaves, SleepsNoMore};
-ghost use Rattle.cmwq_board.specs.Waits.{ThenClears, WaitsOn};
-ghost use Rattle.cmwq_board.specs.Waits.{caller_at, end_fault, leave_fault, lending_at, place_of};
+ghost use Rattle.cmwq_board.specs.Machine.{LeaveNamed, bare, step};
+ghost use Rattle.cmwq_board.specs.Machine.Move.{Leaves};
+ghost use Rattle.cmwq_board.specs.Waits.{EndsAt, EndsBy, EndsOrWaits, IsAwakeThen, IsLeft, SleepsNoMore};
+ghost use Rattle.cmwq_board.specs.Waits.{ThenClears, WaitsNoMore, WaitsOn};
+ghost use Rattle.cmwq_board.specs.Waits.{caller_at, end_fault, lending_at, place_of};
 
 use crate::beginning::if_slept;
 use crate::board::{Board, Ended, most_made};
@@ -23,6 +25,7 @@ use crate::entering::end_ticket;
 use crate::fault::BoardFault;
 use crate::firing::{ends_firing, less_drains, tells_time};
 use crate::lending::Lending;
+use crate::news::News;
 use cmwq_core::Plan;
 use cmwq_dispatch::{Dispatch, EndPlan, Sleep, Wakes};
 use cmwq_model::{CallerId, Ticket, Who, WorkerId};
@@ -123,18 +126,20 @@ impl Board {
             (λ awake. ThenClears (EndsAt place ticket run) awake self.new wakes.old wakes.new) self.old }
     {
         self.dispatch.awakes(Who::Caller(ticket.caller));
-        self.ends(place, Lending::Free, ticket, run, plan, wakes);
+        let news = self.news.after_end(ticket.call);
+        self.ends(place, Lending::Free, ticket, run, news, plan, wakes);
         self.clears(wakes);
     }
 
     /// Makes the end of a ticket that was planned, and what belongs to it. Then its caller, which has this place, does
-    /// this.
+    /// this, and this is the news.
     pub(crate) fn ends(
         &mut self,
         place: usize,
         lending: Lending,
         ticket: Ticket,
         run: Option<WorkerId>,
+        news: News,
         plan: &Plan,
         wakes: &mut Wakes,
     )
@@ -146,13 +151,18 @@ impl Board {
         requires done { is_done plan.now.mark.entry.reply ≡ true }
         requires lives { self.old.dispatch.failed ≡ false }
         requires space { has_space self.old (most_made (layout_of self.old)) ≡ true }
-        ensures ends { EndsBy ticket run (slice_set self.old.lent place lending) self.old self.new wakes.old wakes.new }
+        ensures ends { EndsBy ticket run (slice_set self.old.lent place lending) news self.old self.new wakes.old
+            wakes.new }
+        ensures tickets { EndsTicketOf ticket (past_of_board self.old) (past_of_board self.new) }
+        ensures drains { is_drain ticket.call ≡ false
+            → unended_drains (past_of_board self.new) ≡ unended_drains (past_of_board self.old) }
         ensures grows { length self.old.dispatch.history.entries < length self.new.dispatch.history.entries }
         ensures lives { self.new.dispatch.failed ≡ false }
     {
         let _legal = self.dispatch.execution().len();
         end_ticket(&mut self.dispatch, &mut self.tail, ticket, run, plan, wakes);
         self.lent[place] = lending;
+        self.news = news;
         self.drains = less_drains(self.drains, ticket.call);
         ends_firing(&mut self.dispatch, &mut self.firing, self.drains, wakes);
         tells_time(ticket.call, wakes);
@@ -167,18 +177,19 @@ impl Board {
     }
 
     /// Nobody waits by this caller any more, so that it may be lent again. Its ticket is ended once it is ready, at a
-    /// call, finish, end or leave, or a wait for the same goes on by it. Waits of runs cannot be left, since the run
-    /// goes on to wait.
+    /// call, finish, end or leave, or a wait for the same goes on by it. That names nobody. If a run waited, it waits
+    /// no more. No entry is made for it: if it went to sleep for the wait, it sleeps until its worker wakes it by a
+    /// call.
     pub fn leaves(&mut self, party: CallerId, wakes: &mut Wakes) -> Result<(), BoardFault>
-        ensures leaves { IfOk result (λ _. ThenClears (Leaves party) self.old self.new wakes.old wakes.new) }
-        ensures taken { IfOk result (λ _. leave_fault self.old party ≡ None) }
-        ensures refused { IfErr result (λ fault. leave_fault self.old party ≡ Some fault) }
-        ensures same { OnErr result ((self.new ≡ self.old) × (wakes.new ≡ wakes.old)) }
+        ensures core { bare self.new ≡ (step (bare self.old) (Leaves party)).core }
+        ensures outcome { result ≡ (step (bare self.old) (Leaves party)).outcome }
+        ensures named { LeaveNamed result party self.old self.new wakes.old wakes.new }
+        ensures gone { IfOk result (λ _. WaitsNoMore party self.old self.new) }
     {
         let Some(place) = self.place_of(party) else {
             return Err(BoardFault::Refused);
         };
-        let Lending::Waits { run: None, .. } = self.lent[place] else {
+        let Lending::Waits { .. } = self.lent[place] else {
             return Err(BoardFault::Misuse);
         };
         if self.dispatch.has_failed() {

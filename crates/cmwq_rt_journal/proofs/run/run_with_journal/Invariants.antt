@@ -5,4 +5,8 @@ abbrev pub ghosts-write_parts-N-Ledger : goal.ghosts-write_parts-N-Ledger
 ghosts-write_parts-N-Ledger g a = record { name = a.parts.blank.name; parts = a.parts.blank.parts }
 
 abbrev pub ghosts-write_parts-N-HubName : goal.ghosts-write_parts-N-HubName
-ghosts-write_parts-N-HubName g a = record { book = a.parts.opening.book; layout = a.parts.shape }
+ghosts-write_parts-N-HubName g a = record {
+  book = a.parts.opening.book;
+  layout = a.parts.shape;
+  first_lent = (g.C.Crew.roles a.crew.now a.parts.shape).threads;
+}

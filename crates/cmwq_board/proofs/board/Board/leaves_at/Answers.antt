@@ -48,7 +48,7 @@ returns c =
         awake = subst (λ (x : Boarded). IsUpAgain (Caller c.args.party) x.dispatch.asleep n.asleep) c.self.view_is
             c.awakes.ensures.awake;
       };
-      next = ap (λ (x : Dispatched). board_of x i.tail.given i.tail.room (slice_set i.lent.items place Free))
+      next = ap (λ (x : Dispatched). board_of x i.tail.given i.tail.room (slice_set i.lent.items place Free) i.news)
           (same_asleep i.dispatch n c.awakes.ensures.same)
           ∙ ap (λ (x : Boarded). record x {
             dispatch = record x.dispatch { asleep = n.asleep };

@@ -34,43 +34,43 @@ begins_firing-requires-clause-token c =
 pub begins_wait-called-requires-clause-call : goal.begins_wait-called-requires-clause-call
 begins_wait-called-requires-clause-call c =
     (may_lend c.self.inside.dispatch c.begins_firing.new.dispatch c.self.inside.tail c.self.inside.lent.items
-    c.args.self.now c.args.run c.args.call c.args.place c.caller_at-caller.result c.begins_firing.ensures.new
-    c.self.view_is c.caller_at-caller.ensures c.self.invariant.0 c.self.invariant.3.lent c.requires.first
+    c.self.inside.news c.args.self.now c.args.run c.args.call c.args.place c.caller_at-caller.result
+    c.begins_firing.ensures.new c.self.view_is c.caller_at-caller.ensures c.self.invariant.0 c.self.invariant.3.lent c.requires.first
     c.requires.early c.requires.taken).call
 
 pub begins_wait-called-requires-clause-fits : goal.begins_wait-called-requires-clause-fits
 begins_wait-called-requires-clause-fits c =
     (may_lend c.self.inside.dispatch c.begins_firing.new.dispatch c.self.inside.tail c.self.inside.lent.items
-    c.args.self.now c.args.run c.args.call c.args.place c.caller_at-caller.result c.begins_firing.ensures.new
-    c.self.view_is c.caller_at-caller.ensures c.self.invariant.0 c.self.invariant.3.lent c.requires.first
+    c.self.inside.news c.args.self.now c.args.run c.args.call c.args.place c.caller_at-caller.result
+    c.begins_firing.ensures.new c.self.view_is c.caller_at-caller.ensures c.self.invariant.0 c.self.invariant.3.lent c.requires.first
     c.requires.early c.requires.taken).fits
 
 pub begins_wait-called-requires-clause-there : goal.begins_wait-called-requires-clause-there
 begins_wait-called-requires-clause-there c =
     (may_lend c.self.inside.dispatch c.begins_firing.new.dispatch c.self.inside.tail c.self.inside.lent.items
-    c.args.self.now c.args.run c.args.call c.args.place c.caller_at-caller.result c.begins_firing.ensures.new
-    c.self.view_is c.caller_at-caller.ensures c.self.invariant.0 c.self.invariant.3.lent c.requires.first
+    c.self.inside.news c.args.self.now c.args.run c.args.call c.args.place c.caller_at-caller.result
+    c.begins_firing.ensures.new c.self.view_is c.caller_at-caller.ensures c.self.invariant.0 c.self.invariant.3.lent c.requires.first
     c.requires.early c.requires.taken).there
 
 pub begins_wait-called-requires-clause-may : goal.begins_wait-called-requires-clause-may
 begins_wait-called-requires-clause-may c =
     (may_lend c.self.inside.dispatch c.begins_firing.new.dispatch c.self.inside.tail c.self.inside.lent.items
-    c.args.self.now c.args.run c.args.call c.args.place c.caller_at-caller.result c.begins_firing.ensures.new
-    c.self.view_is c.caller_at-caller.ensures c.self.invariant.0 c.self.invariant.3.lent c.requires.first
+    c.self.inside.news c.args.self.now c.args.run c.args.call c.args.place c.caller_at-caller.result
+    c.begins_firing.ensures.new c.self.view_is c.caller_at-caller.ensures c.self.invariant.0 c.self.invariant.3.lent c.requires.first
     c.requires.early c.requires.taken).may
 
 pub begins_wait-called-requires-clause-room : goal.begins_wait-called-requires-clause-room
 begins_wait-called-requires-clause-room c =
     (may_lend c.self.inside.dispatch c.begins_firing.new.dispatch c.self.inside.tail c.self.inside.lent.items
-    c.args.self.now c.args.run c.args.call c.args.place c.caller_at-caller.result c.begins_firing.ensures.new
-    c.self.view_is c.caller_at-caller.ensures c.self.invariant.0 c.self.invariant.3.lent c.requires.first
+    c.self.inside.news c.args.self.now c.args.run c.args.call c.args.place c.caller_at-caller.result
+    c.begins_firing.ensures.new c.self.view_is c.caller_at-caller.ensures c.self.invariant.0 c.self.invariant.3.lent c.requires.first
     c.requires.early c.requires.taken).room
 
 pub begins_wait-called-requires-clause-space : goal.begins_wait-called-requires-clause-space
 begins_wait-called-requires-clause-space c =
     (may_lend c.self.inside.dispatch c.begins_firing.new.dispatch c.self.inside.tail c.self.inside.lent.items
-    c.args.self.now c.args.run c.args.call c.args.place c.caller_at-caller.result c.begins_firing.ensures.new
-    c.self.view_is c.caller_at-caller.ensures c.self.invariant.0 c.self.invariant.3.lent c.requires.first
+    c.self.inside.news c.args.self.now c.args.run c.args.call c.args.place c.caller_at-caller.result
+    c.begins_firing.ensures.new c.self.view_is c.caller_at-caller.ensures c.self.invariant.0 c.self.invariant.3.lent c.requires.first
     c.requires.early c.requires.taken).space
 
 pub ends_firing-requires-clause-firing : goal.ends_firing-requires-clause-firing
@@ -112,8 +112,8 @@ invariant_of-self c =
     let caller = c.caller_at-caller.result in
     let history : n.history ≡ d.history = ap (λ (x : Dispatched). x.history) c.begins_firing.ensures.new in
     let m = (may_lend c.self.inside.dispatch c.begins_firing.new.dispatch c.self.inside.tail c.self.inside.lent.items
-    c.args.self.now c.args.run c.args.call c.args.place c.caller_at-caller.result c.begins_firing.ensures.new
-    c.self.view_is c.caller_at-caller.ensures c.self.invariant.0 c.self.invariant.3.lent c.requires.first
+    c.self.inside.news c.args.self.now c.args.run c.args.call c.args.place c.caller_at-caller.result
+    c.begins_firing.ensures.new c.self.view_is c.caller_at-caller.ensures c.self.invariant.0 c.self.invariant.3.lent c.requires.first
     c.requires.early c.requires.taken) in
     let at : caller ≡ caller_of d.history.layout lent c.args.place =
     m.at ∙ ap (λ (h : History). caller_of h.layout lent c.args.place) history in
@@ -201,6 +201,7 @@ returns c =
           (c.self.invariant.1 ∙ ap (λ (x : Dispatched). unended_drains (past_now x)) (sym c.begins_firing.ensures.new))
           ∙ sym (given_counts (past_now c.begins_firing.new.dispatch) (past_now e) reply _ made.ensures.tickets))
           c.ends_firing.ensures.settles;
+      news = ap (λ (x : Boarded). x.news) c.self.view_is;
       kept = (
         ap (λ (t : Tailed Entry). t.given) made.ensures.kept ∙ ap (λ (x : Boarded). x.given) c.self.view_is,
         ap (λ (t : Tailed Entry). t.room) made.ensures.kept ∙ ap (λ (x : Boarded). x.keeps) c.self.view_is,

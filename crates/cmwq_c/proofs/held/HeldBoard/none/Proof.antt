@@ -42,6 +42,7 @@ none_spec 𝓤 𝓛 𝓜 𝓡 wired =
             given = 0;
             keeps = 0;
             lent = [];
+            news = record { left_ended = false; due_earlier = false };
           };
     } in
     let y : (walk_of 𝓛 En hs c).Ghost = ((κs, qs, bounds, a, tt), gh) in let Post : Val → SProp 𝓤 =

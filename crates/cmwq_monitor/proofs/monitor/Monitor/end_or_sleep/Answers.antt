@@ -6,6 +6,7 @@ use Rattle.cmwq_monitor.specs.Held.{Held, held_of}
 use Rattle.cmwq_monitor.specs.Sleeping.{WaitsFor}
 use Rattle.cmwq_monitor.proofs.Predicted.{unknown_not_done, unready_not_done}
 use Rattle.cmwq_monitor.proofs.Sleepers.{waits_for_it}
+use Rattle.cmwq_monitor.proofs.Allowed.{end_may_begin}
 use Rattle.cmwq_monitor.proofs.monitor.Monitor.end_or_sleep.Goals as goal
 
 pub returns-in-Waits-clause-waits : goal.returns-in-Waits-clause-waits
@@ -44,3 +45,7 @@ returns-in-Unknown-clause-waits g c =
           (unknown_not_done (past_of old.history) c.in-Caller.caller c.args.ticket c.in-Unknown.ensures s)),
       (refl, inr none),
     )
+
+pub make-requires-clause-begins : goal.make-requires-clause-begins
+make-requires-clause-begins g c =
+    end_may_begin g.N.HubName.layout c.args.self.now c.args.participant.now c.args.ticket

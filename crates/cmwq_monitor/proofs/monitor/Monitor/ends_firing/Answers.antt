@@ -1,6 +1,7 @@
 use Rattle.cmwq_monitor.specs.Common.{◌∙◌, ap, length, sym}
 use Rattle.cmwq_dispatch.specs.Dispatched.{Dispatched}
 use Rattle.cmwq_monitor.specs.Held.{Held, held_of}
+use Rattle.cmwq_monitor.proofs.Allowed.{allowed_still}
 use Rattle.cmwq_monitor.proofs.Sleepers.{steps_on}
 use Rattle.cmwq_monitor.proofs.monitor.Monitor.ends_firing.Goals as goal
 
@@ -17,6 +18,10 @@ invariant_of-self g c =
       i.4 ∙ sym entries,
       λ sleeps. c.sleeps_on-self-inside.ensures.wanted sleeps g.N.HubName.layout layout room
           c.sleeps_on-self-inside.result,
+      allowed_still g.N.HubName.layout c.self.inside.dispatch c.ends_firing.new.self
+          (ap (λ (d : Dispatched). d.history) c.ends_firing.ensures.new)
+          (ap (λ (d : Dispatched). d.first_lent) c.ends_firing.ensures.new) i.6,
+      ap (λ (d : Dispatched). d.first_lent) c.ends_firing.ensures.new ∙ i.7,
     )
 
 pub returns-clause-named : goal.returns-clause-named

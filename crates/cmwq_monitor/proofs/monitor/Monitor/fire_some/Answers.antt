@@ -11,6 +11,7 @@ use Rattle.cmwq_monitor.specs.Participants.{View}
 use Rattle.cmwq_dispatch.specs.declared.wakes.Wakes.{Wakes}
 use Rattle.cmwq_monitor.proofs.Entries.{gains_none}
 use Rattle.cmwq_monitor.proofs.Sleepers.{everybody_named, go_on_more, go_on_same, goes_on_more, goes_on_same}
+use Rattle.cmwq_monitor.proofs.Allowed.{fire_may_begin}
 use Rattle.cmwq_monitor.proofs.monitor.Monitor.fire_some.Goals as goal
 
 -- another fire, by the same caller
@@ -121,3 +122,6 @@ returns-then-is_over-clause-stopped g c = (
   (λ v so. up_to_some g.N.HubName.layout c.args.left c.loop.counter v c.loop.participant c.loop.participant
       (c.loop.invariant.0 v so) (gains_none c.loop.participant)),
 )
+
+pub enter-requires-clause-begins : goal.enter-requires-clause-begins
+enter-requires-clause-begins g c = fire_may_begin g.N.HubName.layout c.loop.self c.loop.participant

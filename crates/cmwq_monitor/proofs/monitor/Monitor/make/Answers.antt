@@ -6,6 +6,8 @@ use Rattle.cmwq_monitor.specs.Held.{Held, held_of}
 use Rattle.cmwq_monitor.specs.Calls.{own_entry}
 use Rattle.cmwq_monitor.specs.Participants.{View}
 use Rattle.cmwq_monitor.proofs.Entering.{serial_after, shown_is, extends, step_after, view_after}
+use Rattle.cmwq_waits.specs.Allowed.{BeginsAllowed}
+use Rattle.cmwq_monitor.proofs.Allowed.{allowed_after}
 use Rattle.cmwq_monitor.proofs.Sleepers.{everybody_named, steps_on}
 use Rattle.cmwq_monitor.proofs.monitor.Monitor.make.Goals as goal
 
@@ -67,7 +69,14 @@ pub invariant_of-self-2 : goal.invariant_of-self-2
 invariant_of-self-2 g c =
     let i = c.self.invariant in
     let layout = ap (λ (h : History). h.layout) c.commit-reply.ensures.enters.history ∙ i.0 in
-    let room = ap (λ (h : History). h.room) c.commit-reply.ensures.enters.history ∙ i.1 in (
+    let room = ap (λ (h : History). h.room) c.commit-reply.ensures.enters.history ∙ i.1 in
+    let s = g.N.HubName.layout in
+    let d = c.self.inside.dispatch in
+    let e = c.args.plan.now.mark.entry in
+    let begins : BeginsAllowed d.first_lent s (past_of d.history.entries) e =
+    subst (BeginsAllowed d.first_lent s (past_of d.history.entries)) (sym c.requires.plan.mark.is_next)
+    (subst (λ (h : Held). BeginsAllowed h.first_lent s (past_of h.history)
+    (own_entry s c.args.self.now.history c.args.participant.now c.args.call)) (sym c.self.view_is) c.requires.begins) in (
       layout,
       room,
       search rules,
@@ -81,6 +90,9 @@ invariant_of-self-2 g c =
       search rules,
       λ sleeps. c.sleeps_on-self-inside.ensures.wanted sleeps g.N.HubName.layout layout room
           c.sleeps_on-self-inside.result,
+      allowed_after s d c.commit-reply.new.self e c.commit-reply.ensures.enters.history
+          c.commit-reply.ensures.enters.first_lent begins i.6,
+      c.commit-reply.ensures.enters.first_lent ∙ i.7,
     )
 
 pub returns-clause-goes_on : goal.returns-clause-goes_on

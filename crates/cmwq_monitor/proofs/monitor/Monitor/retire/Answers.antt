@@ -3,6 +3,7 @@ use Rattle.cmwq_model.specs.declared.call.Call.TheVariants as calls
 use Rattle.std.specs.Prelude.{is_ok}
 use Rattle.cmwq_monitor.specs.Held.{Held}
 use Rattle.cmwq_monitor.proofs.Entering.{room_is}
+use Rattle.cmwq_monitor.proofs.Allowed.{worker_may_begin}
 use Rattle.cmwq_monitor.proofs.monitor.Monitor.retire.Goals as goal
 
 pub returns-in_default-clause-kept : goal.returns-in_default-clause-kept
@@ -18,3 +19,7 @@ returns-in_default-clause-kept g c =
 
 pub returns-in-Ok-make-clause-retired : goal.returns-in-Ok-make-clause-retired
 returns-in-Ok-make-clause-retired g c = search rules
+
+pub make-requires-clause-begins : goal.make-requires-clause-begins
+make-requires-clause-begins g c =
+    worker_may_begin g.N.HubName.layout c.args.self.now c.args.participant.now calls.Retire c.requires

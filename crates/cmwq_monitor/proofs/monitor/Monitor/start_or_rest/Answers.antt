@@ -10,6 +10,7 @@ use Rattle.cmwq_monitor.specs.Starts.{StartsItem}
 use Rattle.cmwq_monitor.specs.Steps.{is_start}
 use Rattle.cmwq_monitor.proofs.Predicted.{is_start_of, started_item, starts_there, would_not_start}
 use Rattle.cmwq_monitor.proofs.Sleepers.{rests_until}
+use Rattle.cmwq_monitor.proofs.Allowed.{worker_may_begin}
 use Rattle.cmwq_monitor.proofs.monitor.Monitor.start_or_rest.Goals as goal
 
 pub returns-in_default-plan_start-clause-none : goal.returns-in_default-plan_start-clause-none
@@ -77,3 +78,7 @@ returns-in-Ok-clause-started g c =
             (subst (λ (i : ItemId). StartsItem (past_of log) (own_entry s log v calls.Take) i) (sym item) there),
       ),
     )
+
+pub make-requires-clause-begins : goal.make-requires-clause-begins
+make-requires-clause-begins g c =
+    worker_may_begin g.N.HubName.layout c.args.self.now c.args.participant.now calls.Take c.requires

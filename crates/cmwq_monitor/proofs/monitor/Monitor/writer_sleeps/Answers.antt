@@ -13,6 +13,8 @@ invariant_of-self g c =
       i.4,
       λ sleeps. sym (c.is_wanted.ensures g.N.HubName.layout i.0 i.1 (not c.is_wanted.result))
           ∙ from_not c.is_wanted.result sleeps,
+      i.6,
+      i.7,
     )
   where
     from_not : (b : Bool) → not b ≡ true → b ≡ false

@@ -1,6 +1,8 @@
-use Rattle.cmwq_rt.specs.Common.{◌≡◌, ◌∙◌, sym, subst, View, Completes, BrokeOff, made_by}
+use Rattle.std.specs.Prelude.{◌++◌, ◌∷◌, []}
+use Rattle.cmwq_rt.specs.Common.{◌≡◌, ◌∙◌, sym, subst, View, Completes, BrokeOff, IsPrefix, made_by, prefix_self}
+use Rattle.cmwq_monitor.specs.Calls.{own_entry}
 use Rattle.cmwq_monitor.specs.Held.{Held}
-use Rattle.cmwq_rt.proofs.Sleeping.{made_when}
+use Rattle.cmwq_rt.proofs.Sleeping.{made_when, next_stays}
 use Rattle.std.proofs.lemmas.Result.{IfOk-at_ok, IfErr-at_err}
 use Rattle.cmwq_monitor.proofs.Whole.{ended_completes, ended_broke}
 use Rattle.cmwq_rt.proofs.caller.Caller.wait_in_run.Goals as goal
@@ -44,3 +46,27 @@ returns-in_default-clause-nothing_yet g c =
     c.in-Ok.ensures.made.0 c.in-Ok.ensures.seen in
     subst (λ (u : View). made_by u.who c.args.hold.monitor.value.history ≡ made_by u.who u.seen) c.self.view_is
     (subst (λ (h : Held). made_by v.who h.history ≡ made_by v.who v.seen) c.deref_mut.ensures.value made)
+
+pub returns-clause-at_once : goal.returns-clause-at_once
+returns-clause-at_once g c =
+    let s = g.N.HubName.layout in
+    let v = c.self.inside.participant in
+    let w = c.until_ended-hold.new.participant in
+    let ended = IfOk-at_ok _ c.in-Ok-ended.is c.until_ended-hold.ensures.ended in
+    let next = next_stays s v c.call_in_run-called.new.participant w _ c.args.call c.in-Ok.ensures.seen
+    ended.gains.older in
+    subst (λ (u : View). IsPrefix (c.args.hold.monitor.value.history
+    ++ own_entry s c.args.hold.monitor.value.history u c.args.call ∷ []) w.seen) c.self.view_is
+    (subst (λ (h : Held). IsPrefix (h.history ++ own_entry s h.history v c.args.call ∷ []) w.seen)
+    c.deref_mut.ensures.value next)
+
+pub returns-in_default-clause-at_once : goal.returns-in_default-clause-at_once
+returns-in_default-clause-at_once g c =
+    let s = g.N.HubName.layout in
+    let v = c.self.inside.participant in
+    let m = c.call_in_run-called.new.participant in
+    let next = next_stays s v m m _ c.args.call c.in-Ok.ensures.seen (prefix_self m.seen) in
+    subst (λ (u : View). IsPrefix (c.args.hold.monitor.value.history
+    ++ own_entry s c.args.hold.monitor.value.history u c.args.call ∷ []) m.seen) c.self.view_is
+    (subst (λ (h : Held). IsPrefix (h.history ++ own_entry s h.history v c.args.call ∷ []) m.seen)
+    c.deref_mut.ensures.value next)

@@ -23,7 +23,7 @@ returns-in-Err-clause-stopped g c = (
 pub sleep_for-hold-requires : goal.sleep_for-hold-requires
 sleep_for-hold-requires g c =
     when_registered _ _ _ _ _ _ (subst (λ (v : View). is_caller v.who ≡ true) (sym c.loop.invariant.2) c.requires)
-    c.who-in-Ok-Not-Sleeps.result c.who-in-Ok-Not-Sleeps.ensures.who _ c.in-Ok-Not-Sleeps.field-0
+    c.who.result c.who.ensures.who _ c.in-Ok-Not-Sleeps.field-0
     c.in-Ok-Not-Sleeps.field-0-0 c.in-Ok-Not-Sleeps.field-0-is c.in-Ok-Not-Sleeps.field-0-0-is
     c.in-Ok-Not-Sleeps.ensures.done c.in-Ok-Not-Sleeps.ensures.waits
 

@@ -1,8 +1,7 @@
-use Rattle.cmwq_rt.specs.Common.{◌≡◌, ap, subst, sym, rules, IfErr, Full, View}
+use Rattle.cmwq_rt.specs.Common.{◌≡◌, ap, subst, sym, rules, IfErr, View}
 use Rattle.cmwq_rt.specs.Later.{Later}
 use Rattle.cmwq_rt.specs.Running.{Running}
-use Rattle.cmwq_rt.specs.Waiting.{HadNoRoom}
-use Rattle.cmwq_rt.specs.declared.wait_fault.WaitFault.TheVariants as waits
+use Rattle.cmwq_rt.specs.Waiting.{WhyNot}
 use Rattle.cmwq_rt.proofs.work.RunCtxCalls.wait.Goals as goal
 
 pub returns : goal.returns
@@ -11,10 +10,9 @@ returns g c =
       later = subst (λ (w : View). Later c.args.self.now.participant w) same c.wait_uncounted-answer.ensures.later;
       waited = search rules;
       itself = search rules;
-      refused = search rules;
-      stuck = c.wait_uncounted-answer.ensures.stuck;
-      full = subst (λ (w : View). IfErr c.wait_uncounted-answer.result (λ f. f ≡ waits.Run Full
-          → HadNoRoom g.N.HubName.layout c.args.self.now.participant w)) same c.wait_uncounted-answer.ensures.full;
+      why = subst (λ (w : View). IfErr c.wait_uncounted-answer.result
+          (λ f. WhyNot g.N.HubName.layout g.N.HubName.first_lent c.args.self.now.item c.args.self.now.participant c.args.call f w))
+          same c.wait_uncounted-answer.ensures.why;
       fault = search rules;
       item = search rules;
       left_out = search rules;

@@ -1,6 +1,6 @@
 use Rattle.std.proofs.Common.{◌∙◌, sym}
 use Rattle.cmwq_core.specs.History.{past_in}
-use Rattle.cmwq_waits.proofs.GoOn.{is_running}
+use Rattle.cmwq_waits.proofs.Running.{is_running}
 use Rattle.cmwq_waits.proofs.search.Search.refuses.Goals as goal
 
 pub refuses_run-requires-clause-open : goal.refuses_run-requires-clause-open

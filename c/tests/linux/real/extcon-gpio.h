@@ -1,0 +1,3 @@
+/* For drivers/extcon/extcon-gpio.c. */
+#pragma once
+#include "extcon.h"

@@ -1,0 +1,3 @@
+/* For drivers/input/misc/gpio-beeper.c. */
+#pragma once
+#include "input.h"

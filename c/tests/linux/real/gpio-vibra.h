@@ -1,0 +1,3 @@
+/* For drivers/input/misc/gpio-vibra.c. */
+#pragma once
+#include "input.h"

@@ -1,0 +1,3 @@
+/* For samples/livepatch/livepatch-callbacks-busymod.c. */
+#pragma once
+#include "stub.h"

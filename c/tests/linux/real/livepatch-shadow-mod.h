@@ -1,0 +1,3 @@
+/* For samples/livepatch/livepatch-shadow-mod.c. */
+#pragma once
+#include "stub.h"

@@ -1,0 +1,15 @@
+pub mod Safe
+pub mod ByDue
+pub mod Steps
+pub mod Segments
+pub mod Plays
+pub mod Sound
+pub mod Resumed
+pub mod Room
+pub mod Lost
+pub mod Sorted
+pub mod Due
+pub mod Gathered
+pub mod Soon
+pub mod Taken
+pub mod Pushed

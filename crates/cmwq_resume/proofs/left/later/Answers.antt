@@ -1,0 +1,36 @@
+use Rattle.std.proofs.Common.{◌≡◌, ◌∙◌, ap, arith, sym, subst}
+use Rattle.std.specs.List.{range_with_len}
+use Rattle.std.specs.List.Sorted.{IsPermutation}
+use Rattle.cmwq_model.specs.Prelude.{past_of}
+use Rattle.cmwq_resume.specs.Leavings.{later_of}
+use Rattle.cmwq_resume.proofs.Gathered.{later_is}
+use Rattle.cmwq_resume.proofs.Sorted.{found_in, more_none, more_some, not_some}
+use Rattle.cmwq_resume.proofs.left.later.Goals as goal
+use Rattle.cmwq_resume.proofs.left.later.Goals.{in-Some+in_ok-push, in_default}
+
+pub loop-item-preserved : goal.loop-item-preserved
+loop-item-preserved c =
+    let past = past_of c.args.state.now.entries in
+    let n = c.loop-item.item in
+    elim c.match-later_of.branch [
+      | in-Some+in_ok-push w ↦
+          rw (w.found-is)
+          (more_some (later_of past) n _ _ _ c.loop-item.invariant (sym c.later_of.ensures ∙ w.in-Some.is)
+          w.in_ok-push.ensures.items)
+      | in_default w ↦
+          rw (w.found-is)
+          (more_none (later_of past) n _ c.loop-item.invariant
+          (sym c.later_of.ensures ∙ not_some c.later_of.result w.in_default.not-Some))
+    ]
+
+pub returns : goal.returns
+returns c =
+    let s = c.args.state.now.layout in
+    let past = past_of c.args.state.now.entries in
+    let whole : c.loop-item.item ≡ s.items =
+    omega (arith, c.loop-item-test.false, c.loop-item.auto.item-end, c.requires) in
+    let moved =
+    subst (λ found. IsPermutation found c.sort_by_booking.new.found.items)
+    (c.loop-item.invariant ∙ ap (λ k. found_in (later_of past) (range_with_len 0 k)) whole)
+    c.in_ok-sort_by_booking.ensures.same in
+    later_is s past c.len-len.ensures.legal _ moved c.in_ok-sort_by_booking.ensures.sorted

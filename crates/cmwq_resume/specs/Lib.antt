@@ -1,0 +1,4 @@
+pub mod Common
+pub mod Resume
+pub mod Plays
+pub mod Leavings
