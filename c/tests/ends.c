@@ -41,7 +41,7 @@ int main(void)
     uint8_t line[CMWQ_LINE];
     size_t len;
 
-    alarm(240);
+    alarm(540);
     for (unsigned round = 0; round < ROUNDS; round++) {
         written = 0;
         CHECK(cmwq_hub_open(&hub, &options) == CMWQ_OK);

@@ -671,7 +671,7 @@ static void test_waiters(void)
 
 int main(void)
 {
-    alarm(240);
+    alarm(540);
     test_nothing_left(); /* first, as the file asks once in a process to be told of forks */
     test_numbers();
     test_frozen();

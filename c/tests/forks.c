@@ -158,7 +158,7 @@ static void test_rest(void)
         CHECK(cmwq_work_busy(&hub, 1) == 1 && cmwq_queue_work_on(&hub, 0, 0, 0) == 1);
         CHECK(cmwq_flush_work(&hub, 0, CMWQ_FOREVER) >= 0);
         close_hub();
-        CHECK(cmwq_queue_work_on(&other, 0, 0, 0) == 1);
+        CHECK(cmwq_queue_work_on(&other, 0, 0, 0) == 1 && cmwq_flush_work(&other, 0, CMWQ_FOREVER) >= 0);
     }
     CHECK(cmwq_hub_close(&other) == CMWQ_OK);
     /* none is open */
@@ -256,7 +256,7 @@ static void test_inside(void)
 
 int main(void)
 {
-    alarm(240);
+    alarm(540);
     test_rest();
     test_busy();
     test_inside();

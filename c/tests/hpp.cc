@@ -195,9 +195,9 @@ static void items_come_and_go()
 static void waits_with_timeouts()
 {
     std::atomic<bool> open{false};
+    std::atomic<int> again{0}, left{0}; // outlive the runs, which end when the workqueues do
     cmwq::workqueues all(cmwq::shape{}.queue("a", cmwq::max_active(1)).queue("b", cmwq::max_active(1)));
     cmwq::queue a = all.queue("a"), b = all.queue("b");
-    std::atomic<int> again{0}, left{0};
     cmwq::item other = b.make([&](cmwq::run &run) {
         run.block([&] { while (again == 0) std::this_thread::sleep_for(1ms); });
     });

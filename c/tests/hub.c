@@ -76,7 +76,7 @@ int main(void)
     pthread_t threads[CALLERS];
     unsigned names[CALLERS];
 
-    alarm(240);
+    alarm(540);
     for (int i = 0; i < ITEMS; i++) {
         pthread_mutex_init(&items[i].lock, NULL);
         works[i] = (struct cmwq_work){work, &items[i]};

@@ -197,7 +197,7 @@ int main(int argc, char **argv)
     int from = -1, status;
     pid_t child;
 
-    alarm(kills > 100 ? 3000 : 240);
+    alarm(kills > 100 ? 3000 : 540);
     snprintf(folder, sizeof folder, "%s/cmwq_lives.XXXXXX", place ? place : "/tmp");
     CHECK(mkdtemp(folder));
     snprintf(journal, sizeof journal, "%s/journal", folder);

@@ -187,7 +187,7 @@ int main(void)
     struct cmwq_options wrong = {.queues = queues, .queue_count = 3, .items = 1, .waits = 200, .callers = 55};
     pthread_t first; /* a sanitizer may have a thread of its own from then on */
 
-    alarm(240);
+    alarm(540);
     CHECK(pthread_create(&first, NULL, end_at_once, NULL) == 0 && pthread_join(first, NULL) == 0);
     test_lazy();
     test_thaw(false);

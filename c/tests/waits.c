@@ -305,7 +305,7 @@ int main(int argc, char **argv)
 {
     unsigned seeds = argc > 1 ? (unsigned)atoi(argv[1]) : 100;
 
-    alarm(240);
+    alarm(540);
     ring(2, CMWQ_CANCEL_SYNC);
     ring(3, CMWQ_CANCEL_SYNC);
     ring(4, CMWQ_FLUSH_ITEM);
