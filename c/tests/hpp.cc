@@ -599,7 +599,7 @@ int main(int argc, char **argv)
 {
     unsigned rounds = argc > 1 ? unsigned(std::atoi(argv[1])) : 100;
     size_t circles = 0;
-    alarm(300); // the hang detector
+    alarm(540); // the hang detector
     for (unsigned seed = 0; seed < rounds; seed++) circles += trial(seed);
     {
         cmwq::workqueues all(cmwq::shape{}.queue("a", cmwq::max_active(1)));
