@@ -6,6 +6,7 @@ pub mod Plays
 pub mod Sound
 pub mod Resumed
 pub mod Room
+pub mod NoMoreRoom
 pub mod Lost
 pub mod Sorted
 pub mod Due

@@ -7,7 +7,7 @@ use Rattle.cmwq_resume.specs.Common.{standing_bookings}
 use Rattle.cmwq_resume.specs.Common.{is_started, unended_tickets, now, first_width, is_gone, is_pending}
 use Rattle.cmwq_model.specs.Prelude.{is_cancelling, item_runs}
 use Rattle.std.specs.Prelude.{◌*◌}
-use Rattle.cmwq_model.specs.Prelude.{is_layout, most_time, steps}
+use Rattle.cmwq_model.specs.Prelude.{is_layout, most_time, room_needed, steps}
 use Rattle.cmwq_resume.specs.Resume.{asked, plan_calls, resume_calls, Resumes}
 use Rattle.cmwq_model.specs.declared.reply.Reply.TheVariants as reply
 
@@ -128,6 +128,20 @@ by_caller c k = (Caller c, k)
 abbrev pub ResumesHaveRoom : Type 0
 ResumesHaveRoom = (s : Layout) (c : CallerId) (again : ℕ → Bool) (old : List Entry) (room : ℕ) → is_layout s ≡ true
     → c.0 < s.callers → IsLegal s old → 4 * length (resume_calls s again old) ≤ room
+    → length (resume_calls s again old) ≤ most_time
+    → steps s room (map (by_caller c) (resume_calls s again old))
+    ≡ record { past = played s (Caller c) [] (resume_calls s again old); left_out = 0 }
+
+-- the resumed history, with all that it owes, takes no more room than the old one
+abbrev pub ResumesNeedNoMoreRoom : Type 0
+ResumesNeedNoMoreRoom = (s : Layout) (c : CallerId) (again : ℕ → Bool) (old : List Entry) → is_layout s ≡ true
+    → c.0 < s.callers → IsLegal s old
+    → room_needed s (played s (Caller c) [] (resume_calls s again old)) ≤ room_needed s old
+
+-- so no call is left out in a room in which the old one has a place
+abbrev pub ResumesFitAgain : Type 0
+ResumesFitAgain = (s : Layout) (c : CallerId) (again : ℕ → Bool) (old : List Entry) (room : ℕ) → is_layout s ≡ true
+    → c.0 < s.callers → IsLegal s old → room_needed s old ≤ room
     → length (resume_calls s again old) ≤ most_time
     → steps s room (map (by_caller c) (resume_calls s again old))
     ≡ record { past = played s (Caller c) [] (resume_calls s again old); left_out = 0 }

@@ -1,7 +1,7 @@
 //! Laws of the histories that resume others.
 
-ghost use Rattle.cmwq_resume.specs.Plays.{PlansPlay, ResumedAreSteady, ResumedLoseNothing, ResumesHaveRoom};
-ghost use Rattle.cmwq_resume.specs.Plays.{ResumesPlay};
+ghost use Rattle.cmwq_resume.specs.Plays.{PlansPlay, ResumedAreSteady, ResumedLoseNothing, ResumesFitAgain};
+ghost use Rattle.cmwq_resume.specs.Plays.{ResumesHaveRoom, ResumesNeedNoMoreRoom, ResumesPlay};
 
 /// The calls of a sound plan all succeed, and leave what the plan says, and nothing else.
 pub fn plans_play()
@@ -21,6 +21,13 @@ pub fn resumed_are_steady()
 /// Where there is room for four entries a call, no call is left out.
 pub fn resumes_have_room()
     ensures { ResumesHaveRoom }
+{}
+
+/// The history that they make, with all that it owes, takes no more room than the old one. So where that had room, no
+/// call is left out.
+pub fn resumes_need_no_more_room()
+    ensures needs { ResumesNeedNoMoreRoom }
+    ensures fits { ResumesFitAgain }
 {}
 
 /// Nothing that was pending is lost. Of the runs only those are lost that were being cancelled, or are left out.
