@@ -308,8 +308,8 @@ impl Builder {
         Ok(named)
     }
 
-    /// Opens the state, with what the last life left.
-    fn open(&mut self) -> Result<(State<Work, OfHub>, HashMap<String, Named>, Vec<u8>)> {
+    /// Makes the hub, with what the last life left. Returns the lines that begin a history too.
+    fn open(&mut self) -> Result<(Hub, Vec<u8>)> {
         let count = u16::try_from(self.items.len()).map_err(|_| Error::Invalid("the items"))?;
         let is_durable = self.durable.path.is_some();
         if is_durable && self.setup.history.is_some() {
@@ -325,12 +325,12 @@ impl Builder {
         let (mut state, head) = self.setup.open(|_| OfHub::default())?;
         let named = self.name_items(&mut state)?;
         if let Some(path) = self.durable.path.clone() {
-            let options = std::mem::replace(&mut self.durable, Options::new());
-            self.durable = Options { sync: options.sync, each: options.each, ..Options::new() };
-            let names: Vec<&str> = names.iter().map(String::as_str).collect();
-            durable::resume(&path, options, &self.setup.shape, (&names, &self.setup.names), &head, &mut state)?;
+            let names = (&*names, &*self.setup.names);
+            durable::resume(&path, &mut self.durable, &self.setup.shape, names, &head, &mut state)?;
         }
-        Ok((state, named, head))
+        let hub = Hub::new(state, self.setup.shape, self.setup.tick, self.spins).names(named);
+        let Options { sync, each, .. } = self.durable;
+        Ok((if is_durable { hub.lasts(Durable::new(sync), each) } else { hub }, head))
     }
 
     /// Starts the threads: the workers of each CPU's pool, and of its pool of high priority if a queue has that
@@ -341,17 +341,11 @@ impl Builder {
     /// workqueues also [`Error::BadJournal`], [`Error::OtherShape`], [`Error::InUse`], [`Error::DiskFailed`], and
     /// [`Error::Full`] if there is no room for what the last life left. Then its journal stays as it is.
     pub fn build(mut self) -> Result<Workqueues> {
-        let is_durable = self.durable.path.is_some();
-        let (state, named, head) = self.open()?;
-        let Setup { shape, tick, .. } = self.setup;
-        let mut hub = Hub::new(state, shape, tick, self.spins).names(named);
-        if is_durable {
-            hub = hub.lasts(Durable::new(self.durable.sync), self.durable.each);
-        }
+        let (hub, head) = self.open()?;
         let workers: Vec<Who> = self.setup.workers().collect();
         let Setup { names, history, .. } = self.setup;
         let mut made = Workqueues { hub: Arc::new(hub), names, workers: Vec::new(), clock: None, journal: None };
-        if is_durable {
+        if made.hub.is_durable() {
             let hub = made.hub.clone();
             let journal = move || {
                 hub.enter();

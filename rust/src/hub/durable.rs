@@ -77,9 +77,9 @@ fn read(folder: &dyn Folder, name: &OsStr) -> Result<Option<Vec<u8>>> {
 /// Resumes the journal of this path, and begins that of this life.
 pub(crate) fn resume(
     path: &Path,
-    options: Options,
+    options: &mut Options,
     shape: &Shape,
-    names: (&[&str], &[String]),
+    names: (&[String], &[String]),
     head: &[u8],
     state: &mut State<Work, Own>,
 ) -> Result<()> {
@@ -98,7 +98,7 @@ pub(crate) fn resume(
     let old = read(folder, name)?;
     let named = read(folder, &with(".names"))?.unwrap_or_default();
     let calls = match &old {
-        Some(text) => calls(text, shape, &names, &String::from_utf8_lossy(&named), options.again)?,
+        Some(text) => calls(text, shape, &names, &String::from_utf8_lossy(&named), options.again.as_mut())?,
         None => Vec::new(),
     };
     let text = names_text(&names);
@@ -114,13 +114,8 @@ pub(crate) fn resume(
     }
     let old = (old.is_some() && options.keep_old).then(|| with(".1"));
     replace(folder, name, &fresh, old, options.sync).map_err(failed)?;
-    state.own.disk = Progress {
-        file: Some(file),
-        synced: state.board.len(),
-        wanted: 0,
-        failed: None,
-        lock: Some(lock),
-    };
+    state.own.disk =
+        Progress { file: Some(file), synced: state.board.len(), wanted: 0, failed: None, lock: Some(lock) };
     Ok(())
 }
 

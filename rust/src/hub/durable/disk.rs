@@ -7,7 +7,7 @@ use std::io::{self, Write};
 use std::path::{Path, PathBuf};
 
 /// Opens the folder of this path, which is that of a journal.
-pub(crate) type Opens = Box<dyn FnOnce(&Path) -> io::Result<Box<dyn Folder>> + Send>;
+pub(crate) type Opens = Box<dyn Fn(&Path) -> io::Result<Box<dyn Folder>> + Send>;
 
 /// A folder with a journal.
 pub(crate) trait Folder {

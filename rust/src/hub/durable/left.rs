@@ -7,7 +7,7 @@ use std::fmt::Write;
 
 /// The names of items and queues, by their numbers.
 pub(super) struct Names<'a> {
-    pub(super) items: &'a [&'a str],
+    pub(super) items: &'a [String],
     pub(super) queues: &'a [String],
 }
 
@@ -47,7 +47,7 @@ pub(super) fn calls(
     shape: &Shape,
     names: &Names<'_>,
     named: &str,
-    again: Option<Again>,
+    again: Option<&mut Again>,
 ) -> Result<Vec<Call>> {
     let lines = whole(text);
     if lines.is_empty() {
@@ -60,13 +60,13 @@ pub(super) fn calls(
     }
     compare(&left, shape, names, named)?;
     let mut calls = left.calls;
-    if let Some(mut again) = again {
+    if let Some(again) = again {
         let without = vec![1; names.items.len()];
         let without = ffi::resume(lines, &without).map_err(|fault| refused(lines, fault))?.calls;
         let mut without = without.iter().peekable();
         calls.retain(|call| {
             let is_pending = without.next_if(|other| (other.kind, other.item) == (call.kind, call.item)).is_some();
-            is_pending || again(names.items[usize::from(call.item)])
+            is_pending || again(&names.items[usize::from(call.item)])
         });
     }
     Ok(calls)
@@ -80,7 +80,7 @@ fn compare(left: &ffi::Left, shape: &Shape, names: &Names<'_>, named: &str) -> R
         None if own.is_none() => Err(Error::OtherShape(format!("{kind} {number}"))),
         _ => Ok(()),
     };
-    (0..usize::from(left.shape.items)).try_for_each(|it| other("item", it, names.items.get(it).copied()))?;
+    (0..usize::from(left.shape.items)).try_for_each(|it| other("item", it, names.items.get(it).map(String::as_str)))?;
     (0..left.queues).try_for_each(|it| other("queue", it, names.queues.get(it).map(String::as_str)))?;
     if left.shape.cpus > shape.cpus {
         return Err(Error::OtherShape(format!("CPU {}", shape.cpus)));

@@ -391,7 +391,7 @@ fn opens(memory: &Memory) -> super::Opens {
     Box::new(move |path| {
         assert_eq!(path.to_str(), Some("some"));
         drop(memory.begin()?);
-        Ok(Box::new(memory))
+        Ok(Box::new(memory.clone()))
     })
 }
 
