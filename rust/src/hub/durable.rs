@@ -132,7 +132,7 @@ fn begin(file: &mut dyn Output, head: &[u8], calls: &[Call], state: &mut State<W
     state.journal.begin();
     file.write_all(head).map_err(failed)?;
     for call in calls {
-        if state.board.len() >= state.journal.next {
+        if state.journal.next <= state.board.len() {
             put(file, state).map_err(failed)?;
         }
         make(state, call).map_err(Error::of)?;
@@ -334,6 +334,8 @@ impl Hub {
             if over {
                 return self.end_journal(hold);
             }
+            drop(hold); // those who were named are woken
+            hold = self.hold_of(self.guarded.lock());
         }
     }
 
@@ -341,11 +343,7 @@ impl Hub {
     /// whether it is the second of these.
     fn sleep_for_entries<'a>(&'a self, hold: Hold<'a>) -> (Hold<'a>, bool) {
         let Hold { mut state, woken } = hold;
-        if !woken.is_empty() {
-            drop(state);
-            drop(woken);
-            state = self.guarded.lock();
-        }
+        debug_assert!(woken.is_empty());
         while state.journal.full.is_empty() && !state.journal.over {
             if !state.journal.armed || state.own.disk.failed.is_some() {
                 state = self.guarded.journal.wait(state).unwrap_or_else(PoisonError::into_inner);
