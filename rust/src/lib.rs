@@ -315,6 +315,9 @@ impl Builder {
         if is_durable && self.setup.history.is_some() {
             return Err(Error::Invalid("a history beside the journal"));
         }
+        if is_durable && count == 0 {
+            return Err(Error::Invalid("no item with a name"));
+        }
         let items = &mut self.setup.shape.items;
         *items = if is_durable { count } else { count.max(*items) };
         let names: Vec<String> = self.items.iter().map(|item| item.name.clone()).collect();

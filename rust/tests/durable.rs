@@ -122,7 +122,7 @@ fn what_is_refused() -> Result<()> {
     assert_eq!(refused(builder(&journal, &runs).item("report", "disk", |_| ())), "two items of one name");
     assert_eq!(refused(builder(&journal, &runs).item("a\nb", "disk", |_| ())), "a name with a control character");
     assert_eq!(refused(builder(&journal, &runs).item_on("a", "disk", 1, |_| ())), "the CPU");
-    assert_eq!(refused(plain().durable(&journal)), "a count of the builder");
+    assert_eq!(refused(plain().durable(&journal)), "no item with a name");
     assert_eq!(refused(plain().item("a", "disk", |_| ()).durable("/")), "the path of the journal");
     let unknown = builder(&journal, &runs).item("a", "net", |_| ()).build();
     assert!(matches!(unknown, Err(Error::NoQueue(name)) if name == "net"));
