@@ -6,7 +6,7 @@ mod common;
 use cmwq::{max_active, Builder, Run, Sync, Workqueues};
 use common::{number, watch, Folder, Random};
 use std::fs::{File, OpenOptions};
-use std::io::Write;
+use std::io::{Read, Write};
 use std::os::unix::process::parent_id;
 use std::path::{Path, PathBuf};
 use std::process::{exit, Child, Command, Stdio};
@@ -154,13 +154,28 @@ fn begin(folder: &Folder, how: &str) -> Child {
     begins.stdin(Stdio::null()).stdout(Stdio::null()).spawn().unwrap()
 }
 
-fn events_of(folder: &Folder) -> Vec<[u8; 4]> {
-    let text = std::fs::read(folder.path("events")).unwrap_or_default();
-    text.chunks_exact(4).map(|event| event.try_into().unwrap()).collect()
+/// What the lives have told so far.
+struct Told {
+    file: File,
+    text: Vec<u8>,
 }
 
-fn count(events: &[[u8; 4]], what: u8) -> usize {
-    events.iter().filter(|event| event[0] == what).count()
+impl Told {
+    /// Reads what is new. Returns where that begins.
+    fn read(&mut self) -> usize {
+        let before = self.text.len() / 4;
+        self.file.read_to_end(&mut self.text).unwrap();
+        before
+    }
+
+    /// The event, the item and the caller.
+    fn events(&self) -> impl Iterator<Item = (u8, usize, usize)> + '_ {
+        self.text.chunks_exact(4).map(|event| (event[0], usize::from(event[1]), usize::from(event[2])))
+    }
+
+    fn count(&self, what: u8) -> usize {
+        self.events().filter(|(event, ..)| *event == what).count()
+    }
 }
 
 #[test]
@@ -169,11 +184,19 @@ fn a_program_is_killed_again_and_again() {
     watch(steps.clone(), number("CMWQ_SECONDS", 120) as u32);
     let (folder, mut random) = (Folder::new(), Random::new(1));
     let kills = number("CMWQ_KILLS", 15) as usize;
+    let mut told = Told {
+        file: OpenOptions::new().read(true).append(true).create(true).open(folder.path("events")).unwrap(),
+        text: Vec::new(),
+    };
     for kill in 0..kills {
         let (what, micros) = if kill % 3 == 0 { (OPENS, 3000) } else { (RESUMED, 40_000) };
-        let before = count(&events_of(&folder), what);
+        told.read();
         let mut life = begin(&folder, if kill % 4 > 0 { "write" } else { "data" });
-        while count(&events_of(&folder), what) == before {
+        loop {
+            let before = told.read();
+            if told.events().skip(before).any(|(event, ..)| event == what) {
+                break;
+            }
             assert!(life.try_wait().unwrap().is_none(), "life {kill} has ended");
             thread::sleep(Duration::from_micros(200));
         }
@@ -186,11 +209,10 @@ fn a_program_is_killed_again_and_again() {
         steps.fetch_add(1, SeqCst);
     }
     assert!(begin(&folder, "on").wait().unwrap().success());
-    let events = events_of(&folder);
+    told.read();
     let (mut begun, mut wanted, mut ran) = ([0; CALLERS], [0; ITEMS], [0; ITEMS]);
-    for (at, [what, item, caller, _]) in events.iter().enumerate() {
-        let (item, caller) = (usize::from(*item), usize::from(*caller));
-        match *what {
+    for (at, (what, item, caller)) in told.events().enumerate() {
+        match what {
             BEGINS => begun[caller] = at,
             RUNS => ran[item] = at,
             ACKNOWLEDGED => wanted[item] = wanted[item].max(begun[caller]),
@@ -200,12 +222,12 @@ fn a_program_is_killed_again_and_again() {
     for item in 0..ITEMS {
         assert!(ran[item] >= wanted[item], "a call of item {item} is lost");
     }
-    assert!(kills < 15 || count(&events, ACKNOWLEDGED) > 0);
+    assert!(kills < 15 || told.count(ACKNOWLEDGED) > 0);
     for (how, status) in [("crash", 9), ("crash again", 9), ("crash again", 9), ("left out", 0)] {
         let ended = begin(&folder, how).wait().unwrap();
         assert_eq!(ended.code(), Some(status), "{how}");
         steps.fetch_add(1, SeqCst);
     }
-    let inside = count(&events, OPENS) - count(&events, RESUMED);
-    println!("{kills} kills, {inside} of them in the resume, {} calls acknowledged", count(&events, ACKNOWLEDGED));
+    let inside = told.count(OPENS) - told.count(RESUMED);
+    println!("{kills} kills, {inside} of them in the resume, {} calls acknowledged", told.count(ACKNOWLEDGED));
 }
