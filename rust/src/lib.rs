@@ -29,6 +29,9 @@
 //! [`Builder::durable`] keeps the history in a file, so that what is queued or delayed outlives the program. The next
 //! workqueues with this file, its next *life*, have what the last one left, and runs that were broken off.
 //!
+//! Any of their calls may return [`Error::DiskFailed`]. With [`Builder::each`] it may return [`Error::NotDurable`], and
+//! while they are [left](Workqueues::leave), calls that queue or wait return [`Error::Stopped`].
+//!
 //! ```
 //! use cmwq::{max_active, Workqueues};
 //!

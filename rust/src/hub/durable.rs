@@ -103,7 +103,7 @@ pub(crate) fn resume(
     };
     let text = names_text(&names);
     if text.as_bytes() != named {
-        // before the journal that these names are of: what that one has of the last one has the same names
+        // before the journal: what the last one left has the same names, so they go with either
         put_names(folder, &text, &with(".names.new"), &with(".names")).map_err(failed)?;
     }
     let fresh = with(".new");
