@@ -230,8 +230,7 @@ impl<'a> Hold<'a> {
         }
     }
 
-    /// The wait by this caller is left, since nothing starts any more. The run whose wait it is sleeps on, and is broken
-    /// off.
+    /// The wait by this caller is left, since nothing starts any more. A run that waits sleeps on, and is broken off.
     fn breaks_off(&mut self, party: u8, who: Who) -> Error {
         if who.kind != CALLER {
             BROKEN.set(true);

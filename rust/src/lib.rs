@@ -237,7 +237,7 @@ impl Builder {
         self
     }
 
-    /// Adds an item with a name, of this queue, on a CPU that is chosen once. The workqueues have it until they end, and
+    /// Adds an item with a name, of this queue, on a CPU that is chosen once. The workqueues have it until they end.
     /// [`Workqueues::item`] and [`Run::item`] return handles. (`INIT_WORK()`)
     pub fn item(self, name: &str, queue: &str, work: impl FnMut(&mut Run<'_>) + Send + 'static) -> Self {
         self.named(name, queue, None, Box::new(work))

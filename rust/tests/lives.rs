@@ -1,6 +1,6 @@
 //! Durable workqueues whose program is killed again and again, also while it takes over what was left. Each call that
-//! was acknowledged is followed by a run of its item, in that life or in a later one. Then a work function that ends the
-//! program each time is left out. `CMWQ_KILLS` says how often the program is killed.
+//! was acknowledged is followed by a run of its item, in that life or in a later one. Then a work function that ends
+//! the program each time is left out. `CMWQ_KILLS` says how often the program is killed.
 mod common;
 
 use cmwq::{max_active, Builder, Run, Sync, Workqueues};

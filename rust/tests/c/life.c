@@ -1,8 +1,14 @@
-/* A life of a durable hub in C: life JOURNAL begin | go_on. rust/tests/durable.rs runs it before and after one in Rust. */
+/* A life of a durable hub in C: life JOURNAL begin | go_on. rust/tests/durable.rs runs it before one in Rust, and after
+   it. */
 #include "cmwq_hub.h"
 
 static unsigned ran[4];
-static void work(struct cmwq_run *run, void *data) { (void)data; __atomic_add_fetch(&ran[run->item], 1, __ATOMIC_SEQ_CST); }
+
+static void work(struct cmwq_run *run, void *data)
+{
+    (void)data;
+    __atomic_add_fetch(&ran[run->item], 1, __ATOMIC_SEQ_CST);
+}
 
 int main(int argc, char **argv)
 {

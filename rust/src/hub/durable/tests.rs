@@ -1,6 +1,6 @@
-//! Durable workqueues on a disk in memory, whose power fails before each operation. What was not synced is dropped, cut,
-//! zeros or garbage then. Each operation fails by itself too. What a call has told is so in the next life, and nobody
-//! waits for ever.
+//! Durable workqueues on a disk in memory, whose power fails before each operation. What was not synced is dropped,
+//! cut, zeros or garbage then. Each operation fails by itself too. What a call has told is so in the next life, and
+//! nobody waits for ever.
 use super::disk::{Folder, Output};
 use crate::{max_active, Builder, Error, Item, Result, Run, Sync, Workqueues};
 use std::any::Any;
