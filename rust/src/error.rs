@@ -1,4 +1,5 @@
 use crate::ffi::{status, Fault};
+use std::sync::Arc;
 use std::{fmt, io};
 
 /// Why a call failed. A call that fails changes nothing, unless the error says otherwise.
@@ -58,6 +59,29 @@ pub enum Error {
     History(io::Error),
     /// The text is not a history.
     NoHistory,
+    /// The [builder](crate::Builder::item) has no item of this name.
+    UnknownItem(String),
+    /// [Durable](crate::Builder::durable) workqueues have the items alone that their builder names.
+    Unnamed,
+    /// The workqueues are not [durable](crate::Builder::durable).
+    NoJournal,
+    /// The journal of durable workqueues is not the front of a legal history. Its file stays as it is.
+    BadJournal {
+        /// The line that is wrong, from 1.
+        line: u64,
+    },
+    /// The journal of durable workqueues has what their builder has not, or has by another name: `item 3 flush_cache`,
+    /// `queue 1 disk` or `CPU 2`. Its file stays as it is.
+    OtherShape(String),
+    /// Other workqueues, of this program or of another one, have the journal.
+    InUse,
+    /// The disk with the journal has failed, for good: the call was not made, and no later one is.
+    DiskFailed(Arc<io::Error>),
+    /// The call was made, but the disk failed before that was [durable](crate::Builder::each).
+    NotDurable(Arc<io::Error>),
+    /// The workqueues are being [left](crate::Workqueues::leave). A wait that returns this in a work function breaks
+    /// its run off, so the next life has it again.
+    Stopped,
 }
 
 /// The result of a call.
@@ -90,6 +114,15 @@ impl fmt::Display for Error {
             Error::Panicked(count) => write!(f, "work functions have panicked: {count}"),
             Error::History(why) => write!(f, "the history could not be written: {why}"),
             Error::NoHistory => f.write_str("the text is not a history"),
+            Error::UnknownItem(name) => write!(f, "there is no item {name:?}"),
+            Error::Unnamed => f.write_str("durable workqueues have no items but those that the builder names"),
+            Error::NoJournal => f.write_str("the workqueues are not durable"),
+            Error::BadJournal { line } => write!(f, "the journal is no legal history, because of line {line}"),
+            Error::OtherShape(what) => write!(f, "the journal has what the builder has not: {what}"),
+            Error::InUse => f.write_str("other workqueues have the journal"),
+            Error::DiskFailed(why) => write!(f, "the disk has failed: {why}"),
+            Error::NotDurable(why) => write!(f, "the call was made, but the disk failed before it was durable: {why}"),
+            Error::Stopped => f.write_str("the workqueues are being left"),
         }
     }
 }
@@ -98,6 +131,7 @@ impl std::error::Error for Error {
     fn source(&self) -> Option<&(dyn std::error::Error + 'static)> {
         match self {
             Error::Thread(why) | Error::History(why) => Some(why),
+            Error::DiskFailed(why) | Error::NotDurable(why) => Some(&**why),
             _ => None,
         }
     }

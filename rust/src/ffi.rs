@@ -1,6 +1,9 @@
 //! The calls of `cmwq.h`, and types that close what they open. All `unsafe` code of the crate is in this file.
 use std::alloc::{alloc, dealloc, realloc, Layout};
-use std::ffi::c_void;
+use std::ffi::{c_int, c_void};
+use std::fs::File;
+use std::io;
+use std::os::fd::AsRawFd;
 use std::ptr::null_mut;
 
 /// The counts of a [`Book`](crate::book::Book): how many items, CPUs, workers and callers there are, and how long its
@@ -238,6 +241,18 @@ extern "C" {
     fn cmwq_lines_close(lines: *mut Handle);
     fn cmwq_lines_write(lines: *mut Handle, out: *mut u8, out_len: usize, written: *mut usize) -> u32;
     fn cmwq_lines_forget(lines: *mut Handle) -> u32;
+    fn cmwq_resume(
+        text: Text,
+        len: usize,
+        left_out: *const u8,
+        left_out_len: usize,
+        shape: *mut Shape,
+        queues: *mut usize,
+        calls: *mut Call,
+        calls_len: usize,
+        count: *mut usize,
+        line: *mut u64,
+    ) -> u32;
     fn cmwq_head(s: *const Shape, q: *const QueueShape, len: usize, out: *mut u8, out_len: usize, w: *mut usize)
         -> u32;
 }
@@ -280,6 +295,59 @@ pub fn head(shape: &Shape, queues: &[QueueShape]) -> Result<Vec<u8>, Fault> {
     let status = unsafe { cmwq_head(shape, queues.as_ptr(), queues.len(), out.as_mut_ptr(), out.len(), &mut written) };
     out.truncate(written);
     made(status, out)
+}
+
+/// What an old history left: the calls that resume it, and the shape that it has.
+pub struct Left {
+    pub shape: Shape,
+    pub queues: usize,
+    pub calls: Vec<Call>,
+}
+
+/// No history leaves more calls.
+const MOST_LEFT: usize = 3 * u8::MAX as usize + u16::MAX as usize + 2;
+
+/// The calls that resume this history, or the front of one, without the runs of these items that were broken off. At a
+/// fault there is the number of the line that is wrong, or 0.
+pub fn resume(history: &[u8], left_out: &[u8]) -> Result<Left, (Fault, u64)> {
+    let (mut shape, mut queues, mut count, mut line) = (Shape::default(), 0, 0, 0);
+    let mut calls = vec![Call::default(); MOST_LEFT];
+    // SAFETY: the lengths are those of the slices, and the other pointers are of references
+    let status = unsafe {
+        cmwq_resume(
+            history.as_ptr(),
+            history.len(),
+            left_out.as_ptr(),
+            left_out.len(),
+            &mut shape,
+            &mut queues,
+            calls.as_mut_ptr(),
+            calls.len(),
+            &mut count,
+            &mut line,
+        )
+    };
+    made(status, ()).map_err(|fault| (fault, line))?;
+    calls.truncate(count);
+    Ok(Left { shape, queues, calls })
+}
+
+// ---- the system ----
+
+extern "C" {
+    fn flock(fd: c_int, operation: c_int) -> c_int;
+}
+
+const LOCK_EX: c_int = 2;
+const LOCK_NB: c_int = 4;
+
+/// Locks a file, by `flock()`, until it is closed. An error of kind `WouldBlock` says that somebody else has it locked.
+pub fn lock(file: &File) -> io::Result<()> {
+    // SAFETY: the file is open, and the call takes numbers alone
+    match unsafe { flock(file.as_raw_fd(), LOCK_EX | LOCK_NB) } {
+        0 => Ok(()),
+        _ => Err(io::Error::last_os_error()),
+    }
 }
 
 // ---- the heap ----

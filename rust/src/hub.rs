@@ -1,12 +1,16 @@
 //! The shell with threads: a condition variable for each party, a thread for each worker, and a clock. It locks, makes
 //! calls of the board, unlocks, and wakes those whom the board has named. What is to be done is decided by the board.
 mod clock;
+pub(crate) mod durable;
 
 use crate::error::{Error, Result};
-use crate::ffi::{call, reply, Begun, Call, Ended, Reply, Shape, Start, Wakes, Who, CALLER};
+use crate::ffi::{call, reply, status, Begun, Call, Ended, Fault, Reply, Shape, Start, Wakes, Who, CALLER};
 use crate::shell::{discard, place_of, told, workers_of};
 use crate::shell::{Guarded, Hold as _, Items, Left, Shell, State, Tick, Ticks, OUTSIDE};
+use crate::Sync;
+use durable::Progress;
 use std::cell::Cell;
+use std::collections::HashMap;
 use std::hint::spin_loop;
 use std::io::{self, Write};
 use std::panic::{catch_unwind, AssertUnwindSafe};
@@ -26,12 +30,39 @@ struct Place {
     condvar: Condvar,
 }
 
-/// What the lock guards beside what all shells have: how many calls wait.
-pub(crate) type Waits = usize;
+/// What the lock guards beside what all shells have.
+#[derive(Default)]
+pub(crate) struct Own {
+    /// How many calls wait.
+    waits: usize,
+    /// Nothing starts any more, and what is left is kept for the next life.
+    keeps: bool,
+    disk: Progress,
+}
+
+/// An item that the builder names.
+pub(crate) struct Named {
+    pub(crate) number: u16,
+    pub(crate) queue: u8,
+    pub(crate) cpu: u8,
+}
+
+/// What durable workqueues have beside others.
+pub(crate) struct Durable {
+    sync: Sync,
+    /// Where those sleep who wait for whoever writes.
+    written: Condvar,
+}
+
+impl Durable {
+    pub(crate) fn new(sync: Sync) -> Durable {
+        Durable { sync, written: Condvar::new() }
+    }
+}
 
 /// The shell of a board.
 pub(crate) struct Hub {
-    guarded: Guarded<Work, Waits>,
+    guarded: Guarded<Work, Own>,
     /// Of the workers, and then of the callers.
     places: Box<[Place]>,
     clock: Condvar,
@@ -39,6 +70,10 @@ pub(crate) struct Hub {
     begun: Instant,
     tick: Tick,
     spins: u32,
+    pub(crate) named: HashMap<String, Named>,
+    durable: Option<Durable>,
+    /// Whether each call of no run waits until it is durable.
+    each: bool,
 }
 
 thread_local! {
@@ -46,6 +81,8 @@ thread_local! {
     static RUN: Cell<Option<(*const Hub, Who, bool)>> = const { Cell::new(None) };
     /// The hub whose thread this is.
     static OWNER: Cell<*const Hub> = const { Cell::new(std::ptr::null()) };
+    /// The run that this thread is in was broken off, since its wait was.
+    static BROKEN: Cell<bool> = const { Cell::new(false) };
 }
 
 /// Those who are to be woken. They are, when this is dropped.
@@ -76,6 +113,11 @@ impl Woken<'_> {
             self.all = true;
             self.hub.places.iter().for_each(|place| place.named.store(true, Release));
         }
+    }
+
+    fn add_all(&mut self) {
+        self.all = true;
+        self.hub.places.iter().for_each(|place| place.named.store(true, Release));
     }
 
     fn add_place(&mut self, at: usize) {
@@ -111,16 +153,16 @@ impl Drop for Woken<'_> {
 
 /// A hold of the lock. When it is dropped, first the lock is let go, and then those are woken who were named.
 pub(crate) struct Hold<'a> {
-    state: MutexGuard<'a, State<Work, Waits>>,
+    state: MutexGuard<'a, State<Work, Own>>,
     woken: Woken<'a>,
 }
 
 impl crate::shell::Hold for Hold<'_> {
     type Work = Work;
-    type Own = Waits;
+    type Own = Own;
 
     #[inline]
-    fn state(&mut self) -> &mut State<Work, Waits> {
+    fn state(&mut self) -> &mut State<Work, Own> {
         &mut self.state
     }
 
@@ -141,6 +183,32 @@ impl crate::shell::Hold for Hold<'_> {
     fn who(&mut self) -> Who {
         self.woken.hub.who(false)
     }
+
+    /// While the workqueues are left, runs queue what the next life has.
+    fn may_queue(&mut self) -> Result<()> {
+        match self.state.own.keeps && !self.state.ended {
+            true if self.woken.hub.is_in_run() => Ok(()),
+            true if self.state.own.disk.failed.is_none() => Err(Error::Stopped),
+            _ => Err(self.error_of(status::CLOSED)),
+        }
+    }
+
+    #[cold]
+    fn error_of(&mut self, fault: Fault) -> Error {
+        match (Error::of(fault), &self.state.own.disk.failed) {
+            (Error::Closed, Some(why)) => Error::DiskFailed(why.clone()),
+            (error, _) => error,
+        }
+    }
+
+    #[inline]
+    fn settle<T>(self, made: Result<T>) -> Result<T> {
+        let hub = self.woken.hub;
+        if hub.each {
+            return hub.settle_each(self, made);
+        }
+        made
+    }
 }
 
 impl<'a> Hold<'a> {
@@ -152,6 +220,26 @@ impl<'a> Hold<'a> {
             self.make(|board, wakes| board.call(&wake, wakes))?;
         }
         Ok(())
+    }
+
+    /// A call that waited is over.
+    fn is_over(&mut self) {
+        self.state.own.waits -= 1;
+        if self.state.closing && self.state.own.waits == 0 {
+            self.woken.hub.guarded.space.notify_all();
+        }
+    }
+
+    /// The wait by this caller is left, since nothing starts any more. A run that waits sleeps on, and is broken off.
+    fn breaks_off(&mut self, party: u8, who: Who) -> Error {
+        if who.kind != CALLER {
+            BROKEN.set(true);
+            RUN.set(Some((self.woken.hub, who, true)));
+        }
+        match self.make(|board, wakes| board.leave(party, wakes)) {
+            Ok(()) => Error::Stopped,
+            Err(why) => why,
+        }
     }
 
     /// Sleeps as this party, which the board has just told to sleep, until it is named or the deadline has passed.
@@ -211,7 +299,7 @@ impl Shell for Hub {
 }
 
 impl Hub {
-    pub(crate) fn new(state: State<Work, Waits>, shape: Shape, tick: Tick, spins: u32) -> Hub {
+    pub(crate) fn new(state: State<Work, Own>, shape: Shape, tick: Tick, spins: u32) -> Hub {
         let parties = workers_of(&shape) + usize::from(shape.callers);
         Hub {
             guarded: Guarded::new(state),
@@ -221,7 +309,24 @@ impl Hub {
             begun: Instant::now(),
             tick,
             spins,
+            named: HashMap::new(),
+            durable: None,
+            each: false,
         }
+    }
+
+    /// These items have names.
+    pub(crate) fn names(self, named: HashMap<String, Named>) -> Hub {
+        Hub { named, ..self }
+    }
+
+    /// It is durable, and maybe each of its calls is.
+    pub(crate) fn lasts(self, durable: Durable, each: bool) -> Hub {
+        Hub { durable: Some(durable), each, ..self }
+    }
+
+    pub(crate) fn is_durable(&self) -> bool {
+        self.durable.is_some()
     }
 
     fn place_of_caller(&self, caller: u8) -> usize {
@@ -229,7 +334,7 @@ impl Hub {
     }
 
     #[inline]
-    fn hold_of<'a>(&'a self, state: MutexGuard<'a, State<Work, Waits>>) -> Hold<'a> {
+    fn hold_of<'a>(&'a self, state: MutexGuard<'a, State<Work, Own>>) -> Hold<'a> {
         let woken = Woken { hub: self, places: [0; 16], count: 0, all: false, clock: false, journal: false };
         Hold { state, woken }
     }
@@ -242,6 +347,11 @@ impl Hub {
             Some((hub, worker, sleeps)) if std::ptr::eq(hub, self) && (waits || !sleeps) => worker,
             _ => OUTSIDE,
         }
+    }
+
+    /// Whether this thread is in a run of this hub.
+    fn is_in_run(&self) -> bool {
+        RUN.get().is_some_and(|(hub, ..)| std::ptr::eq(hub, self))
     }
 
     /// This thread is one of the hub's.
@@ -263,12 +373,13 @@ impl Hub {
         let deadline = timeout.and_then(|timeout| Instant::now().checked_add(timeout));
         let mut hold = self.hold();
         let (party, reply) = match hold.make(|board, wakes| board.begin(&call, wakes))? {
-            Begun::Ended(reply) => return told(reply),
+            Begun::Ended(reply) => return hold.settle(told(reply)),
             Begun::Waits(party, reply) => (party, reply),
         };
-        hold.state.own += 1;
+        hold.state.own.waits += 1;
         let ended = loop {
             match hold.make(|board, wakes| board.end(party, wakes)) {
+                Ok(Ended::Waits) if hold.state.own.keeps => break Err(hold.breaks_off(party, call.who)),
                 Ok(Ended::Waits | Ended::LookAgain) if deadline.is_some_and(|it| it <= Instant::now()) => {
                     break hold.leaves(party, call.who).and(Err(Error::TimedOut));
                 }
@@ -278,27 +389,27 @@ impl Hub {
                     hold = self.hold();
                 }
                 Ok(Ended::Done) => break Ok(reply),
-                Ok(Ended::Over) => break Err(Error::Closed),
+                Ok(Ended::Over) => break Err(hold.error_of(status::OVER)),
                 Err(fault) => break Err(fault),
             }
         };
-        hold.state.own -= 1;
-        if hold.state.closing && hold.state.own == 0 {
-            self.guarded.space.notify_all();
-        }
-        ended
+        hold.is_over();
+        hold.settle(ended)
     }
 
     /// What a worker's thread does.
     pub(crate) fn work(self: &Arc<Hub>, worker: Who) {
         let mut hold = self.hold();
-        loop {
+        while !hold.state.own.keeps {
             match hold.make(|board, wakes| board.start(&worker, wakes)) {
                 Ok(Start::Runs(item)) => {
                     let slot = &mut hold.state.slots[usize::from(item)];
                     let (work, queue) = (slot.work.take(), slot.queue);
                     drop(hold);
                     let (work, panicked) = self.run(worker, item, queue, work);
+                    if BROKEN.get() {
+                        return self.break_off(item, work, panicked);
+                    }
                     hold = self.finish(worker, item, work, panicked);
                 }
                 Ok(Start::Rests) => hold = hold.sleep(place_of(&self.shape, &worker), None),
@@ -335,6 +446,13 @@ impl Hub {
         hold
     }
 
+    /// Of a run that was broken off there is no end in the history: the next life has it again.
+    fn break_off(&self, item: u16, work: Option<Work>, panicked: bool) {
+        let mut hold = self.hold();
+        hold.state.panics += usize::from(panicked);
+        hold.state.slots[usize::from(item)].work = work;
+    }
+
     /// Does what blocks, while the run of this thread sleeps.
     pub(crate) fn block<T>(&self, worker: Who, blocks: impl FnOnce() -> T) -> T {
         struct Wakes<'a>(&'a Hub, Call);
@@ -342,7 +460,7 @@ impl Hub {
             fn drop(&mut self) {
                 RUN.set(Some((self.0, self.1.who, false)));
                 let woke = self.0.hold().make(|board, wakes| board.call(&self.1, wakes));
-                debug_assert!(woke.is_ok());
+                debug_assert!(matches!(woke, Ok(_) | Err(Error::DiskFailed(_))));
             }
         }
         let sleep = Call { kind: call::SLEEP, who: worker, ..Call::default() };
@@ -357,13 +475,28 @@ impl Hub {
 
     // ---- the end ----
 
+    /// Lets nothing start any more, and wakes all who sleep: workers end, and waits are left.
+    pub(crate) fn keep(&self) {
+        let mut hold = self.hold();
+        hold.state.closing = true;
+        hold.state.own.keeps = true;
+        hold.state.slots.iter_mut().for_each(|slot| slot.barred = true);
+        hold.woken.add_all();
+        hold.wake_clock();
+    }
+
     /// Nobody makes an entry any more, once all workers have ended.
     pub(crate) fn end(&self) -> Left<Work> {
         let mut state = self.hold().state;
-        while state.own > 0 {
+        while state.own.waits > 0 {
             state = self.guarded.space.wait(state).unwrap_or_else(PoisonError::into_inner);
         }
-        self.hold_of(state).end()
+        let keeps = state.own.keeps;
+        let left = self.hold_of(state).end();
+        if keeps {
+            return left.kept();
+        }
+        left
     }
 
     /// What the journal's thread does.

@@ -14,7 +14,8 @@ pub(crate) use setup::{number_of_queue, place_of, spawn, workers_of, Setup};
 use crate::error::{Error, Result};
 use crate::ffi::{reply, Board, Call, Fault, Reply, Wakes, Who, CALLER};
 use items::Slot;
-use journal::{Journal, MOST_FULL};
+use journal::MOST_FULL;
+pub(crate) use journal::{Journal, QUIET};
 use std::panic::{catch_unwind, AssertUnwindSafe};
 use std::sync::{Condvar, Mutex, MutexGuard, PoisonError};
 use std::time::Duration;
@@ -31,12 +32,12 @@ pub(crate) struct State<W, O> {
     /// The tick at which the clock looks next. 0: it asks the board.
     pub(crate) due: u64,
     /// Whether an item was ever delayed.
-    has_timers: bool,
+    pub(crate) has_timers: bool,
     /// Whether the shutdown has begun, and whether it is over.
     pub(crate) closing: bool,
     pub(crate) ended: bool,
     pub(crate) panics: usize,
-    journal: Journal,
+    pub(crate) journal: Journal,
     pub(crate) own: O,
 }
 
@@ -86,6 +87,25 @@ pub(crate) trait Hold {
     /// Who makes a call here that doesn't wait: the run that is going on, or the user's own caller.
     fn who(&mut self) -> Who;
 
+    /// Whether an item may be queued or delayed here while the workqueues end.
+    fn may_queue(&mut self) -> Result<()> {
+        Err(Error::Closed)
+    }
+
+    /// The error of a fault of the board.
+    fn error_of(&mut self, fault: Fault) -> Error {
+        Error::of(fault)
+    }
+
+    /// Ends a call that has come to this: lets the lock go, and waits until the call is durable if it should.
+    #[inline]
+    fn settle<T>(self, made: Result<T>) -> Result<T>
+    where
+        Self: Sized,
+    {
+        made
+    }
+
     /// Makes a call of the board. There is space for its entries, and for the ends of all waits that were left.
     #[inline]
     fn make<T>(&mut self, call: impl FnOnce(&mut Board, &mut Wakes) -> std::result::Result<T, Fault>) -> Result<T> {
@@ -106,7 +126,7 @@ pub(crate) trait Hold {
             self.state().journal.armed = true;
             self.wake_journal();
         }
-        made.map_err(Error::of)
+        made.map_err(|fault| self.error_of(fault))
     }
 
     /// The clock looks at the timers now.
@@ -177,6 +197,11 @@ pub(crate) struct Left<W> {
 }
 
 impl<W> Left<W> {
+    /// What is still pending is kept for the next life.
+    pub(crate) fn kept(self) -> Self {
+        Left { not_run: 0, ..self }
+    }
+
     /// Drops the work functions, without the lock. Returns what the shutdown does where the history was written.
     pub(crate) fn discard(self) -> Result<()> {
         self.works.into_iter().for_each(|work| _ = discard(work));

@@ -102,12 +102,12 @@ macro_rules! calls_of_all {
         /// Stops the freezable queues: runs go on, and nothing else of them starts. Returns `false` if they are stopped
         /// already. (`freeze_workqueues_begin()`)
         pub fn freeze(&self) -> Result<bool> {
-            self.hub.hold().call(call::FREEZE, 0, 0).map(|reply| reply.kind == reply::FROZEN)
+            self.hub.does(|hold| hold.call(call::FREEZE, 0, 0)).map(|reply| reply.kind == reply::FROZEN)
         }
 
         /// Lets the freezable queues go on. Returns `false` if they are not stopped. (`thaw_workqueues()`)
         pub fn thaw(&self) -> Result<bool> {
-            self.hub.hold().call(call::THAW, 0, 0).map(|reply| reply.kind == reply::THAWED)
+            self.hub.does(|hold| hold.call(call::THAW, 0, 0)).map(|reply| reply.kind == reply::THAWED)
         }
     };
 }

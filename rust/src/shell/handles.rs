@@ -21,6 +21,14 @@ pub(crate) trait Shell {
     /// The ticks of a delay that begins now. None: it is no delay.
     fn ticks(&self, delay: Duration) -> Option<Ticks>;
 
+    /// A call in a hold of its own.
+    #[inline]
+    fn does<'a, T>(&'a self, call: impl FnOnce(&mut Self::Hold<'a>) -> Result<T>) -> Result<T> {
+        let mut hold = self.hold();
+        let made = call(&mut hold);
+        hold.settle(made)
+    }
+
     /// Takes no more work, lets frozen queues go on, and takes back what is delayed.
     fn stop(&self) {
         let mut hold = self.hold();
@@ -73,16 +81,23 @@ impl<S: Shell> QueueOf<S> {
         let (mut items, mut queued) = (items.into_iter().peekable(), 0);
         while items.peek().is_some() {
             let batch: Vec<&Own<S>> = items.by_ref().take(64).inspect(|item| item.is_of(self)).collect();
+            let is_last = items.peek().is_none();
             let mut hold = self.hub.hold();
             for item in batch {
-                queued += usize::from(hold.put(item.number, self.number, item.cpu)?);
+                match hold.put(item.number, self.number, item.cpu) {
+                    Ok(was_idle) => queued += usize::from(was_idle),
+                    Err(why) => return if queued > 0 { hold.settle(Ok(())).and(Err(why)) } else { Err(why) },
+                }
+            }
+            if is_last {
+                return hold.settle(Ok(queued));
             }
         }
         Ok(queued)
     }
 
     pub(crate) fn set_max_active(&self, limit: u32) -> Result<u32> {
-        self.hub.hold().call(call::SET_MAX, self.number, limit).map(|reply| reply.number as u32)
+        self.hub.does(|hold| hold.call(call::SET_MAX, self.number, limit)).map(|reply| reply.number as u32)
     }
 }
 
@@ -90,8 +105,8 @@ impl<S: Shell> QueueOf<S> {
 pub(crate) struct Own<S: Shell> {
     pub(crate) hub: Arc<S>,
     pub(crate) number: u16,
-    queue: u8,
-    cpu: u8,
+    pub(crate) queue: u8,
+    pub(crate) cpu: u8,
 }
 
 impl<S: Shell> Own<S> {
@@ -101,17 +116,17 @@ impl<S: Shell> Own<S> {
 
     #[inline]
     pub(crate) fn queue(&self) -> Result<bool> {
-        self.hub.hold().put(self.number, self.queue, self.cpu)
+        self.hub.does(|hold| hold.put(self.number, self.queue, self.cpu))
     }
 
     pub(crate) fn queue_on(&self, queue: &QueueOf<S>, cpu: u8) -> Result<bool> {
         self.is_of(queue);
-        self.hub.hold().put(self.number, queue.number, cpu)
+        self.hub.does(|hold| hold.put(self.number, queue.number, cpu))
     }
 
     fn delay(&self, kind: u8, delay: Duration) -> Result<u8> {
         let ticks = self.hub.ticks(delay);
-        self.hub.hold().delay(kind, self.number, self.queue, self.cpu, ticks)
+        self.hub.does(|hold| hold.delay(kind, self.number, self.queue, self.cpu, ticks))
     }
 
     pub(crate) fn queue_delayed(&self, delay: Duration) -> Result<bool> {
@@ -123,7 +138,7 @@ impl<S: Shell> Own<S> {
     }
 
     pub(crate) fn cancel(&self) -> Result<bool> {
-        self.hub.hold().cancel(self.number)
+        self.hub.does(|hold| hold.cancel(self.number))
     }
 
     pub(crate) fn is_pending(&self) -> bool {

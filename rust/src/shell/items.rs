@@ -10,17 +10,33 @@ pub(crate) struct Slot<W> {
     /// The queue on which it was queued last.
     pub(crate) queue: u8,
     pub(crate) poisoned: bool,
+    /// Whether it is looked at more closely before it is queued: it is poisoned, or the workqueues are left.
+    pub(crate) barred: bool,
+    /// It has its number for good, with or without handles.
+    named: bool,
     /// It has no handle any more.
     orphan: bool,
 }
 
 impl<W> Slot<W> {
     pub(super) fn new(work: Option<W>, queue: u8) -> Slot<W> {
-        Slot { work, queue, poisoned: false, orphan: false }
+        Slot { work, queue, poisoned: false, barred: false, named: false, orphan: false }
+    }
+
+    /// An item that the builder names.
+    pub(crate) fn named(work: W, queue: u8) -> Slot<W> {
+        Slot { named: true, ..Slot::new(Some(work), queue) }
     }
 }
 
 impl<W, O> State<W, O> {
+    /// Gives an item that the builder names its number, the next of all.
+    pub(crate) fn add_named(&mut self, work: W, queue: u8) -> u16 {
+        let item = self.free.pop().expect("there are as many numbers as items with names");
+        self.slots[usize::from(item)] = Slot::named(work, queue);
+        item
+    }
+
     /// Takes back the number of an item that nobody has, once it is neither pending nor running. Returns its work
     /// function, which is to be dropped without the lock.
     pub(crate) fn release(&mut self, item: u16) -> Option<W> {
@@ -39,7 +55,8 @@ impl<W, O> State<W, O> {
 
     /// The last handle of the item was dropped.
     pub(super) fn orphan(&mut self, item: u16) -> Option<W> {
-        self.slots[usize::from(item)].orphan = true;
+        let slot = &mut self.slots[usize::from(item)];
+        slot.orphan = !slot.named;
         self.release(item)
     }
 }
@@ -50,8 +67,8 @@ pub(crate) trait Items: Hold {
     #[inline]
     fn queue(&mut self, call: &Call) -> Result<Reply> {
         let slot = usize::from(call.item);
-        if self.state().slots[slot].poisoned {
-            return Err(Error::Poisoned);
+        if self.state().slots[slot].barred {
+            self.look_at(slot)?;
         }
         let reply = self.make(|board, wakes| board.call(call, wakes))?;
         let state = self.state();
@@ -68,6 +85,15 @@ pub(crate) trait Items: Hold {
         told(reply)
     }
 
+    /// Whether an item that is barred may be queued all the same.
+    #[cold]
+    fn look_at(&mut self, slot: usize) -> Result<()> {
+        if self.state().slots[slot].poisoned {
+            return Err(Error::Poisoned);
+        }
+        self.may_queue()
+    }
+
     /// Queues the item. Returns whether it was not pending.
     #[inline]
     fn put(&mut self, item: u16, queue: u8, cpu: u8) -> Result<bool> {
@@ -81,7 +107,7 @@ pub(crate) trait Items: Hold {
         let mut call = Call { kind, item, queue, cpu, who: self.who(), ..Call::default() };
         if let Some(Ticks { now, due }) = ticks {
             if self.state().closing {
-                return Err(Error::Closed);
+                self.may_queue()?;
             }
             let mut time = self.state().board.time();
             if now > time {
@@ -123,8 +149,9 @@ pub(crate) trait Items: Hold {
         let slot = &mut state.slots[usize::from(item)];
         slot.work = work;
         slot.poisoned |= panicked;
+        slot.barred |= panicked;
         let finished = self.make(|board, wakes| board.finish(worker, wakes));
-        debug_assert!(finished.is_ok() || self.state().ended);
+        debug_assert!(matches!(finished, Ok(()) | Err(Error::DiskFailed(_))) || self.state().ended);
         self.state().release(item)
     }
 }

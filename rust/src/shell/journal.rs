@@ -8,21 +8,21 @@ use std::sync::PoisonError;
 use std::time::Duration;
 
 /// How long entries are kept at most before they are written.
-const QUIET: Duration = Duration::from_millis(50);
+pub(crate) const QUIET: Duration = Duration::from_millis(50);
 
 /// How many full buffers of entries may wait to be written before calls wait for the journal.
 pub(super) const MOST_FULL: usize = 4;
 
-pub(super) struct Journal {
-    pub(super) writes: bool,
+pub(crate) struct Journal {
+    pub(crate) writes: bool,
     /// Whether an entry was made since the last look.
-    pub(super) armed: bool,
-    pub(super) over: bool,
+    pub(crate) armed: bool,
+    pub(crate) over: bool,
     /// How many entries are handed out at a time, and how many there are at the next time.
     pub(super) most: u64,
-    pub(super) next: u64,
-    pub(super) spare: Vec<Lines>,
-    pub(super) full: VecDeque<Lines>,
+    pub(crate) next: u64,
+    pub(crate) spare: Vec<Lines>,
+    pub(crate) full: VecDeque<Lines>,
 }
 
 /// How many entries a board keeps at most of which so many are handed out at a time. There is space for those of the
@@ -35,6 +35,17 @@ impl Journal {
     pub(super) fn new(writes: bool, most: u32) -> Journal {
         let most = u64::from(most);
         Journal { writes, armed: !writes, over: false, most, next: most, spare: Vec::new(), full: VecDeque::new() }
+    }
+
+    /// Entries are written from now on.
+    pub(crate) fn begin(&mut self) {
+        (self.writes, self.armed) = (true, false);
+    }
+
+    /// Nothing is written any more.
+    pub(crate) fn forget(&mut self) {
+        (self.writes, self.armed) = (false, true);
+        self.full.clear();
     }
 }
 
@@ -55,6 +66,14 @@ impl<W, O> State<W, O> {
             self.journal.spare.push(lines);
         }
     }
+
+    /// All entries that are still to be written, those among them that the board keeps.
+    pub(crate) fn take_all(&mut self) -> VecDeque<Lines> {
+        if self.board.len() > self.journal.next - self.journal.most {
+            self.hand_out();
+        }
+        std::mem::take(&mut self.journal.full)
+    }
 }
 
 impl<W, O> Guarded<W, O> {
@@ -62,9 +81,7 @@ impl<W, O> Guarded<W, O> {
     pub(crate) fn keep_journal(&self, head: &[u8], mut writer: Box<dyn Write + Send>) -> io::Result<()> {
         let written = catch_unwind(AssertUnwindSafe(|| self.write_all(head, &mut *writer)));
         let mut state = self.lock();
-        state.journal.writes = false;
-        state.journal.armed = true;
-        state.journal.full.clear();
+        state.journal.forget();
         self.space.notify_all();
         drop(state);
         let dropped = discard(writer);
