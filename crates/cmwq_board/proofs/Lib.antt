@@ -15,3 +15,5 @@ pub mod Ends
 pub mod Cores
 pub mod Cleared
 pub mod Moves
+pub mod Lends
+pub mod Ending

@@ -1,6 +1,6 @@
 -- What a board does, by one definition: each move makes a new core, and has an outcome.
-use Rattle.std.specs.Prelude.{◌≡◌, ◌&&◌, ℕ, Bool, true, not, List, [], filter, if◌then◌else◌, nat_lt}
-use Rattle.std.specs.Prelude.{Option, Some, None, Result, Ok, Err, option_and_then, slice_set}
+use Rattle.std.specs.Prelude.{◌≡◌, ◌&&◌, ℕ, Bool, true, false, not, List, [], filter, if◌then◌else◌, length}
+use Rattle.std.specs.Prelude.{nat_lt, Option, Some, None, Result, Ok, Err, option_and_then, slice_set}
 use Rattle.std.specs.Option.{unwrap_or}
 use Rattle.std.specs.Prelude.{⊤}
 use Rattle.std.specs.List.{fold}
@@ -11,7 +11,8 @@ use Rattle.cmwq_dispatch.specs.Dispatched.{is_over}
 use Rattle.cmwq_dispatch.specs.Naming.{names_completions}
 use Rattle.cmwq_dispatch.specs.declared.wakes.Wakes.{Wakes}
 use Rattle.cmwq_model.specs.Calls.{now}
-use Rattle.cmwq_model.specs.Prelude.{is_drain, number_finished, number_started, queueing_at, runs_asleep}
+use Rattle.cmwq_model.specs.Prelude.{gives_ticket, is_drain, number_finished, number_started, queueing_at}
+use Rattle.cmwq_model.specs.Prelude.{runs_asleep, runs_awake}
 use Rattle.cmwq_model.specs.Prelude.{unended_tickets}
 use Rattle.cmwq_model.specs.declared.call.Call.{Call}
 use Rattle.cmwq_model.specs.declared.call.Call.TheVariants as call
@@ -26,15 +27,24 @@ use Rattle.cmwq_refinement.specs.Tickets.{tickets_held}
 use Rattle.cmwq_board.specs.Boarded.{Boarded, firing_for, has_space, layout_of, most_made, past_of_board, with_asleep}
 use Rattle.cmwq_board.specs.Fires.{fired, with_call}
 use Rattle.cmwq_board.specs.Lent.{unended_drains, waits_by}
-use Rattle.cmwq_board.specs.NewsAfter.{after_left, after_reply}
+use Rattle.cmwq_board.specs.NewsAfter.{after_end, after_left, after_reply}
 use Rattle.cmwq_board.specs.Steps.{advance_fault, call_fault, finish_fault, reply_now, retires_now, start_fault}
-use Rattle.cmwq_board.specs.Waits.{caller_at, leave_fault, lending_at, place_of, places}
+use Rattle.cmwq_board.specs.Waits.{begin_fault, begun_by, caller_at, end_fault, if_slept, leave_fault, lending_at}
+use Rattle.cmwq_board.specs.Waits.{lending_by, lent_place, place_of, places, resumed_place, resumed_reply, sought_at}
+use Rattle.cmwq_board.specs.declared.board.Ended.{Ended}
+use Rattle.cmwq_board.specs.declared.board.Ended.TheVariants.{Done, Not}
+use Rattle.cmwq_board.specs.declared.fault.BoardFault.TheVariants.{Misuse, Refused}
+use Rattle.cmwq_board.specs.declared.board.Begun.{Begun}
+use Rattle.cmwq_board.specs.declared.board.Begun.TheVariants as begun
+use Rattle.cmwq_board.specs.declared.fault.WaitFault.{WaitFault}
+use Rattle.cmwq_board.specs.declared.fault.WaitFault.TheVariants.{NoCaller}
+use Rattle.cmwq_board.specs.declared.left.Sought.TheVariants.{For}
 use Rattle.cmwq_board.specs.declared.board.Finish.{Finish}
 use Rattle.cmwq_board.specs.declared.board.Start.{Start}
 use Rattle.cmwq_board.specs.declared.board.Start.TheVariants.{Over, Rests, Runs}
 use Rattle.cmwq_board.specs.declared.fault.BoardFault.{BoardFault}
 use Rattle.cmwq_board.specs.declared.lending.Lending.{Lending}
-use Rattle.cmwq_board.specs.declared.lending.Lending.TheVariants.{Free}
+use Rattle.cmwq_board.specs.declared.lending.Lending.TheVariants.{Free, Waits}
 use Rattle.cmwq_board.specs.declared.news.News.{News}
 
 -- ---- a core
@@ -177,12 +187,92 @@ abbrev pub advanced : Boarded → CallerId → ℕ → Stepped (Result ℕ Board
 advanced b c ticks = unless (advance_fault b c ticks) b
     (stepped (ticked b c ticks) (Ok (now (past_of_board (ticked b c ticks)))))
 
+-- ---- a wait begins
+
+-- whether the run of this worker is awake
+abbrev pub is_awake : Option WorkerId → History → Bool
+is_awake (Some w) h = runs_awake (past_in h) w
+is_awake None h = false
+
+-- a run goes to sleep, if it is awake
+abbrev pub then_slept : Option WorkerId → History → History
+then_slept (Some w) h = if runs_awake (past_in h) w then with_call h (Worker w) call.Sleep else h
+then_slept None h = h
+
+-- what the caller that is lent is answered then
+abbrev pub begins_with : Option WorkerId → CallerId → Call → History → Reply
+begins_with run c k h = (next_entry (then_slept run h) (Caller c) k).reply
+
+-- where there is nothing to wait for, the run that went to sleep wakes again
+abbrev pub then_waits : Bool → Option WorkerId → History → History
+then_waits true slept h = h
+then_waits false slept h = then_woken slept h
+
+abbrev pub wait_begun : Option WorkerId → CallerId → Call → History → History
+wait_begun run c k h =
+    then_waits (gives_ticket (begins_with run c k h)) (if_slept (is_awake run h) run)
+    (with_call (then_slept run h) (Caller c) k)
+
+-- the ticket, whose number is that of the call's entry
+abbrev pub ticket_begun : Option WorkerId → CallerId → Call → History → Ticket
+ticket_begun run c k h = record { caller = c; call = k; number = length (then_slept run h).entries }
+
+-- The caller of a place is lent to the wait, if its call gets a ticket.
+abbrev pub lent_to : Boarded → Option WorkerId → Call → ℕ → CallerId → Boarded
+lent_to b run k place c =
+    settled b (wait_begun run c k b.dispatch.history)
+    (slice_set b.lent place (lending_by run (is_awake run b.dispatch.history)
+    (ticket_begun run c k b.dispatch.history) (begins_with run c k b.dispatch.history))) b.news
+
+abbrev pub lends : Boarded → Option WorkerId → Call → Option ℕ → Stepped (Result Begun WaitFault)
+lends b run k (Some place) = stepped (lent_to b run k place (caller_at b place))
+    (Ok (begun_by (caller_at b place) (begins_with run (caller_at b place) k b.dispatch.history)))
+lends b run k None = stepped b (Err NoCaller)
+
+-- the wait goes on by a ticket that was left
+abbrev pub goes_on_by : Boarded → Call → ℕ → Option Ticket → Stepped (Result Begun WaitFault)
+goes_on_by b k place (Some t) = stepped (record b { lent = slice_set b.lent place (Waits t None false) })
+    (Ok (begun.Waits (caller_at b place) (resumed_reply t k)))
+goes_on_by b k place None = stepped b (Err NoCaller)
+
+abbrev pub begins_at : Boarded → Option WorkerId → Call → Option ℕ → Stepped (Result Begun WaitFault)
+begins_at b run k (Some place) = goes_on_by b k place (sought_at b (For k) place)
+begins_at b run k None = lends b run k (lent_place b)
+
+abbrev pub begins : Boarded → Option WorkerId → Call → Stepped (Result Begun WaitFault)
+begins b run k = unless (begin_fault b run k) b (begins_at b run k (resumed_place b run k))
+
+-- ---- a wait ends
+
+-- Its ticket is ended if it is ready, and then those that were left. Otherwise its caller sleeps, which is no part of a
+-- core.
+abbrev pub ends_at : Boarded → ℕ → Lending → Stepped (Result Bool BoardFault)
+ends_at b place (Waits t run slept) = if is_done_waiting (past_of_board b) t
+    then stepped (cleared (ended t (if_slept slept run) (slice_set b.lent place Free) (after_end t.call b.news) b))
+    (Ok true) else stepped b (Ok false)
+ends_at b place Free = stepped b (Err Misuse)
+
+abbrev pub ends : Boarded → Option ℕ → Stepped (Result Bool BoardFault)
+ends b (Some place) = ends_at b place (lending_at b place)
+ends b None = stepped b (Err Refused)
+
+abbrev pub wait_ended : Boarded → CallerId → Stepped (Result Bool BoardFault)
+wait_ended b c = unless (end_fault b c) b (ends b (place_of b c))
+
+-- whether it has ended, without what its caller does if it has not
+abbrev pub has_ended : Result Ended BoardFault → Result Bool BoardFault
+has_ended (Ok Done) = Ok true
+has_ended (Ok (Not instead)) = Ok false
+has_ended (Err fault) = Err fault
+
 pub data Move : Type 0 where
   Calls : Who → Call → Move
   Starts : WorkerId → Move
   Finishes : WorkerId → Move
   Leaves : CallerId → Move
   Advances : CallerId → ℕ → Move
+  Lends : Option WorkerId → Call → Move
+  Ends : CallerId → Move
 
 -- what each comes to
 abbrev pub Outcome : Move → Type 0
@@ -191,6 +281,8 @@ Outcome (Starts w) = Result Start BoardFault
 Outcome (Finishes w) = Result Finish BoardFault
 Outcome (Leaves c) = Result ⊤ BoardFault
 Outcome (Advances c ticks) = Result ℕ BoardFault
+Outcome (Lends run k) = Result Begun WaitFault
+Outcome (Ends c) = Result Bool BoardFault
 
 abbrev pub step : Boarded → (m : Move) → Stepped (Outcome m)
 step b (Calls who c) = called b who c
@@ -198,6 +290,8 @@ step b (Starts w) = started b w
 step b (Finishes w) = finished b w
 step b (Leaves c) = left b c
 step b (Advances c ticks) = advanced b c ticks
+step b (Lends run k) = begins b run k
+step b (Ends c) = wait_ended b c
 
 -- a move of a board that comes to this, whoever sleeps
 pub record Moves (m : Move) (outcome : Outcome m) (old new : Boarded) : Type 0 where

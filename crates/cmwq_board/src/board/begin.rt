@@ -2,6 +2,8 @@
 
 ghost use Rattle.std.specs.Prelude.{◌≡◌, ◌<◌, IfErr, IfOk, IfSome, None, OnErr, Some, is_some, length, true};
 ghost use Rattle.cmwq_board.specs.Boarded.{has_space, layout_of};
+ghost use Rattle.cmwq_board.specs.Machine.{bare, step};
+ghost use Rattle.cmwq_board.specs.Machine.Move.{Lends};
 ghost use Rattle.cmwq_board.specs.Waits.{Begins, BeginsAnew, begin_fault, begun_by, caller_at, early_fault, first_free};
 ghost use Rattle.cmwq_board.specs.Waits.{lent_place, may_be_lent, place_with, resumed_place};
 ghost use Rattle.cmwq_board.specs.declared.left.Sought.TheVariants as of;
@@ -238,6 +240,8 @@ impl Board {
         ensures taken { IfOk result (λ _. begin_fault self.old run call ≡ None) }
         ensures refused { IfErr result (λ fault. begin_fault self.old run call ≡ Some fault) }
         ensures same { OnErr result ((self.new ≡ self.old) × (wakes.new ≡ wakes.old)) }
+        ensures core { bare self.new ≡ (step (bare self.old) (Lends run call)).core }
+        ensures outcome { result ≡ (step (bare self.old) (Lends run call)).outcome }
     {
         if let Some(fault) = self.early_fault(run, call) {
             return Err(WaitFault::Board { fault });

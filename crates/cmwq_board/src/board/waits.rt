@@ -13,8 +13,8 @@ ghost use Rattle.cmwq_model.specs.Prelude.{is_done, is_drain, ticket_of};
 ghost use Rattle.cmwq_board.specs.Boarded.{has_space, layout_of, most_made, past_of_board, with_asleep};
 ghost use Rattle.cmwq_board.specs.Lent.{EndsTicketOf, MayBecome, unended_drains};
 ghost use Rattle.cmwq_board.specs.declared.lending.Lending.TheVariants as free;
-ghost use Rattle.cmwq_board.specs.Machine.{LeaveNamed, bare, step};
-ghost use Rattle.cmwq_board.specs.Machine.Move.{Leaves};
+ghost use Rattle.cmwq_board.specs.Machine.{LeaveNamed, bare, has_ended, step};
+ghost use Rattle.cmwq_board.specs.Machine.Move.{Ends, Leaves};
 ghost use Rattle.cmwq_board.specs.Waits.{EndsAt, EndsBy, EndsOrWaits, IsAwakeThen, IsLeft, SleepsNoMore};
 ghost use Rattle.cmwq_board.specs.Waits.{ThenClears, WaitsNoMore, WaitsOn};
 ghost use Rattle.cmwq_board.specs.Waits.{caller_at, end_fault, lending_at, place_of};
@@ -73,6 +73,8 @@ impl Board {
         ensures taken { IfOk result (λ _. end_fault self.old party ≡ None) }
         ensures refused { IfErr result (λ fault. end_fault self.old party ≡ Some fault) }
         ensures same { OnErr result ((self.new ≡ self.old) × (wakes.new ≡ wakes.old)) }
+        ensures core { bare self.new ≡ (step (bare self.old) (Ends party)).core }
+        ensures outcome { has_ended result ≡ (step (bare self.old) (Ends party)).outcome }
     {
         let Some(place) = self.place_of(party) else {
             return Err(BoardFault::Refused);
