@@ -57,8 +57,8 @@ fn work_outlives_its_workqueues() -> Result<()> {
         "{}",
         String::from_utf8_lossy(&text)
     );
-    assert_eq!(folder.names(), ["journal", "journal.1", "journal.lock", "journal.names"]);
-    let names = std::fs::read_to_string(folder.path("journal.names")).unwrap();
+    assert_eq!(folder.names(), ["journal", "journal.1", "journal.lock", "journal.notes"]);
+    let names = std::fs::read_to_string(folder.path("journal.notes")).unwrap();
     assert_eq!(names, "item 0 flush_cache\nitem 1 report\nqueue 0 disk\n");
     // nothing is left, so anything may be new
     Workqueues::builder().queue("net", max_active(1)).item("one", "net", |_| ()).durable(&journal).build()?.leave()

@@ -96,7 +96,7 @@ pub(crate) fn resume(
         _ => failed(why),
     })?;
     let old = read(folder, name)?;
-    let named = read(folder, &with(".names"))?.unwrap_or_default();
+    let named = read(folder, &with(".notes"))?.unwrap_or_default();
     let calls = match &old {
         Some(text) => calls(text, shape, &names, &String::from_utf8_lossy(&named), options.again.as_mut())?,
         None => Vec::new(),
@@ -104,7 +104,7 @@ pub(crate) fn resume(
     let text = names_text(&names);
     if text.as_bytes() != named {
         // before the journal: what the last one left has the same names, so they go with either
-        put_names(folder, &text, &with(".names.new"), &with(".names")).map_err(failed)?;
+        put_names(folder, &text, &with(".notes.new"), &with(".notes")).map_err(failed)?;
     }
     let fresh = with(".new");
     let mut file = folder.create(&fresh).map_err(failed)?;

@@ -637,7 +637,7 @@ fn the_shape_may_only_grow() -> Result<()> {
     seven.items.pop();
     assert_eq!(shape_told(seven.build()), "item 7");
     assert_eq!(memory.text("journal"), LEFT);
-    assert_eq!(memory.now().media.found("journal.names"), None);
+    assert_eq!(memory.now().media.found("journal.notes"), None);
     builder(&memory, 3, Vec::new()).0.cpus(2).build()?.leave()?;
     assert_eq!(shape_told(builder(&memory, 3, Vec::new()).0.build()), "CPU 1");
     // names are kept since the last life
@@ -654,8 +654,8 @@ fn the_shape_may_only_grow() -> Result<()> {
     let (more, _) = builder(&memory, 3, Vec::new());
     let all = more.cpus(2).queue("d", max_active(1)).item("item8", "d", |_| ()).build()?;
     all.shutdown()?;
-    assert_eq!(memory.text("journal.names").lines().nth(8), Some("item 8 item8"));
-    assert_eq!(memory.text("journal.names").lines().last(), Some("queue 3 d"));
+    assert_eq!(memory.text("journal.notes").lines().nth(8), Some("item 8 item8"));
+    assert_eq!(memory.text("journal.notes").lines().last(), Some("queue 3 d"));
     // after its end nothing is left, so all may be otherwise; and the last journal is kept
     let (mut other, _) = builder(&memory, 2, Vec::new());
     other.items.swap(1, 2);
@@ -676,7 +676,7 @@ fn names_without_a_journal_are_of_nothing() -> Result<()> {
     let (mut other, _) = builder(&memory, 3, Vec::new());
     other.items.swap(1, 2);
     other.build()?.leave()?;
-    assert_eq!(memory.text("journal.names").lines().nth(1), Some("item 1 item2"));
+    assert_eq!(memory.text("journal.notes").lines().nth(1), Some("item 1 item2"));
     Ok(())
 }
 
@@ -716,7 +716,7 @@ fn what_is_no_journal_stays() {
             other => panic!("{other:?}"),
         }
         assert_eq!(memory.text("journal").as_bytes(), text);
-        assert_eq!(memory.now().media.found("journal.names"), None);
+        assert_eq!(memory.now().media.found("journal.notes"), None);
     };
     for (rest, line) in wrong {
         refused(format!("{HEAD}{rest}").as_bytes(), *line);
