@@ -192,7 +192,8 @@ class Start:
         self.handed = 0
 
     def __del__(self) -> None:
-        lib.cmwq_board_close(self.board)
+        if hasattr(self, "board"):
+            lib.cmwq_board_close(self.board)
 
     def is_crowded(self) -> bool:
         return bool(lib.cmwq_board_len(self.board) - self.handed > self._keep)
@@ -272,8 +273,8 @@ class DurableShell(Shell):
         try:
             try:
                 try:
-                    self._take_over(mine)
-                    start()
+                    if self._take_over(mine):
+                        start()
                 except BaseException:
                     self._take_back(mine)
                     raise
@@ -288,6 +289,7 @@ class DurableShell(Shell):
         if self.openers.get("") is not mine:
             return
         if self.threads:
+            self.keeps = self.closing = True
             self.clock.put(LEAVE)
             self.end_unopened()
         if not self.threads or self.ended:
@@ -296,12 +298,15 @@ class DurableShell(Shell):
         if not self.threads:
             self.openers.clear()
 
-    def _take_over(self, mine: List[int]) -> None:
+    def _take_over(self, mine: List[int]) -> bool:
+        """Returns whether threads are to be started: not if a signal handler has opened the hub."""
         if self.closing:
             raise self.closed()
         if not self.declared:
             raise errors.Invalid("no item of the durable hub was declared, as by hub.item(work, name=\"report\")")
         if self.openers.setdefault("", mine) is not mine:
+            if self.is_open:
+                return False
             raise errors.Invalid("the hub is being opened by another call")
         disk = self.disk
         disk.opened.clear()
@@ -341,6 +346,7 @@ class DurableShell(Shell):
         self.next = start.handed + self.keep
         self.begun, self.due, self.has_timers = time.monotonic(), lib.cmwq_board_due(start.board), True
         self.board = start.board
+        return True
 
     def _calls(self, text: bytes, shape: library.Shape, items: List[Any]) -> List[Tuple[int, ...]]:
         """The calls that resume the old journal."""
@@ -379,7 +385,7 @@ class DurableShell(Shell):
 
     def end_unopened(self) -> None:
         if not any(thread.ident for thread in self.threads[:1]):
-            self.closing = self.ended = True
+            self.keeps = self.closing = self.ended = True
 
     def give_up(self) -> None:
         self.disk.close()

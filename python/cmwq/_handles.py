@@ -12,8 +12,12 @@ class BaseItem(arguments.Single):
     """A handle of an item of work: a work_struct with its function. It is gone once it has no handle and is neither
     pending nor running. An item without a handle that is pending runs."""
 
-    def __init__(self, queue: Any, work: Callable[..., Any], cpu: Optional[int]) -> None:
+    _name: Optional[str] = None
+
+    def __init__(self, queue: Any, work: Callable[..., Any], cpu: Optional[int], name: Optional[str] = None) -> None:
         self._shell, self._queue, self._work = queue._shell, queue, work
+        if name is not None:
+            self._name = name
         self._error: Optional[Tuple[BaseException, Any]] = None  # with its traceback in the work function
         self._number: int = self._shell.add(self)
         self._cpu: int = self._number % self._shell.shape.cpus if cpu is None else cpu

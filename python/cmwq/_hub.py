@@ -20,13 +20,6 @@ from ._threads import Clock, Journal, Worker
 class Item(BaseItem):
     __doc__ = BaseItem.__doc__
 
-    _name: Optional[str] = None
-
-    def __init__(self, queue: Any, work: Callable[[Run], Any], cpu: Optional[int], name: Optional[str] = None) -> None:
-        if name is not None:
-            self._name = name
-        super().__init__(queue, work, cpu)
-
     @property
     def name(self) -> Optional[str]:
         """The name that the item was given, as those of durable hubs are."""
@@ -186,6 +179,8 @@ class Hub(BaseHub):
                 raise shell.closed()
 
     def _start(self, name: str, body: Callable[[], None]) -> None:
+        if self._shell.is_forked:  # a signal handler has forked, and this is the new process
+            raise self._shell.closed()
         thread = threading.Thread(target=body, name=name, daemon=True)
         self._shell.threads.append(thread)
         try:
@@ -289,7 +284,8 @@ class Hub(BaseHub):
         shell = self._shell
         shell.end.wait(lambda: shell.ended)
         for clock in shell.threads[:1]:
-            clock.join(1)  # it only returns now
+            if clock.ident is not None:
+                clock.join(1)  # it only returns now
 
     def _tell(self) -> None:
         if isinstance(self._shell, DurableShell) and self._shell.disk.failed is not None:

@@ -100,6 +100,10 @@ class Memory(cmwq._durable.Files):
         if self.begin():
             raise OSError(self.fail_with, os.strerror(self.fail_with))
 
+    def check_open(self, file):
+        if not file.is_open:
+            raise ValueError("I/O operation on closed file")
+
     def file_of(self, path):
         file = self.names().get(os.path.basename(path))
         if file is None:
@@ -122,7 +126,7 @@ class Memory(cmwq._durable.Files):
 
     def write(self, file, text):
         with self.power:
-            assert file.is_open
+            self.check_open(file)
             fails, text = self.begin(), bytes(text)[:self.at_once]
             if fails and (self.fail_with != errno.ENOSPC or self.operations > self.fail_at or len(text) < 2):
                 raise OSError(self.fail_with, os.strerror(self.fail_with))
@@ -134,7 +138,7 @@ class Memory(cmwq._durable.Files):
     def sync(self, file):
         with self.power:
             self.syncs += 1
-            assert file.is_open
+            self.check_open(file)
             self.operate()
             upto = len(file.file.text)
         time.sleep(self.sync_takes)

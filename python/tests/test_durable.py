@@ -1,6 +1,7 @@
 """Durable hubs on a disk in memory, whose operations and whose power fail, and on real files. What a call has told is so
 in the next life, and nobody waits for ever."""
 import errno
+import faulthandler
 import os
 import random
 import shutil
@@ -11,7 +12,7 @@ import threading
 import unittest
 import warnings
 
-from common import REPOSITORY, SEEDS, Case, Gate, cmwq, judged, judged_by_program, run_program, until
+from common import REPOSITORY, SECONDS, SEEDS, Case, Gate, cmwq, judged, judged_by_program, run_program, until
 from memory import DROPPED, HOWS, KEPT, LINES, Memory
 
 ITEMS, LONG = 8, 1000.0
@@ -65,6 +66,7 @@ class Life:
 
     def __init__(self, files, queues=QUEUES, items=ITEMS, workers=1, waits=2, each=True, works=None, path="/some/journal",
                  **more):
+        faulthandler.dump_traceback_later(SECONDS, exit=True)
         self.hub = cmwq.Hub(durable=path, queues=queues, workers=workers, waits=waits, each=each, **more)
         if files is not None:
             self.hub._shell.disk.files = files
@@ -173,8 +175,8 @@ class Durable(Case):
         return Memory(files, cut_at, how, self.chance)
 
     def test_the_power_fails(self):
-        """Before each operation of a life, and then before some of the next: of all with CMWQ_SEEDS=1000."""
-        cuts, step = 0, 4 if SEEDS < 1000 else 1
+        """Before each operation of a life, and then before some of the next: of all with CMWQ_SEEDS=100."""
+        cuts, step = 0, 4 if SEEDS < 100 else 1
         for how in HOWS:
             at = self.chance.randint(1, step)
             while True:
@@ -518,13 +520,18 @@ class Durable(Case):
     def test_a_run_that_waits_raises_what_it_is_told(self):
         """That is no error of its own. A run that blocks has an end, if it doesn't wait."""
         def work(life):
-            life.items[5].flush()
+            try:
+                life.items[5].flush()
+            finally:
+                with runs[4].block():
+                    pass
 
         disk, gate = Memory(), Gate()
-        life = Life(disk, THREE, workers=2, works={4: work, 1: lambda life: gate(runs[0])})
-        runs = []
-        first = life.hub._shell.declared["item 1"]
-        counted, first._work = first._work, lambda run: (runs.append(run), counted(run))
+        life = Life(disk, THREE, workers=2, works={4: work, 1: lambda life: gate(runs[1])})
+        runs = {}
+        for at in (1, 4):
+            item = life.items[at]
+            item._work = lambda run, at=at, work=item._work: (runs.update({at: run}), work(run))
         with life:
             life.hub.freeze()
             life.items[5].queue()
@@ -570,17 +577,19 @@ class Durable(Case):
 
     def test_a_sync_for_many(self):
         """One sync serves all who wait; and nobody waits for ever for one that fails."""
-        callers, calls = 8, 20
-        for fail_at in (0, 17, 18, 19, 25, 40):
+        callers, calls = 16, 10
+        for fail_at in (0, 17, 18, 19, 25, 28):
             disk, told = Memory(), {"made": 0, "lost": 0, "failed": 0}
             life = Life(disk, waits=9)
             life.hub.resume()
             life.hub.freeze()
             life.items[0].queue_on(life.hub.queue("b"), 0)
             before, count = disk.syncs, threading.Lock()
-            disk.sync_takes, disk.fail_at = 0.001, fail_at and disk.operations + fail_at - 16
+            disk.sync_takes, disk.fail_at = 0.005, fail_at and disk.operations + fail_at - 16
+            together = threading.Barrier(callers)
 
             def call(at):
+                together.wait()  # noqa: B023
                 for _ in range(calls):
                     what = "made"
                     try:
