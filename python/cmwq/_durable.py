@@ -235,6 +235,8 @@ class DurableShell(Shell):
     def __init__(self, shape: library.Shape, queues: Any, keep: int, tick: float, disk: Disk) -> None:
         self.disk, self._queues = disk, queues
         self.declared: Dict[str, Any] = {}
+        self._most_items = shape.items
+        # whoever opens it, so that one call alone does
         self.openers: Dict[str, Any] = {}
         self.opened = Gong()
         super().__init__(shape, queues, keep, tick, None)
@@ -259,7 +261,7 @@ class DurableShell(Shell):
             raise self.closed()
         if self.openers:
             raise errors.Invalid(f"name={name!r}: a durable hub takes items before it is opened, not later")
-        if len(self.declared) == self.shape.items:
+        if len(self.declared) == self._most_items:
             raise errors.NoItem("all items of the hub are in use")
         if self.declared.setdefault(name, item) is not item:
             raise errors.Invalid(f"name={name!r} is that of another item")

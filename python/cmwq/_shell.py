@@ -40,8 +40,8 @@ MOVED: FrozenSet[int] = frozenset((library.AGAIN, library.REBOOKED))
 TAKEN_BACK: FrozenSet[int] = frozenset((library.CANCELLED, library.UNBOOKED, library.TICKET_CANCELLED,
                                         library.TICKET_UNBOOKED))
 
-# What the clock is told, beside ticks and records: to look again, to end the hub, and to end it without its threads; and
-# of a durable hub to let its threads begin, and to end it and keep what has not started.
+# What the clock is told, beside ticks and records: to look again, to end the hub, and to end it without its threads;
+# and of a durable hub to let its threads begin, and to end it and keep what has not started.
 LOOK, END, ABORT, OPEN_IT, LEAVE = "look", "end", "abort", "open", "leave"
 
 CALLER_0 = (library.CALLER, 0, 0)

@@ -55,10 +55,10 @@ class Points(Case):
 
     def points(self):
         """All points with CMWQ_SEEDS=100, and otherwise some."""
-        return itertools.count() if SEEDS >= 100 else itertools.accumulate(itertools.repeat(4), self.next_point, initial=0)
-
-    def next_point(self, before, most):
-        return before + self.chance.randint(1, most)
+        point = 0
+        while True:
+            yield point
+            point += 1 if SEEDS >= 100 else self.chance.randint(1, 4)
 
     def scene(self, disk):
         self.count += 1
