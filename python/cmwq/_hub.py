@@ -179,14 +179,15 @@ class Hub(BaseHub):
                 raise shell.closed()
 
     def _start(self, name: str, body: Callable[[], None]) -> None:
-        if self._shell.is_forked:  # a signal handler has forked, and this is the new process
-            raise self._shell.closed()
-        thread = threading.Thread(target=body, name=name, daemon=True)
-        self._shell.threads.append(thread)
+        shell, thread = self._shell, threading.Thread(target=body, name=name, daemon=True)
+        shell.threads.append(thread)
         try:
-            thread.start()
+            shell.is_forked or thread.start()
         except RuntimeError as why:
-            raise errors.NoThread(f"the thread {name} could not be started: {why}") from why
+            if not shell.is_forked:
+                raise errors.NoThread(f"the thread {name} could not be started: {why}") from why
+        if shell.is_forked:  # a signal handler has forked, and this is the new process
+            raise shell.closed()
 
     def __enter__(self) -> "Hub":
         if isinstance(self._shell, DurableShell):
