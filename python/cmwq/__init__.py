@@ -14,7 +14,8 @@ is CPU intensive, if they are on several CPUs, or if runs sleep, which they do i
 
 Calls in a work function are calls of its run, by whatever handle. A run that waits sleeps meanwhile. A wait of a run
 that could never end raises Itself or Deadlock. Every exception of this package is an Error, but an argument of the
-wrong type raises TypeError. What work functions raise is logged by the logger "cmwq".
+wrong type raises TypeError. What work functions raise is logged by the logger "cmwq". With `Hub(durable=..)` work
+outlives the program.
 """
 from ._aio import AsyncHub, AsyncItem, AsyncQueue
 from ._aio_shell import AsyncRun

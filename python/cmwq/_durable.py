@@ -5,6 +5,7 @@ The journal's thread alone writes and syncs, where no signal handler comes betwe
 a wait for the disk only looks how far that thread has come. To cut it off loses nothing and keeps nobody waiting.
 """
 import collections
+import contextlib
 import ctypes
 import fcntl
 import io
@@ -12,7 +13,7 @@ import os
 import queue
 import threading
 import time
-from typing import Any, Callable, Deque, Dict, List, Optional, Tuple
+from typing import Any, Callable, Deque, Dict, Iterator, List, Optional, Tuple
 
 from . import _arguments as arguments
 from . import _errors as errors
@@ -319,11 +320,12 @@ class DurableShell(Shell):
             item._number = number
             item._cpu = getattr(item, "_cpu", number % self.shape.cpus)
         shape = library.Shape(self.shape.room, 0, len(items), self.shape.cpus, self.shape.workers, self.shape.callers)
-        try:
+        with self._disk_faults():
             disk.lock()
             text = disk.read()
-            calls = self._calls(text, shape, items) if text else []
-            start = Start(shape, self._queues, self.keep, items)
+        calls = self._calls(text, shape, items) if text else []
+        start = Start(shape, self._queues, self.keep, items)
+        with self._disk_faults():
             disk.journal = disk.open(".new", "w")
             disk.write(library.head(shape, self._queues).encode())
             for call in calls:
@@ -335,12 +337,6 @@ class DurableShell(Shell):
                 disk.files.sync(disk.journal)
             # a process that was forked from here has no part of it
             self.is_forked or disk.replace(text is not None)
-        except OSError as why:
-            raise errors.DiskFailed(f"{disk.path}: {why}") from why
-        except ValueError:  # the files were closed
-            if self.is_forked:
-                raise self.closed() from None
-            raise
         if self.closing:  # also in a process that was forked
             raise self.closed()
         disk.written = disk.synced = start.handed
@@ -349,6 +345,17 @@ class DurableShell(Shell):
         self.begun, self.due, self.has_timers = time.monotonic(), lib.cmwq_board_due(start.board), True
         self.board = start.board
         return True
+
+    @contextlib.contextmanager
+    def _disk_faults(self) -> Iterator[None]:
+        try:
+            yield
+        except OSError as why:
+            raise errors.DiskFailed(f"{self.disk.path}: {why}") from why
+        except ValueError:  # the files were closed
+            if self.is_forked:
+                raise self.closed() from None
+            raise
 
     def _calls(self, text: bytes, shape: library.Shape, items: List[Any]) -> List[Tuple[int, ...]]:
         """The calls that resume the old journal."""

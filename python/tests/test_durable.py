@@ -273,11 +273,11 @@ class Durable(Case):
 
         def again(name):
             if wrong:
-                raise KeyError(name)
+                raise FileNotFoundError(name)
             return True
 
         life = Life(disk, THREE, again=again)
-        self.assertRaises(KeyError, life.hub.resume)
+        self.assertRaises(FileNotFoundError, life.hub.resume)
         self.assertEqual(disk.text(), LEFT)
         wrong.clear()
         with life:
@@ -667,9 +667,11 @@ class Durable(Case):
         with tempfile.TemporaryDirectory() as folder:
             life = Life(None, path=f"{folder}/journal")
             life.hub.resume()
-            ends, child = os.pipe(), os.fork()
+            ends, ready = os.pipe(), os.pipe()
+            child = os.fork()
             if child == 0:
                 try:
+                    os.write(ready[1], b"x")
                     os.close(ends[1])
                     os.read(ends[0], 1)  # until the other process tells it, or has ended
                     for call in (life.hub.sync, life.items[0].queue, life.items[0].flush, life.hub.resume):
@@ -679,6 +681,7 @@ class Durable(Case):
                 finally:
                     os._exit(8)
             try:
+                self.assertEqual(os.read(ready[0], 1), b"x")  # it has begun
                 with self.assertRaises(cmwq.InUse):
                     Life(None, path=f"{folder}/journal").hub.resume()
                 life.items[0].queue()
@@ -686,7 +689,7 @@ class Durable(Case):
                 with Life(None, path=f"{folder}/journal") as life:  # while the child is there
                     life.hub.flush()
             finally:
-                for end in ends:
+                for end in (*ends, *ready):
                     os.close(end)
                 status = os.waitpid(child, 0)[1]
             self.assertEqual(os.WEXITSTATUS(status), 7)

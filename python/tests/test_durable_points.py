@@ -5,12 +5,14 @@ import gc
 import itertools
 import os
 import random
+import signal
 import traceback
 import warnings
 
 from common import SECONDS, SEEDS, Case, cmwq, until
 from memory import Memory
 from test_points import comes_in, interrupted, status_of
+from test_signals import Alarm
 
 LONG = 1000.0
 QUEUES = {"a": cmwq.max_active(2, freezable=True), "b": cmwq.max_active(1)}
@@ -133,6 +135,29 @@ class Points(Case):
             if not came:
                 break
         self.assertGreater(point, 100)
+
+    def test_ctrl_c_while_the_disk_is_slow(self):
+        """The call was made, and is durable soon. The next one waits for that."""
+        disk = Memory()
+        scene = self.scene(disk)
+        with scene.hub, Alarm(signal.default_int_handler):
+            scene.hub.freeze()
+            for call in (scene.items[0].queue, scene.hub.sync):
+                disk.sync_takes = 0.3
+
+                def interrupted_call():
+                    signal.setitimer(signal.ITIMER_REAL, 0.02)
+                    scene.items[1].modify(LONG)
+                    call()  # noqa: B023
+
+                self.assertRaises(KeyboardInterrupt, interrupted_call)
+                disk.sync_takes = 0
+                scene.hub.sync()
+                self.assertIn("modify 1", disk.synced_text())
+                self.assertTrue(until(lambda: not scene.hub._shell.owed))
+        scene = self.scene(disk)
+        with scene.hub:
+            self.assertTrue(scene.items[1].pending)
 
     def test_an_interrupted_leave(self):
         disk = self.left()
