@@ -14,21 +14,22 @@ is CPU intensive, if they are on several CPUs, or if runs sleep, which they do i
 
 Calls in a work function are calls of its run, by whatever handle. A run that waits sleeps meanwhile. A wait of a run
 that could never end raises Itself or Deadlock. Every exception of this package is an Error, but an argument of the
-wrong type raises TypeError. What work functions raise is logged by the logger "cmwq".
+wrong type raises TypeError. What work functions raise is logged by the logger "cmwq". With `Hub(durable=..)` work
+outlives the program.
 """
 from ._aio import AsyncHub, AsyncItem, AsyncQueue
 from ._aio_shell import AsyncRun
 from ._book import Book, Refused, Shape, check
-from ._errors import (Closed, Deadlock, Draining, Error, Foreign, Full, Gone, HistoryError, Invalid, Itself, NoItem,
-                      NoMemory, NotAHistory, NotRun, NoThread, RunEnded, TimedOut, Timers, TooManyWaits,
-                      VersionMismatch, WorkError)
+from ._errors import (BadJournal, Closed, Deadlock, DiskFailed, Draining, Error, Foreign, Full, Gone, HistoryError,
+                      InUse, Invalid, Itself, NoItem, NoMemory, NotAHistory, NotDurable, NotRun, NoThread, OtherShape,
+                      RunEnded, Stopped, TimedOut, Timers, TooManyWaits, VersionMismatch, WorkError)
 from ._hub import Hub, Item, Queue
 from ._library import VERSION as __version__
 from ._options import QueueOptions, max_active
 from ._run import Block, Run
 
-__all__ = ["AsyncHub", "AsyncItem", "AsyncQueue", "AsyncRun", "Block", "Book", "Closed", "Deadlock", "Draining",
-           "Error", "Foreign", "Full", "Gone", "HistoryError", "Hub", "Invalid", "Item", "Itself", "NoItem",
-           "NoMemory", "NoThread", "NotAHistory", "NotRun", "Queue", "QueueOptions", "Refused", "Run", "RunEnded",
-           "Shape", "TimedOut", "Timers", "TooManyWaits", "VersionMismatch", "WorkError", "check",
-           "max_active", "__version__"]
+__all__ = ["AsyncHub", "AsyncItem", "AsyncQueue", "AsyncRun", "BadJournal", "Block", "Book", "Closed", "Deadlock",
+           "DiskFailed", "Draining", "Error", "Foreign", "Full", "Gone", "HistoryError", "Hub", "InUse", "Invalid",
+           "Item", "Itself", "NoItem", "NoMemory", "NoThread", "NotAHistory", "NotDurable", "NotRun", "OtherShape",
+           "Queue", "QueueOptions", "Refused", "Run", "RunEnded", "Shape", "Stopped", "TimedOut", "Timers",
+           "TooManyWaits", "VersionMismatch", "WorkError", "check", "max_active", "__version__"]

@@ -206,6 +206,8 @@ class AsyncShell:
         lib.cmwq_board_item(self.board, number, ctypes.byref(state))
         return state
 
+    item_state = state_of
+
     # ---- items ----
 
     def add(self, item: Any) -> int:
@@ -234,6 +236,11 @@ class AsyncShell:
                 self.due = number
                 self.set_timer()
         return outcome(made)
+
+    put_of_many = put
+
+    def made_many(self) -> None:
+        pass
 
     # ---- runs ----
 

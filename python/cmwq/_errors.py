@@ -31,6 +31,35 @@ class Closed(Error):
     """The hub is shut down. In a process that was forked it is closed from the beginning."""
 
 
+class Stopped(Closed):
+    """The hub is being left, so the call is refused, or its wait is left. A run whose wait raises it counts as broken
+    off."""
+
+
+class DiskFailed(Error):
+    """The disk of a durable hub has failed, for good: no call is made any more. Its cause says how."""
+
+
+class NotDurable(DiskFailed):
+    """The call was made, but the disk failed before it was durable. So the next life may or may not know of it."""
+
+
+class InUse(Error):
+    """Another hub has the durable journal."""
+
+
+class BadJournal(Error, ValueError):
+    """The durable journal is not the front of a legal history. `line` is the number of the line that is wrong."""
+
+    def __init__(self, text: str, line: int = 0) -> None:
+        super().__init__(text)
+        self.line = line
+
+
+class OtherShape(Error, ValueError):
+    """The durable journal has more items, queues or CPUs than the hub."""
+
+
 class RunEnded(Error):
     """The run has ended, so it makes no calls any more."""
 

@@ -1,11 +1,9 @@
 """What both kinds of hubs have in common: their arguments, and those calls of their handles that don't wait."""
-import ctypes
 from typing import Any, Callable, Dict, Iterable, List, Optional, TextIO, Tuple
 
 from . import _arguments as arguments
 from . import _errors as errors
 from . import _library as library
-from ._library import lib
 from ._options import QueueOptions, shapes_of
 from ._report import let_go, report
 
@@ -14,8 +12,12 @@ class BaseItem(arguments.Single):
     """A handle of an item of work: a work_struct with its function. It is gone once it has no handle and is neither
     pending nor running. An item without a handle that is pending runs."""
 
-    def __init__(self, queue: Any, work: Callable[..., Any], cpu: Optional[int]) -> None:
+    _name: Optional[str] = None
+
+    def __init__(self, queue: Any, work: Callable[..., Any], cpu: Optional[int], name: Optional[str] = None) -> None:
         self._shell, self._queue, self._work = queue._shell, queue, work
+        if name is not None:
+            self._name = name
         self._error: Optional[Tuple[BaseException, Any]] = None  # with its traceback in the work function
         self._number: int = self._shell.add(self)
         self._cpu: int = self._number % self._shell.shape.cpus if cpu is None else cpu
@@ -29,7 +31,7 @@ class BaseItem(arguments.Single):
         if not isinstance(queue, BaseQueue):
             raise TypeError(f"queue={arguments.shown(queue)} is not a Queue")
         if queue._shell is not self._shell:
-            raise errors.Invalid(f"queue={queue!r} is of another hub than {self!r}")
+            raise other_hub(queue, self)
         cpu = arguments.integer("cpu", cpu, 0, self._shell.shape.cpus - 1)
         return bool(self._shell.put(library.QUEUE, self, queue._number, cpu) == library.YES)
 
@@ -70,7 +72,7 @@ class BaseItem(arguments.Single):
         return bool(self._shell.state_of(self._number).runs)
 
     def __repr__(self) -> str:
-        state = self._shell.state_of(self._number)
+        state = self._shell.item_state(self._number)
         states = ["delayed" if state.pending == library.PENDING_TIMER else "queued"] * bool(state.pending)
         states += ["running"] * bool(state.runs)
         work = getattr(self._work, "__qualname__", None) or arguments.shown(self._work)
@@ -92,11 +94,19 @@ class BaseQueue(arguments.Single):
     def queue_all(self, items: Iterable[Any]) -> int:
         """Queues many items on this queue, each on its CPU. Returns how many were not pending. The items before one
         that fails are queued."""
-        queued = 0
-        for item in items:
-            if not isinstance(item, BaseItem):
-                raise TypeError(f"items has {arguments.shown(item)}, which is not an Item")
-            queued += item.queue_on(self, item._cpu)
+        shell, queued = self._shell, 0
+        try:
+            for item in items:
+                if not isinstance(item, BaseItem):
+                    raise TypeError(f"items has {arguments.shown(item)}, which is not an Item")
+                if item._shell is not shell:
+                    raise other_hub(self, item)
+                queued += shell.put_of_many(library.QUEUE, item, self._number, item._cpu) == library.YES
+        except Exception:
+            if queued:
+                shell.made_many()
+            raise
+        shell.made_many()
         return queued
 
     def set_max_active(self, limit: int) -> int:
@@ -162,10 +172,8 @@ class BaseHub(arguments.Single):
             arguments.integer("cpus", cpus, 1, 64), arguments.integer("workers", workers, 1, 64),
             1 + arguments.integer("waits", waits, 1, 254))
         self._on_error = on_error if on_error is None else arguments.function("on_error", on_error)
-        head, written = ctypes.create_string_buffer(64 * (2 + len(names))), ctypes.c_size_t()
-        library.done(lib.cmwq_head(ctypes.byref(shape), shapes, len(names), head, len(head), ctypes.byref(written)))
         self._names, self._errors = names, []  # type: List[str], List[BaseException]
-        return shape, shapes, head.raw[:written.value].decode()
+        return shape, shapes, library.head(shape, shapes)
 
     @staticmethod
     def _checked(keep: int, tick: float, history: Optional[TextIO]) -> Tuple[int, float]:
@@ -221,6 +229,10 @@ class BaseHub(arguments.Single):
         if raised:
             text = f"work functions have raised: {len(raised)}, the first {arguments.shown(raised[0])}"
             raise errors.WorkError(text, raised) from raised[0]
+
+
+def other_hub(queue: Any, item: Any) -> errors.Invalid:
+    return errors.Invalid(f"queue={queue!r} is of another hub than {item!r}")
 
 
 def keep_error(item: Any, why: BaseException, frames: int) -> None:

@@ -67,6 +67,9 @@ class ItemState(ctypes.Structure):
 # A call, and NONE as the kind of the reply after it: ticket, number, item, kind, queue, cpu, and who: kind, index, cpu.
 CALL = struct.Struct("<QIHBBBBBB4x18xB")
 
+# The same call in the list of those that resume a history.
+RESUMING = struct.Struct("<QIHBBBBBB4x")
+
 # number, other, item, kind
 REPLY = struct.Struct("<QQHB")
 
@@ -88,7 +91,7 @@ def _path() -> str:
 # Its calls are short and never wait, so they keep the interpreter's lock. To let it go would take longer.
 lib = ctypes.PyDLL(_path())
 
-# That of a long history lets it go.
+# Those of a long history let it go.
 judging = ctypes.CDLL(_path())
 
 _AT, _U8, _U16, _U32, _U64, _SIZE = (ctypes.c_void_p, ctypes.c_uint8, ctypes.c_uint16, ctypes.c_uint32, ctypes.c_uint64,
@@ -115,8 +118,9 @@ for _name, (_result, *_arguments) in _CALLS.items():
         raise ImportError(f"{_path()} has no cmwq_{_name}(): it has another version than this package, {VERSION}")
     _call = getattr(lib, f"cmwq_{_name}")
     _call.restype, _call.argtypes = _result, _arguments
-judging.cmwq_check.restype = ctypes.c_uint32
+judging.cmwq_check.restype = judging.cmwq_resume.restype = ctypes.c_uint32
 judging.cmwq_check.argtypes = [ctypes.c_char_p, _SIZE, _AT, _SIZE, _AT]
+judging.cmwq_resume.argtypes = [ctypes.c_char_p, _SIZE, ctypes.c_char_p, _SIZE, _AT, _AT, _AT, _SIZE, _AT, _AT]
 
 
 def step(notes: Any, call: Callable[..., Any], arguments: Tuple[Any, ...], whose: Any = None) -> None:
@@ -150,6 +154,13 @@ def check_version() -> None:
     if number != major * 1000000 + minor * 1000 + patch:
         found = f"{number // 1000000}.{number // 1000 % 1000}.{number % 1000}"
         raise errors.VersionMismatch(f"libcmwq.so has version {found}, and this package needs {VERSION}")
+
+
+def head(shape: Shape, queues: Any) -> str:
+    """The lines that begin a history."""
+    text, written = ctypes.create_string_buffer(64 * (2 + len(queues))), ctypes.c_size_t()
+    done(lib.cmwq_head(ctypes.byref(shape), queues, len(queues), text, len(text), ctypes.byref(written)))
+    return text.raw[:written.value].decode()
 
 
 def done(status: int) -> None:

@@ -34,6 +34,8 @@ class Block(arguments.Single):
 
     def __enter__(self) -> None:
         shell: Shell = self._run._own()._shell
+        if shell.keeps and here.broken:  # it sleeps from its wait on
+            return
         if shell.who(False) != self._run._worker:
             raise errors.Invalid("only the work function itself blocks, and it must be awake")
         try:

@@ -15,7 +15,7 @@ import queue
 import threading
 import time
 import weakref
-from typing import Any, Callable, Deque, FrozenSet, List, Optional, Set, TextIO, Tuple
+from typing import Any, Callable, Deque, FrozenSet, Iterator, List, Optional, Set, TextIO, Tuple
 
 from . import _arguments as arguments
 from . import _errors as errors
@@ -40,8 +40,9 @@ MOVED: FrozenSet[int] = frozenset((library.AGAIN, library.REBOOKED))
 TAKEN_BACK: FrozenSet[int] = frozenset((library.CANCELLED, library.UNBOOKED, library.TICKET_CANCELLED,
                                         library.TICKET_UNBOOKED))
 
-# What the clock is told, beside ticks and records: to look again, to end the hub, and to end it without its threads.
-LOOK, END, ABORT = "look", "end", "abort"
+# What the clock is told, beside ticks and records: to look again, to end the hub, and to end it without its threads;
+# and of a durable hub to let its threads begin, and to end it and keep what has not started.
+LOOK, END, ABORT, OPEN_IT, LEAVE = "look", "end", "abort", "open", "leave"
 
 CALLER_0 = (library.CALLER, 0, 0)
 
@@ -53,7 +54,7 @@ _pack, _unpack = library.CALL.pack_into, library.REPLY.unpack_from
 Bell = queue.SimpleQueue
 
 # Of this thread: the shell whose thread it is, the shell and the worker of the run that it is in, whether that run
-# sleeps, and its last wait.
+# sleeps, its last wait, and whether it was broken off.
 here = threading.local()
 
 # Those whose threads have not ended.
@@ -212,6 +213,22 @@ class Lines:
             lib.cmwq_lines_close(self.at)
 
 
+def open_board(board: int, shape: library.Shape, queues: Any, keep: int) -> None:
+    """Opens a board. It has space for the entries of a call, and for the ends of all waits that were left."""
+    shape.keep = min(keep + 2 * (shape.items + 2) + 256, 2 ** 32 - 1)
+    library.done(lib.cmwq_board_open(board, ctypes.byref(shape), queues, len(queues), shape.callers - 1))
+
+
+def texts(lines: Lines) -> Iterator[bytes]:
+    """The text of the entries that were handed out."""
+    text, written = ctypes.create_string_buffer(1 << 16), ctypes.c_size_t()
+    while True:
+        library.done(lib.cmwq_lines_write(lines.at, text, len(text), ctypes.byref(written)))
+        if not written.value:
+            return
+        yield text.raw[:written.value]
+
+
 class Number(weakref.ref):  # type: ignore[type-arg]
     """What has the number of an item. Once the item is gone, one step gives it back."""
 
@@ -229,14 +246,16 @@ class Number(weakref.ref):  # type: ignore[type-arg]
 class Shell:
     """What handles share."""
 
+    # what only that of a durable hub may change: whether its threads have begun, and whether it is being left
+    is_open, keeps = True, False
+
+    done = staticmethod(library.done)
+
     def __init__(self, shape: library.Shape, queues: Any, keep: int, tick: float, history: Optional[TextIO]) -> None:
         self.shape, self.tick, self.begun = shape, tick, time.monotonic()
         self._handle = library.Handle()
-        board = ctypes.addressof(self._handle)
-        # there is space for the entries of a call, and for the ends of all waits that were left
-        shape.keep = min(keep + 2 * (shape.items + 2) + 256, 2 ** 32 - 1)
-        library.done(lib.cmwq_board_open(board, ctypes.byref(shape), queues, len(queues), shape.callers - 1))
-        self.board = board
+        self.board = ctypes.addressof(self._handle)
+        self.open_board(queues, keep)
         self.first_caller = 2 * shape.cpus * shape.workers
         self.bells: "List[Bell[Any]]" = [Bell() for _ in range(self.first_caller + shape.callers)]
         # of each item: the status and the record of each call that has made it pending, as often as it is pending or
@@ -252,7 +271,8 @@ class Shell:
         self.due, self.has_timers = library.NEVER, False
         # the journal
         self.journal: "Bell[Any]" = Bell()
-        self.history, self.armed, self.is_over = history, history is None, False
+        self.history: Any = history
+        self.armed, self.is_over = history is None, False
         self.keep, self.next = keep, keep
         self.spare: List[Lines] = []
         self.full: Deque[Tuple[int, Lines]] = collections.deque()
@@ -269,9 +289,25 @@ class Shell:
         self.threads: List[threading.Thread] = []
         self.unrun: List[Any] = []
 
+    def open_board(self, queues: Any, keep: int) -> None:
+        open_board(self.board, self.shape, queues, keep)
+
     def __del__(self) -> None:
         if hasattr(self, "board"):
             lib.cmwq_board_close(self.board)
+
+    def begin(self) -> None:
+        """Lets the threads begin."""
+
+    def begin_to_end(self, runs_all: bool) -> None:
+        """Takes no more work from outside. It is said whether what is queued runs."""
+        self.closing = True
+
+    def end_unopened(self) -> None:
+        """Ends it if it has no threads yet."""
+
+    def give_up(self) -> None:
+        """Gives up what it has beside its threads, once they have ended."""
 
     def close_in_child(self) -> None:
         """In a process that was forked, whose copy of the board nobody uses."""
@@ -354,14 +390,17 @@ class Shell:
         kind, index, cpu = who
         return (2 * cpu + (kind == library.HIGH_WORKER)) * self.shape.workers + index
 
-    def sleep(self, place: int, left: Optional[float] = None) -> None:
-        """Sleeps as this party, which the board has told to sleep, until it is named or the time has passed."""
+    def sleep(self, place: int, left: Optional[float] = None) -> Any:
+        """Sleeps as this party, which the board has told to sleep, until it is named or the time has passed. Returns
+        whether a worker is to start nothing more."""
         rest(self.bells[place], left)
 
-    def state_of(self, number: int) -> library.ItemState:
+    def item_state(self, number: int) -> library.ItemState:
         state = library.ItemState()
         lib.cmwq_board_item(self.board, number, ctypes.byref(state))
         return state
+
+    state_of = item_state
 
     def whole(self, doing: Callable[..., Any], record: Record, *more: Any) -> Any:
         """Does something as a whole. If an exception cuts it off, the clock does the rest. A handler may raise where an
@@ -429,6 +468,12 @@ class Shell:
     def put(self, kind: int, item: Any, queue: int, cpu: int) -> int:
         """A call that may make an item pending. Returns the kind of its reply."""
         return outcome(self.try_put(kind, item, queue, cpu))
+
+    # one of many calls, after which made_many() is called
+    put_of_many = put
+
+    def made_many(self) -> None:
+        pass
 
     def try_put(self, kind: int, item: Any, queue: int, cpu: int, ticks: int = 0) -> int:
         """As put(), but returns minus the status if that is not OK, and a reply that says that nothing was done."""
@@ -515,7 +560,7 @@ class Shell:
     def _before_end(self, before: Before, doing: Callable[..., Any], *words: Any) -> Any:
         self.before.add(before)
         try:
-            return None if self.closing else doing(*words)
+            return None if self.closing and not self.keeps else doing(*words)
         finally:
             self.before.discard(before)
             if self.closing:
@@ -564,7 +609,7 @@ class Shell:
         return self._reply(*self._try_one(kind, number, queue, ticks))
 
     def _reply(self, status: int, call: Call) -> Tuple[int, int]:
-        library.done(status)
+        self.done(status)
         reply = call.reply()
         return library.told(reply[3]), reply[0]
 
@@ -596,7 +641,7 @@ class Shell:
                 # waits that exceptions have cut off may have callers until the clock leaves them
                 self.be_heard()
                 status = self.whole(self._wait, call, deadline)
-            library.done(status)
+            self.done(status)
         except BaseException:
             if in_run:
                 self.go_on(call)
@@ -624,6 +669,9 @@ class Shell:
             status = self.make(call, lib.cmwq_board_end, party)
             if status not in OPEN:
                 break
+            if self.keeps and status == library.WAITS:
+                status = self.give_up_wait(call)
+                break
             left = None if deadline is None else deadline - time.monotonic()
             if left is not None and left <= 0:
                 (self.leave if call.who is CALLER_0 else self.go_on)(call)
@@ -636,6 +684,10 @@ class Shell:
             else:
                 time.sleep(0)
         return library.OVER if call.is_left else status
+
+    def give_up_wait(self, call: Call) -> int:
+        """Leaves a wait because the hub is being left. Returns the status."""
+        raise NotImplementedError
 
     def leave(self, call: Call) -> None:
         """Nobody waits by this call any more."""

@@ -1,9 +1,8 @@
 """What the threads of a hub do: the workers, the clock and the journal."""
-import ctypes
 import queue
 import threading
 import time
-from typing import Any, Iterable, Iterator, Optional, Tuple
+from typing import Any, Iterable, Optional, Tuple
 
 from . import _errors as errors
 from . import _library as library
@@ -11,7 +10,8 @@ from ._handles import keep_error
 from ._library import OK, lib, step
 from ._report import let_go, report
 from ._run import Run
-from ._shell import ABORT, LOOK, MADE, MOST_FULL, NOBODY, Bell, Call, Lines, Record, Shell, here, open_shells, ring
+from ._shell import (ABORT, END, LOOK, MADE, MOST_FULL, NOBODY, OPEN_IT, Bell, Call, Record, Shell, here, open_shells,
+                     ring, texts)
 
 # How long entries are kept at most before they are written, in seconds.
 QUIET = 0.05
@@ -31,6 +31,7 @@ class Worker:
 
     def work(self) -> None:
         here.owner, here.shell, here.worker, here.sleeps, here.wait = self._shell, None, self._who, False, None
+        here.broken = False
         # An exception may also be thrown where another has just been caught, or where a loop begins anew.
         while not self._is_over:
             try:
@@ -52,10 +53,15 @@ class Worker:
             self._thrown = None
         if self._start.status() == OK:
             self._go_on()
-        self._work_on()
+        if self._may_begin():
+            self._work_on()
         self._shell.workers.discard(self._who)
         ring(self._shell.clock)
         self._is_over = True
+
+    def _may_begin(self) -> bool:
+        """Waits until the threads may begin. Returns whether something may start."""
+        return True
 
     def _work_on(self) -> None:
         start = self._start
@@ -73,14 +79,14 @@ class Worker:
                 if wakes != NOBODY or not self._shell.armed:
                     self._shell.wake(wakes)
             if status == OK:
-                self._go_on()
-            elif status == library.RESTS:
-                self._shell.sleep(self._place)
-            else:
+                if self._go_on():
+                    return
+            elif status != library.RESTS or self._shell.sleep(self._place):
                 return
 
-    def _go_on(self) -> None:
-        """The run that has started goes on from where it is. The note of its start has the run, once that is there."""
+    def _go_on(self) -> Any:
+        """The run that has started goes on from where it is. The note of its start has the run, once that is there.
+        Returns whether nothing more is to start."""
         if not self._start.log[0][1]:
             self._finish.number = int.from_bytes(self._start.buffer[library.ITEM_AT:library.ITEM_AT + 2], "little")
             self._finish.log.clear()
@@ -98,7 +104,8 @@ class Worker:
             run._item._work(run)
             run._item._error = None
         except BaseException as why:
-            keep_error(run._item, why, 1)
+            if not (here.broken and isinstance(why, errors.Stopped)):
+                keep_error(run._item, why, 1)
 
     def _end_run(self, run: Run) -> None:
         shell, finish = self._shell, self._finish
@@ -178,9 +185,11 @@ class Clock:
             told.put(None)
         elif told == LOOK:
             self._look()
-        elif told is not None:  # END, ABORT, or the reference to a hub that is gone
-            self._shell.closing = True
-            self._is_aborted |= told == ABORT
+        elif told == OPEN_IT:
+            self._shell.begin()
+        elif told is not None:  # END, LEAVE, ABORT, or the reference to a hub that is gone
+            self._is_aborted |= told == ABORT or not self._shell.is_open
+            self._shell.begin_to_end(told == END)
 
     def _stop(self) -> None:
         """Takes no more work, lets frozen queues go on, and takes back what is delayed. The waits of threads that a
@@ -193,8 +202,11 @@ class Clock:
         if self._is_stopped or any(it.thread not in shell.enders for it in [*shell.before]):
             return
         self._is_stopped = True
+        if shell.keeps:
+            shell.wake_all()
+            return
         delayed = [number for number, puts in enumerate(shell.puts)
-                   if puts and shell.state_of(number).pending == library.PENDING_TIMER]
+                   if puts and shell.item_state(number).pending == library.PENDING_TIMER]
         for kind, number in [*((library.CANCEL, number) for number in delayed), (library.THAW, 0)]:
             try:
                 shell.one(kind, number)
@@ -214,9 +226,10 @@ class Clock:
             if thread is not threading.current_thread() and thread.ident is not None:
                 thread.join()
         shell.unrun = [puts[0][1].item for number, puts in enumerate(shell.puts)
-                       if puts and shell.state_of(number).pending]
+                       if puts and shell.item_state(number).pending and not shell.keeps]
         for puts in shell.puts:
             puts.clear()
+        shell.give_up()
         shell.ended = True
         open_shells.discard(shell)
         shell.end.ring()
@@ -246,7 +259,7 @@ class Journal:
         self._write(out, [self._head])
         while self._wait():
             _, lines = shell.full.popleft()
-            self._write(out, self._texts(lines))
+            self._write(out, (text.decode() for text in texts(lines)))
             shell.spare.append(lines)
             shell.space.ring()
         self._write(out, [f"end {lib.cmwq_board_len(shell.board)}\n"])
@@ -261,14 +274,6 @@ class Journal:
                 shell.armed = False
                 shell.hand_out()
         return bool(shell.full)
-
-    def _texts(self, lines: Lines) -> Iterator[str]:
-        text, written = ctypes.create_string_buffer(1 << 16), ctypes.c_size_t()
-        while True:
-            library.done(lib.cmwq_lines_write(lines.at, text, len(text), ctypes.byref(written)))
-            if not written.value:
-                return
-            yield text.raw[:written.value].decode()
 
     def _write(self, out: Any, texts: Iterable[str]) -> None:
         """A fork waits for it, so that its process has no part of the text to write once more."""
