@@ -1,5 +1,8 @@
 """What the scripts share that edit a file in C, build it with tests, and see that a test finds the mistake."""
 import concurrent.futures
+import contextlib
+import os
+import signal
 import subprocess
 import sys
 
@@ -33,12 +36,17 @@ def flags_of(sanitizer):
 
 
 def fails(program, words, seconds):
-    """Whether a test fails, or does not end in so many seconds."""
+    """Whether a test fails, or does not end in so many seconds. What it has forked ends with it."""
     quiet = {"stdin": subprocess.DEVNULL, "stdout": subprocess.DEVNULL, "stderr": subprocess.DEVNULL}
+    test = subprocess.Popen([program, *words], start_new_session=True, **quiet)
     try:
-        return subprocess.run([program, *words], timeout=seconds, check=False, **quiet).returncode != 0
+        return test.wait(seconds) != 0
     except subprocess.TimeoutExpired:
         return True
+    finally:
+        with contextlib.suppress(ProcessLookupError):
+            os.killpg(test.pid, signal.SIGKILL)
+        test.wait()
 
 
 def end_if_fails(what, test):
