@@ -46,6 +46,7 @@ static int opened;
 
 /* The first is taken before the hub's lock, never under it. The second may be taken under any. */
 static pthread_mutex_t lending = PTHREAD_MUTEX_INITIALIZER, naming = PTHREAD_MUTEX_INITIALIZER;
+static pthread_mutex_t writing_names = PTHREAD_MUTEX_INITIALIZER; /* not under naming */
 static struct number *numbers;
 static unsigned *buckets, bucket_bits, used, first_free = NONE;
 /* @queue: which has the slot, or NULL; @next: the slot of the next one in its bucket, plus 1, or 0 */
@@ -106,7 +107,9 @@ static void warn_why(const char *call, const char *work, const char *queue, cons
         fputs(text, stderr);
     }
     circle[0] = 0;
-    if (is.aborts) abort();
+    if (!is.aborts) return;
+    cmwq_linux_write_out();
+    abort();
 }
 
 /* The same of what a call of the hub returned. At the end calls return what they can, and nothing is told. */
@@ -201,14 +204,20 @@ static long write_name(FILE *to, const char *name)
     return bytes + fprintf(to, "\"}");
 }
 
+/* Writes the file of names anew. It is put in the place of the old one as a whole, since the program may be killed. */
 static void write_names(void)
 {
-    char path[PATH_MAX + 8];
+    char path[PATH_MAX + 8], fresh[PATH_MAX + 16];
     long bytes = 0;
     FILE *to;
 
     snprintf(path, sizeof path, "%s.names", is.history);
-    if (!(to = fopen(path, "w"))) return;
+    snprintf(fresh, sizeof fresh, "%s.new", path);
+    pthread_mutex_lock(&writing_names);
+    if (!(to = fopen(fresh, "w"))) {
+        pthread_mutex_unlock(&writing_names);
+        return;
+    }
     bytes += fprintf(to, "{\"queues\": [");
     pthread_mutex_lock(&naming);
     for (unsigned k = 0; k < SLOTS; k++) {
@@ -231,7 +240,8 @@ static void write_names(void)
         bytes += write_name(to, name ? name : "?");
     }
     fprintf(to, "]}\n");
-    fclose(to);
+    if (fclose(to) == 0) rename(fresh, path);
+    pthread_mutex_unlock(&writing_names);
 }
 
 /* The hub's journal. The file has no buffer, so that what is written outlives the program's end by a signal. */
@@ -241,6 +251,13 @@ static bool write_history(void *data, const char *text, size_t len)
 
     if (__atomic_exchange_n(&names_changed, false, __ATOMIC_ACQ_REL)) write_names();
     return is_written;
+}
+
+void cmwq_linux_write_out(void)
+{
+    if (!__atomic_load_n(&was_opened, __ATOMIC_ACQUIRE) || opened < 0 || !is.history) return;
+    cmwq_hub_tell_all_(&hub);
+    write_names();
 }
 
 static unsigned class_of(unsigned flags)

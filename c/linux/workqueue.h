@@ -149,6 +149,9 @@ struct cmwq_linux_options {
 int cmwq_linux_open(const struct cmwq_linux_options *options);
 /* Lets what is queued end, and ends the threads. Return: as cmwq_hub_close(). Not in a work function */
 int cmwq_linux_close(void);
+/* Writes all that there is of the history by now, and the names, for a program that is about to abort. It does so by
+   itself before options.aborts does. Not in a signal handler */
+void cmwq_linux_write_out(void);
 /* Around what blocks in a work function outside of workqueues, such as a lock or a sleep. Pairs may be nested. */
 void cmwq_linux_blocks(void);
 void cmwq_linux_goes_on(void);

@@ -21,7 +21,7 @@ SECONDS = 30
 
 # The one that takes longest is the last.
 TESTS = ("flushes", "shims", "callers", "circle", "delayed", "places", "queues", "gone", "requeue", "rcu", "embedded",
-         "stress", "warnings")
+         "aborts", "stress", "warnings")
 
 # Those that are tried by --quick.
 QUICK = ("a cancel waits for one number alone", "a number that is pending is taken back")
@@ -260,6 +260,16 @@ EDITS = (
     (
         "a circle is told with the next warning too",
         "    circle[0] = 0;\n",
+        "",
+    ),
+    (
+        "what was not written yet is lost at an abort",
+        "    cmwq_linux_write_out();\n    abort();",
+        "    abort();",
+    ),
+    (
+        "what is written out is the names alone",
+        "    cmwq_hub_tell_all_(&hub);\n",
         "",
     ),
     (
