@@ -91,6 +91,7 @@ struct cmwq_options {                                       /* in brackets: what
     bool (*again)(void *data, unsigned item); void *again_data;
     void (*ended_)(struct cmwq_hub *hub, unsigned item); /* for cmwq.hpp: a run has ended; under the lock */
     unsigned callers;                                       /* so many threads have a caller of their own [none] */
+    bool ticks;                                             /* time is brought up to the clock before each entry */
 };
 
 struct cmwq_hub;
@@ -109,6 +110,7 @@ static inline uint32_t cmwq_hub_enter_(struct cmwq_hub *hub, struct cmwq_run **r
     if (here && !here->run) return CMWQ_NOT_NOW; /* in the journal */
     if (here) *run = here->run;
     cmwq_hub_space_(hub, hub->is.keep);
+    cmwq_hub_pass_(hub);
     return hub->state == CMWQ_NONE_ ? CMWQ_CLOSED : CMWQ_OK;
 }
 

@@ -389,6 +389,7 @@ static int open_hub(void)
     options.waits = WAITS;
     options.callers = CALLERS;
     options.tick_ns = 1000000000 / HZ;
+    options.ticks = true;
     options.journal = history ? write_history : NULL;
     options.journal_data = history;
     result = cmwq_hub_open(&hub, &options);
