@@ -49,8 +49,9 @@ static pthread_mutex_t lending = PTHREAD_MUTEX_INITIALIZER, naming = PTHREAD_MUT
 static pthread_mutex_t writing_names = PTHREAD_MUTEX_INITIALIZER; /* not under naming */
 static struct number *numbers;
 static unsigned *buckets, bucket_bits, used, first_free = NONE;
-/* @queue: which has the slot, or NULL; @next: the slot of the next one in its bucket, plus 1, or 0 */
-static struct { char name[NAME]; bool taken; const struct workqueue_struct *queue; unsigned next; } slots[SLOTS];
+/* @queue: which has the slot, or NULL; @next: the slot of the next one in its bucket, plus 1, or 0; @width: its
+   max_active */
+static struct { const struct workqueue_struct *queue; unsigned next, width; char name[NAME]; bool taken; } slots[SLOTS];
 static unsigned queue_buckets[QUEUE_BUCKETS];
 /* The last queues that were destroyed. Their memory is kept, so that none that is made has the address of one. */
 static struct workqueue_struct *gone[GONE];
@@ -376,8 +377,12 @@ static int open_hub(void)
     for (unsigned c = 0, k = 0; c < CLASSES; c++)
         for (unsigned end = k + slots_of_class[c]; k < end; k++)
             shape[k] = (struct cmwq_queue){WQ_DFL_ACTIVE, (c & HIGH) != 0, (c & INTENSIVE) != 0, (c & FREEZABLE) != 0};
-    for (unsigned k = 0; k < sizeof systems / sizeof *systems; k++)
-        have_slot(systems[k], take_slot(systems[k]->name, systems[k]->flags));
+    for (unsigned k = 0; k < sizeof systems / sizeof *systems; k++) {
+        unsigned slot = take_slot(systems[k]->name, systems[k]->flags);
+
+        slots[slot].width = WQ_DFL_ACTIVE;
+        have_slot(systems[k], slot);
+    }
     if (is.history && !(history = fopen(is.history, "w"))) return -CMWQ_NO_JOURNAL;
     if (history) setvbuf(history, NULL, _IONBF, 0);
     options.queues = shape;
@@ -834,9 +839,34 @@ void workqueue_set_max_active(struct workqueue_struct *wq, int max_active)
 {
     unsigned width = max_active < 1 ? 1 : (unsigned)max_active, slot;
     char queue[NAME];
+    int result;
 
     if ((slot = find_queue("workqueue_set_max_active", wq, queue)) == SLOTS) return;
-    warn("workqueue_set_max_active", NULL, queue, cmwq_workqueue_set_max_active(&hub, slot, width));
+    result = cmwq_workqueue_set_max_active(&hub, slot, width);
+    if (result > 0) __atomic_store_n(&slots[slot].width, (unsigned)result, __ATOMIC_RELAXED);
+    warn("workqueue_set_max_active", NULL, queue, result);
+}
+
+/* Whether more works are queued there or run than max_active says, so that some wait for others. */
+bool workqueue_congested(int cpu, struct workqueue_struct *wq)
+{
+    char queue[NAME];
+    unsigned slot = find_queue("workqueue_congested", wq, queue), many = 0, at;
+
+    if (slot == SLOTS) return false;
+    pthread_mutex_lock(&lending);
+    at = slot_of(wq) == slot ? cpu_of(cpu, wq) : NONE;
+    pthread_mutex_lock(&hub.lock);
+    for (unsigned k = 0; k < used && at != NONE && hub.state != CMWQ_NONE_; k++) {
+        struct cmwq_item item;
+
+        if (cmwq_board_item(&hub.board, (uint16_t)k, &item) != CMWQ_OK) break;
+        many += item.pending == CMWQ_PENDING_QUEUED && item.queue == slot && item.cpu == at;
+        many += item.runs && numbers[k].slot == slot && item.worker.cpu == at;
+    }
+    cmwq_hub_unlock_(&hub);
+    pthread_mutex_unlock(&lending);
+    return many > __atomic_load_n(&slots[slot].width, __ATOMIC_RELAXED);
 }
 
 static int wait_for_queue(const char *call, uint8_t kind, struct workqueue_struct *wq)

@@ -75,6 +75,7 @@ void destroy_workqueue(struct workqueue_struct *wq);
 void flush_workqueue(struct workqueue_struct *wq);
 void drain_workqueue(struct workqueue_struct *wq);
 void workqueue_set_max_active(struct workqueue_struct *wq, int max_active);
+bool workqueue_congested(int cpu, struct workqueue_struct *wq);
 
 bool queue_work_on(int cpu, struct workqueue_struct *wq, struct work_struct *work);
 bool queue_delayed_work_on(int cpu, struct workqueue_struct *wq, struct delayed_work *dwork, unsigned long delay);
@@ -112,6 +113,8 @@ static inline bool cancel_delayed_work(struct delayed_work *dwork) { return canc
 static inline bool cancel_delayed_work_sync(struct delayed_work *dwork) { return cancel_work_sync(&dwork->work); }
 static inline bool work_pending(struct work_struct *work) { return (work_busy(work) & WORK_BUSY_PENDING) != 0; }
 static inline bool delayed_work_pending(struct delayed_work *dwork) { return work_pending(&dwork->work); }
+/* CPUs neither come nor go. */
+static inline long work_on_cpu_safe(int cpu, long (*fn)(void *), void *arg) { return work_on_cpu(cpu, fn, arg); }
 /* There are no rescuers, and threads outside of the kernel are always in process context. */
 static inline bool current_is_workqueue_rescuer(void) { return false; }
 static inline int execute_in_process_context(work_func_t fn, struct execute_work *ew) { return fn(&ew->work), 0; }

@@ -198,6 +198,21 @@ EDITS = (
         "stays = false;",
     ),
     (
+        "a queue is congested before works wait",
+        "return many > __atomic_load_n(&slots[slot].width",
+        "return many >= __atomic_load_n(&slots[slot].width",
+    ),
+    (
+        "runs do not congest a queue",
+        "        many += item.runs && numbers[k].slot == slot && item.worker.cpu == at;\n",
+        "",
+    ),
+    (
+        "a queue is congested on all CPUs at once",
+        "item.queue == slot && item.cpu == at;",
+        "item.queue == slot;",
+    ),
+    (
         "a queue that is destroyed is not drained",
         "int result = wait_for_queue(\"destroy_workqueue\", CMWQ_DRAIN, wq);",
         "int result = 0;",
