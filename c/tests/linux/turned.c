@@ -134,7 +134,7 @@ static void test_time(void)
     struct timespec begin = after(CLOCK_MONOTONIC, 0), then = after(CLOCK_MONOTONIC, 1), now;
     struct timeval day;
     unsigned seconds = 1;
-    time_t first = time(NULL);
+    time_t first = time(NULL), last;
 
 #ifdef CMWQ_TURNS_H
     seconds = 100;
@@ -145,7 +145,8 @@ static void test_time(void)
     CHECK(now.tv_sec > then.tv_sec || (now.tv_sec == then.tv_sec && now.tv_nsec >= then.tv_nsec));
     CHECK(clock_nanosleep(CLOCK_MONOTONIC, 0, &(struct timespec){0, 1000000}, NULL) == 0 && usleep(1000) == 0);
     CHECK(sleep(seconds) == 0);
-    CHECK(gettimeofday(&day, NULL) == 0 && day.tv_sec >= first && time(&first) == first && first >= day.tv_sec);
+    CHECK(gettimeofday(&day, NULL) == 0 && day.tv_sec >= first + (time_t)seconds);
+    CHECK(time(&last) >= day.tv_sec - 1 && last >= day.tv_sec - 1); /* (its clock may be some milliseconds behind) */
     now = after(CLOCK_MONOTONIC, 0);
     CHECK(now.tv_sec - begin.tv_sec >= (time_t)seconds);
 }
