@@ -292,8 +292,8 @@ EDITS = (
     (
         "space is not looked for",
         "hub",
-        "cmwq_hub_space_(hub, hub->is.keep);\n    return",
-        "return",
+        "cmwq_hub_space_(hub, hub->is.keep);\n    cmwq_hub_pass_(hub);\n    return",
+        "cmwq_hub_pass_(hub);\n    return",
     ),
     (
         "numbers are cut off",
