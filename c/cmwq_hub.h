@@ -91,6 +91,7 @@ struct cmwq_options {                                       /* in brackets: what
     bool (*again)(void *data, unsigned item); void *again_data;
     void (*ended_)(struct cmwq_hub *hub, unsigned item); /* for cmwq.hpp: a run has ended; under the lock */
     unsigned callers;                                       /* so many threads have a caller of their own [none] */
+    bool ticks;                                             /* time is brought up to the clock before each entry */
 };
 
 struct cmwq_hub;
@@ -109,6 +110,7 @@ static inline uint32_t cmwq_hub_enter_(struct cmwq_hub *hub, struct cmwq_run **r
     if (here && !here->run) return CMWQ_NOT_NOW; /* in the journal */
     if (here) *run = here->run;
     cmwq_hub_space_(hub, hub->is.keep);
+    cmwq_hub_pass_(hub);
     return hub->state == CMWQ_NONE_ ? CMWQ_CLOSED : CMWQ_OK;
 }
 
@@ -275,6 +277,28 @@ static inline int cmwq_hub_sync(struct cmwq_hub *hub)
     if (status == CMWQ_OK && hub->disk.failed) status = CMWQ_DISK_FAILED;
     cmwq_hub_leave_calls_(hub);
     return -(int)status;
+}
+
+/* Has the journal take what there is by now, and waits until it has. For a program that is about to end by a signal. */
+static inline void cmwq_hub_tell_all_(struct cmwq_hub *hub)
+{
+    struct cmwq_run *run;
+    uint32_t status = cmwq_hub_enter_(hub, &run);
+    uint64_t all = status == CMWQ_OK ? cmwq_board_len(&hub->board) : 0, upto = 0;
+
+    if (status == CMWQ_OK && hub->writes && !hub->disk.is) cmwq_hub_name_(hub, hub->journal);
+    while (status == CMWQ_OK && hub->writes && !hub->disk.is && !hub->deaf) {
+        /* once more is handed out, what was handed out before is written */
+        if (hub->handed >= all && (!hub->busy || (upto && hub->handed > upto))) break;
+        if (hub->handed >= all && !upto) upto = hub->handed;
+        if (hub->names) { /* who is named is woken first */
+            cmwq_hub_unlock_(hub);
+            pthread_mutex_lock(&hub->lock);
+        } else {
+            pthread_cond_wait(&hub->changed, &hub->lock);
+        }
+    }
+    cmwq_hub_leave_calls_(hub);
 }
 
 /* Whether an item is pending (1), or runs (2), or both. */

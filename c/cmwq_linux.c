@@ -7,7 +7,8 @@
  * work has begun, its memory is touched by calls about it alone: a work may free itself.
  *
  * A queue has one of the hub's queues as its slot, with the same flags, and leaves it to a later one when it is
- * destroyed. Unbound queues are on a CPU of their own, numbered after the last, in slots that are CPU-intensive.
+ * destroyed. Unbound queues are on a CPU of their own, numbered after the last, in slots that are CPU-intensive. Each
+ * call looks for its queue among those that there are, by the address, before it reads what is there.
  */
 #ifndef _GNU_SOURCE
 #define _GNU_SOURCE
@@ -19,12 +20,14 @@
 #include <stdarg.h>
 
 enum { NONE = 0x10000, NUMBERS_OF_A_WORK = 16, NAME = 40, SLOTS = 128, NAMES_BYTES = 1000000 };
+/* Buckets of queues, a power of two; and so many that are gone are still known by their names. */
+enum { QUEUE_BUCKETS = 256, GONE = 64 };
 /* Threads that have a caller of their own, from 1 on, and calls that may wait at a time. */
 enum { CALLERS = 126, WAITS = 128, THREAD_NAME = 16 };
 enum { HIGH = 1, INTENSIVE = 2, FREEZABLE = 4, CLASSES = 8 };
 static const unsigned slots_of_class[CLASSES] = {44, 8, 44, 8, 8, 4, 8, 4};
 
-struct workqueue_struct { unsigned slot, flags; char name[NAME]; };
+struct workqueue_struct { unsigned flags; bool is_of_system; char name[NAME]; };
 
 /* @work: of which run, read without the lock when one begins; @known: found by that address; @next: in a bucket, or in
    the list of those that are free; @slot: where it was queued last; @pins: calls that wait for it; @cancels: those of
@@ -43,9 +46,16 @@ static int opened;
 
 /* The first is taken before the hub's lock, never under it. The second may be taken under any. */
 static pthread_mutex_t lending = PTHREAD_MUTEX_INITIALIZER, naming = PTHREAD_MUTEX_INITIALIZER;
+static pthread_mutex_t writing_names = PTHREAD_MUTEX_INITIALIZER; /* not under naming */
 static struct number *numbers;
 static unsigned *buckets, bucket_bits, used, first_free = NONE;
-static struct { char name[NAME]; bool taken; } slots[SLOTS];
+/* @queue: which has the slot, or NULL; @next: the slot of the next one in its bucket, plus 1, or 0; @width: its
+   max_active */
+static struct { const struct workqueue_struct *queue; unsigned next, width; char name[NAME]; bool taken; } slots[SLOTS];
+static unsigned queue_buckets[QUEUE_BUCKETS];
+/* The last queues that were destroyed. Their memory is kept, so that none that is made has the address of one. */
+static struct workqueue_struct *gone[GONE];
+static unsigned next_gone;
 static struct cmwq_queue shape[SLOTS];
 static struct watch *watches;
 static FILE *history;
@@ -69,7 +79,7 @@ static _Thread_local bool is_named;
 static unsigned next_cpu;
 
 #define SYSTEM(var, its_flags, its_name)                                                \
-    static struct workqueue_struct var##_is = {0, its_flags, its_name};                 \
+    static struct workqueue_struct var##_is = {its_flags, true, its_name};              \
     struct workqueue_struct *var = &var##_is
 SYSTEM(system_wq, 0, "events");
 SYSTEM(system_highpri_wq, WQ_HIGHPRI, "events_highpri");
@@ -98,7 +108,9 @@ static void warn_why(const char *call, const char *work, const char *queue, cons
         fputs(text, stderr);
     }
     circle[0] = 0;
-    if (is.aborts) abort();
+    if (!is.aborts) return;
+    cmwq_linux_write_out();
+    abort();
 }
 
 /* The same of what a call of the hub returned. At the end calls return what they can, and nothing is told. */
@@ -193,14 +205,20 @@ static long write_name(FILE *to, const char *name)
     return bytes + fprintf(to, "\"}");
 }
 
+/* Writes the file of names anew. It is put in the place of the old one as a whole, since the program may be killed. */
 static void write_names(void)
 {
-    char path[PATH_MAX + 8];
+    char path[PATH_MAX + 8], fresh[PATH_MAX + 16];
     long bytes = 0;
     FILE *to;
 
     snprintf(path, sizeof path, "%s.names", is.history);
-    if (!(to = fopen(path, "w"))) return;
+    snprintf(fresh, sizeof fresh, "%s.new", path);
+    pthread_mutex_lock(&writing_names);
+    if (!(to = fopen(fresh, "w"))) {
+        pthread_mutex_unlock(&writing_names);
+        return;
+    }
     bytes += fprintf(to, "{\"queues\": [");
     pthread_mutex_lock(&naming);
     for (unsigned k = 0; k < SLOTS; k++) {
@@ -223,7 +241,8 @@ static void write_names(void)
         bytes += write_name(to, name ? name : "?");
     }
     fprintf(to, "]}\n");
-    fclose(to);
+    if (fclose(to) == 0) rename(fresh, path);
+    pthread_mutex_unlock(&writing_names);
 }
 
 /* The hub's journal. The file has no buffer, so that what is written outlives the program's end by a signal. */
@@ -233,6 +252,13 @@ static bool write_history(void *data, const char *text, size_t len)
 
     if (__atomic_exchange_n(&names_changed, false, __ATOMIC_ACQ_REL)) write_names();
     return is_written;
+}
+
+void cmwq_linux_write_out(void)
+{
+    if (!__atomic_load_n(&was_opened, __ATOMIC_ACQUIRE) || opened < 0 || !is.history) return;
+    cmwq_hub_tell_all_(&hub);
+    write_names();
 }
 
 static unsigned class_of(unsigned flags)
@@ -263,6 +289,54 @@ static unsigned take_slot(const char *name, unsigned flags)
     pthread_mutex_unlock(&naming);
     __atomic_store_n(&names_changed, true, __ATOMIC_RELEASE);
     return best;
+}
+
+static unsigned *bucket_of_queue(const struct workqueue_struct *wq)
+{ return &queue_buckets[(uint64_t)(uintptr_t)wq * UINT64_C(0x9E3779B97F4A7C15) >> 32 & (QUEUE_BUCKETS - 1)]; }
+
+/* The slot of a queue, or SLOTS if there is no such queue; what is at its address is not read. With the lock of
+   lending. */
+static unsigned slot_of(const struct workqueue_struct *wq)
+{
+    unsigned at = *bucket_of_queue(wq);
+
+    while (at && slots[at - 1].queue != wq) at = slots[at - 1].next;
+    return at ? at - 1 : SLOTS;
+}
+
+static void have_slot(struct workqueue_struct *wq, unsigned slot)
+{
+    unsigned *bucket = bucket_of_queue(wq);
+
+    slots[slot].queue = wq;
+    slots[slot].next = *bucket;
+    *bucket = slot + 1;
+}
+
+/* The queue is gone from now on. Return: what is to be freed */
+static struct workqueue_struct *forget_queue(struct workqueue_struct *wq)
+{
+    unsigned *at = bucket_of_queue(wq), slot = slot_of(wq), place = next_gone++ % GONE;
+    struct workqueue_struct *eldest = gone[place];
+
+    while (*at != slot + 1) at = &slots[*at - 1].next;
+    *at = slots[slot].next;
+    slots[slot].queue = NULL;
+    gone[place] = wq;
+    return eldest;
+}
+
+/* Tells of a call with a queue that there isn't. Under no lock. */
+static void warn_gone(const char *call, const char *work, const struct workqueue_struct *wq)
+{
+    char queue[NAME] = "";
+
+    pthread_mutex_lock(&lending);
+    for (unsigned k = 0; k < GONE && wq; k++)
+        if (gone[k] == wq) memcpy(queue, gone[k]->name, NAME);
+    pthread_mutex_unlock(&lending);
+    warn_why(call, work, queue[0] ? queue : NULL,
+             queue[0] ? "the queue was destroyed" : "there is no such queue: it was destroyed, or never made");
 }
 
 static unsigned setting(unsigned given, const char *variable, unsigned otherwise)
@@ -303,8 +377,12 @@ static int open_hub(void)
     for (unsigned c = 0, k = 0; c < CLASSES; c++)
         for (unsigned end = k + slots_of_class[c]; k < end; k++)
             shape[k] = (struct cmwq_queue){WQ_DFL_ACTIVE, (c & HIGH) != 0, (c & INTENSIVE) != 0, (c & FREEZABLE) != 0};
-    for (unsigned k = 0; k < sizeof systems / sizeof *systems; k++)
-        systems[k]->slot = take_slot(systems[k]->name, systems[k]->flags);
+    for (unsigned k = 0; k < sizeof systems / sizeof *systems; k++) {
+        unsigned slot = take_slot(systems[k]->name, systems[k]->flags);
+
+        slots[slot].width = WQ_DFL_ACTIVE;
+        have_slot(systems[k], slot);
+    }
     if (is.history && !(history = fopen(is.history, "w"))) return -CMWQ_NO_JOURNAL;
     if (history) setvbuf(history, NULL, _IONBF, 0);
     options.queues = shape;
@@ -316,6 +394,7 @@ static int open_hub(void)
     options.waits = WAITS;
     options.callers = CALLERS;
     options.tick_ns = 1000000000 / HZ;
+    options.ticks = true;
     options.journal = history ? write_history : NULL;
     options.journal_data = history;
     result = cmwq_hub_open(&hub, &options);
@@ -509,22 +588,24 @@ static int put_work(struct work_struct *work, uint8_t kind, unsigned cpu, unsign
 static bool put(const char *call, uint8_t kind, int cpu, struct workqueue_struct *wq, struct work_struct *work,
                 unsigned long delay)
 {
-    unsigned at;
+    unsigned at, slot;
     const char *name = work->name;
+    bool can_run = work->func != NULL;
+    char queue[NAME];
     int result = -CMWQ_REFUSED;
 
     open_once();
     set_jiffies();
-    if (!work->func) {
-        warn_why(call, name, wq->name, "the work has no function: INIT_WORK comes first");
-        return false;
-    }
     if (delay > UINT32_MAX / 2) delay = UINT32_MAX / 2;
-    at = cpu_of(cpu, wq);
     pthread_mutex_lock(&lending);
-    if (at != NONE) result = put_work(work, kind, at, wq->slot, delay);
+    slot = slot_of(wq);
+    at = slot == SLOTS ? NONE : cpu_of(cpu, wq);
+    if (at != NONE && can_run) result = put_work(work, kind, at, slot, delay);
+    if (result < 0 && slot != SLOTS) memcpy(queue, wq->name, NAME);
     pthread_mutex_unlock(&lending);
-    warn(call, name, wq->name, result);
+    if (slot == SLOTS) warn_gone(call, name, wq);
+    else if (!can_run) warn_why(call, name, queue, "the work has no function: INIT_WORK comes first");
+    else warn(call, name, queue, result);
     return result > 0;
 }
 
@@ -699,15 +780,17 @@ struct work_struct *current_work(void) { return mine.work; }
 static struct workqueue_struct *make_queue(const char *fmt, va_list args, unsigned flags, int max_active)
 {
     struct workqueue_struct *wq = (struct workqueue_struct *)calloc(1, sizeof *wq);
+    unsigned slot;
 
     open_once();
     if (!wq) return NULL;
     vsnprintf(wq->name, NAME, fmt, args);
     wq->flags = flags;
     pthread_mutex_lock(&lending);
-    wq->slot = take_slot(wq->name, flags);
+    slot = take_slot(wq->name, flags);
+    if (slot != SLOTS) have_slot(wq, slot);
     pthread_mutex_unlock(&lending);
-    if (wq->slot == SLOTS) {
+    if (slot == SLOTS) {
         warn_why("alloc_workqueue", NULL, wq->name, "there are too many queues with these flags");
         free(wq);
         return NULL;
@@ -738,21 +821,63 @@ struct workqueue_struct *alloc_ordered_workqueue(const char *fmt, unsigned int f
     return wq;
 }
 
-void workqueue_set_max_active(struct workqueue_struct *wq, int max_active)
+/* The slot of a queue, and its name; or tells that it is gone. Return: SLOTS then */
+static unsigned find_queue(const char *call, const struct workqueue_struct *wq, char *name)
 {
-    unsigned width = max_active < 1 ? 1 : (unsigned)max_active;
+    unsigned slot;
 
     open_once();
-    warn("workqueue_set_max_active", NULL, wq->name, cmwq_workqueue_set_max_active(&hub, wq->slot, width));
+    pthread_mutex_lock(&lending);
+    slot = slot_of(wq);
+    if (slot != SLOTS) memcpy(name, wq->name, NAME);
+    pthread_mutex_unlock(&lending);
+    if (slot == SLOTS) warn_gone(call, NULL, wq);
+    return slot;
+}
+
+void workqueue_set_max_active(struct workqueue_struct *wq, int max_active)
+{
+    unsigned width = max_active < 1 ? 1 : (unsigned)max_active, slot;
+    char queue[NAME];
+    int result;
+
+    if ((slot = find_queue("workqueue_set_max_active", wq, queue)) == SLOTS) return;
+    result = cmwq_workqueue_set_max_active(&hub, slot, width);
+    if (result > 0) __atomic_store_n(&slots[slot].width, (unsigned)result, __ATOMIC_RELAXED);
+    warn("workqueue_set_max_active", NULL, queue, result);
+}
+
+/* Whether more works are queued there or run than max_active says, so that some wait for others. */
+bool workqueue_congested(int cpu, struct workqueue_struct *wq)
+{
+    char queue[NAME];
+    unsigned slot = find_queue("workqueue_congested", wq, queue), many = 0, at;
+
+    if (slot == SLOTS) return false;
+    pthread_mutex_lock(&lending);
+    at = slot_of(wq) == slot ? cpu_of(cpu, wq) : NONE;
+    pthread_mutex_lock(&hub.lock);
+    for (unsigned k = 0; k < used && at != NONE && hub.state != CMWQ_NONE_; k++) {
+        struct cmwq_item item;
+
+        if (cmwq_board_item(&hub.board, (uint16_t)k, &item) != CMWQ_OK) break;
+        many += item.pending == CMWQ_PENDING_QUEUED && item.queue == slot && item.cpu == at;
+        many += item.runs && numbers[k].slot == slot && item.worker.cpu == at;
+    }
+    cmwq_hub_unlock_(&hub);
+    pthread_mutex_unlock(&lending);
+    return many > __atomic_load_n(&slots[slot].width, __ATOMIC_RELAXED);
 }
 
 static int wait_for_queue(const char *call, uint8_t kind, struct workqueue_struct *wq)
 {
+    char queue[NAME];
+    unsigned slot = find_queue(call, wq, queue);
     int result;
 
-    open_once();
-    result = wait_for(kind, wq->slot, 0);
-    warn(call, NULL, wq->name, result);
+    if (slot == SLOTS) return -CMWQ_IS_GONE;
+    result = wait_for(kind, slot, 0);
+    warn(call, NULL, queue, result);
     return result;
 }
 
@@ -763,19 +888,30 @@ void drain_workqueue(struct workqueue_struct *wq) { wait_for_queue("drain_workqu
 void destroy_workqueue(struct workqueue_struct *wq)
 {
     int result = wait_for_queue("destroy_workqueue", CMWQ_DRAIN, wq);
+    struct workqueue_struct *eldest = NULL;
     const char *late = NULL;
-    bool is_late = false;
+    bool is_late = false, stays = false;
+    char queue[NAME];
+    unsigned slot;
 
     if (result < 0 && result != -CMWQ_CLOSED && result != -CMWQ_STOPPED) return; /* it was told, and the queue stays */
     pthread_mutex_lock(&lending);
-    for (unsigned k = 0; k < used && !is_late; k++) {
-        is_late = numbers[k].work && numbers[k].slot == wq->slot && is_pending(k);
-        late = numbers[k].name;
+    slot = slot_of(wq); /* (another thread may have destroyed it meanwhile) */
+    if (slot != SLOTS) {
+        memcpy(queue, wq->name, NAME);
+        stays = wq->is_of_system;
+        for (unsigned k = 0; k < used && !is_late && !stays; k++) {
+            is_late = numbers[k].work && numbers[k].slot == slot && is_pending(k);
+            late = numbers[k].name;
+        }
+        slots[slot].taken = is_late || stays;
+        if (!stays) eldest = forget_queue(wq);
     }
-    slots[wq->slot].taken = is_late;
     pthread_mutex_unlock(&lending);
-    if (is_late) warn_why("destroy_workqueue", late, wq->name, "the work is delayed on the queue");
-    free(wq);
+    if (slot == SLOTS) warn_gone("destroy_workqueue", NULL, wq);
+    else if (stays) warn_why("destroy_workqueue", NULL, queue, "the queue is one of the system's, and stays");
+    else if (is_late) warn_why("destroy_workqueue", late, queue, "the work is delayed on the queue");
+    free(eldest);
 }
 
 int schedule_on_each_cpu(work_func_t func)

@@ -38,7 +38,7 @@ struct cmwq_loop_wait {
 
 struct cmwq_loop_options {
     struct cmwq_options hub;                    /* as of a hub, but 64 [workers] and 254 [waits]; no works, no spins,
-                                                   not @durable.
+                                                   no ticks, not @durable.
                                                    The journal gets what there is at the end of cmwq_loop_run() */
     const struct cmwq_loop_work *works;         /* one for each item [they do nothing] */
     uint64_t (*now)(void *data);                /* the time in nanoseconds [CLOCK_MONOTONIC] */

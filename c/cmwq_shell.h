@@ -246,6 +246,12 @@ static inline uint32_t cmwq_hub_advance_(struct cmwq_hub *hub, uint64_t tick)
     return status;
 }
 
+/* With options.ticks, brings time up to now before an entry. */
+static inline void cmwq_hub_pass_(struct cmwq_hub *hub)
+{
+    if (hub->is.ticks && hub->state == CMWQ_OPEN_) cmwq_hub_advance_(hub, cmwq_hub_now_(hub) / hub->is.tick_ns);
+}
+
 /* A call of one entry. */
 static inline uint32_t cmwq_hub_call_(struct cmwq_hub *hub, struct cmwq_run *run, struct cmwq_call *call,
                                       struct cmwq_reply *reply)
@@ -296,6 +302,7 @@ static inline uint32_t cmwq_hub_wait_(struct cmwq_hub *hub, struct cmwq_run *run
     status = cmwq_hub_note_(hub, cmwq_board_begin(&hub->board, call, &by, reply, &hub->wakes));
     while (status == CMWQ_WAITS || status == CMWQ_LOOK_AGAIN) {
         cmwq_hub_space_(hub, hub->is.keep);
+        cmwq_hub_pass_(hub);
         status = cmwq_hub_note_(hub, cmwq_board_end(&hub->board, by, &hub->wakes));
         if (status == CMWQ_LOOK_AGAIN) {
             cmwq_hub_unlock_(hub); /* and calls again */
@@ -328,6 +335,7 @@ static inline void *cmwq_hub_work_(void *at)
     do {
         if (hub->keeps && !me->given) break;
         cmwq_hub_space_(hub, hub->is.keep);
+        cmwq_hub_pass_(hub);
         status = me->given ? (uint32_t)CMWQ_OK
                  : cmwq_hub_note_(hub, cmwq_board_start(&hub->board, &me->who, &run.item, &run.number, &hub->wakes));
         me->given = false;
@@ -341,6 +349,7 @@ static inline void *cmwq_hub_work_(void *at)
             pthread_mutex_lock(&hub->lock);
             if (run.broken_) break;
             cmwq_hub_space_(hub, hub->is.keep);
+            cmwq_hub_pass_(hub);
             if (run.asleep) cmwq_hub_call_(hub, &run, &wake, &reply);
             cmwq_hub_note_(hub, cmwq_board_finish(&hub->board, &me->who, &hub->wakes));
             run.asleep = true; /* what is dropped now may call the hub: not as the run, which has ended */

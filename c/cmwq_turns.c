@@ -8,14 +8,15 @@
 #include <stdlib.h>
 #include <string.h>
 
-enum state { READY, LOCKED, WAITS, SLEEPS, JOINS, DONE };
+enum state { READY, LOCKED, WAITS, SLEEPS, JOINS, POSTED, BARRED, ONCE, DONE };
 enum { MOST = 1024, STEP_NS = 100, MOST_SECONDS = 4000 };
 #define FOREVER UINT64_MAX
 
-/* @on: the lock, condition or thread for which it waits; @until: the time at which it goes on all the same */
+/* @on: the lock, condition or thread for which it waits; @name: of that, or NULL; @until: the time at which it goes on
+   all the same, and is late then */
 struct thread {
-    enum state state; void *on; uint64_t until; bool late; uint64_t priority; pthread_cond_t turn; pthread_t real;
-    void *(*body)(void *); void *data;
+    enum state state; void *on; const char *name; uint64_t until; bool late; uint64_t priority; pthread_cond_t turn;
+    pthread_t real; void *(*body)(void *); void *data;
 };
 
 static pthread_mutex_t baton = PTHREAD_MUTEX_INITIALIZER;
@@ -53,7 +54,8 @@ static int leave(int result)
 
 static void stop(void)
 {
-    static const char *const why[] = {"goes on", "waits for a lock", "waits", "sleeps", "joins another", "has ended"};
+    static const char *const why[] = {"goes on", "waits for a lock", "waits for the condition", "sleeps",
+        "joins another", "waits for the semaphore", "waits at the barrier", "waits for pthread_once()", "has ended"};
 
     fprintf(stderr, "cmwq_turns: seed %llu: nobody can go on at %.6f s\n", (unsigned long long)seed,
             (double)now_ns * 1e-9 - 1);
@@ -62,6 +64,7 @@ static void stop(void)
 
         if (it->state == DONE) continue;
         fprintf(stderr, "    thread %u %s", k, why[it->state]);
+        if (it->name) fprintf(stderr, " %s at %p", it->name, it->on);
         if (it->state == LOCKED && *(int *)it->on > 0) fprintf(stderr, " that thread %d has", *(int *)it->on - 1);
         fprintf(stderr, it->state == JOINS ? ": thread %u\n" : "\n", (unsigned)((struct thread *)it->on - threads));
     }
@@ -88,18 +91,22 @@ static void take_turns(void)
 
     for (now_ns += STEP_NS;;) {
         uint64_t least = FOREVER;
+        unsigned alive = 0;
 
         for (unsigned k = 0; k < count; k++) {
             struct thread *it = &threads[k];
 
-            if ((it->state == WAITS || it->state == SLEEPS) && it->until <= now_ns) {
-                it->late = it->state == WAITS;
+            if (it->state == DONE) continue;
+            if (it->state != READY && it->until <= now_ns) {
+                it->late = true;
                 it->state = READY;
             }
             if (it->state == READY) ready[many++] = k;
-            else if ((it->state == WAITS || it->state == SLEEPS) && it->until < least) least = it->until;
+            else if (it->until < least) least = it->until;
+            alive++;
         }
         if (many) break;
+        if (!alive) return; /* the last one has ended, after the first */
         if (least == FOREVER || least > (uint64_t)MOST_SECONDS * 1000000000u) stop();
         now_ns = least;
     }
@@ -121,19 +128,29 @@ static void free_those(enum state state, const void *on, bool one)
     for (unsigned k = 0; !one && k < many; k++) threads[found[k]].state = READY;
 }
 
-static void wait_on(enum state state, void *on, uint64_t until)
+/* Waits until somebody frees those that wait for this. Return: whether it was late instead */
+static bool wait_on(enum state state, void *on, uint64_t until, const char *name)
 {
     threads[me].state = state;
     threads[me].on = on;
+    threads[me].name = name;
     threads[me].until = until;
+    threads[me].late = false;
     take_turns();
+    return threads[me].late;
 }
 
-/* The first word of a lock: 0, or who has it, plus 1; of a lock of readers how many they are, or -1: a writer. */
-static void take(void *lock)
+static uint64_t time_of(const struct timespec *at)
+{ return at ? (uint64_t)at->tv_sec * 1000000000u + (uint64_t)at->tv_nsec : FOREVER; }
+
+/* The first word of a lock: 0, or who has it, plus 1; of a lock of readers how many they are, or -1: a writer. Return:
+   whether it was had before that time */
+static bool take(void *lock, uint64_t until)
 {
-    while (*(int *)lock) wait_on(LOCKED, lock, FOREVER);
+    while (*(int *)lock)
+        if (wait_on(LOCKED, lock, until, NULL)) return false;
     *(int *)lock = (int)me + 1;
+    return true;
 }
 static void let_go(void *lock)
 {
@@ -143,12 +160,11 @@ static void let_go(void *lock)
 
 int cmwq_turns_forget(void *it, size_t size) { return memset(it, 0, size), 0; }
 
-int cmwq_turns_lock(void *lock)
+int cmwq_turns_lock(void *lock, const struct timespec *until)
 {
     enter();
     take_turns();
-    take(lock);
-    return leave(0);
+    return leave(take(lock, time_of(until)) ? 0 : ETIMEDOUT);
 }
 
 int cmwq_turns_trylock(void *lock)
@@ -158,7 +174,7 @@ int cmwq_turns_trylock(void *lock)
     enter();
     take_turns();
     result = *(int *)lock ? EBUSY : 0;
-    if (result == 0) take(lock);
+    if (result == 0) take(lock, FOREVER);
     return leave(result);
 }
 
@@ -169,22 +185,46 @@ int cmwq_turns_unlock(void *lock)
     return leave(0);
 }
 
-int cmwq_turns_rdlock(void *lock)
+int cmwq_turns_rdlock(void *lock, const struct timespec *until)
 {
     enter();
     take_turns();
-    while (*(int *)lock < 0) wait_on(LOCKED, lock, FOREVER);
+    while (*(int *)lock < 0)
+        if (wait_on(LOCKED, lock, time_of(until), NULL)) return leave(ETIMEDOUT);
     ++*(int *)lock;
     return leave(0);
 }
 
-int cmwq_turns_wrlock(void *lock)
+int cmwq_turns_wrlock(void *lock, const struct timespec *until)
 {
     enter();
     take_turns();
-    while (*(int *)lock) wait_on(LOCKED, lock, FOREVER);
+    while (*(int *)lock)
+        if (wait_on(LOCKED, lock, time_of(until), NULL)) return leave(ETIMEDOUT);
     *(int *)lock = -1;
     return leave(0);
+}
+
+int cmwq_turns_tryrdlock(void *lock)
+{
+    bool is_free;
+
+    enter();
+    take_turns();
+    is_free = *(int *)lock >= 0;
+    *(int *)lock += is_free;
+    return leave(is_free ? 0 : EBUSY);
+}
+
+int cmwq_turns_trywrlock(void *lock)
+{
+    bool is_free;
+
+    enter();
+    take_turns();
+    is_free = *(int *)lock == 0;
+    *(int *)lock -= is_free;
+    return leave(is_free ? 0 : EBUSY);
 }
 
 int cmwq_turns_rwunlock(void *lock)
@@ -195,16 +235,14 @@ int cmwq_turns_rwunlock(void *lock)
     return leave(0);
 }
 
-int cmwq_turns_wait(void *cond, void *lock, const struct timespec *until)
+int cmwq_turns_wait(void *cond, void *lock, const struct timespec *until, const char *name)
 {
     bool late;
 
     enter();
     let_go(lock);
-    threads[me].late = false;
-    wait_on(WAITS, cond, until ? (uint64_t)until->tv_sec * 1000000000u + (uint64_t)until->tv_nsec : FOREVER);
-    late = threads[me].late;
-    take(lock);
+    late = wait_on(WAITS, cond, time_of(until), name);
+    take(lock, FOREVER);
     return leave(late ? ETIMEDOUT : 0);
 }
 
@@ -222,6 +260,99 @@ int cmwq_turns_broadcast(void *cond)
     return leave(0);
 }
 
+/* The first word of a semaphore is its value. */
+int cmwq_turns_sem_init(sem_t *sem, unsigned value)
+{
+    memset(sem, 0, sizeof *sem);
+    *(unsigned *)(void *)sem = value;
+    return 0;
+}
+
+static int fail(int why)
+{
+    errno = why;
+    return leave(-1);
+}
+
+int cmwq_turns_sem_wait(sem_t *sem, const struct timespec *until, const char *name)
+{
+    unsigned *value = (unsigned *)(void *)sem;
+
+    enter();
+    take_turns();
+    while (*value == 0)
+        if (wait_on(POSTED, sem, time_of(until), name)) return fail(ETIMEDOUT);
+    --*value;
+    return leave(0);
+}
+
+int cmwq_turns_sem_trywait(sem_t *sem)
+{
+    unsigned *value = (unsigned *)(void *)sem;
+
+    enter();
+    take_turns();
+    if (*value == 0) return fail(EAGAIN);
+    --*value;
+    return leave(0);
+}
+
+int cmwq_turns_sem_post(sem_t *sem)
+{
+    enter();
+    ++*(unsigned *)(void *)sem;
+    free_those(POSTED, sem, true);
+    return leave(0);
+}
+
+int cmwq_turns_sem_value(sem_t *sem, int *value)
+{
+    enter();
+    *value = (int)*(unsigned *)(void *)sem;
+    return leave(0);
+}
+
+/* The words of a barrier: how many it is for; how many are there; and how often it has opened. */
+int cmwq_turns_barrier_init(void *barrier, unsigned many)
+{
+    if (many == 0) return EINVAL;
+    memset(barrier, 0, sizeof(pthread_barrier_t));
+    *(unsigned *)barrier = many;
+    return 0;
+}
+
+int cmwq_turns_barrier_wait(void *barrier, const char *name)
+{
+    unsigned *words = (unsigned *)barrier, opened;
+
+    enter();
+    take_turns();
+    if (++words[1] == words[0]) {
+        words[1] = 0;
+        words[2]++;
+        free_those(BARRED, barrier, false);
+        return leave(PTHREAD_BARRIER_SERIAL_THREAD);
+    }
+    for (opened = words[2]; words[2] == opened;) wait_on(BARRED, barrier, FOREVER, name);
+    return leave(0);
+}
+
+/* 0: nobody has begun; 1: somebody has; 2: it is done. */
+int cmwq_turns_once(pthread_once_t *once, void (*body)(void))
+{
+    enter();
+    take_turns();
+    while (*once == 1) wait_on(ONCE, once, FOREVER, NULL);
+    if (*once == 2) return leave(0);
+    *once = 1;
+    leave(0);
+    body();
+    enter();
+    *once = 2;
+    free_those(ONCE, once, false);
+    return leave(0);
+}
+
 int cmwq_turns_yield(void)
 {
     enter();
@@ -230,15 +361,29 @@ int cmwq_turns_yield(void)
 }
 
 /* One sleep in four is late, by up to a millisecond. */
-int cmwq_turns_sleep(const struct timespec *time)
+static int sleep_by(int flags, const struct timespec *time)
 {
     uint64_t late;
 
     enter();
     late = next_random() % 4 ? 0 : next_random() % 1000000;
-    wait_on(SLEEPS, NULL, now_ns + (uint64_t)time->tv_sec * 1000000000u + (uint64_t)time->tv_nsec + late);
+    wait_on(SLEEPS, NULL, (flags & TIMER_ABSTIME ? 0 : now_ns) + time_of(time) + late, NULL);
     return leave(0);
 }
+
+int cmwq_turns_sleep(const struct timespec *time) { return sleep_by(0, time); }
+
+/* What the header has these names for. */
+int cmwq_turns_nanosleep(const struct timespec *time, struct timespec *left);
+int cmwq_turns_nanosleep(const struct timespec *time, struct timespec *left) { return (void)left, sleep_by(0, time); }
+
+int cmwq_turns_clock_nanosleep(clockid_t clock, int flags, const struct timespec *time, struct timespec *left);
+int cmwq_turns_clock_nanosleep(clockid_t clock, int flags, const struct timespec *time, struct timespec *left)
+{ return (void)clock, (void)left, sleep_by(flags, time); }
+
+unsigned cmwq_turns_seconds(unsigned seconds);
+unsigned cmwq_turns_seconds(unsigned seconds)
+{ return (unsigned)cmwq_turns_sleep(&(struct timespec){(time_t)seconds, 0}); }
 
 int cmwq_turns_clock(struct timespec *now)
 {
@@ -248,21 +393,55 @@ int cmwq_turns_clock(struct timespec *now)
     return leave(0);
 }
 
+time_t cmwq_turns_time(time_t *now);
+time_t cmwq_turns_time(time_t *now)
+{
+    struct timespec at;
+
+    cmwq_turns_clock(&at);
+    if (now) *now = at.tv_sec;
+    return at.tv_sec;
+}
+
+int cmwq_turns_day(struct timeval *now, void *zone);
+int cmwq_turns_day(struct timeval *now, void *zone)
+{
+    struct timespec at;
+
+    (void)zone;
+    cmwq_turns_clock(&at);
+    *now = (struct timeval){at.tv_sec, at.tv_nsec / 1000};
+    return 0;
+}
+
+/* The calling thread has ended. What runs in it after that is beside the others. */
+static void end_thread(void)
+{
+    enter();
+    threads[me].state = DONE;
+    free_those(JOINS, &threads[me], false);
+    take_turns();
+    leave(0);
+}
+
+void cmwq_turns_exit(void *result)
+{
+    end_thread();
+    (pthread_exit)(result);
+}
+
 static void *run_thread(void *at)
 {
     struct thread *own = (struct thread *)at;
+    void *result;
 
     (pthread_mutex_lock)(&baton);
     me = (unsigned)(own - threads);
     while (has_turn != me) (pthread_cond_wait)(&own->turn, &baton);
     (pthread_mutex_unlock)(&baton);
-    own->body(own->data);
-    (pthread_mutex_lock)(&baton);
-    own->state = DONE;
-    free_those(JOINS, own, false);
-    take_turns();
-    (pthread_mutex_unlock)(&baton);
-    return NULL;
+    result = own->body(own->data);
+    end_thread();
+    return result;
 }
 
 int cmwq_turns_create(pthread_t *thread, void *(*body)(void *), void *data)
@@ -288,7 +467,7 @@ int cmwq_turns_join(pthread_t thread, void **result)
     enter();
     for (unsigned k = 0; k < count; k++) /* (of those that have ended, one may have had the same name) */
         while (pthread_equal(threads[k].real, thread) && threads[k].state != DONE)
-            wait_on(JOINS, &threads[k], FOREVER);
+            wait_on(JOINS, &threads[k], FOREVER, NULL);
     leave(0);
     return (pthread_join)(thread, result);
 }

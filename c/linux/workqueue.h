@@ -75,6 +75,7 @@ void destroy_workqueue(struct workqueue_struct *wq);
 void flush_workqueue(struct workqueue_struct *wq);
 void drain_workqueue(struct workqueue_struct *wq);
 void workqueue_set_max_active(struct workqueue_struct *wq, int max_active);
+bool workqueue_congested(int cpu, struct workqueue_struct *wq);
 
 bool queue_work_on(int cpu, struct workqueue_struct *wq, struct work_struct *work);
 bool queue_delayed_work_on(int cpu, struct workqueue_struct *wq, struct delayed_work *dwork, unsigned long delay);
@@ -112,6 +113,8 @@ static inline bool cancel_delayed_work(struct delayed_work *dwork) { return canc
 static inline bool cancel_delayed_work_sync(struct delayed_work *dwork) { return cancel_work_sync(&dwork->work); }
 static inline bool work_pending(struct work_struct *work) { return (work_busy(work) & WORK_BUSY_PENDING) != 0; }
 static inline bool delayed_work_pending(struct delayed_work *dwork) { return work_pending(&dwork->work); }
+/* CPUs neither come nor go. */
+static inline long work_on_cpu_safe(int cpu, long (*fn)(void *), void *arg) { return work_on_cpu(cpu, fn, arg); }
 /* There are no rescuers, and threads outside of the kernel are always in process context. */
 static inline bool current_is_workqueue_rescuer(void) { return false; }
 static inline int execute_in_process_context(work_func_t fn, struct execute_work *ew) { return fn(&ew->work), 0; }
@@ -149,6 +152,9 @@ struct cmwq_linux_options {
 int cmwq_linux_open(const struct cmwq_linux_options *options);
 /* Lets what is queued end, and ends the threads. Return: as cmwq_hub_close(). Not in a work function */
 int cmwq_linux_close(void);
+/* Writes all that there is of the history by now, and the names, for a program that is about to abort. It does so by
+   itself before options.aborts does. Not in a signal handler */
+void cmwq_linux_write_out(void);
 /* Around what blocks in a work function outside of workqueues, such as a lock or a sleep. Pairs may be nested. */
 void cmwq_linux_blocks(void);
 void cmwq_linux_goes_on(void);

@@ -518,6 +518,45 @@ static void test_delays(void)
 }
 
 /* A process may have many hubs: none of them takes a key for threads, of which a process has some 1,000. */
+/* The time of the first entry that has this in its line, by the ticks before it. */
+static uint64_t time_of(const char *entry)
+{
+    const char *at = (const char *)memmem(text, written, entry, strlen(entry)), *tick = text;
+    uint64_t time = 0;
+
+    CHECK(at);
+    while ((tick = (const char *)memmem(tick, (size_t)(at - tick), " = now ", 7))) {
+        tick += 7;
+        time = strtoull(tick, NULL, 10);
+    }
+    return time;
+}
+
+static void rest_and_note(struct cmwq_run *run, void *data)
+{
+    (void)data;
+    usleep(20000);
+    began = cmwq_hub_now_(run->hub) / run->hub->is.tick_ns;
+}
+
+/* With @ticks an entry is made no sooner than it says; without, time stands still if nothing is delayed. */
+static void test_ticks(bool ticks)
+{
+    struct cmwq_options options = made(rest_and_note);
+    uint64_t called;
+
+    options.journal = keep;
+    options.ticks = ticks;
+    open_hub(options);
+    usleep(20000);
+    called = cmwq_hub_now_(&hub) / hub.is.tick_ns;
+    CHECK(called >= 20 && cmwq_queue_work_on(&hub, 0, 0, 0) == 1 && cmwq_flush_work(&hub, 0, CMWQ_FOREVER) == 1);
+    CHECK(cmwq_hub_close(&hub) == CMWQ_OK);
+    judge();
+    CHECK(ticks ? time_of(" queue 0 ") >= called && time_of(" finish ") >= began : time_of(" finish ") == 0);
+    CHECK(!ticks || (time_of(" take ") < began && began >= called + 20));
+}
+
 static void test_many_hubs(void)
 {
     static struct cmwq_hub many[64];
@@ -681,6 +720,8 @@ int main(void)
     test_timeouts();
     test_timeouts_in_runs();
     test_delays();
+    test_ticks(true);
+    test_ticks(false);
     test_two_hubs();
     test_many_hubs();
     test_waiters();

@@ -49,6 +49,25 @@ EDITS = (
         "",
     ),
     (
+        "time stands still at the end of a run",
+        "shell",
+        "            if (run.broken_) break;\n            cmwq_hub_space_(hub, hub->is.keep);\n"
+        "            cmwq_hub_pass_(hub);\n",
+        "            if (run.broken_) break;\n            cmwq_hub_space_(hub, hub->is.keep);\n",
+    ),
+    (
+        "time stands still at a call",
+        "hub",
+        "    cmwq_hub_pass_(hub);\n",
+        "",
+    ),
+    (
+        "time goes on by itself",
+        "shell",
+        "if (hub->is.ticks && hub->state",
+        "if (hub->state",
+    ),
+    (
         "the wakes of a finish are dropped",
         "shell",
         "cmwq_hub_note_(hub, cmwq_board_finish(&hub->board, &me->who, &hub->wakes));",
@@ -273,8 +292,8 @@ EDITS = (
     (
         "space is not looked for",
         "hub",
-        "cmwq_hub_space_(hub, hub->is.keep);\n    return",
-        "return",
+        "cmwq_hub_space_(hub, hub->is.keep);\n    cmwq_hub_pass_(hub);\n    return",
+        "cmwq_hub_pass_(hub);\n    return",
     ),
     (
         "numbers are cut off",

@@ -36,6 +36,40 @@ static void chain(struct work_struct *work)
 }
 static DECLARE_WORK(a_link, chain);
 
+static int gate, in_gate;
+static void wait_for_gate(struct work_struct *work)
+{
+    (void)work;
+    ADD(in_gate, 1);
+    while (!GET(gate)) rest_in_run(100);
+}
+
+/* A queue is congested on a CPU where works wait because max_active of them run. */
+static void test_congested(unsigned flags)
+{
+    struct workqueue_struct *narrow = alloc_workqueue("narrow", flags, 2);
+    struct work_struct works[5];
+
+    SET(gate, 0);
+    SET(in_gate, 0);
+    for (int k = 0; k < 5; k++) {
+        CHECK(narrow && workqueue_congested(0, narrow) == (k > 2));
+        INIT_WORK_ONSTACK(&works[k], wait_for_gate);
+        CHECK(queue_work_on(0, narrow, &works[k]));
+        while (GET(in_gate) < (k < 2 ? k + 1 : 2)) rest(100);
+    }
+    CHECK(workqueue_congested(0, narrow) && workqueue_congested(1, narrow) == (flags == WQ_UNBOUND));
+    cmwq_linux_set_cpu(1);
+    CHECK(workqueue_congested(WORK_CPU_UNBOUND, narrow) == (flags == WQ_UNBOUND));
+    cmwq_linux_set_cpu(0);
+    CHECK(workqueue_congested(WORK_CPU_UNBOUND, narrow) && !workqueue_congested(0, system_wq));
+    workqueue_set_max_active(narrow, 5);
+    CHECK(!workqueue_congested(0, narrow));
+    SET(gate, 1);
+    destroy_workqueue(narrow);
+    CHECK(in_gate == 5);
+}
+
 static long twice(void *at) { return 2 * *(long *)at; }
 
 static void execute(struct work_struct *work)
@@ -95,6 +129,9 @@ int main(void)
     CHECK(calls == 1);
 
     CHECK(schedule_on_each_cpu(call) == 0 && calls == 3 && work_on_cpu(1, twice, &seven) == 14);
+    CHECK(work_on_cpu_safe(0, twice, &seven) == 14);
+    test_congested(0);
+    test_congested(WQ_UNBOUND);
     CHECK(execute_in_process_context(execute, &now) == 0 && calls == 100);
     old[0] = create_workqueue("old");
     old[1] = create_singlethread_workqueue("single");

@@ -11,5 +11,6 @@ int main(void)
     queue_work(wq, &itself);
     flush_workqueue(wq);
     destroy_workqueue(wq);
+    queue_work(wq, &itself);
     return 0;
 }

@@ -20,8 +20,8 @@ import edits
 SECONDS = 30
 
 # The one that takes longest is the last.
-TESTS = ("flushes", "shims", "callers", "circle", "delayed", "places", "queues", "requeue", "rcu", "embedded", "stress",
-         "warnings")
+TESTS = ("flushes", "shims", "callers", "circle", "delayed", "places", "queues", "gone", "requeue", "rcu", "embedded",
+         "aborts", "stress", "warnings")
 
 # Those that are tried by --quick.
 QUICK = ("a cancel waits for one number alone", "a number that is pending is taken back")
@@ -104,9 +104,10 @@ EDITS = (
     ),
     (
         "the lock is not held while a number is lent",
-        "    pthread_mutex_lock(&lending);\n    if (at != NONE) result = put_work(work, kind, at, wq->slot, delay);\n"
-        "    pthread_mutex_unlock(&lending);\n",
-        "    if (at != NONE) result = put_work(work, kind, at, wq->slot, delay);\n",
+        "    if (at != NONE && can_run) result = put_work(work, kind, at, slot, delay);\n",
+        "    pthread_mutex_unlock(&lending);\n"
+        "    if (at != NONE && can_run) result = put_work(work, kind, at, slot, delay);\n"
+        "    pthread_mutex_lock(&lending);\n",
         THREAD,
     ),
     (
@@ -151,12 +152,12 @@ EDITS = (
     ),
     (
         "a slot is not left by a queue that is destroyed",
-        "slots[wq->slot].taken = is_late;",
+        "slots[slot].taken = is_late || stays;",
         "",
     ),
     (
         "a slot is left by a queue on which a work is delayed",
-        "is_late = numbers[k].work && numbers[k].slot == wq->slot && is_pending(k);",
+        "is_late = numbers[k].work && numbers[k].slot == slot && is_pending(k);",
         "is_late = false;",
     ),
     (
@@ -164,6 +165,52 @@ EDITS = (
         "if (result < 0 && result != -CMWQ_CLOSED && result != -CMWQ_STOPPED) return;",
         "",
         ADDRESS,
+    ),
+    (
+        "a queue that is gone is still there",
+        "        if (!stays) eldest = forget_queue(wq);\n",
+        "",
+    ),
+    (
+        "a work on a queue that is gone is not told",
+        "    if (slot == SLOTS) warn_gone(call, name, wq);\n    else if (!can_run)",
+        "    if (slot == SLOTS) return false;\n    if (!can_run)",
+    ),
+    (
+        "a wait for a queue that is gone is not told",
+        "    if (slot == SLOTS) warn_gone(call, NULL, wq);\n    return slot;",
+        "    return slot;",
+    ),
+    (
+        "a queue that is gone has no name",
+        "    gone[place] = wq;\n",
+        "",
+    ),
+    (
+        "the memory of a queue that is gone is another one's at once",
+        "    free(eldest);\n",
+        "    if (slot != SLOTS && !stays) free(wq);\n",
+        ADDRESS,
+    ),
+    (
+        "a queue of the system goes",
+        "stays = wq->is_of_system;",
+        "stays = false;",
+    ),
+    (
+        "a queue is congested before works wait",
+        "return many > __atomic_load_n(&slots[slot].width",
+        "return many >= __atomic_load_n(&slots[slot].width",
+    ),
+    (
+        "runs do not congest a queue",
+        "        many += item.runs && numbers[k].slot == slot && item.worker.cpu == at;\n",
+        "",
+    ),
+    (
+        "a queue is congested on all CPUs at once",
+        "item.queue == slot && item.cpu == at;",
+        "item.queue == slot;",
     ),
     (
         "a queue that is destroyed is not drained",
@@ -228,6 +275,16 @@ EDITS = (
     (
         "a circle is told with the next warning too",
         "    circle[0] = 0;\n",
+        "",
+    ),
+    (
+        "what was not written yet is lost at an abort",
+        "    cmwq_linux_write_out();\n    abort();",
+        "    abort();",
+    ),
+    (
+        "what is written out is the names alone",
+        "    cmwq_hub_tell_all_(&hub);\n",
         "",
     ),
     (
