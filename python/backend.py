@@ -17,9 +17,9 @@ import zipfile
 
 HERE = os.path.dirname(os.path.abspath(__file__))
 
-MODULES = ("__init__.py", "_aio.py", "_aio_shell.py", "_arguments.py", "_book.py", "_errors.py", "_fork.py",
-           "_handles.py", "_hub.py", "_library.py", "_options.py", "_report.py", "_run.py", "_shell.py", "_threads.py",
-           "py.typed")
+MODULES = ("__init__.py", "_aio.py", "_aio_shell.py", "_arguments.py", "_book.py", "_durable.py", "_errors.py",
+           "_fork.py", "_handles.py", "_hub.py", "_library.py", "_options.py", "_report.py", "_run.py", "_shell.py",
+           "_threads.py", "py.typed")
 
 # The tag of a shared object that needs no other library than glibc's, and no later one than this.
 LATEST, MANYLINUX, OTHERWISE = (2, 34), "manylinux_2_34_x86_64", "linux_x86_64"
