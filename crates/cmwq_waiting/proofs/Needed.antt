@@ -1,8 +1,9 @@
 -- The worked histories of the law that a hub does not hang by itself, by computation.
-use Rattle.std.proofs.Common.{◌≡◌, ◌++◌, List, arith, false, map, refl, subst, true, ⊎_elim, []}
+use Rattle.std.proofs.Common.{◌≡◌, ◌++◌, ◌∷◌, List, arith, false, map, refl, subst, true, ⊎_elim, []}
+use Rattle.std.specs.Prelude.{Contains}
 use Rattle.std.specs.List.{AllByRecursion}
 use Rattle.cmwq_lemmas.proofs.Members.{contained_in}
-use Rattle.cmwq_model.specs.Prelude.{IsLegal, Layout, fits, is_active, past_of, steps, still_open}
+use Rattle.cmwq_model.specs.Prelude.{IsLegal, Layout, fits, is_active, is_started, past_of, steps, still_open}
 use Rattle.cmwq_model.specs.declared.call.Call.{Call}
 use Rattle.cmwq_model.specs.declared.entry.Entry.{Entry}
 use Rattle.cmwq_model.specs.declared.id.Who.{Who}
@@ -17,7 +18,8 @@ use Rattle.cmwq_waiting.specs.Needed.{PremisesAreMet, PremisesAreNeeded, Story, 
 use Rattle.cmwq_waiting.specs.Needed.{for_itself, freezable, frozen, inactive, narrowed, one_queue, queued}
 use Rattle.cmwq_waiting.specs.Needed.{queued_in_drain, retired, running, started, taking_back, two_queues, waiting}
 use Rattle.cmwq_waiting.specs.Needed.{without_workers, woken}
-use Rattle.cmwq_waiting.specs.Rest.{NoneActive}
+use Rattle.cmwq_waiting.specs.Needed.{FrozenPremise, FrozenPremisesAreNeeded, HoldsThen, IsNeededThen}
+use Rattle.cmwq_waiting.specs.Rest.{NoneActive, NoneRuns}
 unfoldable use Rattle.cmwq_waits.specs.Begun.{waits_of}
 unfoldable use Rattle.cmwq_waiting.proofs.Deciding.{each_entry}
 use Rattle.cmwq_waiting.proofs.Deciding.{all_allowed, all_wait, at_rest, none_frozen, none_traps}
@@ -233,6 +235,73 @@ premises_are_needed = record {
   ready = ready;
   acting = acting;
   shut_down = shut_down;
+}
+
+-- ---- the law that only what is frozen is open
+
+-- the queueing of item 0
+abbrev of_queued : Queueing
+of_queued = record {
+  item = record { 0 = 0 };
+  place = record { queue = record { 0 = 0 }; cpu = record { 0 = 0 } };
+  number = 0;
+}
+
+waits_to_start : (past : List Entry) → still_open past ≡ of_queued ∷ [] → is_started past 0 ≡ false → NoneRuns past
+waits_to_start past one is x here =
+    ⊎_elim (λ same. subst (λ (y : Queueing). is_started past y.number ≡ false) same is) (λ none. absurd none)
+    (contained_in (of_queued ∷ []) x (subst (λ (xs : List Queueing). Contains xs x) one here))
+
+no_workers_then : IsNeededThen premise.some_layout (story without_workers queued)
+unfolding definitions waits_of each_entry left_of
+no_workers_then =
+    record { others = others; queueing = of_queued; is_open = (0, omega arith, refl); not_frozen = refl }
+  where
+    others : (q : FrozenPremise) → (q ≡ premise.some_layout → ⊥) → HoldsThen q (story without_workers queued)
+    others premise.some_layout not = absurd (not refl)
+    others premise.legal_entries not = no_workers_legal
+    others premise.none_starts not = (at_rest 1 without_workers (past_of queued) refl refl).workers
+    others premise.none_runs not = waits_to_start (past_of queued) refl refl
+
+made_up_then : IsNeededThen premise.legal_entries (story (one_queue 2) retired)
+unfolding definitions waits_of each_entry left_of
+made_up_then =
+    record { others = others; queueing = of_queued; is_open = (0, omega arith, refl); not_frozen = refl }
+  where
+    others : (q : FrozenPremise) → (q ≡ premise.legal_entries → ⊥) → HoldsThen q (story (one_queue 2) retired)
+    others premise.some_layout not = refl
+    others premise.legal_entries not = absurd (not refl)
+    others premise.none_starts not = (at_rest 1 (one_queue 2) (past_of retired) refl refl).workers
+    others premise.none_runs not = waits_to_start (past_of retired) refl refl
+
+unstarted_then : IsNeededThen premise.none_starts (story (one_queue 2) queued)
+unfolding definitions waits_of each_entry left_of
+unstarted_then =
+    record { others = others; queueing = of_queued; is_open = (0, omega arith, refl); not_frozen = refl }
+  where
+    others : (q : FrozenPremise) → (q ≡ premise.none_starts → ⊥) → HoldsThen q (story (one_queue 2) queued)
+    others premise.some_layout not = refl
+    others premise.legal_entries not = unstarted_legal
+    others premise.none_starts not = absurd (not refl)
+    others premise.none_runs not = waits_to_start (past_of queued) refl refl
+
+acting_then : IsNeededThen premise.none_runs (story (one_queue 2) started)
+unfolding definitions waits_of each_entry left_of
+acting_then =
+    record { others = others; queueing = of_queued; is_open = (0, omega arith, refl); not_frozen = refl }
+  where
+    others : (q : FrozenPremise) → (q ≡ premise.none_runs → ⊥) → HoldsThen q (story (one_queue 2) started)
+    others premise.some_layout not = refl
+    others premise.legal_entries not = acting_legal
+    others premise.none_starts not = (at_rest 1 (one_queue 2) (past_of started) refl refl).workers
+    others premise.none_runs not = absurd (not refl)
+
+pub frozen_premises_are_needed : FrozenPremisesAreNeeded
+frozen_premises_are_needed = record {
+  no_workers = no_workers_then;
+  made_up = made_up_then;
+  unstarted = unstarted_then;
+  acting = acting_then;
 }
 
 -- ---- the law of a hub that is over

@@ -8,7 +8,7 @@ use Rattle.cmwq_lemmas.proofs.Lists.{filter_all}
 use Rattle.cmwq_lemmas.proofs.Members.{In, all_in}
 unfoldable use Rattle.cmwq_model.specs.Prelude.{IsLegal, is_asleep}
 use Rattle.cmwq_model.specs.Prelude.{Layout, gives_ticket, is_done, item_at}
-use Rattle.cmwq_model.specs.Prelude.{run, runs_awake, ticket_for}
+use Rattle.cmwq_model.specs.Prelude.{runs_awake, ticket_for}
 use Rattle.cmwq_model.specs.Prelude.{ticket_in, worker_of}
 use Rattle.cmwq_model.specs.declared.entry.Entry.{Entry}
 use Rattle.cmwq_model.specs.declared.id.Who.{Who}

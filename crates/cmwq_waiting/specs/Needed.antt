@@ -1,5 +1,5 @@
 -- Examples of the laws. One history meets all premises of the law that a hub does not hang by itself. And each premise
--- is needed: in a history in which only that one does not hold, something is open. So it is with two other laws.
+-- is needed: in a history in which only that one does not hold, something is open. So it is with three other laws.
 use Rattle.std.specs.Prelude.{◌++◌, ◌≡◌, ◌∷◌, Contains, IsTrue, List, ℕ, false, true, []}
 use Rattle.cmwq_model.specs.Prelude.{IsLegal, Layout, is_layout, past_of, still_open, unended_tickets}
 use Rattle.cmwq_model.specs.declared.call.Call.{Call}
@@ -13,7 +13,10 @@ use Rattle.cmwq_theory_wakes.specs.Readiness.{is_unready}
 use Rattle.cmwq_waits.specs.declared.run_wait.RunWait.{RunWait}
 use Rattle.cmwq_waits.specs.Allowed.{WaitsWereAllowed}
 use Rattle.cmwq_waiting.specs.Deadlocks.{NoneMayTrap}
-use Rattle.cmwq_waiting.specs.Rest.{CallersOnlyEnd, EachRunWaits, IsAtRest, NoneActive, NoneShutDown}
+use Rattle.cmwq_waiting.specs.Rest.{CallersOnlyEnd, EachRunWaits, IsAtRest, NoneActive, NoneRuns, NoneShutDown}
+use Rattle.cmwq_waiting.specs.Rest.{NoneStarts}
+use Rattle.cmwq_model.specs.Widths.{is_shut_down}
+use Rattle.cmwq_model.specs.declared.record.Queueing.{Queueing}
 use Rattle.cmwq_waits.specs.Begun.{is_lent, waits_of}
 use Rattle.cmwq_waiting.specs.Waits.{LentFollowSleeps, WaitersMakeNone}
 
@@ -168,6 +171,37 @@ pub record PremisesAreNeeded : Type 0 where
   pub acting : IsNeeded waits (record { layout = one_queue 2; entries = started })
   -- a queue is frozen
   pub shut_down : IsNeeded unfrozen (record { layout = freezable; entries = frozen })
+
+-- ---- the law that only what is frozen is open
+
+pub data FrozenPremise : Type 0 where
+  some_layout : FrozenPremise
+  legal_entries : FrozenPremise
+  none_starts : FrozenPremise
+  none_runs : FrozenPremise
+
+abbrev pub HoldsThen : FrozenPremise → Story → Type 0
+HoldsThen some_layout x = IsTrue (is_layout x.layout)
+HoldsThen legal_entries x = IsLegal x.layout (past_of x.entries)
+HoldsThen none_starts x = NoneStarts x.layout (past_of x.entries)
+HoldsThen none_runs x = NoneRuns (past_of x.entries)
+
+-- all others hold, and a queueing is open on a queue that no freeze shuts down
+pub record IsNeededThen (p : FrozenPremise) (x : Story) : Type 0 where
+  pub others : (q : FrozenPremise) → (q ≡ p → ⊥) → HoldsThen q x
+  pub queueing : Queueing
+  pub is_open : Contains (still_open (past_of x.entries)) queueing
+  pub not_frozen : is_shut_down x.layout (past_of x.entries) queueing.place.queue.0 ≡ false
+
+pub record FrozenPremisesAreNeeded : Type 0 where
+  -- the pools have no workers
+  pub no_workers : IsNeededThen some_layout (record { layout = without_workers; entries = queued })
+  -- an entry is made up
+  pub made_up : IsNeededThen legal_entries (record { layout = one_queue 2; entries = retired })
+  -- a worker would start something
+  pub unstarted : IsNeededThen none_starts (record { layout = one_queue 2; entries = queued })
+  -- a run is under way
+  pub acting : IsNeededThen none_runs (record { layout = one_queue 2; entries = started })
 
 -- ---- the law of a hub that is over
 

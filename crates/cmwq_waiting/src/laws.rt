@@ -4,8 +4,8 @@ ghost use Rattle.cmwq_model.specs.Prelude.{past_of};
 ghost use Rattle.cmwq_waiting.specs.Deadlocks.{AllowedAsleepToo, AllowedTrapNone, DeadlocksLast, EntriesTrapNone};
 ghost use Rattle.cmwq_waiting.specs.Deadlocks.{NoDeadlockComesUp, RefusalsAreRefused, RefusedNeverEnd};
 ghost use Rattle.cmwq_waiting.specs.Examples.{EntriesMayTrap, WhoWaits};
-ghost use Rattle.cmwq_waiting.specs.Needed.{LentPremisesAreNeeded, OverPremisesAreNeeded, PremisesAreMet};
-ghost use Rattle.cmwq_waiting.specs.Needed.{PremisesAreNeeded};
+ghost use Rattle.cmwq_waiting.specs.Needed.{FrozenPremisesAreNeeded, LentPremisesAreNeeded, OverPremisesAreNeeded};
+ghost use Rattle.cmwq_waiting.specs.Needed.{PremisesAreMet, PremisesAreNeeded};
 ghost use Rattle.cmwq_waiting.specs.Rest.{AtRestNoneRuns, AtRestWaitsAreDeadlock, HubsNeverHang, NeverHangs};
 ghost use Rattle.cmwq_waiting.specs.Rest.{NoneOpenAllReady};
 ghost use Rattle.cmwq_waiting.specs.Rest.{OnlyFrozenAreOpen, OverStaysOver, UnreadyStayUnready};
@@ -155,6 +155,12 @@ pub fn premises_are_met()
 /// Without any one of these premises something may be left open.
 pub fn premises_are_needed()
     ensures { PremisesAreNeeded }
+{}
+
+/// Without any one of the premises of `only_frozen_are_open`, something may be open on a queue that no freeze shuts
+/// down.
+pub fn frozen_premises_are_needed()
+    ensures { FrozenPremisesAreNeeded }
 {}
 
 // ---- once a hub is over
