@@ -1,16 +1,15 @@
--- With no obstacle a queueing would start now, and with one nobody starts it.
-use Rattle.cmwq_theory_steps.specs.Common.{◌≡◌, ◌<◌, ◌+◌, ◌==◌, ℕ, Bool, true, false, not, cond, ◌&&◌, ◌||◌, List, []}
-use Rattle.cmwq_theory_steps.specs.Common.{◌∷◌, ◌++◌, find, Option, Some, None, refl, sym, ap, subst, ◌∙◌, arith, inl}
+-- With no obstacle a queueing would start now, and with one nobody starts it; and what is so of an obstacle.
+use Rattle.cmwq_theory_steps.specs.Common.{◌≡◌, ◌<◌, ◌==◌, ℕ, Bool, true, false, not, ◌||◌, List}
+use Rattle.cmwq_theory_steps.specs.Common.{◌∷◌, find, Option, Some, None, refl, sym, ap, subst, ◌∙◌, arith, inl}
 use Rattle.cmwq_theory_steps.specs.Common.{if◌then◌else◌, nat_lt, option_and_then, option_map_or, eqb-true, eq-eqb}
 use Rattle.cmwq_theory_steps.specs.Common.{Entry, Queueing, Layout, PoolId, WorkerId, Worker, IsLegal, answer}
 use Rattle.cmwq_theory_steps.specs.Common.{nat_tests}
-use Rattle.cmwq_theory_steps.specs.Common.{count_by, has_run, is_active, is_at, is_enlisted, is_listed, is_startable}
+use Rattle.cmwq_theory_steps.specs.Common.{has_run, is_active, is_at, is_enlisted, is_listed, is_startable}
 use Rattle.cmwq_theory_steps.specs.Common.{item_at, item_runs, next, number_started, pool_at, queueings}
-use Rattle.cmwq_theory_steps.specs.Common.{same_pool, start_of, started_answer, still_open, take_answer}
+use Rattle.cmwq_theory_steps.specs.Common.{start_of, started_answer, still_open, take_answer}
 use Rattle.cmwq_theory_steps.specs.Common.{unstarted_queueing, worklist, is_unstarted, enlisted_by}
 use Rattle.std.specs.Prelude.{Contains}
-use Rattle.std.specs.List.{AllByRecursion, list_any}
-use Rattle.std.proofs.Common.{⊎_elim}
+use Rattle.std.specs.List.{list_any}
 use Rattle.std.proofs.lemmas.Bool.{and_from, and_parts}
 use Rattle.std.proofs.lemmas.Option.{same_Some}
 use Rattle.cmwq_lemmas.proofs.Filters.{count_none, none_found}
@@ -20,16 +19,16 @@ use Rattle.cmwq_model.specs.Prelude.{indices, is_holding, is_idle, is_live, work
 use Rattle.cmwq_model.specs.Workers.{runnable}
 use Rattle.cmwq_model.specs.declared.call.Call.TheVariants as call
 use Rattle.cmwq_model.specs.declared.reply.Reply.TheVariants as reply
-use Rattle.cmwq_theory_steps.proofs.Entries.{IsKnown, is_at-true, queueings_known}
+use Rattle.cmwq_theory_steps.proofs.Entries.{IsKnown, queueings_known}
 use Rattle.cmwq_theory_steps.proofs.Pools.{same_pool-true}
 use Rattle.cmwq_theory_steps.proofs.Worklist.{worklist_is}
 use Rattle.cmwq_obstacle.specs.Obstacles.{behind_other, obstacle, of_active, of_inactive, of_pool}
 use Rattle.cmwq_obstacle.specs.declared.obstacle.Obstacle.{Obstacle}
 use Rattle.cmwq_obstacle.specs.declared.obstacle.Obstacle.TheVariants as obstacles
-use Rattle.cmwq_order_laws.specs.Overtaking.{StandsBehind}
 use Rattle.cmwq_order_laws.specs.Reasons.{IsUnstarted, NothingKeepsWhatStarts, StartsNow, WhatIsKeptDoesNotStart}
+use Rattle.cmwq_order_laws.specs.Reasons.{LackingStartNothing, StartsFirst, WhatIsAheadStarts, lacks_worker}
 use Rattle.cmwq_order_laws.specs.Reasons.{would_start_it}
-use Rattle.cmwq_order_laws.proofs.Firsts.{IsFirst, active_stand, first_found}
+use Rattle.cmwq_order_laws.proofs.Firsts.{active_stand, first_found}
 use Rattle.cmwq_order_laws.proofs.Places.{IsAlone, stands_alone}
 
 -- what passes is found, if not before it another
@@ -172,7 +171,9 @@ module _ (s : Layout) (past : List Entry) (legal : IsLegal s past) where
           ap (λ o. is_at o x.number) (takes s past (worker_at p k) y (record {
             enlisted = parts.0;
             free = none;
-            not_held = count_by-none (is_holding s past p) (indices s) (find_none (is_holding s past p) (indices s) held);
+            not_held =
+                count_by-none (is_holding s past p) (indices s)
+                (find_none (is_holding s past p) (indices s) held);
             is_next = is;
           })) ∙ eq-eqb y.number x.number same;
     }
@@ -265,3 +266,150 @@ what_is_kept_does_not_start s past x o legal unstarted kept p k less =
             let none = not_kept s past legal x unstarted p k less (is ∙ ap Some (eqb-true n x.number h)) in
             let clash : None ≡ Some o = sym none ∙ kept in
             absurd (cc clash)
+
+-- ---- what is so of an obstacle
+
+module _ (s : Layout) (past : List Entry) (x : Queueing) where
+  abbrev q : PoolId
+  q = pool_at s x.place
+
+  -- it is behind another one
+  record IsBehind (y : Queueing) : Type 0 where
+    not_held : find (is_holding s past q) (indices s) ≡ None
+    one_is_idle : list_any (is_idle past q) (indices s) ≡ true
+    is_next : next s past q ≡ Some y
+
+  same_behind : (y z : Queueing) → Some (obstacles.Behind z) ≡ Some (obstacles.Behind y) → z ≡ y
+  same_behind y z h = cc h
+
+  is_behind : (y : Queueing) → obstacle s past x ≡ Some (obstacles.Behind y) → IsBehind y
+  is_behind y h = at (is_active s past x) h
+    where
+      next_one : find (is_holding s past q) (indices s) ≡ None → list_any (is_idle past q) (indices s) ≡ true
+          → (o : Option Queueing) → next s past q ≡ o
+          → option_and_then (behind_other x) o ≡ Some (obstacles.Behind y) → IsBehind y
+      next_one held idle None is k = absurd (cc k)
+      next_one held idle (Some z) is k = by (z.number == x.number) k
+        where
+          by : (b : Bool) → (if b then None else Some (obstacles.Behind z)) ≡ Some (obstacles.Behind y) → IsBehind y
+          by true m = absurd (cc m)
+          by false m =
+              record { not_held = held; one_is_idle = idle; is_next = is ∙ ap Some (same_behind y z m) }
+
+      idle : find (is_holding s past q) (indices s) ≡ None → (b : Bool) → list_any (is_idle past q) (indices s) ≡ b
+          → (if b then option_and_then (behind_other x) (next s past q) else Some obstacles.NoWorker)
+          ≡ Some (obstacles.Behind y) → IsBehind y
+      idle held true is k = next_one held is (next s past q) refl k
+      idle held false is k = absurd (cc k)
+
+      held : (o : Option ℕ) → find (is_holding s past q) (indices s) ≡ o
+          → option_map_or (λ k. Some (obstacles.Held (record { pool = q; index = k }))) o
+          (if list_any (is_idle past q) (indices s) then option_and_then (behind_other x) (next s past q)
+          else Some obstacles.NoWorker) ≡ Some (obstacles.Behind y) → IsBehind y
+      held None is k = idle is (list_any (is_idle past q) (indices s)) refl k
+      held (Some n) is k = absurd (cc k)
+
+      runs : (b : Bool) → (if b then Some obstacles.ItemRuns else of_pool s past x q) ≡ Some (obstacles.Behind y)
+          → IsBehind y
+      runs true k = absurd (cc k)
+      runs false k = held (find (is_holding s past q) (indices s)) refl k
+
+      frozen : (b : Bool) (first : Option Queueing) (n : ℕ)
+          → Some (if b then obstacles.Frozen else obstacles.NoPlace first n) ≡ Some (obstacles.Behind y) → IsBehind y
+      frozen true first n k = absurd (cc k)
+      frozen false first n k = absurd (cc k)
+
+      at : (b : Bool) → (if b then of_active s past x else Some (of_inactive s past x)) ≡ Some (obstacles.Behind y)
+          → IsBehind y
+      at true k = runs (item_runs past x.item.0) k
+      at false k = frozen _ _ _ k
+
+  module _ (y : Queueing) (is : IsBehind y) where
+    would : (k : ℕ) → is_idle past q k ≡ true → would_start_it s past (worker_at q k) y ≡ true
+    unfolding runnable
+    would k here =
+        let parts = and_parts (is_enlisted past (worker_at q k)) _ here in
+        let none : has_run past (worker_at q k) ≡ false = grind (arith, parts.1) in
+        ap (λ o. is_at o y.number) (takes s past (worker_at q k) y (record {
+          enlisted = parts.0;
+          free = none;
+          not_held =
+              count_by-none (is_holding s past q) (indices s)
+              (find_none (is_holding s past q) (indices s) is.not_held);
+          is_next = is.is_next;
+        })) ∙ eq-eqb y.number y.number refl
+
+    starts_first : IsLegal s past → StartsFirst s past x y
+    starts_first legal =
+        let n = next_is s past legal q y is.is_next in
+        let pool : pool_at s y.place ≡ q = same_pool-true (pool_at s y.place) q (grind (arith, n.listed)) in
+        record {
+          same_pool = pool;
+          unstarted = n.alone.alone;
+          starts_now = record {
+            one_is_idle = subst (λ r. list_any (is_idle past r) (indices s) ≡ true) (sym pool) is.one_is_idle;
+            each_would =
+                subst (λ r. (k : ℕ) → is_idle past r k ≡ true → would_start_it s past (worker_at r k) y ≡ true)
+                (sym pool) would;
+          };
+        }
+
+  -- where a worker of the pool may start something, none is lacking
+  lacks_none : (o : Obstacle) → obstacle s past x ≡ Some o → find (is_holding s past q) (indices s) ≡ None
+      → list_any (is_idle past q) (indices s) ≡ true → lacks_worker o ≡ false
+  lacks_none o h held idle = at (is_active s past x) h
+    where
+      told : (z : Obstacle) → lacks_worker z ≡ false → Some z ≡ Some o → lacks_worker o ≡ false
+      told z none k = subst (λ r. lacks_worker r ≡ false) (same_Some z o k) none
+
+      behind : (w : Option Queueing) → option_and_then (behind_other x) w ≡ Some o → lacks_worker o ≡ false
+      behind None k = absurd (cc k)
+      behind (Some z) k = by (z.number == x.number) k
+        where
+          by : (b : Bool) → (if b then None else Some (obstacles.Behind z)) ≡ Some o → lacks_worker o ≡ false
+          by true m = absurd (cc m)
+          by false m = told (obstacles.Behind z) refl m
+
+      of_its_pool : of_pool s past x q ≡ option_and_then (behind_other x) (next s past q)
+      of_its_pool =
+          ap (λ f. option_map_or (λ j. Some (obstacles.Held (record { pool = q; index = j }))) f
+          (if list_any (is_idle past q) (indices s) then option_and_then (behind_other x) (next s past q)
+          else Some obstacles.NoWorker)) held
+          ∙ ap (λ b. if b then option_and_then (behind_other x) (next s past q) else Some obstacles.NoWorker) idle
+
+      runs : (b : Bool) → (if b then Some obstacles.ItemRuns else of_pool s past x q) ≡ Some o
+          → lacks_worker o ≡ false
+      runs true k = told obstacles.ItemRuns refl k
+      runs false k = behind (next s past q) (sym of_its_pool ∙ k)
+
+      frozen : (b : Bool) (first : Option Queueing) (n : ℕ)
+          → Some (if b then obstacles.Frozen else obstacles.NoPlace first n) ≡ Some o → lacks_worker o ≡ false
+      frozen true first n k = told obstacles.Frozen refl k
+      frozen false first n k = told (obstacles.NoPlace first n) refl k
+
+      at : (b : Bool) → (if b then of_active s past x else Some (of_inactive s past x)) ≡ Some o
+          → lacks_worker o ≡ false
+      at true k = runs (item_runs past x.item.0) k
+      at false k = frozen _ _ _ k
+
+  starts_nothing : (o : Obstacle) → obstacle s past x ≡ Some o → lacks_worker o ≡ true → (k : ℕ) → k < s.workers
+      → number_started (answer s past (Worker (worker_at q k)) call.Take) ≡ None
+  unfolding runnable
+  starts_nothing o h lacks k less = at (number_started (answer s past (Worker (worker_at q k)) call.Take)) refl
+    where
+      at : (n : Option ℕ) → number_started (answer s past (Worker (worker_at q k)) call.Take) ≡ n → n ≡ None
+      at None is = refl
+      at (Some n) is =
+          let t = took s past (worker_at q k) n is in
+          let held = none_found (is_holding s past q) (indices s)
+          (count_none (is_holding s past q) (indices s) t.may.not_held) in
+          let idle : is_idle past q k ≡ true = and_from _ _ t.may.enlisted (ap not t.may.free) in
+          let one = any_in (is_idle past q) (indices s) k (in_range 0 s.workers k (omega arith) (omega arith)) idle in
+          let clash : true ≡ false = sym lacks ∙ lacks_none o h held one in
+          absurd (cc clash)
+
+pub what_is_ahead_starts : WhatIsAheadStarts
+what_is_ahead_starts s past x y legal h = starts_first s past x y (is_behind s past x y h) legal
+
+pub lacking_start_nothing : LackingStartNothing
+lacking_start_nothing s past x o h lacks k less = starts_nothing s past x o h lacks k less

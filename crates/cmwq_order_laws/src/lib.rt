@@ -9,4 +9,7 @@ pub use laws::{
     active_stand, as_many_may_start, few_start_before, items_stay_free, none_overtakes,
     nothing_comes_between, premises_are_needed, starts_take_first,
 };
-pub use reasons::{nothing_keeps_what_starts, what_is_kept_does_not_start};
+pub use reasons::{
+    lacking_start_nothing, nothing_keeps_what_starts, what_is_ahead_starts,
+    what_is_kept_does_not_start,
+};
